@@ -32,6 +32,7 @@ abbrev mutual
   expr_tops (tree.question_expr at items e) = tops_of e
   expr_tops (tree.itemless_expr at) = []
   expr_tops (tree.try_expr at item t number ss e) = stmts_tops ss ++ tops_of e
+  expr_tops (tree.coroutine_expr at kind moves number ss e) = []
   expr_tops (tree.call_expr at f has_list es) = tops_of f ++ each_tops es
   expr_tops (tree.path_expr at p h) = []
   expr_tops (tree.continue_expr at jump) = []

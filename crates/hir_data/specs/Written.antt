@@ -326,6 +326,7 @@ abbrev mutual
   -- what is missing comes from none
   expr_site (tree.itemless_expr at) = None
   expr_site (tree.try_expr at item t number ss e) = Some (site_of at)
+  expr_site (tree.coroutine_expr at kind moves number ss e) = Some (site_of at)
   expr_site (tree.call_expr at f has_list es) = Some (site_of at)
   expr_site (tree.path_expr at p h) = Some (site_of at)
   expr_site (tree.continue_expr at jump) = Some (site_of at)

@@ -1,5 +1,5 @@
--- Whether a kept `yield` stands in an expression, and in none of the bodies inside it: in no constant and in no closure. One in a part
--- that is read and dropped counts; what isn't read doesn't.
+-- Whether a kept `yield` stands in an expression, and in none of the bodies inside it: in no constant, in no closure and in no
+-- coroutine block. One in a part that is read and dropped counts; what isn't read doesn't.
 use Rattle.std.specs.Prelude.{Bool, true, false, ◌||◌, Option, Some, None}
 use Rattle.hir_env.specs.Answered as tree
 use Rattle.hir_env.specs.Answered.{Expr, OptionExpr, Exprs, Fields, Spread, Block, OptionBlock, Stmts, Arms, Guard}
@@ -23,6 +23,7 @@ abbrev mutual
   expr_yields (tree.question_expr at items e) = yields_in e
   expr_yields (tree.itemless_expr at) = false
   expr_yields (tree.try_expr at item t number ss e) = stmts_yields ss || yields_in e
+  expr_yields (tree.coroutine_expr at kind moves number ss e) = false
   expr_yields (tree.call_expr at f has_list es) = yields_in f || each_yields es
   expr_yields (tree.path_expr at p h) = false
   expr_yields (tree.continue_expr at jump) = false

@@ -14,6 +14,8 @@ use Rattle.hir_syntax.specs.declared.ast.RecordExprFieldList.{RecordExprFieldLis
 use Rattle.hir_syntax.specs.declared.ast.Stmt.{Stmt as AstStmt}
 use Rattle.hir_syntax.specs.declared.branches.MatchArm.{MatchArm as AstMatchArm, out-MatchArm}
 use Rattle.hir_syntax.specs.declared.ast.ElseBranch.TheOpen.{ElseBranch-F, ExprKind-F, StmtKind-F}
+use Rattle.hir_store.specs.declared.hir.CoroutineKind.{CoroutineKind}
+use Rattle.hir_store.specs.declared.hir.CoroutineKind.TheVariants as coroutine
 use Rattle.hir_store.specs.Pointers.{Pointer}
 use Rattle.hir_env.specs.declared.place.Place.{Place}
 use Rattle.hir_env.specs.Answers.{Answers}
@@ -28,11 +30,11 @@ use Rattle.hir_env.specs.Folds.{written, reader, read_else_branch, read_expr_kin
 use Rattle.hir_env.specs.Folds.{read_expr, read_field, read_record, read_stmt, read_arm}
 use Rattle.hir_env.specs.Answered as tree
 use Rattle.hir_env.specs.Answered.{Expr, OptionExpr, Field, OptionBlock, Arm}
-use Rattle.hir_env.specs.Paths.{inside_closure, inside_const_block, inside_constant}
+use Rattle.hir_env.specs.Paths.{inside_closure, inside_const_block, inside_constant, inside_coroutine}
 use Rattle.hir_env.specs.Targets.{resolves}
 use Rattle.hir_env.specs.Whole.{answered, answered_plain, answered_block, answered_else, answered_constant, answered_field}
 use Rattle.hir_env.specs.Whole.{answered_record, block_head, stmts_part, in_block, block_number, pointer_at, asked_expr}
-use Rattle.hir_env.specs.Whole.{answered_body, body_level, in_const_block, own_level, try_level, type_part}
+use Rattle.hir_env.specs.Whole.{answered_body, body_level, coroutine_level, in_const_block, in_coroutine, own_level, try_level, type_part}
 use Rattle.hir_env.specs.Whole.{block_level, stmt_level, else_level, constant_level, field_level, record_level, guard_level}
 use Rattle.hir_env.specs.Whole.{let_else_level, arm_level, answered_guard, answered_let_else, answered_arm}
 use Rattle.hir_env.proofs.Mapped.{optional, listed, mapped_else, mapped_kind, mapped_stmt_kind, mapped_block}
@@ -201,6 +203,14 @@ module _ (env : Answers) where
       tree.try_expr (of.in_file p (of.ptr b.id b.range)) env.lang_items.try_trait_from_output (type_is rd.type_ b.ty p j)
       (option_map (λ n. n.0) number) c.0 c.1
 
+  coroutine_at_is : (kind : CoroutineKind) (b : BlockExprLayer written) (p : Place)
+      → of.coroutine_at env itself kind (mapped_block env b) p ≡ of.coroutine_at env rd kind b p
+  coroutine_at_is kind b p = λ j.
+      let number = of.numbered env p b.id in
+      let c = contents_is rd.stmt b.stmts (of.expr_or_none (λ y. y) (optional rd.expr b.tail))
+      (of.expr_or_none rd.expr b.tail) (expr_is rd.expr b.tail) (of.inside number p) j in
+      tree.coroutine_expr (of.in_file p (of.ptr b.id b.range)) kind b.move_ (option_map (λ n. n.0) number) c.0 c.1
+
   own_block_is : (m : Option BlockModifier) (b : BlockExprLayer written) (p : Place)
       → of.own_block env itself m (mapped_block env b) p ≡ of.own_block env rd m b p
   own_block_is None b p = λ j.
@@ -209,6 +219,9 @@ module _ (env : Answers) where
   own_block_is (Some modifier.Try) b p = try_at_is b p
   own_block_is (Some modifier.Const) b p = λ j.
       of.const_of (of.in_file p (of.ptr b.id b.range)) (block_at_is b of.plain_head (inside_const_block p) j)
+  own_block_is (Some modifier.Async) b p = coroutine_at_is coroutine.Async b (inside_coroutine coroutine.Async p)
+  own_block_is (Some modifier.Gen) b p = coroutine_at_is coroutine.Gen b (inside_coroutine coroutine.Gen p)
+  own_block_is (Some modifier.AsyncGen) b p = coroutine_at_is coroutine.AsyncGen b (inside_coroutine coroutine.AsyncGen p)
 
   stmt_at_is : (k : StmtKindLayer written) (p : Place) (s : Pointer)
       → of.stmt_at env itself (mapped_stmt_kind env k) p s ≡ of.stmt_at env rd k p s
@@ -285,6 +298,13 @@ try_at_level at b = λ j.
     tree.try_expr (pointer_at at level.id level.range) at.answers.lang_items.try_trait_from_output (type_part at level.ty)
     (block_number at level.id) c.0 c.1
 
+coroutine_at_level : (kind : CoroutineKind) (at : Spot) (b : AstBlockExpr)
+    → of.coroutine_at at.answers (reader at.answers) kind (out-BlockExpr b) at.place ≡ coroutine_level kind at b
+coroutine_at_level kind at b = λ j.
+    let level = out-BlockExpr b in
+    let c = flat at.answers level.stmts (of.expr_or_none (read_expr at.answers) level.tail) (in_block at level.id).place j in
+    tree.coroutine_expr (pointer_at at level.id level.range) kind level.move_ (block_number at level.id) c.0 c.1
+
 own_block_level : (at : Spot) (m : Option BlockModifier) (b : AstBlockExpr)
     → of.own_block at.answers (reader at.answers) m (out-BlockExpr b) at.place ≡ own_level at m b
 own_block_level at None b = ap tree.block_expr (block_at_level at (block_head at b) b)
@@ -292,6 +312,9 @@ own_block_level at (Some modifier.Unsafe) b = ap tree.block_expr (block_at_level
 own_block_level at (Some modifier.Try) b = try_at_level at b
 own_block_level at (Some modifier.Const) b =
     ap (of.const_of (pointer_at at (out-BlockExpr b).id (out-BlockExpr b).range)) (block_at_level (in_const_block at) of.plain_head b)
+own_block_level at (Some modifier.Async) b = coroutine_at_level coroutine.Async (in_coroutine coroutine.Async at) b
+own_block_level at (Some modifier.Gen) b = coroutine_at_level coroutine.Gen (in_coroutine coroutine.Gen at) b
+own_block_level at (Some modifier.AsyncGen) b = coroutine_at_level coroutine.AsyncGen (in_coroutine coroutine.AsyncGen at) b
 
 pub expr_is_level : (at : Spot) (e : AstExpr) → answered at e ≡ asked_expr at e
 expr_is_level at e = read_expr_is at.answers e at.place

@@ -30,6 +30,9 @@ own_block_pointer at None b = refl
 own_block_pointer at (Some modifier.Unsafe) b = refl
 own_block_pointer at (Some modifier.Try) b = refl
 own_block_pointer at (Some modifier.Const) b = refl
+own_block_pointer at (Some modifier.Async) b = refl
+own_block_pointer at (Some modifier.Gen) b = refl
+own_block_pointer at (Some modifier.AsyncGen) b = refl
 
 question_pointer : (items : Option QuestionItems) (s : Pointer) (e : OptionExpr) → pointer_of (question_of items s e) ≡ s
 question_pointer None s e = refl

@@ -15,6 +15,7 @@ use Rattle.hir_store.specs.declared.ids.BlockId.{BlockId}
 use Rattle.hir_store.specs.declared.ids.LangItemId.{LangItemId}
 use Rattle.hir_store.specs.declared.name.Name.{Name}
 use Rattle.hir_store.specs.Names.{IsWritten}
+use Rattle.hir_store.specs.declared.hir.CoroutineKind.{CoroutineKind}
 use Rattle.hir_store.specs.declared.hir.Rawness.{Rawness}
 use Rattle.hir_store.specs.declared.hir.Mutability.{Mutability}
 use Rattle.hir_store.specs.declared.type_ref.LifetimeRef.{LifetimeRef}
@@ -277,6 +278,9 @@ mutual
     -- A `try` block: the item through which its value goes, its type, where one is written, its number, its statements and its
     -- written tail.
     try_expr : Pointer → Option LangItemId → OptionType → Option BlockId → Stmts → OptionExpr → Expr
+    -- An `async`, `gen` or `async gen` block: which of these, whether `move` stands behind it, its number, its statements and its
+    -- written tail. It is a body of its own.
+    coroutine_expr : Pointer → CoroutineKind → Bool → Option BlockId → Stmts → OptionExpr → Expr
     -- with whether it has a list of arguments
     call_expr : Pointer → OptionExpr → Bool → Exprs → Expr
     path_expr : Pointer → OptionPath → HygieneId → Expr

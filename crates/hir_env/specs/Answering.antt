@@ -7,6 +7,8 @@ use Rattle.hir_syntax.specs.declared.ast.BlockModifier.{BlockModifier}
 use Rattle.hir_syntax.specs.declared.ast.BlockModifier.TheVariants as modifier
 use Rattle.hir_syntax.specs.declared.ast.Literal.{Literal}
 use Rattle.hir_base.specs.declared.op.LiteralKind.TheVariants as literal
+use Rattle.hir_store.specs.declared.hir.CoroutineKind.{CoroutineKind}
+use Rattle.hir_store.specs.declared.hir.CoroutineKind.TheVariants as coroutine
 use Rattle.hir_store.specs.declared.hir.Rawness.{Rawness}
 use Rattle.hir_store.specs.declared.hir.Rawness.TheVariants as raw
 use Rattle.hir_base.specs.declared.node.NodeId.{NodeId}
@@ -31,7 +33,8 @@ use Rattle.hir_env.specs.declared.lang.LangItems.{LangItems}
 use Rattle.hir_env.specs.Answers.{Answers}
 pub use Rattle.hir_env.specs.Spot.{in_file, ptr, site_of}
 pub use Rattle.hir_env.specs.Paths.{mutability, expr_or_none, constant_step, generic_arg_list_step}
-use Rattle.hir_env.specs.Paths.{inside_closure, inside_const_block, path_or_none, type_or_none, pat_or_none, arg_list_or_none}
+use Rattle.hir_env.specs.Paths.{inside_closure, inside_const_block, inside_coroutine, path_or_none, type_or_none, pat_or_none}
+use Rattle.hir_env.specs.Paths.{arg_list_or_none}
 use Rattle.hir_env.specs.Paths.{answer_or_none, closure_params_or_none, ret_type_step}
 use Rattle.hir_env.specs.Ranges.{range_form}
 use Rattle.hir_env.specs.Targets.{resolves, target_of}
@@ -364,12 +367,22 @@ module _ (env : Answers) {S : Sorts} (part : Reader S) where
       tree.try_expr (in_file p (ptr b.id b.range)) env.lang_items.try_trait_from_output (type_or_none part.type_ b.ty p)
       (option_map (λ n. n.0) number) c.0 c.1
 
+  -- read inside of it
+  abbrev pub coroutine_at : CoroutineKind → BlockExprLayer S → Place → Expr
+  coroutine_at kind b p =
+      let number = numbered env p b.id in
+      let c = contents_of part.stmt b.stmts (expr_or_none part.expr b.tail) (inside number p) in
+      tree.coroutine_expr (in_file p (ptr b.id b.range)) kind b.move_ (option_map (λ n. n.0) number) c.0 c.1
+
   -- A label counts only where no modifier stands, and a type only behind `try`. What is in a `const` block is a plain block.
   abbrev pub own_block : Option BlockModifier → BlockExprLayer S → Place → Expr
   own_block None b p = tree.block_expr (block_at b (labelled_head (option_map (label_of env p) b.label) (label_written env p b.label)) p)
   own_block (Some modifier.Unsafe) b p = tree.block_expr (block_at b unsafe_head p)
   own_block (Some modifier.Try) b p = try_at b p
   own_block (Some modifier.Const) b p = const_of (in_file p (ptr b.id b.range)) (block_at b plain_head (inside_const_block p))
+  own_block (Some modifier.Async) b p = coroutine_at coroutine.Async b (inside_coroutine coroutine.Async p)
+  own_block (Some modifier.Gen) b p = coroutine_at coroutine.Gen b (inside_coroutine coroutine.Gen p)
+  own_block (Some modifier.AsyncGen) b p = coroutine_at coroutine.AsyncGen b (inside_coroutine coroutine.AsyncGen p)
 
   abbrev pub block_step : BlockExprLayer S → BlockReading
   block_step b = record {

@@ -103,6 +103,7 @@ abbrev mutual
   count_expr (tree.question_expr at items e) = suc (count_option_expr e)
   count_expr (tree.itemless_expr at) = 1
   count_expr (tree.try_expr at item t number ss e) = suc (count_option_type t + (suc (count_stmts ss + count_option_expr e)))
+  count_expr (tree.coroutine_expr at kind moves number ss e) = suc (suc (count_stmts ss + count_option_expr e))
   count_expr (tree.call_expr at f has_list es) = suc (count_option_expr f + count_exprs es)
   count_expr (tree.path_expr at x h) = suc (count_option_path x)
   count_expr (tree.continue_expr at jump) = 1

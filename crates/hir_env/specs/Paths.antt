@@ -18,6 +18,8 @@ use Rattle.hir_store.specs.declared.ids.CfgId.{CfgId}
 use Rattle.hir_store.specs.declared.ids.CrateId.{CrateId}
 use Rattle.hir_store.specs.declared.name.Name.{Name}
 use Rattle.hir_store.specs.declared.name.Name.TheVariants as name
+use Rattle.hir_store.specs.declared.hir.CoroutineKind.{CoroutineKind}
+use Rattle.hir_store.specs.declared.hir.CoroutineKind.TheVariants as coroutine
 use Rattle.hir_store.specs.declared.hir.Mutability.{Mutability}
 use Rattle.hir_store.specs.declared.hir.Mutability.TheVariants as mutable
 use Rattle.hir_store.specs.declared.type_ref.LifetimeRef.{LifetimeRef}
@@ -112,6 +114,12 @@ inside_constant p = record p { impl_trait = becomes.Error }
 -- Inside of a `const` block, which is what an `await` there stands in.
 abbrev pub inside_const_block : Place → Place
 inside_const_block p = record p { await_location = Some location.ConstantBlock }
+
+-- Inside of an `async`, `gen` or `async gen` block, of which one that is only `gen` is what an `await` there stands in.
+abbrev pub inside_coroutine : CoroutineKind → Place → Place
+inside_coroutine coroutine.Async p = record p { await_location = None }
+inside_coroutine coroutine.Gen p = record p { await_location = Some location.NonAsyncGenBlock }
+inside_coroutine coroutine.AsyncGen p = record p { await_location = None }
 
 -- Inside of the body of a closure, which is what an `await` there stands in.
 abbrev pub inside_closure : Place → Place

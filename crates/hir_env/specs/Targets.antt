@@ -28,6 +28,7 @@ pointer_of (tree.for_expr at items label _ p h b) = at
 pointer_of (tree.question_expr at items e) = at
 pointer_of (tree.itemless_expr at) = at
 pointer_of (tree.try_expr at item t number ss e) = at
+pointer_of (tree.coroutine_expr at kind moves number ss e) = at
 pointer_of (tree.call_expr at f has_list es) = at
 pointer_of (tree.path_expr at p h) = at
 pointer_of (tree.continue_expr at jump) = at

@@ -31,6 +31,8 @@ use Rattle.hir_base.specs.declared.node.TextRange.{TextRange}
 use Rattle.hir_store.specs.Pointers.{Pointer}
 use Rattle.hir_env.specs.Spot.{Spot}
 use Rattle.hir_env.specs.Wrapped.{AstConstArg, AstGuard, AstLetElse, AstRetType, AstTypeArg, AstParenArgs, AstGenericArgList}
+use Rattle.hir_store.specs.declared.hir.CoroutineKind.{CoroutineKind}
+use Rattle.hir_store.specs.declared.hir.CoroutineKind.TheVariants as coroutine
 use Rattle.hir_store.specs.declared.ids.BlockId.{BlockId}
 use Rattle.hir_store.specs.declared.name.Name.{Name}
 use Rattle.hir_env.specs.declared.place.Place.{Place}
@@ -43,7 +45,8 @@ use Rattle.hir_env.specs.Answering.{guard_or_none, let_else_or_none, guard_step,
 use Rattle.hir_env.specs.Pats.{pats_of, pat_fields_of, pat_at, pat_field_step}
 use Rattle.hir_env.specs.Targets.{resolves, target_of}
 use Rattle.hir_env.specs.TypePats.{type_pat_or_none}
-use Rattle.hir_env.specs.Paths.{inside_closure, inside_impl, outside_impl, inside_constant, inside_const_block, path_or_none}
+use Rattle.hir_env.specs.Paths.{inside_closure, inside_coroutine, inside_impl, outside_impl, inside_constant, inside_const_block}
+use Rattle.hir_env.specs.Paths.{path_or_none}
 use Rattle.hir_env.specs.Paths.{closure_params_of, closure_params_or_none, segment_or_absent, segments_of}
 use Rattle.hir_env.specs.Paths.{first_of, rest_of, type_or_none, types_of, parts_of, params_or_none, is_varargs, answer_or_none}
 use Rattle.hir_env.specs.Paths.{ret_or_none, parens_or_none, path_type_or_none, arg_list_or_none, generic_args_of, bounds_of}
@@ -337,12 +340,27 @@ abbrev pub const_level : Spot → AstBlockExpr → Expr
 const_level at b =
     let level = out-BlockExpr b in const_of (pointer_at at level.id level.range) (block_level (in_const_block at) plain_head b)
 
+-- the spot inside of an `async`, `gen` or `async gen` block
+abbrev pub in_coroutine : CoroutineKind → Spot → Spot
+in_coroutine kind at = record at { place = inside_coroutine kind at.place }
+
+-- read inside of it
+abbrev pub coroutine_level : CoroutineKind → Spot → AstBlockExpr → Expr
+coroutine_level kind at b =
+    let level = out-BlockExpr b in
+    let within = in_block at level.id in
+    tree.coroutine_expr (pointer_at at level.id level.range) kind level.move_ (block_number at level.id)
+    (stmts_part within level.stmts) (expr_part within level.tail)
+
 -- a block as an expression, by its modifier
 abbrev pub own_level : Spot → Option BlockModifier → AstBlockExpr → Expr
 own_level at None b = tree.block_expr (block_level at (block_head at b) b)
 own_level at (Some modifier.Unsafe) b = tree.block_expr (block_level at unsafe_head b)
 own_level at (Some modifier.Try) b = try_level at b
 own_level at (Some modifier.Const) b = const_level at b
+own_level at (Some modifier.Async) b = coroutine_level coroutine.Async (in_coroutine coroutine.Async at) b
+own_level at (Some modifier.Gen) b = coroutine_level coroutine.Gen (in_coroutine coroutine.Gen at) b
+own_level at (Some modifier.AsyncGen) b = coroutine_level coroutine.AsyncGen (in_coroutine coroutine.AsyncGen at) b
 
 -- such a block, with the condition that disables it
 abbrev pub body_level : Spot → AstBlockExpr → Expr

@@ -12,7 +12,7 @@ use Rattle.hir_store.specs.declared.ids.BindingId.{BindingId}
 use Rattle.hir_store.specs.declared.ids.ExprId.{ExprId}
 use Rattle.hir_store.specs.declared.ids.PatId.{PatId}
 use Rattle.hir_store.proofs.Arenas.{prefix_refl}
-use Rattle.hir_store.proofs.Extending.{extends_refl, extends_root}
+use Rattle.hir_store.proofs.Extending.{extends_root}
 use Rattle.hir_env.specs.Answered.{Formals, OptionExpr}
 use Rattle.hir_lower_form.specs.Builder.{Builder, fresh}
 use Rattle.hir_lower_form.specs.Lowering.{Checked}
@@ -33,7 +33,7 @@ use Rattle.hir_lower.specs.Roots.{GivenFromNothing, RefusedAtEnd, StoresFromNoth
 use Rattle.hir_lower.specs.declared.body.Body.{Body}
 use Rattle.hir_lower.proofs.BodyTypes.{body_types_once}
 use Rattle.hir_lower.proofs.Behind.{Steps, closed, item_is, lowered, refused, rooted, steps}
-use Rattle.hir_lower.proofs.Meanings.{rooted_inside}
+use Rattle.hir_lower.proofs.Meanings.{lives_inside, roots_inside}
 use Rattle.hir_lower.proofs.Params.{given_now}
 
 -- from nothing, but for the faults that are owed
@@ -57,14 +57,15 @@ module _ (skipped : Bool) (f : Formals) (e : OptionExpr) (limit : ℕ) (owed : F
         let kept : KeepsAll (closed start) s.middle =
         subst (λ r. Keeps (closed start) r.0 r.1) s.formals (kept_by (any (given_now skipped f)) (closed start)) in
         let paired = kept.paired (record { exprs = refl; labels = refl; pats = refl; types = refl; lifetimes = refl }) in
-        let rooted_here = rooted_inside e s.middle s.inner i kept.scopes kept.in_root paired s.body in
         let root = root_at (store_of s.inner.stored) i in
         let end = (rooted s.inner i).stored in
-        let live = rooted_here.lives end (extends_refl end) (prefix_refl end.bindings.entries) in
+        let live = lives_inside e s.middle s.inner i kept.scopes paired s.body end (extends_root s.inner.stored root)
+        (prefix_refl end.bindings.entries) in
+        let none = roots_inside e s.middle s.inner i kept.scopes paired s.body kept.in_root ∙ kept.roots refl in
         let P : Builder → Type 0 = λ x. HasBody (store_of x.stored) (map_of x.stored) given.1 e in
         subst P s.left (record {
-          root = root_at (store_of (rooted s.inner i).stored) i;
-          only = rooted_here.roots ∙ ap (λ rs. rs ++ root_at (store_of (rooted s.inner i).stored) i ∷ []) (kept.roots refl);
+          root = root;
+          only = ap (λ rs. rs ++ root ∷ []) none;
           same = live.same;
           reached_once = λ depth le. body_inside skipped f e (closed start) s.inner given i
               (record { exprs = refl; labels = refl; pats = refl; types = refl; lifetimes = refl })

@@ -4,6 +4,7 @@ use Rattle.std.proofs.Common.{List, [], ◌∷◌, ◌++◌, length, Option, Som
 use Rattle.hir_base.specs.declared.op.RangeOp.{RangeOp}
 use Rattle.hir_store.specs.Arenas.{Prefix}
 use Rattle.hir_store.specs.Bindings.{at_place, problem_set, with_problem}
+use Rattle.hir_store.proofs.BindingLemmas.{length_at}
 use Rattle.hir_store.specs.Pointers.{Pointer}
 use Rattle.hir_store.specs.Stored.{Stored}
 use Rattle.hir_store.specs.Storing as storing
@@ -131,6 +132,7 @@ settled noted number (e ∷ es) s b w h =
       types = w.types;
       lifetimes = w.lifetimes;
       bindings = changed s.bindings.entries b.stored.bindings.entries e.1.0 (problem_set problem) h.0 w.bindings;
+      owners = λ m. let x = w.owners m in (x.0, x.1 ∙ sym (length_at e.1.0 (problem_set problem) b.stored.bindings.entries));
     }) h.1
 
 -- of a whole pattern the names are settled at its end, and no others

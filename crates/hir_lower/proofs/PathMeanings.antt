@@ -19,7 +19,7 @@ use Rattle.hir_steps.specs.Keeps.{Keeps, KeepsAll, MadeApart, Paired}
 use Rattle.hir_steps.proofs.ApartTree.{lower_path_apart}
 use Rattle.hir_steps.proofs.Keeping.{apart_by, paths_keep}
 use Rattle.hir_read_back.proofs.Now.{path_law}
-use Rattle.hir_one_result.specs.Laws.{Grown, GrownUnless, Settled}
+use Rattle.hir_one_result.specs.Laws.{Grown, GrownUnless, MayBeOwned, Settled}
 use Rattle.hir_one_result.specs.Diagnostics.{Around}
 use Rattle.hir_one_result.specs.Room.{Short, whole_size}
 use Rattle.hir_one_result.specs.Stands.{Open, WholeWays}
@@ -72,12 +72,16 @@ module _ (at : Spot) (x : AstPath) (b b' : Builder) where
   none_around : b.scopes ≡ [] → Around [] b.scopes
   none_around none = subst (λ rs. Around [] rs) (sym none) refl
 
-  path_stays : Stays b.stored (lower_path (whole_path at x) b).1.stored
-  path_stays =
+  path_went : Went b.stored (lower_path (whole_path at x) b).1.stored
+  path_went = went (option_path_leads (whole_path at x)) b
+
+  path_stays : MayBeOwned b.stored → Stays b.stored (lower_path (whole_path at x) b).1.stored
+  path_stays m =
       let o = lower_path (whole_path at x) b in
-      let ways : Went b.stored o.1.stored = went (option_path_leads (whole_path at x)) b in record {
+      let ways = path_went in record {
         extends = extends_of b o.0 o.1 (paths_keep (whole_path at x) b);
         bindings = ways.bindings;
+        owners = (ways.owners m).0;
         exprs = ways.exprs.ways;
         labels = ways.labels.ways;
         pats = ways.pats.ways;
@@ -109,12 +113,12 @@ module _ (at : Spot) (x : AstPath) (b b' : Builder) where
   roots_outside later out h =
       subst (λ around. RootsIn later around false) out.scopes (subst (λ inside. RootsIn later b.scopes inside) out.in_root h)
 
-  pub rooted_path_if : (r : Checked (Option Path)) → Alone r → Paired b.stored → Outside b
+  pub rooted_path_if : (r : Checked (Option Path)) → Alone r → Paired b.stored → MayBeOwned b.stored → Outside b
       → IfOk r (λ y. PathRooted b.stored b'.stored y (whole_path at x))
-  rooted_path_if (Ok y) l d out =
+  rooted_path_if (Ok y) l d m out =
       let p = whole_path at x in
       let none = out.scopes in
-      let stays : Stays b.stored b'.stored = subst (λ q. Stays b.stored q.1.stored) l.0 path_stays in
+      let stays : Stays b.stored b'.stored = subst (λ q. Stays b.stored q.1.stored) l.0 (path_stays m) in
       let faults = faults_behind b b' y d l.0 (whole_reports p) [] (none_around none) in
       let kept : KeepsAll b b' = subst (λ q. Keeps b q.0 q.1) l.0 (paths_keep (whole_path at x) b) in
       let grown : Grown (whole_size (whole_path at x)) b.stored b'.stored =
@@ -132,10 +136,16 @@ module _ (at : Spot) (x : AstPath) (b b' : Builder) where
         inside_reached_once = λ later ext depth le. path_inside p b b' y d l.0 later ext depth le;
         bindings_came = path_bindings_came p b b' y d l.0;
         grown = grown;
+        owners = grown.owners m;
         paired = kept.paired d;
         mapped = kept.mapped d;
       }
-  rooted_path_if (Err e) l d out = tt
+  rooted_path_if (Err e) l d m out = tt
+
+  pub path_may_be_owned_if : (r : Checked (Option Path)) → Alone r → MayBeOwned b.stored → IfOk r (λ y. MayBeOwned b'.stored)
+  path_may_be_owned_if (Ok y) l m =
+      let w : Went b.stored b'.stored = subst (λ q. Went b.stored q.1.stored) l.0 path_went in (w.owners m).1
+  path_may_be_owned_if (Err e) l m = tt
 
   pub outside_path_if : (r : Checked (Option Path)) → Alone r → Outside b → IfOk r (λ y. Outside b')
   outside_path_if (Ok y) l o =
@@ -159,7 +169,7 @@ module _ (at : Spot) (x : AstPath) (b b' : Builder) where
   path_too_large_if (Ok y) l is = cc
   path_too_large_if (Err e) l is = let other : e ≢ Memory = λ m. cc in short_if e (l other).0
 
-  pub path_stays_if : (r : Checked (Option Path)) → Alone r → r ≢ Err Memory → Stays b.stored b'.stored
-  path_stays_if (Ok y) l n = subst (λ q. Stays b.stored q.1.stored) l.0 path_stays
-  path_stays_if (Err e) l n =
-      let other : e ≢ Memory = λ is. n (ap Err is) in subst (λ q. Stays b.stored q.1.stored) (l other).0 path_stays
+  pub path_stays_if : (r : Checked (Option Path)) → Alone r → MayBeOwned b.stored → r ≢ Err Memory → Stays b.stored b'.stored
+  path_stays_if (Ok y) l m n = subst (λ q. Stays b.stored q.1.stored) l.0 (path_stays m)
+  path_stays_if (Err e) l m n =
+      let other : e ≢ Memory = λ is. n (ap Err is) in subst (λ q. Stays b.stored q.1.stored) (l other).0 (path_stays m)

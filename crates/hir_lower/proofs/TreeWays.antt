@@ -41,7 +41,7 @@ use Rattle.hir_lower_form.specs.Lower.{present, kept_part, lower_each, lower_blo
 use Rattle.hir_lower_form.specs.Lower.{lower_fields, lower_field, lower_spread}
 use Rattle.hir_lower_form.specs.Lower.{lower_type, type_part, present_type, type_or_unit, lower_parts, read_segment, read_each, read_path}
 use Rattle.hir_lower_form.specs.Lower.{read_option, lower_path, lower_segment_args, parens_part, output_part, args_part, lower_args}
-use Rattle.hir_lower_form.specs.Lower.{lower_arg, lower_bounds, lower_bound, constant_form, lower_constant}
+use Rattle.hir_lower_form.specs.Lower.{lower_arg, lower_bounds, lower_bound, constant_form, lower_constant, lower_rooted}
 use Rattle.hir_lower_form.specs.Lower.{present_block, lower_arms, lower_arm, lower_guard, lower_top, lower_pat, pat_part}
 use Rattle.hir_lower_form.specs.Lower.{present_pat, lower_pats, lower_elements, lower_alternatives, lower_later, lower_pat_fields}
 use Rattle.hir_lower_form.specs.Lower.{lower_pat_field, lower_side, lower_type_pat_part, lower_type_pat, lower_type_pats, lower_limit}
@@ -57,6 +57,7 @@ use Rattle.hir_lower.proofs.Ways.{leading_jump, leading_alloc, leading_open, lea
 use Rattle.hir_lower.proofs.Ways.{leading_point_field, leading_alloc_type, leading_alloc_pat, leading_barrier, leading_enter}
 use Rattle.hir_lower.proofs.Ways.{leading_close_barrier, leading_note}
 use Rattle.hir_lower.proofs.Ways.{leading_leave, anyway}
+use Rattle.hir_lower.proofs.OwnedWays.{coroutine_block_leads, coroutine_leads, leading_owning}
 use Rattle.hir_lower.proofs.PatWays.{alone_leads, arm_leads, array_target_leads, assign_leads, before_leads, bind_leads, call_target_leads}
 use Rattle.hir_lower.proofs.PatWays.{element_leads, inner_leads, item_leads, let_leads, let_stmt_leads, limits_leads, literal_limit_leads}
 use Rattle.hir_lower.proofs.PatWays.{literal_pat_leads, literal_side_leads, match_leads, missing_pat_leads, name_limit_leads}
@@ -313,7 +314,10 @@ mutual
   -- ---- constants
 
   constant_leads : (c : Constant) → Leading any (lower_constant c)
-  constant_leads (tree.constant e) = constant_form_leads (part_leads e)
+  constant_leads (tree.constant e) = leading_owning (λ c. c.expr) (constant_form_leads (part_leads e))
+
+  rooted_leads : (c : Constant) → Leading any (lower_rooted c)
+  rooted_leads (tree.constant e) = constant_form_leads (part_leads e)
 
   -- ---- expressions
 
@@ -329,6 +333,8 @@ mutual
   node_leads (tree.itemless_expr at) = missing_leads
   node_leads (tree.try_expr at item t number ss e) =
       try_leads at t (λ typed. try_block_leads at item typed number (stmts_leads [] ss (kept_part_leads e)))
+  node_leads (tree.coroutine_expr at kind moves number ss e) = leading_owning (λ i. i)
+      (coroutine_leads (coroutine_block_leads at kind moves number (stmts_leads [] ss (kept_part_leads e))))
   node_leads (tree.call_expr at f has_list es) = call_leads at (part_leads f) (each_leads [] es)
   node_leads (tree.path_expr at x h) = path_leads at h (option_path_leads x)
   node_leads (tree.continue_expr at jump) = continue_leads at jump
@@ -341,9 +347,9 @@ mutual
   node_leads (tree.lazy_expr at op a b) = operands_leads at _ (part_leads a) (part_leads b)
   node_leads (tree.list_expr at form es) = list_leads at form (each_leads [] es)
   node_leads (tree.repeat_expr at e c) = repeat_leads at (part_leads e) (constant_leads c)
-  node_leads (tree.const_expr at c) = const_leads at (constant_leads c)
-  node_leads (tree.closure_expr at moves is_static xs t e) =
-      closure_leads at moves is_static (params_lead no_closure_params xs) (present_type_leads t) (part_leads e)
+  node_leads (tree.const_expr at c) = leading_owning (λ i. i) (const_leads at (rooted_leads c))
+  node_leads (tree.closure_expr at moves is_static xs t e) = leading_owning (λ i. i)
+      (closure_leads at moves is_static (params_lead no_closure_params xs) (present_type_leads t) (part_leads e))
   node_leads (tree.method_call_expr at e name es as') =
       method_call_leads at name (part_leads e) (each_leads [] es) (args_part_leads as')
   node_leads (tree.leaving_expr at form e) = value_leads at _ (present_leads e)

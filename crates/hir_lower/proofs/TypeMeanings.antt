@@ -17,6 +17,7 @@ use Rattle.hir_lower_form.specs.Builder.{Builder}
 use Rattle.hir_lower_form.specs.Lower.{type_part}
 use Rattle.hir_lower_form.specs.Lowering.{Checked, Lowers, SomeEnd, alloc_type}
 use Rattle.hir_steps.specs.Keeps.{MadeApart}
+use Rattle.hir_one_result.specs.Laws.{MayBeOwned}
 use Rattle.hir_type_result.specs.TypeResult.{TypeResult, TypeTooLarge}
 use Rattle.hir_type_result.proofs.Whole.{refused_types, type_results}
 use Rattle.hir_lower.specs.Calls.{Outside}
@@ -97,6 +98,16 @@ module _ (b b' : Builder) (ty : TypeRef) (at : Pointer) where
       let t = nat_lt (length b.stored.types.entries) b.stored.types.limit in
       subst (λ (q : Checked TypeRefId × Builder). Outside q.1) (sym (alloc_is b ty at) ∙ l.0) (outside_after t o)
   outside_type_if (Err e) l o = tt
+
+  owned_after : (t : Bool) → MayBeOwned b.stored → MayBeOwned (after t b ty at).1.stored
+  owned_after true m = m
+  owned_after false m = m
+
+  pub may_be_owned_type_if : (r : Checked TypeRefId) → Alone r → MayBeOwned b.stored → IfOk r (λ i. MayBeOwned b'.stored)
+  may_be_owned_type_if (Ok i) l m =
+      let t = nat_lt (length b.stored.types.entries) b.stored.types.limit in
+      subst (λ (q : Checked TypeRefId × Builder). MayBeOwned q.1.stored) (sym (alloc_is b ty at) ∙ l.0) (owned_after t m)
+  may_be_owned_type_if (Err e) l m = tt
 
   apart_after : (t : Bool) → MadeApart b.names b.stored → MadeApart (after t b ty at).1.names (after t b ty at).1.stored
   apart_after true m = record { once = m.once; later = m.later }

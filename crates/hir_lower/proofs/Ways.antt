@@ -36,6 +36,8 @@ use Rattle.hir_lower_form.specs.Lowering.{open_try, open_try_as, open_try_named,
 use Rattle.hir_lower_form.specs.Lowering.{close_barrier, note_yield}
 use Rattle.hir_lower_form.specs.Lowering.{point_field, open_barrier, enter_root, outside_root, leave_root, record_root}
 use Rattle.hir_lower_form.specs.Lowering.{enter_block, open_label, close, jump_target, found_or_fault, open_as, report_await, count_out}
+use Rattle.hir_steps.proofs.Logic.{one_more}
+use Rattle.hir_one_result.specs.Laws.{MayBeOwned}
 use Rattle.hir_lower.specs.Stays.{LeadsOn, Stays}
 
 -- maps
@@ -132,6 +134,10 @@ type_place i = i.0
 abbrev lifetime_place : LifetimeRefId → ℕ
 lifetime_place i = i.0
 
+-- what owns bindings stays, and it is stored of each that came too
+abbrev pub OwnersStay : Stored → Stored → Type 0
+OwnersStay a b = MayBeOwned a → Prefix a.bindings.owners b.bindings.owners × MayBeOwned b
+
 pub record Went (a b : Stored) : Type 0 where
   pub exprs : Onward expr_place a.exprs b.exprs
   pub labels : Onward label_place a.labels b.labels
@@ -139,8 +145,9 @@ pub record Went (a b : Stored) : Type 0 where
   pub types : Onward type_place a.types b.types
   pub lifetimes : Onward lifetime_place a.lifetimes b.lifetimes
   pub bindings : Prefix a.bindings.entries b.bindings.entries
+  pub owners : OwnersStay a b
 
-went_refl : (a : Stored) → Went a a
+pub went_refl : (a : Stored) → Went a a
 went_refl a = record {
   exprs = onward_refl expr_place _;
   labels = onward_refl label_place _;
@@ -148,12 +155,14 @@ went_refl a = record {
   types = onward_refl type_place _;
   lifetimes = onward_refl lifetime_place _;
   bindings = prefix_refl _;
+  owners = λ m. (prefix_refl _, m);
 }
 
 pub stays_refl : (a : Stored) → Stays a a
 stays_refl a = record {
   extends = extends_refl a;
   bindings = prefix_refl _;
+  owners = prefix_refl _;
   exprs = on_refl expr_place _ _;
   labels = on_refl label_place _ _;
   pats = on_refl pat_place _ _;
@@ -161,19 +170,20 @@ stays_refl a = record {
   lifetimes = on_refl lifetime_place _ _;
 }
 
--- the arenas are those of before, and so are the bindings
+-- the arenas are those of before, and so are the bindings and what owns them
 abbrev Arenas : Stored → Stored → Type 0
-Arenas a b = (b.exprs ≡ a.exprs) × ((b.labels ≡ a.labels) × ((b.pats ≡ a.pats)
-    × ((b.types ≡ a.types) × ((b.lifetimes ≡ a.lifetimes) × (b.bindings.entries ≡ a.bindings.entries)))))
+Arenas a b = (b.exprs ≡ a.exprs) × ((b.labels ≡ a.labels) × ((b.pats ≡ a.pats) × ((b.types ≡ a.types) × ((b.lifetimes ≡ a.lifetimes)
+    × ((b.bindings.entries ≡ a.bindings.entries) × (b.bindings.owners ≡ a.bindings.owners))))))
 
 went_same : (a b : Stored) → Arenas a b → Went a b
-went_same a b e = rw (e.0, e.1.0, e.1.1.0, e.1.1.1.0, e.1.1.1.1.0, e.1.1.1.1.1) (record {
+went_same a b e = rw (e.0, e.1.0, e.1.1.0, e.1.1.1.0, e.1.1.1.1.0, e.1.1.1.1.1.0, e.1.1.1.1.1.1) (record {
   exprs = onward_refl expr_place _;
   labels = onward_refl label_place _;
   pats = onward_refl pat_place _;
   types = onward_refl type_place _;
   lifetimes = onward_refl lifetime_place _;
   bindings = prefix_refl _;
+  owners = λ m. (prefix_refl _, m);
 })
 
 pub went_trans : (a b c : Stored) → Went a b → Went b c → Went a c
@@ -184,6 +194,7 @@ went_trans a b c g h = record {
   types = onward_trans type_place _ _ _ g.types h.types;
   lifetimes = onward_trans lifetime_place _ _ _ g.lifetimes h.lifetimes;
   bindings = prefix_trans g.bindings h.bindings;
+  owners = λ m. let x = g.owners m in let y = h.owners x.1 in (prefix_trans x.0 y.0, y.1);
 }
 
 -- steps
@@ -246,20 +257,20 @@ anyway {A = A} {L = L} {p = p} h = record { goes = λ b. by b (p b).0 (p b).1 (h
     by b (Err e) c x = x
 
 pub leading_pure : {A : Type 0} (a : A) → Leading any (pure a)
-leading_pure a = record { goes = λ b. (went_same _ _ (refl, (refl, (refl, (refl, (refl, refl))))), tt) }
+leading_pure a = record { goes = λ b. (went_same _ _ (refl, (refl, (refl, (refl, (refl, (refl, refl)))))), tt) }
 
 pub leading_count_out : {A : Type 0} → Leading any (count_out {A = A})
 unfolding count_out
-leading_count_out = record { goes = λ b. went_same _ _ (refl, (refl, (refl, (refl, (refl, refl))))) }
+leading_count_out = record { goes = λ b. went_same _ _ (refl, (refl, (refl, (refl, (refl, (refl, refl)))))) }
 
 pub leading_report : (d : ExpressionStoreDiagnostics) → Leading any (report d)
 unfolding report storing.report
-leading_report d = record { goes = λ b. (went_same _ _ (refl, (refl, (refl, (refl, (refl, refl))))), tt) }
+leading_report d = record { goes = λ b. (went_same _ _ (refl, (refl, (refl, (refl, (refl, (refl, refl)))))), tt) }
 
 -- where a value leads to is no way of a node
 pub leading_point_field : (i : ExprId) (at : Pointer) → Leading any (point_field i at)
 unfolding point_field storing.point_field
-leading_point_field i at = record { goes = λ b. (went_same _ _ (refl, (refl, (refl, (refl, (refl, refl))))), tt) }
+leading_point_field i at = record { goes = λ b. (went_same _ _ (refl, (refl, (refl, (refl, (refl, (refl, refl)))))), tt) }
 
 pub leading_report_await : (at : Pointer) (location : Option AwaitLocation) → Leading any (report_await at location)
 unfolding report_await
@@ -269,31 +280,31 @@ leading_report_await at (Some l) = leading_report _
 pub leading_block : (n : Option BlockId) → Leading any (enter_block n)
 unfolding enter_block storing.enter_block
 leading_block None = leading_pure tt
-leading_block (Some n) = record { goes = λ b. (went_same _ _ (refl, (refl, (refl, (refl, (refl, refl))))), tt) }
+leading_block (Some n) = record { goes = λ b. (went_same _ _ (refl, (refl, (refl, (refl, (refl, (refl, refl)))))), tt) }
 
 pub leading_barrier : Leading any open_barrier
 unfolding open_barrier
-leading_barrier = record { goes = λ b. (went_same _ _ (refl, (refl, (refl, (refl, (refl, refl))))), tt) }
+leading_barrier = record { goes = λ b. (went_same _ _ (refl, (refl, (refl, (refl, (refl, (refl, refl)))))), tt) }
 
 pub leading_close_barrier : (outside : Bool) → Leading any (close_barrier outside)
 unfolding close_barrier
-leading_close_barrier outside = record { goes = λ b. (went_same _ _ (refl, (refl, (refl, (refl, (refl, refl))))), tt) }
+leading_close_barrier outside = record { goes = λ b. (went_same _ _ (refl, (refl, (refl, (refl, (refl, (refl, refl)))))), tt) }
 
 pub leading_note : Leading any note_yield
 unfolding note_yield
-leading_note = record { goes = λ b. (went_same _ _ (refl, (refl, (refl, (refl, (refl, refl))))), tt) }
+leading_note = record { goes = λ b. (went_same _ _ (refl, (refl, (refl, (refl, (refl, (refl, refl)))))), tt) }
 
 pub leading_enter : Leading any enter_root
 unfolding enter_root
-leading_enter = record { goes = λ b. (went_same _ _ (refl, (refl, (refl, (refl, (refl, refl))))), tt) }
+leading_enter = record { goes = λ b. (went_same _ _ (refl, (refl, (refl, (refl, (refl, (refl, refl)))))), tt) }
 
 leading_outside : Leading any outside_root
 unfolding outside_root
-leading_outside = record { goes = λ b. (went_same _ _ (refl, (refl, (refl, (refl, (refl, refl))))), tt) }
+leading_outside = record { goes = λ b. (went_same _ _ (refl, (refl, (refl, (refl, (refl, (refl, refl)))))), tt) }
 
 leading_record : (i : ExprId) → Leading any (record_root i)
 unfolding record_root storing.record_root
-leading_record i = record { goes = λ b. (went_same _ _ (refl, (refl, (refl, (refl, (refl, refl))))), tt) }
+leading_record i = record { goes = λ b. (went_same _ _ (refl, (refl, (refl, (refl, (refl, (refl, refl)))))), tt) }
 
 pub leading_leave : (outer : Bool) (i : ExprId) → Leading any (leave_root outer i)
 unfolding leave_root
@@ -302,7 +313,7 @@ leading_leave false i = then' (leading_record i) (λ u. leading_outside)
 
 pub leading_close : Leading any close
 unfolding close
-leading_close = record { goes = λ b. (went_same _ _ (refl, (refl, (refl, (refl, (refl, refl))))), tt) }
+leading_close = record { goes = λ b. (went_same _ _ (refl, (refl, (refl, (refl, (refl, (refl, refl)))))), tt) }
 
 pub leading_jump : (j : Option Jump) → Leading any (jump_target j)
 unfolding jump_target report storing.report
@@ -310,9 +321,9 @@ leading_jump None = leading_pure None
 leading_jump (Some j) = record { goes = λ b. by b (target j b.scopes) }
   where
     by : (b : Builder) (t : Target LabelId) → Goes any b (found_or_fault j t b).0 (found_or_fault j t b).1
-    by b (reachable n) = (went_same _ _ (refl, (refl, (refl, (refl, (refl, refl))))), tt)
-    by b unreachable = (went_same _ _ (refl, (refl, (refl, (refl, (refl, refl))))), tt)
-    by b undeclared = (went_same _ _ (refl, (refl, (refl, (refl, (refl, refl))))), tt)
+    by b (reachable n) = (went_same _ _ (refl, (refl, (refl, (refl, (refl, (refl, refl)))))), tt)
+    by b unreachable = (went_same _ _ (refl, (refl, (refl, (refl, (refl, (refl, refl)))))), tt)
+    by b undeclared = (went_same _ _ (refl, (refl, (refl, (refl, (refl, (refl, refl)))))), tt)
 
 pub leading_alloc : (e : Expr) (source : Option Pointer) → Leading since (alloc_expr e source)
 unfolding alloc_expr storing.alloc_expr
@@ -329,6 +340,7 @@ leading_alloc e source = record { goes = λ b. by b (nat_lt (length b.stored.exp
         types = onward_refl type_place _;
         lifetimes = onward_refl lifetime_place _;
         bindings = prefix_refl _;
+        owners = λ m. (prefix_refl _, m);
       },
       omega arith,
     )
@@ -350,6 +362,7 @@ leading_made e source = record { goes = λ b. by b (nat_lt (length b.stored.expr
         types = onward_refl type_place _;
         lifetimes = onward_refl lifetime_place _;
         bindings = prefix_refl _;
+        owners = λ m. (prefix_refl _, m);
       },
       omega arith,
     )
@@ -370,6 +383,7 @@ leading_alloc_pat p source = record { goes = λ b. by b (nat_lt (length b.stored
         types = onward_refl type_place _;
         lifetimes = onward_refl lifetime_place _;
         bindings = prefix_refl _;
+        owners = λ m. (prefix_refl _, m);
       },
       tt,
     )
@@ -399,6 +413,7 @@ leading_alloc_binding x = record { goes = λ b. by b (nat_lt (length b.stored.bi
         types = onward_refl type_place _;
         lifetimes = onward_refl lifetime_place _;
         bindings = prefix_push b.stored.bindings.entries x;
+        owners = λ m. (prefix_push b.stored.bindings.owners None, one_more b.stored.bindings.entries x b.stored.bindings.owners None m);
       },
       omega arith,
     )
@@ -406,11 +421,11 @@ leading_alloc_binding x = record { goes = λ b. by b (nat_lt (length b.stored.bi
 
 pub leading_define : (id : BindingId) (p : PatId) → Leading any (define id p)
 unfolding define storing.define
-leading_define id p = record { goes = λ b. (went_same _ _ (refl, (refl, (refl, (refl, (refl, refl))))), tt) }
+leading_define id p = record { goes = λ b. (went_same _ _ (refl, (refl, (refl, (refl, (refl, (refl, refl)))))), tt) }
 
 pub leading_point_pat_field : (id : PatId) (at : Pointer) → Leading any (point_pat_field id at)
 unfolding point_pat_field storing.point_pat_field
-leading_point_pat_field id at = record { goes = λ b. (went_same _ _ (refl, (refl, (refl, (refl, (refl, refl))))), tt) }
+leading_point_pat_field id at = record { goes = λ b. (went_same _ _ (refl, (refl, (refl, (refl, (refl, (refl, refl)))))), tt) }
 
 pub leading_alloc_type : (e : TypeRef) (source : Option Pointer) → Leading any (alloc_type e source)
 unfolding alloc_type storing.alloc_type
@@ -427,6 +442,7 @@ leading_alloc_type e source = record { goes = λ b. by b (nat_lt (length b.store
         types = onward_entry type_place type_id (λ n. refl) b.stored.types e source;
         lifetimes = onward_refl lifetime_place _;
         bindings = prefix_refl _;
+        owners = λ m. (prefix_refl _, m);
       },
       tt,
     )
@@ -447,6 +463,7 @@ leading_alloc_lifetime e source = record { goes = λ b. by b (nat_lt (length b.s
         types = onward_refl type_place _;
         lifetimes = onward_entry lifetime_place lifetime_id (λ n. refl) b.stored.lifetimes e source;
         bindings = prefix_refl _;
+        owners = λ m. (prefix_refl _, m);
       },
       tt,
     )
@@ -461,6 +478,7 @@ label_made l source b true = record {
   types = onward_refl type_place _;
   lifetimes = onward_refl lifetime_place _;
   bindings = prefix_refl _;
+  owners = λ m. (prefix_refl _, m);
 }
 label_made l source b false = went_refl b.stored
 
@@ -529,6 +547,7 @@ leading_point at {p = p} h = record { goes = λ b. by b (p b).0 (p b).1 (h.goes 
         types = x.0.types;
         lifetimes = x.0.lifetimes;
         bindings = x.0.bindings;
+        owners = x.0.owners;
       },
       x.1,
     )

@@ -48,6 +48,7 @@ use Rattle.hir_one_result.specs.Blocks.{blocks_of_part, blocks_of_whole}
 use Rattle.hir_one_result.specs.Diagnostics.{Faults, part_diagnostics, whole_faults}
 use Rattle.hir_one_result.specs.Laws.{Grown, Reaches, Settled}
 use Rattle.hir_one_result.specs.Room.{size_part, whole_size}
+use Rattle.hir_one_result.specs.Size.{owned, placed}
 use Rattle.hir_one_result.specs.Leads.{Way}
 use Rattle.hir_one_result.specs.Stands.{StandsPart, WholeWays}
 use Rattle.hir_lower.specs.declared.body.Param.{Param}
@@ -79,11 +80,13 @@ pub record Lives (old new later : Stored) (i : ExprId) (e : OptionExpr) : Type 0
 
 -- What lowering a root leaves. It is the last of the recorded roots, to which all belongs that was stored since the one before:
 -- as many expressions, labels and bindings as the tree becomes, and patterns, types and lifetimes from just those of its nodes that
--- become one. The patterns that came make bindings that came. Behind the faults and the blocks that were noted before come those of
--- the tree.
+-- become one. The patterns that came make bindings that came, each of which the innermost closure, coroutine, `const` block, length or
+-- argument owns around it, or, in none of these, the root. Behind the faults and the blocks that were noted before come those of the
+-- tree.
 pub record Rooted (old new : Stored) (i : ExprId) (e : OptionExpr) : Type 0 where
   pub lives : (later : Stored) → Extends new later → Settled new later → Lives old new later i e
-  pub grown : Grown (size_part e) old new
+  pub grown : Grown (owned (size_part e)) old new
+  pub owners : new.bindings.owners ≡ old.bindings.owners ++ placed (length old.exprs.entries) (owned (size_part e)).owners
   pub roots : new.roots ≡ old.roots ++ root_at (store_of new) i ∷ []
   pub bindings_came : BindingsCame old new
   pub more : Faults
@@ -151,7 +154,8 @@ pub record ConstantsLive (old new later : Stored) (p : OptionPath) : Type 0 wher
 -- What lowering a path to r leaves: types and lifetimes from just those of its nodes that become one, and its constants. Those are
 -- roots, also where r is none; behind the faults and the blocks that were noted before come theirs. In each later store each body
 -- inside r does what the written one does; r and the expressions and patterns that came reach each type in one way only, and none that
--- was stored before; so do the expressions and types that came reach each pattern. The patterns that came make bindings that came.
+-- was stored before; so do the expressions and types that came reach each pattern. The patterns that came make bindings that came,
+-- each of which the innermost closure, coroutine, `const` block, length or argument owns around it.
 pub record PathRooted (old new : Stored) (r : Option Path) (p : OptionPath) : Type 0 where
   pub inner : (later : Stored) → Extends new later
       → SameBodies (store_of later) (map_of later) (of_some (path_inner_bodies (store_of later)) r) (path_bodies p)
@@ -168,6 +172,7 @@ pub record PathRooted (old new : Stored) (r : Option Path) (p : OptionPath) : Ty
       (of_each (reached_to (store_of later) depth) (of_some (unrun_in_path (store_of later)) r))
   pub bindings_came : BindingsCame old new
   pub grown : Grown (whole_size p) old new
+  pub owners : new.bindings.owners ≡ old.bindings.owners ++ placed (length old.exprs.entries) (whole_size p).owners
   pub paired : Paired new
   pub mapped : Mapped old → Mapped new
 

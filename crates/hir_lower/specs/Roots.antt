@@ -29,7 +29,8 @@ use Rattle.hir_env.specs.Answering.{in_file}
 use Rattle.hir_env.specs.Whole.{expr_part}
 use Rattle.hir_env.specs.Answered as tree
 use Rattle.hir_env.specs.Answered.{Formals, OptionExpr}
-use Rattle.hir_lower_form.specs.Lowering.{Lowering, SomeEnd, ◌>>=◌, ◌>>◌, pure, close_labels, report, record_root, enter_root, outside_root}
+use Rattle.hir_lower_form.specs.Lowering.{Lowering, SomeEnd, ◌>>=◌, ◌>>◌, pure, bindings_end, close_labels, own, report, record_root}
+use Rattle.hir_lower_form.specs.Lowering.{enter_root, outside_root}
 use Rattle.hir_lower_form.specs.Lower.{ExprSteps, lower_part}
 use Rattle.hir_lower_handlers.specs.Spots.{spot_at}
 use Rattle.hir_lower.specs.declared.body.Body.{Body}
@@ -37,17 +38,19 @@ use Rattle.hir_lower.specs.declared.body.Param.{Param}
 use Rattle.hir_lower.specs.Formals.{Given, HasGiven, item_formals, lower_formals}
 use Rattle.hir_lower.specs.Means.{required_body, body_fault}
 
--- the expression as a root, in which no label around it is open
+-- the expression as a root, in which no label around it is open, and which owns its bindings
 unfoldable pub root_of : OptionExpr → ExprSteps
 root_of e = do
   close_labels
   enter_root
+  start ← bindings_end
   id ← lower_part e
+  own start id
   record_root id
   outside_root
   pure id
 
--- a body as a root, behind its parameters
+-- a body as a root, behind its parameters: nothing owns what is bound in it but not inside of it
 unfoldable pub behind : Lowering Given → OptionExpr → Lowering (Given × ExprId)
 behind formals e = do
   close_labels

@@ -380,12 +380,13 @@ fn body_steps<E: LowerEnv>(
 /// Store, source map and diagnostics are one result of the parameters and the tree: what is stored stands for them and no more is
 /// stored, each expression and pattern with its source, all in the range of the one root; the source map leads from each written
 /// expression and label to what it became, from the nodes of patterns, types and lifetimes to them, from the values and patterns
-/// of a record's kept fields to their fields, and from nothing else; the numbers of blocks come in the order of entering; the
-/// diagnostics are those that body, parameters and tree owe. Each name that is made up is of one binding or label at most. Each
-/// number in store and source map is in range. A skipped body is a missing expression and owes no fault. `Memory` where a growth
-/// was refused; `Full` only where parameters and tree become more expressions, labels, patterns, bindings, types or lifetimes than
-/// the arenas have room for, or a path in them has more `super`s, a pattern more parts in front of its two dots, or they more names
-/// that are made up, than 32 bits count; never `Failed`.
+/// of a record's kept fields to their fields, and from nothing else; each binding is owned by the innermost closure, coroutine,
+/// `const` block, length or argument around it, and where it stands in none of these, by nothing; the numbers of blocks come in
+/// the order of entering; the diagnostics are those that body, parameters and tree owe. Each name that is made up is of one binding
+/// or label at most. Each number in store and source map is in range. A skipped body is a missing expression and owes no fault.
+/// `Memory` where a growth was refused; `Full` only where parameters and tree become more expressions, labels, patterns, bindings,
+/// types or lifetimes than the arenas have room for, or a path in them has more `super`s, a pattern more parts in front of its two
+/// dots, or they more names that are made up, than 32 bits count; never `Failed`.
 /// Each parameter reads back as it is written, in order, and `self` is the binding of its name, of which nothing is wrong.
 /// Parameters are read of functions alone, and of each item that is skipped, `self` first and then those that no condition
 /// disables. In an extern block, and in a trait where the function has no body, a parameter is a plain name or `_`, and any other

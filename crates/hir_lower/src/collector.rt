@@ -8,6 +8,7 @@ ghost use Rattle.hir_env.specs.Whole.{expr_part};
 ghost use Rattle.hir_lower_form.specs.Lowering.{Lowers, SomeEnd};
 ghost use Rattle.hir_lower_form.specs.Methods.{LowersExprOpt};
 ghost use Rattle.hir_steps.specs.Keeps.{MadeApart, Paired};
+ghost use Rattle.hir_one_result.specs.Laws.{MayBeOwned};
 ghost use Rattle.hir_one_result.specs.Room.{whole_size};
 ghost use Rattle.hir_one_result.specs.Room.{Short, TooLarge};
 ghost use Rattle.hir_lower_handlers.specs.Spots.{spot_at};
@@ -75,13 +76,15 @@ fn root_steps<E: LowerEnv>(
 {
     state.close_labels(alloc);
     let _ = state.enter_root();
+    let start = state.bindings_end();
     let root = collect_expr_opt(alloc, env, place, state, expr)?;
+    state.own(start, root);
     state.record_root(root)?;
     state.outside_root();
     Ok(root)
 }
 
-/// Lowers an expression as a root: no label around it is open in it.
+/// Lowers an expression as a root: no label around it is open in it, and it owns its bindings.
 pub(crate) fn lower_root<E: LowerEnv>(
     alloc: Global,
     env: &E,
@@ -92,13 +95,14 @@ pub(crate) fn lower_root<E: LowerEnv>(
     ensures lowers { let spot = spot_at (E.answers env.now) place in
         Lowers HasExpr (root_of (expr_part spot (option_copied expr.entry))) state.old result state.new }
     ensures rooted { let e = expr_part (spot_at (E.answers env.now) place) (option_copied expr.entry) in
-        Paired state.old.stored → IfOk result (λ i. Rooted state.old.stored state.new.stored i e) }
+        Paired state.old.stored → MayBeOwned state.old.stored → IfOk result (λ i. Rooted state.old.stored state.new.stored i e) }
+    ensures owners { MayBeOwned state.old.stored → IfOk result (λ i. MayBeOwned state.new.stored) }
     ensures outside { IfOk result (λ i. Outside state.new) }
     ensures apart { Paired state.old.stored → MadeApart state.old.names state.old.stored
         → IfOk result (λ i. MadeApart state.new.names state.new.stored) }
     ensures too_large { let e = expr_part (spot_at (E.answers env.now) place) (option_copied expr.entry) in
         IsErrOf result StoreFault.Full → TooLarge state.old e }
-    ensures stays { result ≢ Err StoreFault.Memory → Stays state.old.stored state.new.stored }
+    ensures stays { MayBeOwned state.old.stored → result ≢ Err StoreFault.Memory → Stays state.old.stored state.new.stored }
 {
     root_steps(alloc, env, place, state, expr)
 }
@@ -115,14 +119,16 @@ fn lower_whole_path<E: LowerEnv>(
         Paired state.old.stored → IfOk result (λ r. ReadsBack state.new.stored r p) }
     ensures segments { Paired state.old.stored → IfOk result (λ r. BearsNames state.new.stored path.now r) }
     ensures rooted { let p = whole_path (spot_at (E.answers env.now) place) path.now in
-        Paired state.old.stored → Outside state.old → IfOk result (λ r. PathRooted state.old.stored state.new.stored r p) }
+        Paired state.old.stored → MayBeOwned state.old.stored → Outside state.old
+        → IfOk result (λ r. PathRooted state.old.stored state.new.stored r p) }
+    ensures owners { MayBeOwned state.old.stored → IfOk result (λ r. MayBeOwned state.new.stored) }
     ensures outside { Outside state.old → IfOk result (λ r. Outside state.new) }
     ensures apart { Paired state.old.stored → MadeApart state.old.names state.old.stored
         → IfOk result (λ r. MadeApart state.new.names state.new.stored) }
     ensures full { IsErrOf result StoreFault.Full → SomeEnd state.new }
     ensures too_large { let p = whole_path (spot_at (E.answers env.now) place) path.now in
         IsErrOf result StoreFault.Full → Short (whole_size p) state.old }
-    ensures stays { Paired state.old.stored → result ≢ Err StoreFault.Memory → Stays state.old.stored state.new.stored }
+    ensures stays { MayBeOwned state.old.stored → result ≢ Err StoreFault.Memory → Stays state.old.stored state.new.stored }
 {
     lower_path(alloc, env, place, state, path)
 }
@@ -139,6 +145,7 @@ fn add_type(
     ensures no_room { IsErrOf result StoreFault.Full → NoRoomForType state.old.stored }
     ensures unchanged { IsErrOf result StoreFault.Full → state.new.stored ≡ state.old.stored }
     ensures scopes { result ≢ Err StoreFault.Memory → state.new.scopes ≡ state.old.scopes }
+    ensures owners { MayBeOwned state.old.stored → IfOk result (λ i. MayBeOwned state.new.stored) }
     ensures outside { Outside state.old → IfOk result (λ i. Outside state.new) }
     ensures apart { MadeApart state.old.names state.old.stored → IfOk result (λ i. MadeApart state.new.names state.new.stored) }
 {
@@ -156,6 +163,7 @@ pub struct ExprCollector<'db, E: LowerEnv> {
     state: BodyBuilder,
     failed: bool,
     ghost paired: { failed ≡ false → Paired state.stored },
+    ghost owners: { failed ≡ false → MayBeOwned state.stored },
     ghost outside: { failed ≡ false → Outside state },
     ghost apart: { failed ≡ false → MadeApart state.names state.stored },
 }
@@ -225,10 +233,12 @@ impl<'db, E: LowerEnv> ExprCollector<'db, E> {
     /// In each later store that keeps the problems of its bindings its expression does what the constant does, for every
     /// answerer and every number of turns that a loop may take; what is stored stands for the tree, and faults, blocks and
     /// ways of the source map come behind those of before. Each expression, type and pattern that it reaches came with it, and
-    /// is reached in one way only. `Memory` where a growth was refused, `Full` where an arena has no
-    /// room for the tree, or a path in the tree has more `super`s, a pattern more parts in front of its two dots, or more
-    /// names are made up, than 32 bits count, `Failed` after an error, and then nothing changes. All that was stored is
-    /// stored still, unless memory was refused, and a node leads to where it led, or to what came since.
+    /// is reached in one way only. Each binding that came is owned by the innermost closure, coroutine, `const` block, length or
+    /// argument around it, and where it stands in none of these, by the constant. `Memory` where a growth was refused, `Full`
+    /// where an arena has no room for the tree, or a path in the tree has more `super`s, a pattern more parts in front of its
+    /// two dots, or more names are made up, than 32 bits count, `Failed` after an error, and then nothing changes. All that was
+    /// stored is stored still, unless memory was refused, each binding with what owns it, and a node leads to where it led, or
+    /// to what came since.
     pub fn lower_const_arg(&mut self, arg: &ast::ConstArg) -> Result<ConstRef, LowerError>
         ensures calls { Calls self.old.failed self.old.state result self.new.state self.new.failed }
         ensures rooted { let e = expr_part (spot_at (E.answers self.old.db.now) self.old.place) arg.now in
@@ -265,7 +275,8 @@ impl<'db, E: LowerEnv> ExprCollector<'db, E> {
     /// them, or it has more `super`s, a pattern in it more parts in front of its two dots, or more names are made up, than
     /// 32 bits count, `Failed` after an error. All that was stored is stored still, unless memory was refused, and nothing
     /// comes behind it but the path's types, its lifetimes and its constants, each of which is recorded as a root, also where
-    /// the path is refused, with the patterns and bindings in them.
+    /// the path is refused, with the patterns and bindings in them. Each of these bindings is owned by the innermost closure,
+    /// coroutine, `const` block, length or argument around it.
     pub fn lower_path<I: ImplTraitLower>(
         &mut self,
         path: &ast::Path,

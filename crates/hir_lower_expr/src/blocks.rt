@@ -13,6 +13,7 @@ ghost use Rattle.hir_lower_form.specs.Methods.{flat, own_steps_at};
 ghost use Rattle.hir_lower_form.specs.declared.parts.BlockRole.TheVariants as role;
 
 use crate::consts::const_form;
+use crate::coroutines::{coroutine, coroutine_form};
 use crate::here::block_here;
 use crate::kept::push_kept_statement;
 use crate::lets::let_stmt;
@@ -20,7 +21,7 @@ use crate::tries::try_form;
 use hir_lower_form::builder::BodyBuilder;
 use hir_lower_form::parts::{BlockRole, LowerParts, Lowerer};
 use hir_store::fault::StoreFault;
-use hir_store::hir::{Expr, Statement};
+use hir_store::hir::{CoroutineKind, Expr, Statement};
 use hir_store::ids::{BlockId, ExprId, LabelId, LangItemId};
 use hir_syntax::{Seq, ast};
 
@@ -193,6 +194,35 @@ fn try_node<P: LowerParts>(
     state.alloc_expr(expr, Some(at))
 }
 
+/// The block of a coroutine that is read here, which comes from no node, and the coroutine around it.
+#[tactic(auto, unfolding(hir_lower_form::specs::Forms::coroutine_block_form))]
+fn coroutine_node<P: LowerParts>(
+    lowerer: &Lowerer<P>,
+    state: &mut BodyBuilder,
+    kind: CoroutineKind,
+    moves: bool,
+    number: Option<BlockId>,
+    node: &ast::BlockExpr,
+) -> Result<ExprId, StoreFault>
+    requires { KidsBlock (P.can lowerer.now.parts) (P.spot lowerer.now.parts).place (out-BlockExpr node.now) }
+    ensures { let spot = P.spot lowerer.now.parts in
+        Lowers HasExpr (block_steps_at spot (role.Coroutine kind moves) number node.now) state.old result state.new }
+{
+    state.enter_block(number)?;
+    let (mut statements, tail) = contents(lowerer, state, node)?;
+    let tail = settle(&mut statements, tail);
+    let expr = Expr::Block {
+        is_unsafe: false,
+        label: None,
+        id: number,
+        statements,
+        tail,
+    };
+    let body = state.alloc_expr(expr, None)?;
+    let at = lowerer.pointer(node.id, node.range);
+    state.alloc_expr(coroutine(lowerer.alloc, kind, moves, body), Some(at))
+}
+
 /// A block that is read here, of this role.
 pub fn block_node<P: LowerParts>(
     lowerer: &Lowerer<P>,
@@ -210,6 +240,9 @@ pub fn block_node<P: LowerParts>(
             plain_node(lowerer, state, is_unsafe, label, number, node)
         }
         BlockRole::Try { item, typed } => try_node(lowerer, state, item, typed, number, node),
+        BlockRole::Coroutine { kind, moves } => {
+            coroutine_node(lowerer, state, kind, moves, number, node)
+        }
     }
 }
 
@@ -260,6 +293,13 @@ fn headed_block<P: LowerParts>(
         }
         Some(ast::BlockModifier::Try) => try_form(lowerer, state, &node.ty, node),
         Some(ast::BlockModifier::Const) => const_form(lowerer, state, node),
+        Some(ast::BlockModifier::Async) => {
+            coroutine_form(lowerer, state, CoroutineKind::Async, node)
+        }
+        Some(ast::BlockModifier::Gen) => coroutine_form(lowerer, state, CoroutineKind::Gen, node),
+        Some(ast::BlockModifier::AsyncGen) => {
+            coroutine_form(lowerer, state, CoroutineKind::AsyncGen, node)
+        }
     }
 }
 

@@ -2,11 +2,14 @@
 
 ghost use Rattle.std.specs.Prelude.{◌≡◌};
 ghost use Rattle.hir_syntax.specs.declared.types.Param.{out-Param};
+ghost use Rattle.hir_store.specs.Range.{HasExpr};
 ghost use Rattle.hir_env.specs.Answered as tree;
 ghost use Rattle.hir_env.specs.Paths as of;
 ghost use Rattle.hir_env.specs.Whole.{answer_part, answered_closure_param, closure_params_or_none_part, closure_params_part, expr_part};
 ghost use Rattle.hir_env.specs.Whole.{in_closure, param_level, pat_part, type_part};
 ghost use Rattle.hir_lower_form.specs.Forms as spec;
+ghost use Rattle.hir_lower_form.specs.Lower.{lower_params, lower_part, present_type};
+ghost use Rattle.hir_lower_form.specs.Lowering.{Lowers};
 ghost use Rattle.hir_lower_form.specs.Methods.{HasClosureParams, LowersExpr, LowersExprOpt, LowersParam, LowersParams};
 ghost use Rattle.hir_lower_form.specs.Methods.{LowersTypeIfPresent};
 ghost use Rattle.hir_lower_form.specs.Nests.{IfPresent, KidsClosureParam, KidsClosureParams, KidsRet};
@@ -47,7 +50,8 @@ fn closure_kind(yields: bool, is_static: bool) -> ClosureKind
     }
 }
 
-fn capture_by(moves: bool) -> CaptureBy
+/// How a closure or a coroutine takes what its body uses of the outside, by whether `move` is written.
+pub(crate) fn capture_by(moves: bool) -> CaptureBy
     ensures { result ≡ spec.capture_by moves }
 {
     if moves {
@@ -175,6 +179,46 @@ fn body_opt<P: LowerParts>(
 /// The parameters, what it returns, its body. No jump in it reaches what is open around it, and whether a `yield` stands in its body,
 /// and in none inside of that, decides what it is.
 #[tactic(auto, unfolding(hir_lower_form::specs::Forms::closure_form))]
+fn bordered_closure<P: LowerParts>(
+    lowerer: &Lowerer<P>,
+    state: &mut BodyBuilder,
+    at: InFile<AstPtr>,
+    params: &Option<Seq<ast::Param>>,
+    ret: &Option<ast::RetType>,
+    body: &Option<Boxed<ast::Expr>>,
+    moves: bool,
+    is_static: bool,
+) -> Result<ExprId, StoreFault>
+    requires params { IfPresent (KidsClosureParams (P.can lowerer.now.parts) (P.spot lowerer.now.parts).place) params.now }
+    requires ret { IfPresent (KidsRet (P.can lowerer.now.parts) (P.spot lowerer.now.parts).place) ret.now }
+    requires body { let place = (P.spot lowerer.now.parts).place in
+        IfPresent ((P.can lowerer.now.parts).inner (of.inside_closure place)) body.now }
+    ensures { let spot = P.spot lowerer.now.parts in
+        let lowered = lower_params spec.no_closure_params (closure_params_or_none_part spot params.now) in
+        let returned = present_type (answer_part spot ret.now) in
+        let inner = lower_part (expr_part (in_closure spot) body.now) in
+        Lowers HasExpr (spec.closure_form at moves is_static lowered returned inner) state.old result state.new }
+{
+    let outside = state.open_barrier()?;
+    let ClosureParams { args, arg_types } = params_if_present(lowerer, state, params)?;
+    let ret_type = ret_if_present(lowerer, state, ret)?;
+    let body = body_opt(lowerer, state, body)?;
+    let yields = state.close_barrier(outside);
+    let closure_kind = closure_kind(yields, is_static);
+    let capture_by = capture_by(moves);
+    let closure = Expr::Closure {
+        args,
+        arg_types,
+        ret_type,
+        body,
+        closure_kind,
+        capture_by,
+    };
+    state.alloc_expr(closure, Some(at))
+}
+
+/// A closure, which owns the bindings that are made in it.
+#[tactic(auto, unfolding(hir_lower_form::specs::Lowering::owning))]
 pub fn closure_form<P: LowerParts>(
     lowerer: &Lowerer<P>,
     state: &mut BodyBuilder,
@@ -197,20 +241,8 @@ pub fn closure_form<P: LowerParts>(
         (answer_part spot ret.now)
         (expr_part (in_closure spot) body.now)) state.old result state.new }
 {
-    let outside = state.open_barrier()?;
-    let ClosureParams { args, arg_types } = params_if_present(lowerer, state, params)?;
-    let ret_type = ret_if_present(lowerer, state, ret)?;
-    let body = body_opt(lowerer, state, body)?;
-    let yields = state.close_barrier(outside);
-    let closure_kind = closure_kind(yields, is_static);
-    let capture_by = capture_by(moves);
-    let closure = Expr::Closure {
-        args,
-        arg_types,
-        ret_type,
-        body,
-        closure_kind,
-        capture_by,
-    };
-    state.alloc_expr(closure, Some(at))
+    let start = state.bindings_end();
+    let id = bordered_closure(lowerer, state, at, params, ret, body, moves, is_static)?;
+    state.own(start, id);
+    Ok(id)
 }

@@ -1,9 +1,10 @@
 //! `const` blocks, which are bodies of their own.
 
 ghost use Rattle.std.specs.Prelude.{◌≡◌, None, false};
+ghost use Rattle.hir_syntax.specs.declared.ast.BlockExpr.{out-BlockExpr};
 ghost use Rattle.hir_store.specs.Range.{HasConst, HasExpr};
 ghost use Rattle.hir_env.specs.Paths as of;
-ghost use Rattle.hir_env.specs.Whole.{answered_plain, in_const_block};
+ghost use Rattle.hir_env.specs.Whole.{answered_plain, in_const_block, pointer_at};
 ghost use Rattle.hir_lower_form.specs.Lower as spec;
 ghost use Rattle.hir_lower_form.specs.Lowering.{Lowers};
 ghost use Rattle.hir_lower_form.specs.Methods.{LowersInside, const_steps_at};
@@ -66,8 +67,26 @@ fn inner_constant<P: LowerParts>(
     Ok(ConstRef { expr: id })
 }
 
-/// A `const` block, of which neither a label nor a type counts.
+/// The constant as an expression.
 #[tactic(auto, unfolding(hir_lower_form::specs::Forms::const_form))]
+fn stored_const<P: LowerParts>(
+    lowerer: &Lowerer<P>,
+    state: &mut BodyBuilder,
+    node: &ast::BlockExpr,
+) -> Result<ExprId, StoreFault>
+    requires { (P.can lowerer.now.parts).block (of.inside_const_block (P.spot lowerer.now.parts).place) node.now }
+    ensures { let spot = P.spot lowerer.now.parts in
+        let at = pointer_at spot (out-BlockExpr node.now).id (out-BlockExpr node.now).range in
+        let inner = spec.lower_inside (role.Plain false None) (answered_plain (in_const_block spot) node.now) in
+        Lowers HasExpr (spec.const_form at (spec.constant_form inner)) state.old result state.new }
+{
+    let constant = inner_constant(lowerer, state, node)?;
+    let at = lowerer.pointer(node.id, node.range);
+    state.alloc_expr(Expr::Const(constant), Some(at))
+}
+
+/// A `const` block, of which neither a label nor a type counts. It owns the bindings that are made in it.
+#[tactic(auto, unfolding(hir_lower_form::specs::Lowering::owning))]
 pub(crate) fn const_form<P: LowerParts>(
     lowerer: &Lowerer<P>,
     state: &mut BodyBuilder,
@@ -76,7 +95,8 @@ pub(crate) fn const_form<P: LowerParts>(
     requires { (P.can lowerer.now.parts).block (of.inside_const_block (P.spot lowerer.now.parts).place) node.now }
     ensures { Lowers HasExpr (const_steps_at (P.spot lowerer.now.parts) node.now) state.old result state.new }
 {
-    let constant = inner_constant(lowerer, state, node)?;
-    let at = lowerer.pointer(node.id, node.range);
-    state.alloc_expr(Expr::Const(constant), Some(at))
+    let start = state.bindings_end();
+    let id = stored_const(lowerer, state, node)?;
+    state.own(start, id);
+    Ok(id)
 }

@@ -8,6 +8,8 @@ use Rattle.hir_syntax.specs.declared.ast.BlockModifier.TheVariants as modifier
 use Rattle.hir_store.specs.Stored.{Stored}
 use Rattle.hir_store.specs.Past.{past_statement}
 use Rattle.hir_store.specs.Range.{Has, HasStatements, HasExprOption}
+use Rattle.hir_store.specs.declared.hir.CoroutineKind.{CoroutineKind}
+use Rattle.hir_store.specs.declared.hir.CoroutineKind.TheVariants as coroutine
 use Rattle.hir_store.specs.declared.hir.Statement.{Statement}
 use Rattle.hir_store.specs.declared.hir.Statement.TheVariants as statement
 use Rattle.hir_store.specs.declared.ids.ExprId.{ExprId}
@@ -16,10 +18,11 @@ use Rattle.hir_env.specs.Answered as tree
 use Rattle.hir_env.specs.Answered.{Block, Expr, OptionType}
 use Rattle.hir_env.specs.Answering.{plain_head, unsafe_head}
 use Rattle.hir_env.specs.Whole.{answered_block, answered_plain, block_head, block_level, block_number, const_level, expr_part, in_block}
-use Rattle.hir_env.specs.Whole.{in_const_block, own_level}
+use Rattle.hir_env.specs.Whole.{coroutine_level, in_const_block, in_coroutine, own_level}
 use Rattle.hir_env.specs.Whole.{pointer_at, stmts_part, type_part}
 use Rattle.hir_env.proofs.Levels.{block_is_level, plain_is_level}
-use Rattle.hir_lower_form.specs.Forms.{const_form, constant_form, labelled}
+use Rattle.hir_lower_form.specs.Forms.{const_form, constant_form, coroutine_form, labelled}
+use Rattle.hir_lower_form.specs.Lowering.{owning}
 use Rattle.hir_lower_form.specs.Lower.{lower, lower_block, lower_inside, settled, try_form, value_of}
 use Rattle.hir_lower_form.specs.Methods.{own_steps_at}
 use Rattle.hir_lower_form.specs.declared.parts.BlockRole.TheVariants as role
@@ -136,7 +139,12 @@ module _ (at : Spot) (b : AstBlockExpr) where
   Const x =
       let level = out-BlockExpr b in
       lower (const_level at b)
-      ≡ const_form (pointer_at at level.id level.range) (constant_form (lower_inside (role.Plain false None) x))
+      ≡ owning (λ i. i) (const_form (pointer_at at level.id level.range) (constant_form (lower_inside (role.Plain false None) x)))
+
+  abbrev Coroutine : CoroutineKind → Block → Type 0
+  Coroutine kind x =
+      lower (coroutine_level kind (in_coroutine kind at) b)
+      ≡ owning (λ i. i) (coroutine_form (lower_inside (role.Coroutine kind (out-BlockExpr b).move_) x))
 
   abbrev try_of : OptionType → Expr
   try_of t =
@@ -162,6 +170,11 @@ module _ (at : Spot) (b : AstBlockExpr) where
   own_level_inside (Some modifier.Try) =
       let t = type_part at (out-BlockExpr b).ty in subst (Tried t) (sym (plain_is_level at b)) (tried_level t)
   own_level_inside (Some modifier.Const) = subst Const (sym (plain_is_level (in_const_block at) b)) refl
+  own_level_inside (Some modifier.Async) =
+      subst (Coroutine coroutine.Async) (sym (plain_is_level (in_coroutine coroutine.Async at) b)) refl
+  own_level_inside (Some modifier.Gen) = subst (Coroutine coroutine.Gen) (sym (plain_is_level (in_coroutine coroutine.Gen at) b)) refl
+  own_level_inside (Some modifier.AsyncGen) =
+      subst (Coroutine coroutine.AsyncGen) (sym (plain_is_level (in_coroutine coroutine.AsyncGen at) b)) refl
 
   pub own_inside : lower (answered_block at b) ≡ own_steps_at at (out-BlockExpr b).mod_ b
   own_inside = ap lower (block_is_level at b) ∙ own_level_inside (out-BlockExpr b).mod_

@@ -12,6 +12,8 @@ use Rattle.hir_store.specs.declared.hir.CaptureBy.{CaptureBy}
 use Rattle.hir_store.specs.declared.hir.CaptureBy.TheVariants as capture
 use Rattle.hir_store.specs.declared.hir.ClosureKind.{ClosureKind}
 use Rattle.hir_store.specs.declared.hir.ClosureKind.TheVariants as closure
+use Rattle.hir_store.specs.declared.hir.CoroutineKind.{CoroutineKind}
+use Rattle.hir_store.specs.declared.hir.CoroutineSource.TheVariants as source
 use Rattle.hir_store.specs.declared.hir.Movability.{Movability}
 use Rattle.hir_store.specs.declared.hir.Movability.TheVariants as movable
 use Rattle.hir_store.specs.declared.hir.LoopSource.{LoopSource}
@@ -395,3 +397,25 @@ closure_form at moves is_static params ret body = do
   e ← body
   yields ← close_barrier outside
   alloc_expr (stored_closure moves is_static l t e yields) (Some at)
+
+-- ---- coroutine blocks
+
+-- around the block that is its body
+abbrev pub stored_coroutine : CoroutineKind → Bool → ExprId → HirExpr
+stored_coroutine kind moves body = hir.Closure [] [] None body (closure.Coroutine kind source.Block) (capture_by moves)
+
+-- The block, which comes from no node, and the coroutine around it.
+unfoldable pub coroutine_block_form : Pointer → CoroutineKind → Bool → Option BlockId → Lowering StoredContents → ExprSteps
+coroutine_block_form at kind moves number contents = do
+  enter_block number
+  r ← contents
+  b ← alloc_expr (settled_block false None number (settled r.0 r.1)) None
+  alloc_expr (stored_coroutine kind moves b) (Some at)
+
+-- No jump in it reaches what is open around it, and a `yield` in it is its own.
+unfoldable pub coroutine_form : ExprSteps → ExprSteps
+coroutine_form inner = do
+  outside ← open_barrier
+  id ← inner
+  close_barrier outside
+  pure id

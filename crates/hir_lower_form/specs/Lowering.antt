@@ -1,8 +1,9 @@
 -- The steps of lowering: each answers a value, or is refused because an arena is full, and leaves what is stored by then.
 use Rattle.std.specs.Prelude.{◌≡◌, ◌≢◌, ◌⊎◌, ◌^◌, ℕ, suc, nat_lt, if◌then◌else◌}
-use Rattle.std.specs.Prelude.{Bool, true, false, [], ◌∷◌, Option, Some, None, option_map, Ok, Err}
+use Rattle.std.specs.Prelude.{Bool, true, false, [], ◌∷◌, length, Option, Some, None, option_map, Ok, Err}
 use Rattle.hir_store.specs.Pointers.{Pointer}
 use Rattle.hir_store.specs.Stored.{Stored}
+use Rattle.hir_store.specs.Bindings.{binding_id}
 use Rattle.hir_store.specs.Range.{Grows, HasLabelOption}
 use Rattle.hir_store.specs.Storing as storing
 use Rattle.hir_store.specs.Storing.{Storing, SomeAtLimit}
@@ -75,6 +76,22 @@ define id p = stored (storing.define id p)
 
 unfoldable pub set_problem : BindingId → Option BindingProblems → Lowering (Unit {0})
 set_problem id problem = stored (storing.set_problem id problem)
+
+-- the number that the next binding gets
+unfoldable pub bindings_end : Lowering BindingId
+bindings_end = λ b. (Ok (binding_id (length b.stored.bindings.entries)), b)
+
+-- from this binding on the expression owns each that nothing owned
+unfoldable pub own : BindingId → ExprId → Lowering (Unit {0})
+own start id = stored (storing.own start id)
+
+-- Steps whose bindings are owned by this expression of what they answer, but for those that something inside of them owns.
+unfoldable pub owning : {A : Type 0} → (A → ExprId) → Lowering A → Lowering A
+owning owner p = do
+  start ← bindings_end
+  x ← p
+  own start (owner x)
+  pure x
 
 unfoldable pub alloc_type : TypeRef → Option Pointer → Lowering TypeRefId
 alloc_type t source = stored (storing.alloc_type t source)
@@ -210,6 +227,9 @@ SomeEnd b = SomeAtLimit b.stored ⊎ (b.counted_out ≡ true)
 -- an answer that is no number of an entry
 abbrev pub HasFlag : Stored → Bool → Type 0
 HasFlag s b = Unit {0}
+
+abbrev pub HasStart : Stored → BindingId → Type 0
+HasStart s start = Unit {0}
 
 abbrev pub HasNumber : Stored → ℕ → Type 0
 HasNumber s n = Unit {0}

@@ -8,6 +8,8 @@ use Rattle.hir_store.specs.Stored.{Stored}
 use Rattle.hir_store.specs.Range.{HasExpr, HasExprOption, HasExprs, HasLabelOption, HasStatements, HasStatementOption}
 use Rattle.hir_store.specs.Range.{HasFields, HasSpread, past_field, HasPat}
 use Rattle.hir_store.specs.Arenas.{past_option}
+use Rattle.hir_store.specs.declared.hir.CoroutineKind.{CoroutineKind}
+use Rattle.hir_store.specs.declared.hir.CoroutineKind.TheVariants as coroutine
 use Rattle.hir_store.specs.declared.hir.RecordLitField.{RecordLitField}
 use Rattle.hir_env.specs.Layers.{RecordReading}
 use Rattle.hir_store.specs.Range.{Has, HasConst, HasType, HasTypeOption, HasTypes, HasArgsOption, HasBounds, HasPathOption}
@@ -31,7 +33,8 @@ use Rattle.hir_env.specs.declared.place.Place.{Place}
 use Rattle.hir_env.specs.Answered.{Binder, Type_, OptionType, Parts, Path, OptionPath, Segment, OptionArgs, Bounds, Constant}
 use Rattle.hir_env.specs.Answered.{Expr, OptionExpr, Exprs, Block, OptionBlock, Stmts, Stmt}
 use Rattle.hir_env.specs.Answered.{OptionPat, Param, Params, Side, OptionTypePat, Limit, Target}
-use Rattle.hir_env.specs.Whole.{answered_plain, expr_part, in_const_block, in_constant, label_part, pointer_at, reader, stmts_part}
+use Rattle.hir_env.specs.Whole.{answered_plain, expr_part, in_const_block, in_constant, in_coroutine, label_part, pointer_at}
+use Rattle.hir_env.specs.Whole.{reader, stmts_part}
 use Rattle.hir_env.specs.Whole.{type_part}
 use Rattle.hir_store.specs.declared.path.Path.{Path as HirPath}
 use Rattle.hir_lower_form.specs.Builder.{Builder}
@@ -77,6 +80,7 @@ LowersEach es old result new = Lowers HasExprs (spec.lower_each [] es) old resul
 abbrev pub HasRole : Stored → BlockRole → Type 0
 HasRole s (role.Plain is_unsafe label) = HasLabelOption s label
 HasRole s (role.Try item typed) = Unit {0}
+HasRole s (role.Coroutine kind moves) = Unit {0}
 
 -- as a block of this role
 abbrev pub LowersInside : BlockRole → Block → Builder → Checked ExprId → Builder → Type 0
@@ -252,8 +256,15 @@ try_steps_at at t b =
 abbrev pub const_steps_at : Spot → AstBlockExpr → ExprSteps
 const_steps_at at b =
     let node = out-BlockExpr b in
-    spec.const_form (pointer_at at node.id node.range)
-    (spec.constant_form (spec.lower_inside (role.Plain false None) (answered_plain (in_const_block at) b)))
+    spec.owning (λ i. i) (spec.const_form (pointer_at at node.id node.range)
+    (spec.constant_form (spec.lower_inside (role.Plain false None) (answered_plain (in_const_block at) b))))
+
+-- an `async`, `gen` or `async gen` block that is written here
+abbrev pub coroutine_steps_at : Spot → CoroutineKind → AstBlockExpr → ExprSteps
+coroutine_steps_at at kind b =
+    let node = out-BlockExpr b in
+    let inner = spec.lower_inside (role.Coroutine kind node.move_) (answered_plain (in_coroutine kind at) b) in
+    spec.owning (λ i. i) (spec.coroutine_form inner)
 
 -- a block as an expression, by its modifier, where only without one its label counts
 abbrev pub own_steps_at : Spot → Option BlockModifier → AstBlockExpr → ExprSteps
@@ -262,3 +273,6 @@ own_steps_at at None b =
 own_steps_at at (Some modifier.Unsafe) b = spec.lower_inside (role.Plain true None) (answered_plain at b)
 own_steps_at at (Some modifier.Try) b = try_steps_at at (type_part at (out-BlockExpr b).ty) b
 own_steps_at at (Some modifier.Const) b = const_steps_at at b
+own_steps_at at (Some modifier.Async) b = coroutine_steps_at at coroutine.Async b
+own_steps_at at (Some modifier.Gen) b = coroutine_steps_at at coroutine.Gen b
+own_steps_at at (Some modifier.AsyncGen) b = coroutine_steps_at at coroutine.AsyncGen b

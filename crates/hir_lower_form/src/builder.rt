@@ -8,7 +8,7 @@ ghost use Rattle.hir_env.specs.Answering.{jump};
 ghost use Rattle.hir_lower_form.specs.Builder.{fresh};
 ghost use Rattle.hir_lower_form.specs.Lowering as spec;
 ghost use Rattle.hir_lower_scope.specs.Found.{try_of};
-ghost use Rattle.hir_lower_form.specs.Lowering.{HasFlag, HasNumber, HasTry, Lowers};
+ghost use Rattle.hir_lower_form.specs.Lowering.{HasFlag, HasNumber, HasStart, HasTry, Lowers};
 ghost use Rattle.hir_lower_form.specs.Lower.{missing};
 ghost use Rattle.hir_lower_form.specs.Pats.{missing_pat};
 ghost use Rattle.hir_lower_form.specs.Types.{error_type, unit_type};
@@ -181,6 +181,23 @@ impl BodyBuilder {
         ensures { Lowers HasNone (spec.set_problem binding problem) self.old (Ok tt) self.new }
     {
         self.store.set_problem(binding, problem);
+    }
+
+    /// The number that the next binding gets.
+    #[tactic(auto, unfolding(crate::specs::Lowering::bindings_end))]
+    pub fn bindings_end(&self) -> BindingId
+        ensures { Lowers HasStart spec.bindings_end self.now (Ok result) self.now }
+    {
+        BindingId(self.store.bindings_len())
+    }
+
+    /// From this binding on the expression owns each that nothing owned.
+    #[tactic(auto, unfolding(crate::specs::Lowering::own))]
+    pub fn own(&mut self, start: BindingId, owner: ExprId)
+        requires { HasExpr self.old.stored owner }
+        ensures { Lowers HasNone (spec.own start owner) self.old (Ok tt) self.new }
+    {
+        self.store.own(start, owner);
     }
 
     /// Stores a type, to which its node, where it came from one, leads from now on.
@@ -417,8 +434,8 @@ impl BodyBuilder {
         self.scopes.find_try()
     }
 
-    /// Opens the border of a constant or a closure: until it is closed no jump reaches what is open around it. It answers whether a
-    /// `yield` stood around it, for `close_barrier`.
+    /// Opens the border of a constant, a closure or a coroutine: until it is closed no jump reaches what is open around it. It answers
+    /// whether a `yield` stood around it, for `close_barrier`.
     #[tactic(auto, unfolding(crate::specs::Lowering::open_barrier))]
     pub fn open_barrier(&mut self) -> Result<bool, StoreFault>
         ensures { Lowers HasFlag spec.open_barrier self.old result self.new }

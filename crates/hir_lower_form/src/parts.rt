@@ -21,6 +21,7 @@ use hir_env::place::Place;
 use hir_env::resolved::{Resolved, Shadow};
 use hir_lower_scope::labels::{LabelScopes, NoTarget};
 use hir_store::fault::StoreFault;
+use hir_store::hir::CoroutineKind;
 use hir_store::ids::{CfgId, CrateId, ExprId, HygieneId, LabelId, LangItemId, TypeRefId};
 use hir_store::name::Name;
 use hir_store::path::{GenericArgs, ModPath};
@@ -40,6 +41,11 @@ pub enum BlockRole {
     Try {
         item: Option<LangItemId>,
         typed: bool,
+    },
+    /// The block of a coroutine, behind which `move` stands or doesn't.
+    Coroutine {
+        kind: CoroutineKind,
+        moves: bool,
     },
 }
 

@@ -1,7 +1,10 @@
 //! Constants: the lengths of arrays, and arguments.
 
+ghost use Rattle.hir_store.specs.Range.{HasConst};
 ghost use Rattle.hir_env.specs.Answered as tree;
 ghost use Rattle.hir_env.specs.Whole.{answered, expr_part};
+ghost use Rattle.hir_lower_form.specs.Lower.{lower_rooted};
+ghost use Rattle.hir_lower_form.specs.Lowering.{Lowers};
 ghost use Rattle.hir_lower_form.specs.Methods.{LowersConstant, LowersExpr, LowersExprOpt};
 ghost use Rattle.hir_lower_form.specs.Nests.{IfPresent};
 ghost use Rattle.hir_lower_handlers.specs.Nests.{HandlesExpr};
@@ -62,6 +65,31 @@ fn expr_or_missing<
 /// The expression, read at this place, as a constant: no jump in it reaches what is open around it, and it is recorded as a
 /// root unless one is being lowered.
 #[tactic(auto, unfolding(hir_lower_form::specs::Forms::constant_form))]
+fn rooted_constant<
+    E: LowerEnv,
+    F: Fn(Global, &E, Place, &mut BodyBuilder, &ast::Expr) -> Result<Option<ExprId>, StoreFault>,
+>(
+    alloc: Global,
+    env: &E,
+    place: Place,
+    state: &mut BodyBuilder,
+    lower: &F,
+    expr: &Option<Boxed<ast::Expr>>,
+) -> Result<ConstRef, StoreFault>
+    requires { IfPresent (HandlesExpr E.answers (F.pre lower.now) (F.post lower.now) env.now place) expr.now }
+    ensures { let part = expr_part (spot_at (E.answers env.now) place) expr.now in
+        Lowers HasConst (lower_rooted (tree.constant part)) state.old result state.new }
+{
+    let outside = state.open_barrier()?;
+    let outer = state.enter_root();
+    let id = expr_or_missing(alloc, env, place, state, lower, expr)?;
+    let _ = state.close_barrier(outside);
+    state.leave_root(outer, id)?;
+    Ok(ConstRef { expr: id })
+}
+
+/// The same, which owns the bindings that are made in it.
+#[tactic(auto, unfolding(hir_lower_form::specs::Lowering::owning))]
 pub fn constant_form<
     E: LowerEnv,
     F: Fn(Global, &E, Place, &mut BodyBuilder, &ast::Expr) -> Result<Option<ExprId>, StoreFault>,
@@ -76,10 +104,8 @@ pub fn constant_form<
     requires { IfPresent (HandlesExpr E.answers (F.pre lower.now) (F.post lower.now) env.now place) expr.now }
     ensures { LowersConstant (tree.constant (expr_part (spot_at (E.answers env.now) place) expr.now)) state.old result state.new }
 {
-    let outside = state.open_barrier()?;
-    let outer = state.enter_root();
-    let id = expr_or_missing(alloc, env, place, state, lower, expr)?;
-    let _ = state.close_barrier(outside);
-    state.leave_root(outer, id)?;
-    Ok(ConstRef { expr: id })
+    let start = state.bindings_end();
+    let constant = rooted_constant(alloc, env, place, state, lower, expr)?;
+    state.own(start, constant.expr);
+    Ok(constant)
 }

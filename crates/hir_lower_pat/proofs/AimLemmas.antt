@@ -3,9 +3,7 @@ use Rattle.std.proofs.Common.{◌≡◌, ◌∙◌, ap, refl, subst, sym, Bool, 
 use Rattle.std.proofs.Common.{◌∷◌, ◌++◌, arith, ◌≤◌}
 use Rattle.std.specs.Prelude.{if◌then◌else◌, is_some, option_map}
 use Rattle.hir_base.specs.declared.op.BinaryOp.TheVariants as op
-use Rattle.hir_syntax.specs.declared.ast.BlockExpr.{BlockExpr as AstBlockExpr, out-BlockExpr}
-use Rattle.hir_syntax.specs.declared.ast.BlockModifier.{BlockModifier}
-use Rattle.hir_syntax.specs.declared.ast.BlockModifier.TheVariants as modifier
+use Rattle.hir_syntax.specs.declared.ast.BlockExpr.{out-BlockExpr}
 use Rattle.hir_syntax.specs.declared.ast.ElseBranch.TheOpen.{ExprKind-F}
 use Rattle.hir_syntax.specs.declared.ast.Expr.{Expr as AstExpr}
 use Rattle.hir_syntax.specs.declared.ast.ExprKind.{ExprKind as AstExprKind, out-ExprKind, roll-ExprKind, roll-out-ExprKind}
@@ -13,25 +11,22 @@ use Rattle.hir_syntax.specs.declared.ast.ExprKind.TheVariants as kind
 use Rattle.hir_syntax.specs.declared.ast.Path.{Path as AstPath}
 use Rattle.hir_syntax.specs.declared.ast.RecordExprFieldList.{RecordExprFieldList as AstFieldList}
 use Rattle.hir_store.specs.Pointers.{Pointer}
-use Rattle.hir_store.specs.declared.ids.BlockId.{BlockId}
 use Rattle.hir_store.specs.declared.ids.CfgId.{CfgId}
 use Rattle.hir_store.specs.declared.ids.ExprId.{ExprId}
 use Rattle.hir_store.specs.declared.ids.HygieneId.{HygieneId}
-use Rattle.hir_store.specs.declared.ids.LangItemId.{LangItemId}
 use Rattle.hir_store.specs.declared.ids.PatId.{PatId}
 use Rattle.hir_store.specs.declared.pat.Pat.TheVariants as pat
 use Rattle.hir_store.specs.declared.path.Path.{Path as HirPath}
 use Rattle.hir_env.specs.Spot.{Spot, site_of}
 use Rattle.hir_env.specs.Answered as tree
-use Rattle.hir_env.specs.Answered.{Block, Constant, Expr, Exprs, ForItems, IsWrittenLabel, Label, OptionExpr, OptionPat, OptionPath}
-use Rattle.hir_env.specs.Answered.{OptionType, Path, QuestionItems, Stmts, Target, Targets}
-use Rattle.hir_env.specs.Answering.{asked, expr_at, for_items, for_of, question_items, question_of}
+use Rattle.hir_env.specs.Answered.{Expr, Exprs, OptionPath, Path, Target, Targets}
+use Rattle.hir_env.specs.Answering.{asked, expr_at, for_items, question_items}
 use Rattle.hir_env.specs.Count.{count_expr}
 use Rattle.hir_env.specs.Layers.{ExprKindLayer}
 use Rattle.hir_env.specs.PathNames.{mod_path_of}
 use Rattle.hir_env.specs.Targets.{before_dots, behind_dots, call_or, callee_path, called, dots_pointer, elements, is_dots, names_target}
 use Rattle.hir_env.specs.Targets.{each_target, path_or, place_of, pointer_of, target_of, target_or}
-use Rattle.hir_env.specs.Whole.{answered, kept_expr, own_level, path_part, pointer_at, reader, written}
+use Rattle.hir_env.specs.Whole.{answered, kept_expr, path_part, pointer_at, reader, written}
 use Rattle.hir_env.proofs.Levels.{block_is_level, expr_is_level}
 use Rattle.hir_lower_form.specs.Builder.{Builder}
 use Rattle.hir_lower_form.specs.Forms.{paren_form, path_form, path_or_missing}
@@ -44,6 +39,7 @@ use Rattle.hir_lower_pat.specs.Aims.{ArrayParts, IsPlace, aim_of, aimed, array_r
 use Rattle.hir_lower_pat.specs.Aims.{array_of, dots_kind, path_of_callee, placed, through}
 use Rattle.hir_lower_pat.specs.declared.aims.Aim.{Aim}
 use Rattle.hir_lower_pat.specs.declared.aims.Aim.TheVariants as aim
+use Rattle.hir_lower_pat.proofs.OfKinds.{of_for, of_own, of_question, through_asked}
 use Rattle.hir_lower_pat.proofs.PathNames.{lowered_names}
 
 abbrev level : Spot → ExprKindLayer written → Pointer → Expr
@@ -64,43 +60,11 @@ disabled_is at e by h =
 
 -- ---- two dots and callees
 
-through_asked : {A : Type 0} (f : Expr → A) → ((s : Pointer) (by : CfgId) (e : Expr) → f (tree.disabled_expr s by e) ≡ f e)
-    → (s : Pointer) (r : Result (Unit {0}) CfgId) (e : Expr) → f (asked s r e) ≡ f e
-through_asked f h s (Ok _) e = refl
-through_asked f h s (Err by) e = h s by e
-
--- what is so of a `?`, be there its items or not
-of_question : {A : Type 0} (f : Expr → A) (a : A) (s : Pointer) (e : OptionExpr)
-    → ((items : QuestionItems) → f (tree.question_expr s items e) ≡ a) → f (tree.itemless_expr s) ≡ a
-    → (o : Option QuestionItems) → f (question_of o s e) ≡ a
-of_question f a s e h k None = k
-of_question f a s e h k (Some items) = h items
-
--- what is so of a `for`, be there its items or not
-of_for : {A : Type 0} (f : Expr → A) (a : A)
-    → ((s : Pointer) (items : ForItems) (label : Option Label) (w : IsWrittenLabel label) (p : OptionPat) (h b : OptionExpr)
-    → f (tree.for_expr s items label w p h b) ≡ a)
-    → ((s : Pointer) → f (tree.itemless_expr s) ≡ a)
-    → (o : Option ForItems) (s : Pointer) (label : Option Label) (w : IsWrittenLabel label) (p : OptionPat) (h b : OptionExpr)
-    → f (for_of o s label w p h b) ≡ a
-of_for f a k j None s label w p h b = j s
-of_for f a k j (Some items) s label w p h b = k s items label w p h b
-
--- what is so of a block as an expression, whatever its modifier
-of_own : {A : Type 0} (f : Expr → A) (a : A) → ((b : Block) → f (tree.block_expr b) ≡ a)
-    → ((s : Pointer) (item : Option LangItemId) (t : OptionType) (number : Option BlockId) (ss : Stmts) (e : OptionExpr)
-    → f (tree.try_expr s item t number ss e) ≡ a)
-    → ((s : Pointer) (c : Constant) → f (tree.const_expr s c) ≡ a)
-    → (at : Spot) (m : Option BlockModifier) (b : AstBlockExpr) → f (own_level at m b) ≡ a
-of_own f a h k j at None b = h _
-of_own f a h k j at (Some modifier.Unsafe) b = h _
-of_own f a h k j at (Some modifier.Try) b = k _ _ _ _ _ _
-of_own f a h k j at (Some modifier.Const) b = j _ _
-
 dots_at : (at : Spot) (k : ExprKindLayer written) (s : Pointer) → is_dots (level at k s) ≡ dots_kind k
 dots_at at (ExprKind-F.BlockExpr b) s =
     ap is_dots (block_is_level at b)
-    ∙ of_own is_dots false (λ x. refl) (λ t item y number ss e. refl) (λ t c. refl) at (out-BlockExpr b).mod_ b
+    ∙ of_own is_dots false (λ x. refl) (λ t item y number ss e. refl) (λ t c. refl) (λ t way moves number ss e. refl)
+    at (out-BlockExpr b).mod_ b
 dots_at at (ExprKind-F.TryExpr e) s = of_question is_dots false s _ (λ items. refl) refl (question_items at.answers.lang_items)
 dots_at at (ExprKind-F.RangeExpr o None None) s = refl
 dots_at at (ExprKind-F.RangeExpr o None (Some e)) s = refl
@@ -158,7 +122,8 @@ callee_at : (at : Spot) (k : ExprKindLayer written) (s : Pointer)
     → callee_path (level at k s) ≡ option_map (path_part at) (path_of_callee k)
 callee_at at (ExprKind-F.BlockExpr b) s =
     ap callee_path (block_is_level at b)
-    ∙ of_own callee_path None (λ x. refl) (λ t item y number ss e. refl) (λ t c. refl) at (out-BlockExpr b).mod_ b
+    ∙ of_own callee_path None (λ x. refl) (λ t item y number ss e. refl) (λ t c. refl) (λ t way moves number ss e. refl)
+    at (out-BlockExpr b).mod_ b
 callee_at at (ExprKind-F.TryExpr e) s = of_question callee_path None s _ (λ items. refl) refl (question_items at.answers.lang_items)
 callee_at at (ExprKind-F.RangeExpr o a b) s = refl
 callee_at at (ExprKind-F.IfExpr c t e) s = refl
@@ -219,7 +184,7 @@ other_at : (f : Path → Bool) (at : Spot) (k : ExprKindLayer written) (s : Poin
 other_at f at (ExprKind-F.BlockExpr b) s h =
     ap (target_or f tree.absent_target) (block_is_level at b)
     ∙ of_own (target_or f tree.absent_target) tree.absent_target (λ x. refl) (λ t item y number ss e. refl) (λ t c. refl)
-    at (out-BlockExpr b).mod_ b
+    (λ t way moves number ss e. refl) at (out-BlockExpr b).mod_ b
 other_at f at (ExprKind-F.TryExpr e) s h =
     of_question (target_or f tree.absent_target) tree.absent_target s _ (λ items. refl) refl (question_items at.answers.lang_items)
 other_at f at (ExprKind-F.RangeExpr o a b) s h = refl
@@ -363,6 +328,7 @@ module _ (f : Path → Bool) where
   put_is place (tree.question_expr at items e) = refl
   put_is place (tree.itemless_expr at) = refl
   put_is place (tree.try_expr at item t number ss e) = refl
+  put_is place (tree.coroutine_expr at way moves number ss e) = refl
   put_is place (tree.continue_expr at jump) = refl
   put_is place (tree.break_expr at jump e) = refl
   put_is place (tree.literal_expr at l) = refl

@@ -2,6 +2,7 @@ pub mod NameLemmas
 pub mod KindLemmas
 pub mod Kids
 pub mod PathNames
+mod OfKinds
 pub mod AimLemmas
 pub mod AimSteps
 pub mod AimTurns

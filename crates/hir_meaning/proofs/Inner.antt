@@ -19,7 +19,7 @@ pub paths_in_order : PathsInOrder
 paths_in_order at a b c d = (refl, refl, refl, refl, refl, refl)
 
 pub exprs_in_order : ExprsInOrder
-exprs_in_order at a b e f n items = (refl, refl, refl, refl, refl, refl, refl)
+exprs_in_order at a b e f n items k block = (refl, refl, refl, refl, refl, refl, refl, refl)
 
 pub patterns_in_order : PatternsInOrder
 patterns_in_order at a b c d l i = (refl, refl, refl, refl, refl, refl)

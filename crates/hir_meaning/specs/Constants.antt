@@ -1,15 +1,14 @@
 -- Small bodies with repeat arrays and const blocks, and what they do: what is in a length or a const block is a body inside, and
 -- doesn't run with what is around it.
-use Rattle.std.specs.Prelude.{◌≡◌, ℕ, List, [], ◌∷◌, ◌++◌, Option, Some, None}
+use Rattle.std.specs.Prelude.{◌≡◌, ℕ, List, [], ◌∷◌, ◌++◌, Some, None}
 use Rattle.hir_store.specs.Stored.{Store}
 use Rattle.hir_store.specs.declared.hir.Array.TheVariants as array
 use Rattle.hir_store.specs.declared.hir.Expr.{Expr as Stored}
 use Rattle.hir_store.specs.declared.hir.Expr.TheVariants as hir
 use Rattle.hir_store.specs.declared.ids.ExprId.{ExprId}
-use Rattle.hir_store.specs.declared.ids.LangItemId.{LangItemId}
 use Rattle.hir_env.specs.Answered as tree
 use Rattle.hir_env.specs.Answered.{Expr, OptionExpr}
-use Rattle.hir_meaning.specs.Inner.{bodies_in, inner_bodies}
+use Rattle.hir_meaning.specs.Inner.{Bodies, bodies_in, inner_bodies}
 use Rattle.hir_meaning.specs.InnerRows.{constants}
 use Rattle.hir_meaning.specs.Run.{answered, unit, repeated, const_block, returned, cut}
 use Rattle.hir_meaning.specs.Same.{ended, left, stray_break}
@@ -32,9 +31,13 @@ abbrev pub stored_repeat : ℕ → ℕ → Stored
 stored_repeat e l = hir.Array (array.Repeat (id e) (record { expr = id l }))
 
 -- The bodies inside it, as it is written and as it is stored, are these.
-pub record HasInside (written : OptionExpr) (store : Store) (number : ℕ) (es : List OptionExpr) (is : List ExprId) : Type 0 where
-  pub listed : bodies_in written ≡ constants es
+pub record HasBodies (written : OptionExpr) (store : Store) (number : ℕ) (bs : Bodies) (is : List ExprId) : Type 0 where
+  pub listed : bodies_in written ≡ bs
   pub stored : inner_bodies store (id number) ≡ is
+
+-- each of them an expression
+abbrev pub HasInside : OptionExpr → Store → ℕ → List OptionExpr → List ExprId → Type 0
+HasInside written store number es is = HasBodies written store number (constants es) is
 
 -- `[1; 2]`
 

@@ -56,7 +56,7 @@ pub data Operation : Type 0 where
   -- what is in it is a body inside
   const_block : Operation
   -- what it is, how it takes what its body uses of the outside, its parameters, a type for each where one is written, and what it
-  -- returns; its body is a body inside
+  -- returns; its body is a body inside. A coroutine block is one with the first two alone.
   closure : ClosureKind → CaptureBy → List PatData → List OptionTypeData → OptionTypeData → Operation
   method_call : Name → OptionArgsData → Operation
   cast : TypeData → Operation

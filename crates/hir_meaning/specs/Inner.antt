@@ -1,5 +1,5 @@
--- The bodies inside a body, written and stored: the constants of its expressions, types, paths and arguments, the bodies of its closures,
--- and the ends of ranges in its types, each before those that are inside it, in the order of parts.
+-- The bodies inside a body, written and stored: the constants of its expressions, types, paths and arguments, the bodies of its closures
+-- and of its coroutine blocks, and the ends of ranges in its types, each before those that are inside it, in the order of parts.
 use Rattle.std.specs.Prelude.{ℕ, zero, suc, ◌+◌, List, [], ◌∷◌, ◌++◌, length, slice_get}
 use Rattle.std.specs.Prelude.{Option, Some, None}
 use Rattle.hir_store.specs.Stored.{Store}
@@ -43,7 +43,7 @@ pub use Rattle.hir_meaning.specs.InnerWritten.{fields_bodies}
 pub use Rattle.hir_meaning.specs.InnerWritten.{field_bodies, spread_bodies, arms_bodies, arm_bodies, guard_bodies, block_bodies}
 pub use Rattle.hir_meaning.specs.InnerWritten.{block_part_bodies, stmts_bodies, stmt_bodies, pat_bodies, pat_part_bodies}
 pub use Rattle.hir_meaning.specs.InnerWritten.{pats_bodies, pat_fields_bodies, target_bodies, targets_bodies}
-pub use Rattle.hir_meaning.specs.InnerWritten.{target_fields_bodies, constant_body, limit_body}
+pub use Rattle.hir_meaning.specs.InnerWritten.{target_fields_bodies, constant_body, coroutine_body, limit_body}
 
 -- the bodies inside the parts of an entry
 pub record Inners : Type 0 where

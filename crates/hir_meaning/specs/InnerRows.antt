@@ -1,9 +1,11 @@
 -- Worked lists of the bodies inside types, paths and expressions.
-use Rattle.std.specs.Prelude.{◌≡◌, codes, true, false, List, [], ◌∷◌, map, Some, None}
+use Rattle.std.specs.Prelude.{◌≡◌, codes, true, false, List, [], ◌∷◌, map, Option, Some, None}
 use Rattle.hir_syntax.specs.declared.ast.Literal.{Literal}
 use Rattle.hir_store.specs.Generics.{of_args}
 use Rattle.hir_store.specs.Pointers.{Pointer}
+use Rattle.hir_store.specs.declared.hir.CoroutineKind.{CoroutineKind}
 use Rattle.hir_store.specs.declared.hir.Expr.TheVariants as hir
+use Rattle.hir_store.specs.declared.ids.BlockId.{BlockId}
 use Rattle.hir_store.specs.declared.ids.ExprId.{ExprId}
 use Rattle.hir_store.specs.declared.ids.LangItemId.{LangItemId}
 use Rattle.hir_store.specs.declared.name.Name.{Name}
@@ -13,8 +15,9 @@ use Rattle.hir_store.specs.declared.path.GenericArgsParentheses.TheVariants as p
 use Rattle.hir_store.specs.declared.type_ref.TypeRef.TheVariants as ty
 use Rattle.hir_env.specs.Answered as tree
 use Rattle.hir_env.specs.Answered.{Type_, OptionType, OptionExpr, OptionPat, OptionPath, OptionArgs, Arg, FnHead, SegmentArgs, Segment}
-use Rattle.hir_env.specs.Answered.{Signed, QuestionItems}
-use Rattle.hir_meaning.specs.Inner.{Bodies, constant_body, limit_body, bodies_in, inner_bodies, path_bodies, pat_part_bodies, type_bodies}
+use Rattle.hir_env.specs.Answered.{Signed, QuestionItems, Stmts}
+use Rattle.hir_meaning.specs.Inner.{Bodies, InnerBody, constant_body, coroutine_body, limit_body, bodies_in, inner_bodies}
+use Rattle.hir_meaning.specs.Inner.{path_bodies, pat_part_bodies, type_bodies}
 use Rattle.hir_meaning.specs.Small.{id, literal_at, name_at, one, two, stored_one, stored_two}
 use Rattle.hir_meaning.specs.Small.{at as node}
 use Rattle.hir_meaning.specs.Forms.{name_a, stored_a, name_m}
@@ -146,8 +149,18 @@ closure_with at a b c d e =
     tree.some_expr (tree.closure_expr at false false
     (tree.more_params (tree.param named (nevers at b)) (tree.more_params (tree.param wild (nevers at c)) tree.no_params)) (nevers at d) e)
 
+-- `async { l as [!; a]; l as [!; b] }`, of any kind, and what is in it
+abbrev pub cast_first : Pointer → OptionExpr → OptionExpr → Stmts
+cast_first at l a = tree.more_stmts (tree.expr_stmt (cast_to at l a) true) tree.no_stmts
+
+abbrev pub coroutine_with : Pointer → CoroutineKind → Option BlockId → OptionExpr → OptionExpr → OptionExpr → OptionExpr
+coroutine_with at k block l a b = tree.some_expr (tree.coroutine_expr at k false block (cast_first at l a) (cast_to at l b))
+
+abbrev pub coroutine_inside : Pointer → Option BlockId → OptionExpr → OptionExpr → OptionExpr → InnerBody
+coroutine_inside at block l a b = coroutine_body block (cast_first at l a) (cast_to at l b)
+
 abbrev pub ExprsInOrder : Type 0
-ExprsInOrder = (at : Pointer) (a b e f : Literal) (n : Name) (items : QuestionItems)
+ExprsInOrder = (at : Pointer) (a b e f : Literal) (n : Name) (items : QuestionItems) (k : CoroutineKind) (block : Option BlockId)
     → (bodies_in (method_of at n (body at e) (body at a) (body at f) (body at b)) ≡ constants (body at a ∷ body at b ∷ []))
     × (bodies_in (record_of at n (body at a) (body at e) (body at b)) ≡ constants (body at a ∷ body at b ∷ []))
     × (bodies_in (question_of at items (body at e) (body at a)) ≡ constants (body at a ∷ []))
@@ -157,6 +170,8 @@ ExprsInOrder = (at : Pointer) (a b e f : Literal) (n : Name) (items : QuestionIt
     × (bodies_in (const_of at (body at e) (body at a)) ≡ constants (block_of at (body at e) (body at a) ∷ body at a ∷ []))
     × (bodies_in (closure_with at (body at a) (body at b) (body at e) (body at f) (cast_to at (body at a) (body at b)))
     ≡ constants (body at a ∷ body at b ∷ body at e ∷ body at f ∷ cast_to at (body at a) (body at b) ∷ body at b ∷ []))
+    × (bodies_in (coroutine_with at k block (body at e) (body at a) (body at b))
+    ≡ coroutine_inside at block (body at e) (body at a) (body at b) ∷ constants (body at a ∷ body at b ∷ []))
 
 -- `A::<{a}>(..)` with a part `A::<{b}>`, and the same behind a path that is refused
 abbrev pub call_of : Pointer → OptionPath → OptionExpr → OptionPat

@@ -1,8 +1,10 @@
--- The bodies inside a written body: the constants of its expressions, types, paths and arguments, the bodies of its closures, and the
--- ends of ranges in its types, each before those that are inside it, in the order of parts. What nothing reads isn't among them: what a
--- refused path or an `impl` that is an error held, what stands left of where a path begins, and arguments that go again.
+-- The bodies inside a written body: the constants of its expressions, types, paths and arguments, the bodies of its closures and of its
+-- coroutine blocks, and the ends of ranges in its types, each before those that are inside it, in the order of parts. What nothing reads
+-- isn't among them: what a refused path or an `impl` that is an error held, what stands left of where a path begins, and arguments that
+-- go again.
 use Rattle.std.specs.Prelude.{if◌then◌else◌, Bool, true, false, List, [], ◌∷◌, ◌++◌, reverse, map}
 use Rattle.std.specs.Prelude.{Option, Some, None}
+use Rattle.hir_store.specs.declared.ids.BlockId.{BlockId}
 use Rattle.hir_env.specs.declared.place.ImplTrait.{ImplTrait}
 use Rattle.hir_env.specs.declared.place.ImplTrait.TheVariants.{Error, Opaque}
 use Rattle.hir_env.specs.Answered as tree
@@ -18,6 +20,8 @@ use Rattle.hir_data.specs.Written.{list_data, path_of, what}
 pub data InnerBody : Type 0 where
   -- an expression that is a body of its own: a constant, or the body of a closure
   constant_body : OptionExpr → InnerBody
+  -- what is in a coroutine block: its number, its statements and its written tail
+  coroutine_body : Option BlockId → Stmts → OptionExpr → InnerBody
   limit_body : Limit → InnerBody
 
 abbrev pub Bodies : Type 0
@@ -279,6 +283,7 @@ abbrev mutual
   expr_bodies (tree.itemless_expr at) = []
   -- the type stands in front of the block
   expr_bodies (tree.try_expr at item t number ss e) = part_bodies t ++ (stmts_bodies ss ++ bodies_in e)
+  expr_bodies (tree.coroutine_expr at kind moves number ss e) = coroutine_body number ss e ∷ (stmts_bodies ss ++ bodies_in e)
   expr_bodies (tree.call_expr at f has_list es) = bodies_in f ++ each_bodies es
   expr_bodies (tree.path_expr at p h) = path_bodies p
   expr_bodies (tree.continue_expr at jump) = []

@@ -27,3 +27,4 @@ pub mod Tries
 pub mod Fors
 pub mod Constants
 pub mod Closures
+pub mod Coroutines

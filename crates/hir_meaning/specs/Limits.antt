@@ -1,4 +1,4 @@
--- How the ends of ranges in types run: each is a body of its own, a literal, a path or a call.
+-- How the bodies inside run. An end of a range in a type is a literal, a path or a call.
 use Rattle.std.specs.Prelude.{[], ◌∷◌, Option, Some, None}
 use Rattle.hir_env.specs.NodeMap.{Site}
 use Rattle.hir_env.specs.Answering.{site_of}
@@ -6,10 +6,10 @@ use Rattle.hir_env.specs.Answered as tree
 use Rattle.hir_env.specs.Answered.{Side, Limit}
 use Rattle.hir_data.specs.Data.{PathData, bare_path}
 use Rattle.hir_data.specs.Written.{root_hygiene, signed_data, written_path}
-use Rattle.hir_meaning.specs.Inner.{InnerBody, constant_body, limit_body}
+use Rattle.hir_meaning.specs.Inner.{InnerBody, constant_body, coroutine_body, limit_body}
 use Rattle.hir_meaning.specs.Run.{Value, literal, call, leave, missing, ends, ◌>>=◌, ask, read_path}
 pub use Rattle.hir_meaning.specs.Syntax.{run_item}
-use Rattle.hir_meaning.specs.Syntax.{SyntaxRun, SyntaxBody, written_body}
+use Rattle.hir_meaning.specs.Syntax.{SyntaxRun, SyntaxBody, written_body, written_coroutine}
 
 abbrev pub run_side_path : Option PathData → Option Site → SyntaxRun Value
 run_side_path None site = ends (leave missing)
@@ -34,4 +34,5 @@ run_limit (tree.before_limit i s) = do
 
 abbrev pub written_inner : InnerBody → SyntaxBody
 written_inner (constant_body e) = written_body e
+written_inner (coroutine_body number ss e) = written_coroutine number ss e
 written_inner (limit_body l) = record { table = tt; run = λ turns. run_limit l }

@@ -106,9 +106,18 @@ break_of n jump e = tree.break_expr (at n) jump (tree.some_expr e)
 abbrev pub StoredExprs : Type 0
 StoredExprs = List (Stored × Option ℕ)
 
--- a store of these alone
+-- A store of these alone. No run asks what owns a binding.
 abbrev pub only : StoredExprs → Store
-only ns = record { exprs = map (λ n. n.0) ns; labels = []; pats = []; bindings = []; types = []; lifetimes = []; roots = [] }
+only ns = record {
+  exprs = map (λ n. n.0) ns;
+  labels = [];
+  pats = [];
+  bindings = [];
+  binding_owners = [];
+  types = [];
+  lifetimes = [];
+  roots = [];
+}
 
 abbrev pub from : StoredExprs → SourceMap
 from ns = record {

@@ -1,6 +1,9 @@
 -- How a written body runs: over the answered tree, by the rules of the Rust Reference for each form. It knows no store, no
 -- numbers and no stack of labels.
 use Rattle.std.specs.Prelude.{ℕ, Bool, true, false, codes, List, [], ◌∷◌, ◌++◌, map, Option, Some, None, if◌then◌else◌}
+use Rattle.hir_store.specs.declared.hir.ClosureKind.TheVariants as kind
+use Rattle.hir_store.specs.declared.hir.CoroutineKind.{CoroutineKind}
+use Rattle.hir_store.specs.declared.hir.CoroutineSource.TheVariants as source
 use Rattle.hir_store.specs.declared.name.Name.{Name}
 use Rattle.hir_store.specs.declared.name.Name.TheVariants as name
 use Rattle.hir_store.specs.declared.ids.BlockId.{BlockId}
@@ -210,6 +213,10 @@ closure_of by_move is_static ps t e =
     closure (kind_of is_static e) (capture_of by_move) (map written_pat (params_tops ps)) (map written_option_type (params_types ps))
     (written_option_type t)
 
+-- A coroutine block is made as a closure that is a coroutine, and has neither parameters nor types.
+abbrev pub coroutine_of : CoroutineKind → Bool → Operation
+coroutine_of k by_move = closure (kind.Coroutine k source.Block) (capture_of by_move) [] [] no_type
+
 -- parts beside a path that is absent or refused don't run
 abbrev pub if_read : {A : Type 0} → Option PathRead → A → A → A
 if_read None there behind = behind
@@ -300,6 +307,8 @@ module _ (turns : ℕ) where
     run_expr (tree.const_expr at c) ss = ask const_block [] (Some (site_of at))
     -- its body is a body inside
     run_expr (tree.closure_expr at by_move is_static ps t e) ss = ask (closure_of by_move is_static ps t e) [] (Some (site_of at))
+    -- and so is what is in it
+    run_expr (tree.coroutine_expr at k by_move number stmts tail) ss = ask (coroutine_of k by_move) [] (Some (site_of at))
     run_expr (tree.method_call_expr at e name es generics) ss = do
       v ← run_part e ss
       vs ← run_each es ss
@@ -466,3 +475,11 @@ run_syntax e turns = run_part turns e []
 
 abbrev pub written_body : OptionExpr → SyntaxBody
 written_body e = record { table = tt; run = run_syntax e }
+
+-- What is in a coroutine block stands by itself, too. It runs as a block does, but is entered at no node.
+abbrev pub run_coroutine : Option BlockId → Stmts → OptionExpr → ℕ → SyntaxRun Value
+run_coroutine number stmts tail turns =
+    entering false number None (run_stmts turns stmts (is_left tail) as_it_is (run_tail turns tail) [])
+
+abbrev pub written_coroutine : Option BlockId → Stmts → OptionExpr → SyntaxBody
+written_coroutine number stmts tail = record { table = tt; run = run_coroutine number stmts tail }

@@ -24,6 +24,8 @@ ghost use Rattle.hir_meaning.specs.Fors.{AsksForTheNext, HasItsTurns, IsNeitherN
 ghost use Rattle.hir_meaning.specs.Fors.{ContinuesTheFor, LeavesByItsHead, HeadAsWritten, ForItemlessIsMissing, RefersSilently};
 ghost use Rattle.hir_meaning.specs.Closures.{CountsNoYieldInside, IsAnOldCoroutine, MakesAClosure, StraysFromItsClosure};
 ghost use Rattle.hir_meaning.specs.Constants.{RepeatsItsOperand, HasItsBlockInside, StraysFromItsLength, ReturnsFromItsLength};
+ghost use Rattle.hir_meaning.specs.Coroutines.{MakesACoroutine, EntersAtNoNode, KeepsItsYield, StraysFromItsCoroutine};
+ghost use Rattle.hir_meaning.specs.Coroutines.{ReturnsFromItsCoroutine};
 ghost use Rattle.hir_meaning.specs.InnerRows.{TypesInOrder, PathsInOrder, ExprsInOrder, PatternsInOrder, StoredInOrder};
 
 /// `'a: { loop { break 'a 1 } }` with one turn is the literal and its value.
@@ -495,4 +497,31 @@ pub fn counts_no_yield_inside()
 /// `'a: loop { || break 'a }` makes the closure turn after turn, and its body by itself is a stray break.
 pub fn strays_from_its_closure()
     ensures { StraysFromItsClosure }
+{}
+
+/// `async { 1 }`, and the same of another kind, is one event, which says its kind and whether it moves; what is in it is a body inside,
+/// and runs by itself.
+pub fn makes_a_coroutine()
+    ensures { MakesACoroutine }
+{}
+
+/// With a number what is in it is entered at no node, when it runs.
+pub fn enters_at_no_node()
+    ensures { EntersAtNoNode }
+{}
+
+/// `|| gen { yield a }` is a closure that doesn't yield: the `yield` is the coroutine's.
+pub fn keeps_its_yield()
+    ensures { KeepsItsYield }
+{}
+
+/// `loop { async { break } }` makes the coroutine turn after turn, and by itself what is in it is a stray break; so it is with
+/// `'a: loop { gen { continue 'a } }`, a stray continue.
+pub fn strays_from_its_coroutine()
+    ensures { StraysFromItsCoroutine }
+{}
+
+/// `try { async { a? } }` has the coroutine's value, and by itself what is in it returns what is made of the residual as for a body.
+pub fn returns_from_its_coroutine()
+    ensures { ReturnsFromItsCoroutine }
 {}

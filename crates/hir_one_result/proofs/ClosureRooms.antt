@@ -1,25 +1,103 @@
--- How much a closure and its parameters store.
-use Rattle.std.proofs.Common.{Bool, Option, Some}
+-- How much a closure and its parameters store, and a coroutine block; and whatever else owns what is bound in it.
+use Rattle.std.proofs.Common.{◌∙◌, Bool, length, Option, Some, None, Ok, Err}
+use Rattle.hir_store.specs.Bindings.{binding_id, with_owner}
 use Rattle.hir_store.specs.Pointers.{Pointer}
+use Rattle.hir_store.specs.Storing as storing
+use Rattle.hir_store.specs.declared.hir.CoroutineKind.{CoroutineKind}
+use Rattle.hir_store.specs.declared.ids.BindingId.{BindingId}
+use Rattle.hir_store.specs.declared.ids.BlockId.{BlockId}
 use Rattle.hir_store.specs.declared.ids.ExprId.{ExprId}
 use Rattle.hir_store.specs.declared.ids.PatId.{PatId}
 use Rattle.hir_store.specs.declared.ids.TypeRefId.{TypeRefId}
+use Rattle.hir_store.specs.declared.type_ref.ConstRef.{ConstRef}
+use Rattle.hir_lower_form.specs.Builder.{Builder}
 use Rattle.hir_lower_form.specs.declared.closures.ClosureParams.{ClosureParams}
-use Rattle.hir_lower_form.specs.Lower.{ExprSteps, closure_form, param_form, yield_form}
-use Rattle.hir_lower_form.specs.Lowering.{Lowering}
-use Rattle.hir_one_result.specs.Size.{Size, an_expr, ◌∪◌}
-use Rattle.hir_one_result.proofs.Rooms.{Takes, takes_alloc, takes_barrier, takes_begin, takes_close_barrier, takes_end, takes_note}
-use Rattle.hir_one_result.proofs.Rooms.{takes_pure}
-use Rattle.hir_one_result.proofs.Rooms.{takes_then}
+use Rattle.hir_lower_form.specs.Lower.{ExprSteps, StoredContents, closure_form, const_form, constant_form, coroutine_block_form}
+use Rattle.hir_lower_form.specs.Lower.{coroutine_form, param_form, yield_form}
+use Rattle.hir_lower_form.specs.Lowering.{Checked, go_on, Lowering, bindings_end, own, owning}
+use Rattle.hir_meaning.specs.InnerWritten.{InnerBody}
+use Rattle.hir_one_result.specs.Size.{Size, a_body, an_expr, owned, ◌∪◌}
+use Rattle.hir_one_result.proofs.ExprRooms.{const_takes}
+use Rattle.hir_one_result.proofs.Last.{EndsWith, IsLast, Last, constant_last, coroutine_last}
+use Rattle.hir_one_result.proofs.LastTree.{closure_last, const_last, coroutine_block_last}
+use Rattle.hir_one_result.proofs.Owners.{as_many_owned, last_owns}
+use Rattle.hir_one_result.proofs.Rooms.{Takes, takes_alloc, takes_barrier, takes_begin, takes_block, takes_close_barrier, takes_constant}
+use Rattle.hir_one_result.proofs.Rooms.{takes_end, takes_note, takes_pure, takes_then}
+use Rattle.hir_one_result.proofs.Took.{Room}
+
+-- ---- what owns
+
+-- where this is what owns the bindings from this one on that nothing owned
+abbrev owned_from : {A : Type 0} → (A → ExprId) → BindingId → A → Lowering A
+owned_from owner start a = λ c.
+    (Ok a, record c { stored = record c.stored { bindings = with_owner c.stored.bindings start (owner a) } })
+
+pub takes_owning : {A : Type 0} {owner : A → ExprId} {n : Size} {p : Lowering A} → Last owner p → Takes n p
+    → Takes (owned n) (owning owner p)
+unfolding owning bindings_end own storing.own
+takes_owning {A = A} {owner = owner} {n = n} {p = p} h k =
+    record { takes = λ b. by b (p b).0 (p b).1 (h.last b) (k.takes b) }
+  where
+    by : (b : Builder) (o : Checked A) (c : Builder) → EndsWith owner o c → Room n b o c
+        → let start = binding_id (length b.stored.bindings.entries) in
+        Room (owned n) b (go_on o c (owned_from owner start)).0 (go_on o c (owned_from owner start)).1
+    by b (Ok a) c last took = record {
+      exprs = took.exprs;
+      labels = took.labels;
+      bindings = took.bindings;
+      pats = took.pats;
+      types = took.types;
+      lifetimes = took.lifetimes;
+      pat_sources = took.pat_sources;
+      type_sources = took.type_sources;
+      lifetime_sources = took.lifetime_sources;
+      names = took.names;
+      as_many = as_many_owned n.exprs n.owners took.as_many;
+      owners = λ m. last_owns b.stored.bindings.owners (length b.stored.exprs.entries) n.exprs n.owners (owner a)
+          (length b.stored.bindings.entries) m (last ∙ took.exprs.more) (took.owners m);
+    }
+    by b (Err e) c last short = short
+
+-- a length or an argument
+pub takes_owned : (x : InnerBody) {n : Size} {p : ExprSteps} → IsLast p → Takes n p
+    → Takes (a_body x (owned n)) (owning (λ c. c.expr) (constant_form p))
+takes_owned x h k = takes_owning (constant_last h) (takes_constant x k)
+
+-- ---- forms
+
+behind_takes : {n : Size} {p : ExprSteps} → Takes n p → Takes n (coroutine_form p)
+unfolding coroutine_form
+behind_takes h = takes_begin takes_barrier (λ outside. takes_end h (λ id. takes_end (takes_close_barrier outside) (λ y. takes_pure id)))
 
 module _ (at : Pointer) where
-  pub closure_takes : (moves is_static : Bool) {n k j : Size} {p : Lowering ClosureParams} {t : Lowering (Option TypeRefId)} {e : ExprSteps}
+  pub const_block_takes : {n : Size} {c : Lowering ConstRef} → Takes n c → Takes (owned (n ∪ an_expr)) (owning (λ i. i) (const_form at c))
+  const_block_takes h = takes_owning (const_last at _) (const_takes at h)
+
+  bordered_takes : (moves is_static : Bool) {n k j : Size} {p : Lowering ClosureParams} {t : Lowering (Option TypeRefId)} {e : ExprSteps}
       → Takes n p → Takes k t → Takes j e → Takes (n ∪ (k ∪ (j ∪ an_expr))) (closure_form at moves is_static p t e)
   unfolding closure_form
-  closure_takes moves is_static hp ht he = takes_begin takes_barrier (λ outside. takes_then hp (λ l. takes_then ht (λ r. takes_then he
+  bordered_takes moves is_static hp ht he = takes_begin takes_barrier (λ outside. takes_then hp (λ l. takes_then ht (λ r. takes_then he
       (λ i. takes_begin (takes_close_barrier outside) (λ y. takes_alloc _ (Some at))))))
 
-  -- that one stands there is only noted
+  pub closure_takes : (moves is_static : Bool) {n k j : Size} {p : Lowering ClosureParams} {t : Lowering (Option TypeRefId)} {e : ExprSteps}
+      → Takes n p → Takes k t → Takes j e
+      → Takes (owned (n ∪ (k ∪ (j ∪ an_expr)))) (owning (λ i. i) (closure_form at moves is_static p t e))
+  closure_takes moves is_static hp ht he =
+      takes_owning (closure_last at moves is_static _ _ _) (bordered_takes moves is_static hp ht he)
+
+  coroutine_block_takes : (kind : CoroutineKind) (moves : Bool) (number : Option BlockId) {n : Size} {c : Lowering StoredContents}
+      → Takes n c → Takes (n ∪ (an_expr ∪ an_expr)) (coroutine_block_form at kind moves number c)
+  unfolding coroutine_block_form
+  coroutine_block_takes kind moves number h = takes_begin (takes_block number) (λ u. takes_then h (λ r.
+      takes_then (takes_alloc _ None) (λ b. takes_alloc _ (Some at))))
+
+  pub coroutine_takes : (kind : CoroutineKind) (moves : Bool) (number : Option BlockId) {n : Size} {c : Lowering StoredContents}
+      → Takes n c
+      → Takes (owned (n ∪ (an_expr ∪ an_expr))) (owning (λ i. i) (coroutine_form (coroutine_block_form at kind moves number c)))
+  coroutine_takes kind moves number h =
+      takes_owning (coroutine_last (coroutine_block_last at kind moves number _)) (behind_takes (coroutine_block_takes kind moves number h))
+
+  -- that one stands here is only noted
   pub yield_takes : {n : Size} {e : Lowering (Option ExprId)} → Takes n e → Takes (n ∪ an_expr) (yield_form at e)
   unfolding yield_form
   yield_takes h = takes_begin takes_note (λ u. takes_then h (λ v. takes_alloc _ (Some at)))

@@ -1,33 +1,44 @@
--- What a closure and its parameters become stands for them.
-use Rattle.std.proofs.Common.{◌≡◌, ◌∙◌, refl, sym, ap, subst, List, [], ◌∷◌, ◌++◌, append-nil, append_assoc, Bool, Option, Some, None}
+-- What a closure and its parameters become stands for them, and what a coroutine block becomes for that.
+use Rattle.std.proofs.Common.{◌≡◌, ◌∙◌, refl, sym, ap, subst, List, [], ◌∷◌, ◌++◌, append-nil, append_assoc, Bool, false, Option}
+use Rattle.std.proofs.Common.{Some, None}
 use Rattle.hir_store.specs.Pointers.{Pointer}
 use Rattle.hir_store.specs.Stored.{Stored, store_of, map_of}
 use Rattle.hir_store.specs.declared.diagnostics.ExpressionStoreDiagnostics.TheVariants.{InactiveCode}
 use Rattle.hir_store.specs.declared.hir.CaptureBy.{CaptureBy}
 use Rattle.hir_store.specs.declared.hir.ClosureKind.{ClosureKind}
+use Rattle.hir_store.specs.declared.hir.ClosureKind.TheVariants as closure
+use Rattle.hir_store.specs.declared.hir.CoroutineKind.{CoroutineKind}
+use Rattle.hir_store.specs.declared.hir.CoroutineSource.TheVariants as source
 use Rattle.hir_store.specs.declared.hir.Expr.TheVariants as hir
+use Rattle.hir_store.specs.declared.ids.BlockId.{BlockId}
 use Rattle.hir_store.specs.declared.ids.CfgId.{CfgId}
 use Rattle.hir_store.specs.declared.ids.ExprId.{ExprId}
 use Rattle.hir_store.specs.declared.ids.PatId.{PatId}
 use Rattle.hir_store.specs.declared.ids.TypeRefId.{TypeRefId}
 use Rattle.hir_scope.specs.Ribs.{barrier_rib}
-use Rattle.hir_env.specs.Answered.{OptionExpr, OptionType, Params}
+use Rattle.hir_env.specs.Answered.{OptionExpr, OptionType, Params, Stmts}
 use Rattle.hir_data.specs.Closures.{capture_of, kind_of}
 use Rattle.hir_data.specs.Yields.{yields_in}
 use Rattle.hir_lower_form.specs.declared.closures.ClosureParams.{ClosureParams}
-use Rattle.hir_lower_form.specs.Forms.{add_param}
-use Rattle.hir_lower_form.specs.Lower.{closure_form, lower_params, lower_part, no_closure_params, param_form, present_type, push_some}
-use Rattle.hir_lower_form.specs.Lowering.{Lowering, ◌>>=◌, ◌>>◌, pure, report}
+use Rattle.hir_lower_form.specs.Forms.{StoredContents, add_param, settled, settled_block, stored_coroutine}
+use Rattle.hir_lower_form.specs.Lower.{closure_form, coroutine_block_form, coroutine_form, kept_part, lower_params, lower_part, lower_stmts}
+use Rattle.hir_lower_form.specs.Lower.{no_closure_params, param_form, present_type, push_some}
+use Rattle.hir_lower_form.specs.Lowering.{Lowering, ◌>>=◌, ◌>>◌, owning, pure, report}
+use Rattle.hir_meaning.specs.Left.{is_left, gives_value}
 use Rattle.hir_read_back.proofs.ClosureKinds.{captures_as, kind_as}
 use Rattle.hir_read_back.proofs.YieldTree.{part_raises}
 use Rattle.hir_steps.proofs.Frames.{ribs}
 use Rattle.hir_steps.proofs.StillTree.{params_still, present_type_still}
-use Rattle.hir_one_result.specs.Leads.{Ways, ◌&◌}
+use Rattle.hir_one_result.specs.Leads.{OneUnled, OneWay, Ways, ◌&◌}
 use Rattle.hir_one_result.specs.Stands.{Open, StandsParams}
-use Rattle.hir_one_result.specs.StandsMade.{StandsClosure, StandsParam, StoredParams}
-use Rattle.hir_one_result.proofs.Lasting.{Correct, correct_as, correct_bind, correct_closure, correct_pure, correct_report}
-use Rattle.hir_one_result.proofs.Leading.{Shown, moved_then, shown_after, shown_as, shown_before, shown_both, shown_none}
-use Rattle.hir_one_result.proofs.Standing.{Of, Placed, Shows, expr_at, moved_fault, moved_pure, own}
+use Rattle.hir_one_result.specs.StandsMade.{StandsClosure, StandsCoroutine, StandsParam, StoredParams}
+use Rattle.hir_one_result.proofs.Contents.{has_contents}
+use Rattle.hir_one_result.proofs.Lasting.{Correct, correct_alloc, correct_as, correct_bind, correct_closure, correct_coroutine}
+use Rattle.hir_one_result.proofs.Lasting.{correct_enter_block, correct_pure, correct_report}
+use Rattle.hir_one_result.proofs.Leading.{Shown, moved_then, moved_to, shown_after, shown_as, shown_before, shown_both, shown_none}
+use Rattle.hir_one_result.proofs.PatStanding.{Behind}
+use Rattle.hir_one_result.proofs.Standing.{Of, Placed, Shows, block_leads, expr_at, moved_fault, moved_pure, own, owning_shows, unled}
+use Rattle.hir_one_result.proofs.TreeParts.{behind_none, contents}
 
 -- ---- what a condition disables
 
@@ -119,11 +130,11 @@ pub closure_stands : (P : Stored → Open → StoredParams → Ways) {T : Of (Op
     (moves is_static : Bool) (xs : Params) (t : OptionType) (e : OptionExpr)
     → Correct (lower_params no_closure_params xs) (Shows (λ final rs l. ParamsBehind no_closure_params (P final rs) l))
     → Correct (present_type t) (Shows T) → Correct (lower_part e) (Shows S)
-    → Correct (closure_form at moves is_static (lower_params no_closure_params xs) (present_type t) (lower_part e))
+    → Correct (owning (λ i. i) (closure_form at moves is_static (lower_params no_closure_params xs) (present_type t) (lower_part e)))
     (Shows (λ final rs i. StandsClosure (store_of final) (map_of final) at (kind_of is_static e) (capture_of moves)
     (λ l. P final (barrier_rib ∷ rs) l) (λ y. T final (barrier_rib ∷ rs) y) (λ x. S final (barrier_rib ∷ rs) x) i))
-closure_stands P at moves is_static xs t e hp ht he = correct_as (correct_closure at moves is_static hp ht he)
-    (λ final ps m m' i g row.
+closure_stands P at moves is_static xs t e hp ht he = owning_shows (λ i. i)
+    (correct_as (correct_closure at moves is_static hp ht he) (λ final ps m m' i g row.
     let noted = row.raised (params_still no_closure_params xs) (present_type_still t) (yields_in e) (part_raises e) in record {
       shown = shown_as (shown_both row.in_params.shown (shown_both row.in_ret.shown (shown_both row.in_body.shown (own row.made))))
           (λ ws z. let x = z.first in
@@ -134,4 +145,44 @@ closure_stands P at moves is_static xs t e hp ht he = correct_as (correct_closur
             subst (λ k. Placed final i k (Some at)) is (expr_at row.made),
             record { left = z.left; right = z.right; is = z.is; first = x.3; second = z.second },
           ));
-    })
+    }))
+
+-- ---- coroutine blocks
+
+-- over what is in the block
+abbrev Inside : Pointer → CoroutineKind → Bool → Option BlockId → Of StoredContents → Of ExprId
+Inside at kind moves number C final rs i = λ ws. (r : StoredContents) × (body : ExprId)
+    × Placed final i (stored_coroutine kind moves body) (Some at)
+    × Placed final body (settled_block false None number (settled r.0 r.1)) None
+    × (C final rs r & OneUnled body & OneWay at i) ws
+
+coroutine_block_stands : (at : Pointer) (kind : CoroutineKind) (moves : Bool) (number : Option BlockId) {c : Lowering StoredContents}
+    {C : Of StoredContents} → Correct c (Shows C)
+    → Correct (coroutine_block_form at kind moves number c) (Shows (Inside at kind moves number C))
+unfolding coroutine_block_form
+coroutine_block_stands at kind moves number h = correct_as
+    (correct_bind (correct_enter_block number) (λ u. correct_bind h (λ r.
+    correct_bind (correct_alloc (settled_block false None number (settled r.0 r.1)) None)
+    (λ b. correct_alloc (stored_coroutine kind moves b) (Some at)))))
+    (λ final ps m m' i g row.
+    let q = row.second in
+    let t = q.second in
+    let enters = moved_to row.first.stored (block_leads number m.stored) in
+    let parts = shown_after enters (shown_both q.first.shown (shown_both (unled t.first) (own t.second))) in
+    record { shown = shown_as parts (λ ws y. (q.one, t.one, expr_at t.second, expr_at t.first, y)) })
+
+pub coroutine_stands : (at : Pointer) (kind : CoroutineKind) (moves : Bool) (number : Option BlockId) (ss : Stmts) (e : OptionExpr)
+    → Correct (lower_stmts [] ss (kept_part e)) (Shows (λ final rs r. Behind [] (λ is. contents final rs ss e is r.1) r.0))
+    → Correct (owning (λ i. i) (coroutine_form (coroutine_block_form at kind moves number (lower_stmts [] ss (kept_part e)))))
+    (Shows (λ final rs i. StandsCoroutine (store_of final) (map_of final) at kind (capture_of moves) number (gives_value ss (is_left e))
+    (λ is o. contents final (barrier_rib ∷ rs) ss e is o) i))
+coroutine_stands at kind moves number ss e h = owning_shows (λ i. i) (correct_as
+    (correct_coroutine (coroutine_block_stands at kind moves number {C = λ final rs r. contents final rs ss e r.0 r.1}
+    (correct_as h (λ final ps m m' r g row. record { shown = behind_none (λ is. contents final (ribs ps) ss e is r.1) row.shown }))))
+    (λ final ps m m' i g row. record {
+      shown = shown_as row.inside.shown (λ ws y.
+          let r = y.0 in
+          let is = has_contents (store_of final) (map_of final) (barrier_rib ∷ ribs ps) ss e r.0 r.1 y.4.left y.4.first in
+          let node = λ c. Placed final i (hir.Closure [] [] None y.1 (closure.Coroutine kind source.Block) c) (Some at) in
+          (r.0, r.1, settled r.0 r.1, is, y.1, subst node (captures_as moves) y.2, y.3, y.4));
+    }))

@@ -29,7 +29,8 @@ use Rattle.hir_one_result.specs.PathRoom.{Seen}
 use Rattle.hir_one_result.specs.Room.{label_size, front_size}
 use Rattle.hir_one_result.proofs.Rooms.{Takes, takes_then, takes_as, takes_end, takes_begin, takes_pure, takes_report, takes_block}
 use Rattle.hir_one_result.proofs.Rooms.{takes_close, takes_point, takes_jump, takes_alloc, takes_open, takes_report_await}
-use Rattle.hir_one_result.proofs.Rooms.{takes_point_field, nothing_first}
+use Rattle.hir_one_result.proofs.Rooms.{takes_point_field}
+use Rattle.hir_one_result.proofs.Took.{nothing_first}
 use Rattle.hir_one_result.proofs.Tellings.{tells_then, tells_any, takes_of, Tells}
 use Rattle.hir_one_result.proofs.PathRooms.{GivesPath, option_seen}
 

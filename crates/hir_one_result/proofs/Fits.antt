@@ -4,7 +4,8 @@ use Rattle.hir_lower_form.specs.Builder.{Builder}
 use Rattle.hir_lower_form.specs.Lowering.{Checked, Lowering}
 use Rattle.hir_one_result.specs.Size.{Size}
 use Rattle.hir_one_result.specs.Laws.{GrownUnless, AllFit, TypesFit, PathsFit, BodiesFit}
-use Rattle.hir_one_result.proofs.Rooms.{Room, Takes}
+use Rattle.hir_one_result.proofs.Rooms.{Takes}
+use Rattle.hir_one_result.proofs.Took.{Room, may_be_owned}
 use Rattle.hir_one_result.proofs.Tellings.{takes_of}
 use Rattle.hir_one_result.proofs.TreeRooms.{body_takes, part_takes, path_tells, type_part_takes}
 
@@ -16,6 +17,8 @@ fits {A = A} {n = n} {p = p} h old = by (p old).0 (p old).1 (h.takes old)
       exprs = h.exprs.more;
       labels = h.labels.more;
       bindings = h.bindings.more;
+      owners = h.owners;
+      may_be_owned = may_be_owned h;
       pats = h.pats.more;
       types = h.types.more;
       lifetimes = h.lifetimes.more;

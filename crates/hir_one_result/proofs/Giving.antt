@@ -17,7 +17,8 @@ use Rattle.hir_one_result.specs.Size.{Size}
 use Rattle.hir_one_result.specs.Stands.{statement_of}
 use Rattle.hir_one_result.proofs.Contents.{IsThere, IsEmpty, Settled, before, of_expr, empty_expr, has_value}
 use Rattle.hir_one_result.proofs.PatStanding.{push_append}
-use Rattle.hir_one_result.proofs.Rooms.{Room, Takes}
+use Rattle.hir_one_result.proofs.Rooms.{Takes}
+use Rattle.hir_one_result.proofs.Took.{Room}
 use Rattle.hir_one_result.proofs.Tellings.{Told, Tells}
 
 -- of an answer, where there is one

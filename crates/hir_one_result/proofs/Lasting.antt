@@ -20,19 +20,21 @@ use Rattle.hir_store.proofs.Arenas.{prefix_refl, prefix_push, prefix_trans}
 use Rattle.hir_env.specs.Answered.{Jump, Label}
 use Rattle.hir_scope.specs.Ribs.{Rib, Target, reachable, unreachable, undeclared, target}
 use Rattle.hir_lower_form.specs.declared.closures.ClosureParams.{ClosureParams}
-use Rattle.hir_lower_form.specs.Lower.{ExprSteps, closure_form, constant_form}
+use Rattle.hir_lower_form.specs.Lower.{ExprSteps, closure_form, constant_form, coroutine_form}
 use Rattle.hir_lower_form.specs.Lowering.{Lowering, ◌>>=◌, pure, alloc_binding, alloc_expr, alloc_lifetime, alloc_pat, alloc_type, close}
 use Rattle.hir_lower_form.specs.Lowering.{count_out, enter_block, jump_target, open_label, point, point_field, point_pat_field}
-use Rattle.hir_lower_form.specs.Lowering.{report, report_await, alloc_made, made_number, open_try, try_target}
+use Rattle.hir_lower_form.specs.Lowering.{report, report_await, alloc_made, made_number, open_try, owning, try_target}
 use Rattle.hir_lower_form.specs.Ranges.{inner_form}
 use Rattle.hir_steps.proofs.Barriers as barriers
-use Rattle.hir_steps.proofs.Barriers.{ClosureRow}
+use Rattle.hir_steps.proofs.Barriers.{ClosureRow, CoroutineRow}
 use Rattle.hir_steps.proofs.Constants as constants
 use Rattle.hir_steps.proofs.Constants.{Constant, Inner}
 use Rattle.hir_steps.proofs.Frames.{Frame, rib, ribs}
 use Rattle.hir_steps.proofs.Logic.{longer}
 use Rattle.hir_steps.proofs.MadeSteps as made
 use Rattle.hir_steps.proofs.MadeSteps.{AllocatedMade, MadeNumber, OpenedTry, TryTargeted}
+use Rattle.hir_steps.proofs.Owning as owners
+use Rattle.hir_steps.proofs.Owning.{Owning}
 use Rattle.hir_steps.proofs.PatSteps as pats
 use Rattle.hir_steps.proofs.PatSteps.{AllocatedBinding, AllocatedPat, PatWrites, with_field_pat}
 use Rattle.hir_steps.proofs.Steps as steps
@@ -321,6 +323,20 @@ correct_closure at moves is_static hp ht he = steps.correct_as (barriers.correct
         in_body = row.in_body.rel (unchanged_first made (unchanged_behind (prefix_trans row.in_params.settled row.in_ret.settled) s));
         made = row.made;
       };
+    })
+
+pub correct_coroutine : {p : ExprSteps} {R : Rel ExprId} → Correct p R → Correct (coroutine_form p) (CoroutineRow R)
+correct_coroutine h = steps.correct_as (barriers.correct_coroutine h)
+    (λ final ps m m' i g row. record { settled = row.inside.settled; rel = λ s. record { inside = row.inside.rel s } })
+
+-- what owns them is no part of what stays
+pub correct_owning : {A : Type 0} (owner : A → ExprId) {p : Lowering A} {R : Rel A} → Correct p R
+    → Correct (owning owner p) (Owning owner R)
+correct_owning owner h = steps.correct_as (owners.correct_owning owner h) (λ final ps m m' a g row.
+    let same : Settled row.left.stored m'.stored =
+    subst (λ k. Settled row.left.stored k.stored) (sym row.is) (prefix_refl row.left.stored.bindings.entries) in record {
+      settled = prefix_trans row.first.settled same;
+      rel = λ s. record { left = row.left; before = row.before; first = row.first.rel (unchanged_first same s); is = row.is };
     })
 
 pub correct_inner : {p : ExprSteps} {R : Rel ExprId} → Correct p R → Correct (inner_form p) (Inner R)

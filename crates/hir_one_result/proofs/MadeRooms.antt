@@ -28,14 +28,15 @@ use Rattle.hir_lower_form.specs.Made.{done_arm_form, gives_arm_form, for_turn_fo
 use Rattle.hir_one_result.specs.Room.{label_size}
 use Rattle.hir_one_result.specs.Size.{Size, nothing, an_expr, a_label, a_pat, a_made_name, a_made_bind, a_flow_arm, a_for_turn}
 use Rattle.hir_one_result.specs.Size.{an_item_call, ◌∪◌, if_so}
-use Rattle.hir_one_result.proofs.Rooms.{Room, Takes, takes_then, takes_end, takes_begin, takes_pure, takes_alloc, takes_pat}
-use Rattle.hir_one_result.proofs.Rooms.{takes_binding, takes_define, takes_block, takes_close, took_none, grew_none, grew_one, still}
-use Rattle.hir_one_result.proofs.Rooms.{no_sources, unnamed, made_label, nothing_first, takes_as, takes_open}
+use Rattle.hir_one_result.proofs.Owners.{no_owners}
+use Rattle.hir_one_result.proofs.Rooms.{Takes, takes_then, takes_end, takes_begin, takes_pure, takes_alloc, takes_pat}
+use Rattle.hir_one_result.proofs.Rooms.{takes_binding, takes_define, takes_block, takes_close, made_label, takes_as, takes_open}
+use Rattle.hir_one_result.proofs.Took.{Room, took_none, grew_none, grew_one, still, no_sources, unnamed, nothing_first}
 use Rattle.hir_one_result.proofs.Tellings.{Tells, tells_any, tells_then, takes_of}
 
 -- steps
 
-abbrev hidden_expr : Bool → Expr → Option Pointer → Sourced Expr ExprId → Checked ExprId × Sourced Expr ExprId
+abbrev pub hidden_expr : Bool → Expr → Option Pointer → Sourced Expr ExprId → Checked ExprId × Sourced Expr ExprId
 hidden_expr t e source a = if t then (Ok (expr_id (length a.entries)), with_made a e source) else (Err Full, a)
 
 -- one that its node doesn't lead to
@@ -57,6 +58,8 @@ takes_made e source = record { takes = λ b. by b (nat_lt (length b.stored.exprs
       type_sources = no_sources b.stored.types refl;
       lifetime_sources = no_sources b.stored.lifetimes refl;
       names = unnamed refl;
+      as_many = refl;
+      owners = λ h. no_owners b.stored.bindings.owners refl;
     }
     by b false is = let full = ltb-false (length b.stored.exprs.entries) b.stored.exprs.limit is in inl (omega arith)
 
@@ -80,6 +83,8 @@ takes_number = record { takes = λ b. by b (nat_lt (suc b.names) (2 ^ 32)) refl 
       type_sources = no_sources b.stored.types refl;
       lifetime_sources = no_sources b.stored.lifetimes refl;
       names = sym (add-one b.names);
+      as_many = refl;
+      owners = λ h. no_owners b.stored.bindings.owners refl;
     }
     by b false is = let far = ltb-false (suc b.names) (2 ^ 32) is in
         inr (inr (inr (inr (inr (inr (inr (subst (λ k. 2 ^ 32 ≤ k) (sym (add-one b.names)) far)))))))
@@ -114,6 +119,8 @@ takes_named at typed k = record { takes = λ b. by b (nat_lt (length b.stored.la
       type_sources = no_sources b.stored.types refl;
       lifetime_sources = no_sources b.stored.lifetimes refl;
       names = unnamed refl;
+      as_many = refl;
+      owners = λ h. no_owners b.stored.bindings.owners refl;
     }
     by b false is = let full = ltb-false (length b.stored.labels.entries) b.stored.labels.limit is in inr (inl (omega arith))
 

@@ -32,9 +32,9 @@ use Rattle.hir_lower_form.specs.Types.{TypeSteps, pattern_type_form}
 use Rattle.hir_one_result.specs.PatRoom.{is_known, name_size, front_pat_size, name_side_size, rest_size, range_size, names_after, or_size}
 use Rattle.hir_one_result.specs.PathRoom.{Seen}
 use Rattle.hir_one_result.specs.Size.{Size, nothing, an_expr, a_binding, a_pat, a_type, dots_behind, ◌∪◌, if_so, or_missing}
-use Rattle.hir_one_result.proofs.Rooms.{Takes, Same, takes_then, takes_as, takes_end, takes_begin, takes_pure, takes_alloc, takes_type}
+use Rattle.hir_one_result.proofs.Rooms.{Takes, takes_then, takes_as, takes_end, takes_begin, takes_pure, takes_alloc, takes_type}
 use Rattle.hir_one_result.proofs.Rooms.{takes_pat, takes_binding, takes_define, takes_problem, takes_point_pat_field, takes_report}
-use Rattle.hir_one_result.proofs.Rooms.{nothing_first, moved_in}
+use Rattle.hir_one_result.proofs.Took.{Same, nothing_first, moved_in}
 use Rattle.hir_one_result.proofs.Tellings.{Tells, tells_then, tells_end, tells_pure, tells_any, takes_of, tells_as, tells_less}
 use Rattle.hir_one_result.proofs.PathRooms.{GivesPath, option_seen, counts_out}
 use Rattle.hir_lower_form.specs.Lower.{lower_pat}
@@ -120,6 +120,7 @@ counts None = record {
   exprs = refl;
   labels = refl;
   bindings = refl;
+  owners = refl;
   names = refl;
   pats = refl;
   types = refl;
@@ -130,6 +131,7 @@ counts (Some n) = record {
   exprs = refl;
   labels = refl;
   bindings = refl;
+  owners = refl;
   names = refl;
   pats = refl;
   types = refl;
@@ -337,6 +339,7 @@ module _ (at : Pointer) where
     exprs = refl;
     labels = refl;
     bindings = refl;
+    owners = refl;
     names = refl;
     pats = refl;
     types = refl;
@@ -347,6 +350,7 @@ module _ (at : Pointer) where
     exprs = refl;
     labels = refl;
     bindings = refl;
+    owners = refl;
     names = refl;
     pats = refl;
     types = refl;

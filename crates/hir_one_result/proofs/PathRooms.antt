@@ -44,7 +44,8 @@ use Rattle.hir_one_result.specs.PathRoom as room
 use Rattle.hir_one_result.specs.Room.{Short}
 use Rattle.hir_one_result.specs.PathRoom.{Seen, Read, refused, ended, goes_on, after, at_first, anew, one_more, self_read, found}
 use Rattle.hir_one_result.specs.PathRoom.{projected, before, lifetime_size, use_size, uses_size}
-use Rattle.hir_one_result.proofs.Rooms.{Takes, Same, takes_then, takes_end, takes_pure, takes_type, takes_lifetime}
+use Rattle.hir_one_result.proofs.Rooms.{Takes, takes_then, takes_end, takes_pure, takes_type, takes_lifetime}
+use Rattle.hir_one_result.proofs.Took.{Same}
 use Rattle.hir_one_result.proofs.Tellings.{Tells, tells_then, tells_as, tells_pure, tells_end, anything, tells_any, takes_of}
 
 -- what was read, of a walk
@@ -175,6 +176,7 @@ super_counts n = record {
   exprs = refl;
   labels = refl;
   bindings = refl;
+  owners = refl;
   names = refl;
   pats = refl;
   types = refl;

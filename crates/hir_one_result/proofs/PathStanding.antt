@@ -8,7 +8,7 @@ use Rattle.hir_one_result.proofs.Lasting.{correct_bind, correct_both, correct_co
 use Rattle.hir_one_result.proofs.Tellings as known
 use Rattle.hir_one_result.proofs.PathRooms.{seen, seen_of, Gives, Yields}
 use Rattle.hir_one_result.proofs.Given.{with_given}
-use Rattle.hir_lower_form.specs.Lowering.{Lowering, ◌>>=◌, alloc_lifetime, alloc_pat, alloc_type, pure}
+use Rattle.hir_lower_form.specs.Lowering.{Lowering, ◌>>=◌, alloc_lifetime, alloc_pat, alloc_type, owning, pure}
 use Rattle.hir_lower_form.specs.Types.{array_type_form, lower_lifetime_option, path_bound_of, path_bound_form, binding_form, TypeSteps}
 use Rattle.hir_lower_form.specs.Types.{over_form, tuple_type_form, path_type_form, ref_type_form, fn_type_form, impl_type_form}
 use Rattle.hir_lower_form.specs.Types.{dyn_type_form, error_type, unit_type, lower_lifetime, lower_use, lower_uses, pattern_type_form}
@@ -57,7 +57,7 @@ use Rattle.hir_one_result.specs.Stands.{StandsSidePath, StandsSigned}
 use Rattle.hir_one_result.proofs.Defining.{MakesNone}
 use Rattle.hir_one_result.proofs.Leading.{Shown, shown_as, shown_none, shown_both, shown_after, shown_before, Moved, moved_same, moved_to}
 use Rattle.hir_one_result.proofs.Leading.{moved_still, moved_pat}
-use Rattle.hir_one_result.proofs.Standing.{Of, Placed, Shows, Leaves, moved_pure, alone_stands, expr_at, item_is, unled}
+use Rattle.hir_one_result.proofs.Standing.{Of, Placed, Shows, Leaves, moved_pure, alone_stands, expr_at, item_is, owning_shows, unled}
 
 abbrev pub nothing : Stored → Open → Ways
 nothing final rs = No
@@ -263,13 +263,17 @@ root_moved : (i : ExprId) {a b : Stored} → (b ≡ a) ⊎ (b ≡ with_root i a)
 root_moved i (inl e) = moved_same e
 root_moved i {a = a} (inr e) = moved_to e (moved_still a (with_root i a) refl refl refl refl refl refl)
 
-pub constant_shows : {S : Of ExprId} {p : ExprSteps} → Correct p (Shows S)
+pub rooted_shows : {S : Of ExprId} {p : ExprSteps} → Correct p (Shows S)
     → Correct (constant_form p) (Shows (λ final rs n. S final (barrier_rib ∷ rs) n.expr))
-constant_shows h = correct_as (correct_constant h)
+rooted_shows h = correct_as (correct_constant h)
     (λ final ps m m' c g row. record { shown = shown_before row.first.shown (root_moved c.expr row.stored) })
 
+pub constant_shows : {S : Of ExprId} {p : ExprSteps} → Correct p (Shows S)
+    → Correct (owning (λ c. c.expr) (constant_form p)) (Shows (λ final rs n. S final (barrier_rib ∷ rs) n.expr))
+constant_shows h = owning_shows (λ c. c.expr) (rooted_shows h)
+
 pub constant_leaves : {S : Of ExprId} {p : ExprSteps} → Correct p (Shows S)
-    → Correct (constant_form p) (Leaves (λ final rs ws. (n : ConstRef) × S final (barrier_rib ∷ rs) n.expr ws))
+    → Correct (owning (λ c. c.expr) (constant_form p)) (Leaves (λ final rs ws. (n : ConstRef) × S final (barrier_rib ∷ rs) n.expr ws))
 constant_leaves h = correct_as (constant_shows h) (λ final ps m m' c g row. record { shown = shown_as row.shown (λ ws y. (c, y)) })
 
 -- patterns in types

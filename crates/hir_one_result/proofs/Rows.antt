@@ -4,6 +4,7 @@ use Rattle.std.proofs.Common.{Some, None, true≢false}
 use Rattle.hir_store.specs.Stored.{Store, SourceMap}
 use Rattle.hir_store.specs.declared.hir.CaptureBy.TheVariants as capture
 use Rattle.hir_store.specs.declared.hir.ClosureKind.TheVariants as closure
+use Rattle.hir_store.specs.declared.hir.CoroutineKind.{CoroutineKind}
 use Rattle.hir_store.specs.declared.hir.Expr.{Expr as HirExpr}
 use Rattle.hir_store.specs.declared.hir.Expr.TheVariants as hir
 use Rattle.hir_store.specs.declared.hir.Statement.{Statement}
@@ -17,6 +18,7 @@ use Rattle.hir_store.specs.Pointers.{Pointer}
 use Rattle.hir_store.specs.declared.hir.Literal.{Literal}
 use Rattle.hir_env.specs.Answered.{ForItems, QuestionItems}
 use Rattle.hir_scope.specs.Ribs.{Try}
+use Rattle.hir_data.specs.Closures.{capture_of}
 use Rattle.hir_data.specs.Data.{PathData, path_data, item_path, names_in}
 use Rattle.hir_store.specs.declared.path.GenericArgs.{GenericArgs}
 use Rattle.hir_data.specs.Data.{no_args}
@@ -33,7 +35,8 @@ use Rattle.hir_one_result.specs.Stands.{Absent, Stands, opened, statement_of, St
 use Rattle.hir_one_result.specs.Worked.{Jumps, other, literal_first, Statements, EntersInOrder, Leaves, letter, block_id}
 use Rattle.hir_one_result.specs.StandsMade.{StandsQuestion}
 use Rattle.hir_one_result.specs.Worked.{elements, PlainForms, LeavesWith, Tries, Iterates, Fors, for_one}
-use Rattle.hir_one_result.specs.Worked.{Closures, Consts, IsClosure, IsConst, closure_break, const_one}
+use Rattle.hir_one_result.specs.Worked.{Closures, Consts, Coroutines, IsClosure, IsConst, IsCoroutine, Owners, closure_break, const_one}
+use Rattle.hir_one_result.specs.Worked.{coroutine_break}
 
 -- the bare path of this data
 abbrev bare_path : PathData → Path
@@ -337,4 +340,49 @@ closures = record {
   unreachable = refl;
   parameters_first = refl;
   disabled = λ by p. refl;
+}
+
+-- coroutine blocks
+
+abbrev seventh_block : List Statement → Option ExprId → Option HirExpr
+seventh_block ss tail = Some (hir.Block false None (Some (block_id 7)) ss tail)
+
+is_coroutine : (moves : Bool) (kind : CoroutineKind) (outer : LabelId) (store : Store) (source_map : SourceMap) (i : ExprId) (ws : List Way)
+    → Stands store source_map (opened label_a outer []) (coroutine_break kind moves) i ws → IsCoroutine kind (capture_of moves) store i ws
+is_coroutine moves kind outer store source_map i ws h =
+    let tail = h.7.first.1 in
+    let inside = tail.2.2.is ∙ (λ j. tail.2.2.first.1 j ++ tail.2.2.second j) in
+    let around = h.7.second.is ∙ (λ j. h.7.second.first j ++ h.7.second.second j) in
+    record {
+      block = h.4;
+      value = tail.0;
+      whole = h.5.stored;
+      inner = h.6.stored ∙ (ap (λ r. seventh_block r.0 r.1) h.3
+          ∙ (ap (λ ss. seventh_block ss h.1) h.7.first.0 ∙ ap (λ t. seventh_block [] t) tail.1));
+      breaks = tail.2.1.stored ∙ ap (λ v. Some (hir.Break None v)) tail.2.2.first.0;
+      ways = h.7.is ∙ (λ j. inside j ++ around j);
+    }
+
+pub coroutines : Coroutines
+coroutines = record {
+  moves = is_coroutine true;
+  refers = is_coroutine false;
+  unreachable = λ kind moves. refl;
+  own_number_first = λ kind moves. refl;
+}
+
+-- what owns bindings
+
+pub owners : Owners
+owners = record {
+  of_closures = refl;
+  behind = refl;
+  of_length = refl;
+  innermost = refl;
+  of_argument = refl;
+  of_const = refl;
+  of_coroutine = λ kind moves. refl;
+  of_made_names = λ items. refl;
+  behind_others = refl;
+  of_function = refl;
 }

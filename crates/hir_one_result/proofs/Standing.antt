@@ -2,6 +2,7 @@
 use Rattle.std.proofs.Common.{◌≡◌, ◌∙◌, refl, sym, ap, subst, ℕ, List, [], ◌∷◌, ◌++◌, slice_get, Option, Some, None}
 use Rattle.std.proofs.Common.{option_map, option_to_list, Bool, true, false, append-nil}
 use Rattle.hir_syntax.specs.declared.ast.Literal.{Literal as AstLiteral}
+use Rattle.hir_store.specs.Bindings.{binding_id}
 use Rattle.hir_store.specs.Pointers.{Pointer}
 use Rattle.hir_store.specs.Stored.{Stored, store_of, map_of}
 use Rattle.hir_store.specs.declared.hir.Array.TheVariants as array
@@ -40,7 +41,7 @@ use Rattle.hir_lower_form.specs.Lower.{operand_form, operands_form, value_form, 
 use Rattle.hir_lower_form.specs.Lower.{path_or_missing, path_form, lower_path, block_form, labelled, settled, stored_literal, let_form}
 use Rattle.hir_lower_form.specs.Lower.{match_form, arm_form, assign_form, let_stmt_form, repeat_form, const_form}
 use Rattle.hir_store.specs.declared.type_ref.ConstRef.{ConstRef}
-use Rattle.hir_lower_form.specs.Lowering.{Lowering, ◌>>=◌, pure, alloc_expr}
+use Rattle.hir_lower_form.specs.Lowering.{Lowering, ◌>>=◌, pure, alloc_expr, owning}
 use Rattle.hir_lower_form.specs.Ranges as ranges
 use Rattle.hir_lower_form.specs.Ranges.{range_form, item_expr, end_operand}
 use Rattle.hir_lower_form.specs.Types.{TypeSteps}
@@ -55,11 +56,11 @@ use Rattle.hir_one_result.specs.Stands.{StandsAlone, StandsPath, StandsLiteral, 
 use Rattle.hir_one_result.specs.Stands.{StandsRange}
 use Rattle.hir_one_result.proofs.Data.{PathIs, path_is}
 use Rattle.hir_one_result.proofs.Lasting.{Correct, correct_alloc, correct_as, correct_bind, correct_both, correct_enter_block}
-use Rattle.hir_one_result.proofs.Lasting.{correct_opened, correct_point, correct_point_field, correct_pure, correct_report_await}
-use Rattle.hir_one_result.proofs.Lasting.{correct_target}
+use Rattle.hir_one_result.proofs.Lasting.{correct_opened, correct_owning, correct_point, correct_point_field, correct_pure}
+use Rattle.hir_one_result.proofs.Lasting.{correct_report_await, correct_target}
 use Rattle.hir_one_result.proofs.Leading.{Shown, shown_as, shown_none, shown_both, shown_swap, shown_after, shown_before, shown_to}
 use Rattle.hir_one_result.proofs.Leading.{shown_expr, shown_made, shown_unled, shown_label, shown_point, shown_field, Moved, moved_same}
-use Rattle.hir_one_result.proofs.Leading.{moved_to, moved_still, moved_report}
+use Rattle.hir_one_result.proofs.Leading.{moved_to, moved_still, moved_report, moved_owner}
 use Rattle.hir_one_result.proofs.Overtaken.{shown_later}
 
 abbrev pub Of : Type 0 → Type 1
@@ -135,6 +136,13 @@ module _ {made : ℕ} {A B : Type 0} {at : Label → LabelId → Frame} {l : Lab
 
   pub own_label : (row : OpenedBy made at l R Q final ps m m' b) → Shown (OneLabelWay l.pointer row.number) m.stored row.entered.stored
   own_label row = shown_label l row.number (row.new ∙ row.last) row.stored
+
+-- whatever owns bindings
+pub owning_shows : {A : Type 0} (owner : A → ExprId) {S : Of A} {p : Lowering A} → Correct p (Shows S)
+    → Correct (owning owner p) (Shows S)
+owning_shows owner h = correct_as (correct_owning owner h) (λ final ps m m' a g row.
+    let owned = moved_owner (binding_id m.bindings) (owner a) row.left.stored in
+    record { shown = shown_before row.first.shown (moved_to (ap (λ k. k.stored) row.is) owned) })
 
 -- leaves
 
@@ -341,14 +349,14 @@ module _ (at : Pointer) where
   repeat_stands he hc = over_two (λ e c. refl) he hc
 
   pub const_stands : {c : Lowering ConstRef} {T : Of ConstRef} → Correct c (Shows T)
-      → Correct (const_form at c)
+      → Correct (owning (λ i. i) (const_form at c))
       (Shows (λ final rs i. StandsOver (store_of final) (map_of final) hir.Const at (λ n. Overtaken at (T final rs n)) i))
   unfolding const_form
-  const_stands h = correct_as (correct_bind h (λ c. correct_alloc (hir.Const c) (Some at))) (λ final ps m m' i g row.
-      let made = row.second in record {
+  const_stands h = owning_shows (λ i. i) (correct_as (correct_bind h (λ c. correct_alloc (hir.Const c) (Some at)))
+      (λ final ps m m' i g row. let made = row.second in record {
         shown = shown_as (shown_later (hir.Const row.one) at i row.first.shown (made.number ∙ made.last) made.stored)
             (λ ws x. (row.one, expr_at made, x));
-      })
+      }))
 
   pub method_call_stands : (name : Name) {e : ExprSteps} {xs : Lowering (List ExprId)} {as' : Lowering (Option GenericArgs)}
       {S : Of ExprId} {X : Of (List ExprId)} {G : Of (Option GenericArgs)} → Correct e (Shows S) → Correct xs (Shows X)

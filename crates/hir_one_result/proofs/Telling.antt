@@ -22,7 +22,7 @@ use Rattle.hir_scope.specs.Scopes as scope
 use Rattle.hir_scope.specs.Scopes.{Scope, loop_scope, block_scope, scopes_in_block, barrier}
 use Rattle.hir_scope.proofs.Ribs.{target_map}
 use Rattle.hir_lower_form.specs.Lowering.{Lowering, ◌>>=◌, pure, alloc_expr, point, report, report_await, enter_block, open_label, close}
-use Rattle.hir_lower_form.specs.Lowering.{jump_target, point_field}
+use Rattle.hir_lower_form.specs.Lowering.{jump_target, owning, point_field}
 use Rattle.hir_lower_form.specs.Lower.{ExprSteps, StoredContents, missing, some, if_form, loop_form, turn_form, call_form}
 use Rattle.hir_lower_form.specs.Lower.{continue_form, break_form}
 use Rattle.hir_lower_form.specs.Lower.{operand_form, operands_form, value_form, list_form, method_call_form, await_form, paren_form}
@@ -47,6 +47,7 @@ use Rattle.hir_one_result.specs.Diagnostics.{forget, Around, target_faults, jump
 use Rattle.hir_one_result.proofs.Around.{IsRib, in_loop, loop_is_rib, block_is_rib}
 use Rattle.hir_lower_form.specs.Ranges.{inner_form}
 use Rattle.hir_steps.proofs.Constants.{correct_constant, correct_inner, with_root}
+use Rattle.hir_steps.proofs.Owning.{owning_keeps, with_owned}
 
 -- A list of what is stored, which faults and entered blocks add to, and in which way a list may be another.
 pub record Listing (X : Type 0) : Type 1 where
@@ -236,6 +237,16 @@ module _ {X : Type 0} (L : Listing X) where
             subst (λ xs. Added (W ss ++ xs) m.stored m'.stored) is added;
       })
 
+  -- whatever owns bindings
+  pub owning_tells : {A : Type 0} (owner : A → ExprId) {D : List Scope → List X} {p : Lowering A} → Correct p (Tells D)
+      → Correct (owning owner p) (Tells D)
+  owning_tells owner h = owning_keeps owner
+      (λ final ps m left start id a row. record {
+        told = λ ss e. last_none (added_then (row.told ss e)
+            (added_none (L.unchanged left.stored (with_owned start id left.stored) refl refl)));
+      })
+      h
+
   -- forms
 
   pub missing_tells : Correct missing (Tells nothing)
@@ -316,9 +327,10 @@ module _ {X : Type 0} (L : Listing X) where
     unfolding repeat_form
     repeat_tells he hc = tells_bind he (λ i. tells_end hc (λ c. tells_alloc _ _))
 
-    pub const_tells : {D : List Scope → List X} {c : Lowering ConstRef} → Correct c (Tells D) → Correct (const_form at c) (Tells D)
+    pub const_tells : {D : List Scope → List X} {c : Lowering ConstRef} → Correct c (Tells D)
+        → Correct (owning (λ i. i) (const_form at c)) (Tells D)
     unfolding const_form
-    const_tells h = tells_end h (λ c. tells_alloc _ _)
+    const_tells h = owning_tells (λ i. i) (tells_end h (λ c. tells_alloc _ _))
 
     pub method_call_tells : (name : Name) {D E F : List Scope → List X} {e : ExprSteps} {xs : Lowering (List ExprId)}
         {as' : Lowering (Option GenericArgs)} → Correct e (Tells D) → Correct xs (Tells E) → Correct as' (Tells F)
@@ -384,11 +396,15 @@ module _ {X : Type 0} (L : Listing X) where
   root_none i {a = a} (inr e) = added_none (ap L.list e ∙ L.unchanged a (with_root i a) refl refl)
 
   -- what is behind a barrier, as a body of its own
-  pub constant_tells : {D : List Scope → List X} {p : ExprSteps} → Correct p (Tells D)
+  pub rooted_tells : {D : List Scope → List X} {p : ExprSteps} → Correct p (Tells D)
       → Correct (constant_form p) (Tells (λ ss. D (barrier ∷ ss)))
-  constant_tells h = correct_as (correct_constant h) (λ final ps m m' c g row. record {
+  rooted_tells h = correct_as (correct_constant h) (λ final ps m m' c g row. record {
     told = λ ss e. last_none (added_then (row.first.told (barrier ∷ ss) (ap (λ y. barrier_rib ∷ y) e)) (root_none c.expr row.stored));
   })
+
+  pub constant_tells : {D : List Scope → List X} {p : ExprSteps} → Correct p (Tells D)
+      → Correct (owning (λ c. c.expr) (constant_form p)) (Tells (λ ss. D (barrier ∷ ss)))
+  constant_tells h = owning_tells (λ c. c.expr) (rooted_tells h)
 
   pub inner_tells : {D : List Scope → List X} {p : ExprSteps} → Correct p (Tells D)
       → Correct (inner_form p) (Tells (λ ss. D (barrier ∷ ss)))

@@ -4,8 +4,8 @@ use Rattle.hir_lower_form.specs.Builder.{Builder}
 use Rattle.hir_lower_form.specs.Lowering.{Checked, go_on, Lowering, ◌>>=◌, pure}
 use Rattle.hir_one_result.specs.Size.{Size, nothing, ◌∪◌}
 use Rattle.hir_one_result.specs.Room.{Short}
-use Rattle.hir_one_result.proofs.Rooms.{Took, Room, Takes, Same, took_none, took_then, took_as, short_first, short_then, short_as}
-use Rattle.hir_one_result.proofs.Rooms.{none_after}
+use Rattle.hir_one_result.proofs.Rooms.{Takes}
+use Rattle.hir_one_result.proofs.Took.{Took, Room, Same, took_none, took_then, took_as, short_first, short_then, short_as, none_after}
 
 abbrev pub Told : {A : Type 0} → Size → (A → Type 0) → Builder → Checked A → Builder → Type 0
 Told n P b (Ok a) c = Took n b c × P a

@@ -48,8 +48,8 @@ use Rattle.hir_one_result.proofs.Telling.{operand_tells, operands_tells, value_t
 use Rattle.hir_one_result.proofs.MadeTelling.{for_tells, question_tells, try_block_tells, typed_try_tells}
 use Rattle.hir_one_result.proofs.Telling.{cast_tells, record_tells, offset_of_tells, field_tells, contents_tells, path_tells}
 use Rattle.hir_one_result.proofs.Telling.{block_form_tells, labelled_tells, tells_alloc, tells_aside, constant_tells, inner_tells}
-use Rattle.hir_one_result.proofs.Telling.{repeat_tells, const_tells}
-use Rattle.hir_one_result.proofs.ClosureTelling.{closure_tells, param_tells, yield_tells}
+use Rattle.hir_one_result.proofs.Telling.{repeat_tells, const_tells, rooted_tells}
+use Rattle.hir_one_result.proofs.ClosureTelling.{closure_tells, coroutine_tells, param_tells, yield_tells}
 use Rattle.hir_lower_form.specs.Walks.{start, super_read}
 use Rattle.hir_one_result.proofs.PathTelling.{tells_type, over_tells, array_tells, tuple_tells, path_type_tells, ref_tells, fn_tells}
 use Rattle.hir_one_result.proofs.PathTelling.{impl_tells, dyn_tells, path_bound_tells, reads_then, whole_tells, first_tells, counted_tells}
@@ -61,7 +61,7 @@ use Rattle.hir_store.specs.declared.ids.TypeRefId.{TypeRefId}
 use Rattle.hir_store.specs.declared.type_ref.TypeBound.{TypeBound}
 use Rattle.hir_lower_form.specs.declared.args.ArgLists.{ArgLists}
 use Rattle.hir_lower_form.specs.declared.closures.ClosureParams.{ClosureParams}
-use Rattle.hir_lower_form.specs.Lower.{lower_params, lower_param, no_closure_params}
+use Rattle.hir_lower_form.specs.Lower.{lower_params, lower_param, lower_rooted, no_closure_params}
 use Rattle.hir_lower_form.specs.declared.walk.PathWalk.{PathWalk}
 use Rattle.hir_lower_form.specs.Types.{no_lists}
 use Rattle.hir_store.specs.declared.hir.MatchArm.{MatchArm}
@@ -234,6 +234,9 @@ mutual
   constant_enters : (c : Constant) → Enters (blocks_of_constant c) (lower_constant c)
   constant_enters (tree.constant e) = constant_tells entered (part_blocks e)
 
+  rooted_enters : (c : Constant) → Enters (blocks_of_constant c) (lower_rooted c)
+  rooted_enters (tree.constant e) = rooted_tells entered (part_blocks e)
+
   type_pat_enters : (p : TypePat) → Enters (blocks_of_type_pat p) (lower_type_pat p)
   type_pat_enters (tree.not_null_type_pat at) = tells_pat entered _ _
   type_pat_enters (tree.or_type_pat at ps) = type_alternatives_tell entered at (type_pats_enters [] ps)
@@ -276,6 +279,8 @@ mutual
   node_blocks (tree.try_expr at item (tree.some_type t) number ss e) =
       typed_try_tells entered at (try_block_tells entered at item true number (contents_blocks [] ss (kept_part_blocks e)))
       (one_type_enters None t)
+  node_blocks (tree.coroutine_expr at kind moves number ss e) =
+      coroutine_tells entered at kind moves number (contents_blocks [] ss (kept_part_blocks e))
   node_blocks (tree.call_expr at f has_list es) = call_tells entered at (part_blocks f) (each_blocks [] es)
   node_blocks (tree.path_expr at p h) = path_tells entered at h (whole_enters p)
   node_blocks (tree.continue_expr at jump) = continue_tells entered at jump
@@ -288,7 +293,7 @@ mutual
   node_blocks (tree.lazy_expr at op a b) = operands_tells entered at _ (part_blocks a) (part_blocks b)
   node_blocks (tree.list_expr at form es) = list_tells entered at form (each_blocks [] es)
   node_blocks (tree.repeat_expr at e c) = repeat_tells entered at (part_blocks e) (constant_enters c)
-  node_blocks (tree.const_expr at c) = const_tells entered at (constant_enters c)
+  node_blocks (tree.const_expr at c) = const_tells entered at (rooted_enters c)
   node_blocks (tree.closure_expr at moves is_static xs t e) = closure_tells entered at moves is_static
       (params_enters no_closure_params xs) (present_type_enters t) (part_blocks e)
   node_blocks (tree.method_call_expr at e name es generics) =

@@ -48,8 +48,8 @@ use Rattle.hir_one_result.proofs.Telling.{operand_tells, operands_tells, value_t
 use Rattle.hir_one_result.proofs.MadeTelling.{for_tells, question_tells, try_block_tells, typed_try_tells}
 use Rattle.hir_one_result.proofs.Telling.{cast_tells, record_tells, offset_of_tells, field_tells, contents_tells, path_tells}
 use Rattle.hir_one_result.proofs.Telling.{block_form_tells, labelled_tells, tells_alloc, tells_aside, constant_tells, inner_tells}
-use Rattle.hir_one_result.proofs.Telling.{repeat_tells, const_tells}
-use Rattle.hir_one_result.proofs.ClosureTelling.{closure_tells, param_tells, yield_tells}
+use Rattle.hir_one_result.proofs.Telling.{repeat_tells, const_tells, rooted_tells}
+use Rattle.hir_one_result.proofs.ClosureTelling.{closure_tells, coroutine_tells, param_tells, yield_tells}
 use Rattle.hir_lower_form.specs.Walks.{start, super_read}
 use Rattle.hir_one_result.proofs.PathTelling.{tells_type, over_tells, array_tells, tuple_tells, path_type_tells, ref_tells, fn_tells}
 use Rattle.hir_one_result.proofs.PathTelling.{impl_tells, dyn_tells, path_bound_tells, reads_then, whole_tells, first_tells, counted_tells}
@@ -61,7 +61,7 @@ use Rattle.hir_store.specs.declared.ids.TypeRefId.{TypeRefId}
 use Rattle.hir_store.specs.declared.type_ref.TypeBound.{TypeBound}
 use Rattle.hir_lower_form.specs.declared.args.ArgLists.{ArgLists}
 use Rattle.hir_lower_form.specs.declared.closures.ClosureParams.{ClosureParams}
-use Rattle.hir_lower_form.specs.Lower.{lower_params, lower_param, no_closure_params}
+use Rattle.hir_lower_form.specs.Lower.{lower_params, lower_param, lower_rooted, no_closure_params}
 use Rattle.hir_lower_form.specs.declared.walk.PathWalk.{PathWalk}
 use Rattle.hir_lower_form.specs.Types.{no_lists}
 use Rattle.hir_store.specs.declared.hir.MatchArm.{MatchArm}
@@ -240,6 +240,9 @@ mutual
   constant_reports : (c : Constant) → Reports (λ ss. constant_faults ss c) (lower_constant c)
   constant_reports (tree.constant e) = constant_tells reported (part_faults e)
 
+  rooted_reports : (c : Constant) → Reports (λ ss. constant_faults ss c) (lower_rooted c)
+  rooted_reports (tree.constant e) = rooted_tells reported (part_faults e)
+
   type_pat_reports : (p : TypePat) → Reports (λ ss. type_pat_faults ss p) (lower_type_pat p)
   type_pat_reports (tree.not_null_type_pat at) = tells_pat reported _ _
   type_pat_reports (tree.or_type_pat at ps) = type_alternatives_tell reported at (type_pats_reports [] ps)
@@ -286,6 +289,8 @@ mutual
   node_faults (tree.try_expr at item (tree.some_type t) number ss e) =
       typed_try_tells reported at (try_block_tells reported at item true number (contents_faults [] ss (kept_part_faults e)))
       (one_type_reports None t)
+  node_faults (tree.coroutine_expr at kind moves number ss e) =
+      coroutine_tells reported at kind moves number (contents_faults [] ss (kept_part_faults e))
   node_faults (tree.call_expr at f has_list es) = call_tells reported at (part_faults f) (each_faults [] es)
   node_faults (tree.path_expr at p h) = path_tells reported at h (whole_reports p)
   node_faults (tree.continue_expr at jump) = continue_tells reported at jump
@@ -298,7 +303,7 @@ mutual
   node_faults (tree.lazy_expr at op a b) = operands_tells reported at _ (part_faults a) (part_faults b)
   node_faults (tree.list_expr at form es) = list_tells reported at form (each_faults [] es)
   node_faults (tree.repeat_expr at e c) = repeat_tells reported at (part_faults e) (constant_reports c)
-  node_faults (tree.const_expr at c) = const_tells reported at (constant_reports c)
+  node_faults (tree.const_expr at c) = const_tells reported at (rooted_reports c)
   node_faults (tree.closure_expr at moves is_static xs t e) = closure_tells reported at moves is_static
       (params_reports no_closure_params xs) (present_type_reports t) (part_faults e)
   node_faults (tree.method_call_expr at e name es generics) =

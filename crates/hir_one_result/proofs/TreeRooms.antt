@@ -25,7 +25,8 @@ use Rattle.hir_lower_form.specs.Lower.{lower_segment_args, parens_part, output_p
 use Rattle.hir_lower_form.specs.Lower.{lower_bound, lower_arms, lower_arm, lower_guard, present_block, lower_top, lower_pat, pat_part}
 use Rattle.hir_lower_form.specs.Lower.{present_pat, lower_pats, lower_elements, lower_later, lower_pat_fields, lower_pat_field, lower_side}
 use Rattle.hir_lower_form.specs.Lower.{lower_type_pat_part, lower_type_pat, lower_type_pats, lower_limit, limit_side, lower_target}
-use Rattle.hir_lower_form.specs.Lower.{lower_targets, lower_target_fields, lower_target_field, lower_params, lower_param, no_closure_params}
+use Rattle.hir_lower_form.specs.Lower.{lower_targets, lower_target_fields, lower_target_field, lower_params, lower_param, lower_rooted}
+use Rattle.hir_lower_form.specs.Lower.{no_closure_params}
 use Rattle.hir_lower_form.specs.declared.closures.ClosureParams.{ClosureParams}
 use Rattle.hir_lower_form.specs.Pats.{Elements, Table, no_elements, no_names, next_alternative}
 use Rattle.hir_lower_form.specs.Targets as targets
@@ -46,11 +47,12 @@ use Rattle.hir_one_result.specs.Room.{arm_size, guard_size, block_present_size, 
 use Rattle.hir_one_result.specs.Room.{elements_size, pat_fields_size, pat_field_size, side_size, top_size, type_pat_size}
 use Rattle.hir_one_result.specs.Room.{type_pat_part_size, type_pats_size, limit_size, limit_side_size, target_size, targets_size}
 use Rattle.hir_one_result.specs.Room.{target_fields_size, target_field_size, tops_size, self_size, formals_size, body_size}
-use Rattle.hir_one_result.specs.Room.{param_size, params_size}
-use Rattle.hir_one_result.proofs.ClosureRooms.{closure_takes, param_takes, yield_takes}
+use Rattle.hir_one_result.specs.Room.{param_size, params_size, rooted_size}
+use Rattle.hir_one_result.proofs.ClosureRooms.{closure_takes, const_block_takes, coroutine_takes, param_takes, takes_owned, yield_takes}
+use Rattle.hir_one_result.proofs.LastTree.{part_last}
 use Rattle.hir_one_result.proofs.Rooms.{Takes, takes_then, takes_as, takes_end, takes_begin, takes_pure, takes_report, takes_alloc}
-use Rattle.hir_one_result.proofs.Rooms.{nothing_first, moved_in, moved_out, takes_constant, takes_inner, takes_type, takes_pat}
-use Rattle.hir_one_result.proofs.Rooms.{takes_binding}
+use Rattle.hir_one_result.proofs.Rooms.{takes_binding, takes_constant, takes_inner, takes_type, takes_pat}
+use Rattle.hir_one_result.proofs.Took.{nothing_first, moved_in, moved_out}
 use Rattle.hir_one_result.proofs.Tellings.{tells_then, tells_any, takes_of, Tells, tells_as, tells_pure, tells_end, tells_less}
 use Rattle.hir_one_result.proofs.PatRooms.{Keyed, none_keyed, PatTakes, missing_pat_takes, alone_takes, path_pat_takes, bind_takes}
 use Rattle.hir_one_result.proofs.PatRooms.{over_pat_takes, tuple_pat_takes, tuple_struct_takes, record_pat_takes, pat_field_takes}
@@ -75,7 +77,7 @@ use Rattle.hir_lower_form.specs.Walks as walks
 use Rattle.hir_lower_form.specs.Walks.{start}
 use Rattle.hir_lower_form.specs.Paths.{proceed}
 use Rattle.hir_one_result.proofs.ExprRooms.{missing_takes, some_takes, if_takes, loop_takes, turn_takes, call_takes, continue_takes}
-use Rattle.hir_one_result.proofs.ExprRooms.{break_takes, repeat_takes, const_takes}
+use Rattle.hir_one_result.proofs.ExprRooms.{break_takes, repeat_takes}
 use Rattle.hir_one_result.proofs.ExprRooms.{paren_takes, path_takes, operand_takes, operands_take, value_takes, list_takes}
 use Rattle.hir_one_result.proofs.ExprRooms.{method_call_takes, cast_takes, offset_of_takes, record_takes, field_takes, await_takes}
 use Rattle.hir_one_result.proofs.Giving.{tells_given, stmts_value}
@@ -232,7 +234,10 @@ mutual
   bound_takes (tree.use_bound us) = takes_end (uses_take [] us) (λ xs. takes_pure _)
 
   constant_takes : (c : Constant) → Takes (constant_size c) (lower_constant c)
-  constant_takes (tree.constant e) = takes_constant (constant_body e) (part_takes e)
+  constant_takes (tree.constant e) = takes_owned (constant_body e) (part_last e) (part_takes e)
+
+  rooted_takes : (c : Constant) → Takes (rooted_size c) (lower_rooted c)
+  rooted_takes (tree.constant e) = takes_constant (constant_body e) (part_takes e)
 
   type_pat_takes : (p : TypePat) → Takes (type_pat_size p) (lower_type_pat p)
   type_pat_takes (tree.not_null_type_pat at) = takes_pat _ _
@@ -275,6 +280,8 @@ mutual
   node_takes (tree.try_expr at item (tree.some_type t) number ss e) =
       typed_try_takes at (try_block_takes at item true number _ (tells_given (stmts_take [] ss e (kept_part_takes e)) (stmts_value ss e)))
       (type_takes None t)
+  node_takes (tree.coroutine_expr at kind moves number ss e) =
+      coroutine_takes at kind moves number (stmts_take [] ss e (kept_part_takes e))
   node_takes (tree.call_expr at f has_list es) = call_takes at (part_takes f) (each_takes [] es)
   node_takes (tree.path_expr at p h) = path_takes at h (takes_of (path_tells p))
   node_takes (tree.continue_expr at jump) = continue_takes at jump
@@ -287,7 +294,7 @@ mutual
   node_takes (tree.lazy_expr at op a b) = operands_take at _ (part_takes a) (part_takes b)
   node_takes (tree.list_expr at form es) = list_takes at form (each_takes [] es)
   node_takes (tree.repeat_expr at e c) = repeat_takes at (part_takes e) (constant_takes c)
-  node_takes (tree.const_expr at c) = const_takes at (constant_takes c)
+  node_takes (tree.const_expr at c) = const_block_takes at (rooted_takes c)
   node_takes (tree.closure_expr at moves is_static xs t e) =
       closure_takes at moves is_static (params_take no_closure_params xs) (present_type_takes t) (part_takes e)
   node_takes (tree.method_call_expr at e name es generics) =

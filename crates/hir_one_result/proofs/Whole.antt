@@ -65,6 +65,7 @@ one_results limit owed skipped f e given id new is =
       lifetime_sources = fits.lifetime_sources;
       exprs = let n = fits.exprs in omega (arith, n);
       bindings = let n = fits.bindings in omega (arith, n);
+      owners = fits.owners refl;
       pats = let n = fits.pats in omega (arith, n);
       types = let n = fits.types in omega (arith, n);
       lifetimes = let n = fits.lifetimes in omega (arith, n);

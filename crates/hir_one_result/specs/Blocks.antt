@@ -160,6 +160,7 @@ abbrev mutual
   -- its own number, then those in it, and its type last
   blocks_of (tree.try_expr at item t number ss e) =
       (option_to_list number ++ (blocks_of_stmts ss ++ blocks_of_part e)) ++ blocks_of_present_type t
+  blocks_of (tree.coroutine_expr at kind moves number ss e) = option_to_list number ++ (blocks_of_stmts ss ++ blocks_of_part e)
   blocks_of (tree.call_expr at f has_list es) = blocks_of_part f ++ blocks_of_each es
   blocks_of (tree.path_expr at p h) = blocks_of_whole p
   blocks_of (tree.continue_expr at jump) = []

@@ -183,6 +183,9 @@ abbrev mutual
   -- its type is no part of what is tried
   diagnostics ss (tree.try_expr at item t number stmts tail) =
       contents_diagnostics (try_scope (is_typed t) ∷ ss) stmts (λ inner. part_diagnostics inner tail) ++ present_type_faults ss t
+  -- no jump in it reaches what is open around it
+  diagnostics ss (tree.coroutine_expr at kind moves number stmts tail) =
+      contents_diagnostics (barrier ∷ ss) stmts (λ inner. part_diagnostics inner tail)
   diagnostics ss (tree.call_expr at f has_list es) = part_diagnostics ss f ++ each_diagnostics ss es
   diagnostics ss (tree.path_expr at p h) = whole_faults ss p
   diagnostics ss (tree.continue_expr at jump) = jump_faults ss jump

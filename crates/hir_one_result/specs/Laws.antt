@@ -17,7 +17,7 @@ use Rattle.hir_one_result.specs.Leads.{Way, label_ways, Covers, CoversLabels, Co
 use Rattle.hir_one_result.specs.Stands.{StandsPart}
 use Rattle.hir_one_result.specs.Diagnostics.{Faults, part_diagnostics, Around}
 use Rattle.hir_one_result.specs.Blocks.{blocks_of_part}
-use Rattle.hir_one_result.specs.Size.{Size}
+use Rattle.hir_one_result.specs.Size.{Size, placed}
 use Rattle.hir_one_result.specs.Room.{Short, body_size, size_part, type_part_size, whole_size}
 
 -- what is claimed where the tree is lowered into a `Paired` store
@@ -81,11 +81,18 @@ BlocksAre = WhereLowered (λ e old id new. new.stored.block_scopes ≡ old.store
 
 -- numbers
 
--- So many expressions, labels and bindings come behind those that were stored, and patterns, types and lifetimes with these sources.
+-- Of each binding it is stored what owns it, or that nothing does.
+abbrev pub MayBeOwned : Stored → Type 0
+MayBeOwned s = length s.bindings.owners ≡ length s.bindings.entries
+
+-- So many expressions, labels and bindings come behind those that were stored, each binding with what owns it, and patterns, types and
+-- lifetimes with these sources.
 pub record Grown (n : Size) (old new : Stored) : Type 0 where
   pub exprs : length new.exprs.entries ≡ length old.exprs.entries + n.exprs
   pub labels : length new.labels.entries ≡ length old.labels.entries + n.labels
   pub bindings : length new.bindings.entries ≡ length old.bindings.entries + n.bindings
+  pub owners : MayBeOwned old → new.bindings.owners ≡ old.bindings.owners ++ placed (length old.exprs.entries) n.owners
+  pub may_be_owned : MayBeOwned old → MayBeOwned new
   pub pats : length new.pats.entries ≡ length old.pats.entries + length n.pats
   pub pat_sources : new.pats.sources ≡ old.pats.sources ++ n.pats
   pub types : length new.types.entries ≡ length old.types.entries + length n.types

@@ -17,6 +17,7 @@ use Rattle.hir_one_result.specs.Formals.{Given, formals_read, lower_body}
 use Rattle.hir_one_result.specs.Leads.{Way, Ways, No, OneBindingWay, ◌&◌, label_ways, Covers, CoversLabels, CoversBindings, MapLeads}
 use Rattle.hir_one_result.specs.Leads.{LeadBack}
 use Rattle.hir_one_result.specs.Room.{body_size}
+use Rattle.hir_one_result.specs.Size.{placed}
 use Rattle.hir_one_result.specs.Stands.{Open, Absent, StandsBefore, StandsPart}
 use Rattle.hir_one_result.specs.StandsWhole.{StandsTop}
 
@@ -42,9 +43,10 @@ StandsGiven store source_map rs skipped f given =
 -- stored, each with its source, as many expressions and bindings as the tree becomes, and patterns, types and lifetimes from
 -- just those of its nodes that become one. The root stands for the tree, and each expression is what a written one became, or a
 -- missing one for an absent or disabled part, or in front of a tuple with a leading comma, or what is called for a range, or
--- the turn of a `while` or the break in it, or is made up for a `for`, a `?` or a `try`; each label is what a written one or a
--- `try` became, and there are as many; each binding is that of a name of a top pattern, or of `self`, or of a name that is made up,
--- and has the patterns that make it. The source map leads from each written expression and label to what it became, and from
+-- the turn of a `while` or the break in it, or the block in a coroutine, or is made up for a `for`, a `?` or a `try`; each label is
+-- what a written one or a `try` became, and there are as many; each binding is that of a name of a top pattern, or of `self`, or of
+-- a name that is made up, has the patterns that make it, and is owned by the innermost closure, coroutine, `const` block, length or
+-- argument around it, or by nothing. The source map leads from each written expression and label to what it became, and from
 -- nowhere else; the nodes of patterns, types and lifetimes lead to them, and no other nodes do. Behind the faults that the body
 -- owes as a whole come those of what is read of the tree, in some order. The blocks with numbers are those of the tree, in the
 -- order of entering.
@@ -59,6 +61,7 @@ pub record OneResult (store : Store) (source_map : SourceMap) (owed : Faults) (s
   pub lifetime_sources : source_map.lifetime_sources ≡ (body_size skipped f e).lifetimes
   pub exprs : length store.exprs ≡ (body_size skipped f e).exprs
   pub bindings : length store.bindings ≡ (body_size skipped f e).bindings
+  pub owners : store.binding_owners ≡ placed 0 (body_size skipped f e).owners
   pub pats : length store.pats ≡ length (body_size skipped f e).pats
   pub types : length store.types ≡ length (body_size skipped f e).types
   pub lifetimes : length store.lifetimes ≡ length (body_size skipped f e).lifetimes

@@ -20,7 +20,7 @@ use Rattle.hir_one_result.specs.Formals.{formals_read}
 use Rattle.hir_one_result.specs.PatRoom.{names_after, names_after_part, names_after_each, names_after_field, name_size, front_pat_size}
 use Rattle.hir_one_result.specs.PatRoom.{or_size, name_side_size, rest_size, range_size}
 use Rattle.hir_one_result.specs.Size.{Size, nothing, an_expr, a_label, a_binding, a_pat, a_type, a_lifetime, a_super, a_body, dots_behind}
-use Rattle.hir_one_result.specs.Size.{a_made_name, a_made_bind, a_flow_arm, a_for_turn, an_item_call, ◌∪◌, if_so, or_missing}
+use Rattle.hir_one_result.specs.Size.{a_made_name, a_made_bind, a_flow_arm, a_for_turn, an_item_call, owned, ◌∪◌, if_so, or_missing}
 use Rattle.hir_one_result.specs.PathRoom.{Seen, nothing_seen, at_first, segments_read, own_read, whole_read, before, yields, lifetime_size}
 use Rattle.hir_one_result.specs.PathRoom.{uses_size}
 
@@ -138,8 +138,13 @@ abbrev mutual
 
   -- ---- constants
 
+  -- a length or an argument, of which the expression owns what is bound in it
   pub constant_size : Constant → Size
-  constant_size (tree.constant e) = a_body (constant_body e) (size_part e)
+  constant_size (tree.constant e) = a_body (constant_body e) (owned (size_part e))
+
+  -- that of a `const` block, of which the block owns what is bound in it
+  pub rooted_size : Constant → Size
+  rooted_size (tree.constant e) = a_body (constant_body e) (size_part e)
 
   -- ---- patterns of types
 
@@ -193,6 +198,8 @@ abbrev mutual
   size (tree.try_expr at item (tree.some_type t) number ss e) =
       ((a_made_name ∪ a_label) ∪ (stmts_size ss ∪ size_kept e) ∪ (an_expr ∪ unit_size ss e ∪ an_expr) ∪ an_expr)
       ∪ a_made_name ∪ type_size t ∪ a_made_bind ∪ an_expr ∪ an_expr
+  -- the block, which comes from no node, and the coroutine
+  size (tree.coroutine_expr at kind moves number ss e) = owned ((stmts_size ss ∪ size_kept e) ∪ an_expr ∪ an_expr)
   size (tree.call_expr at f has_list es) = size_part f ∪ size_each es ∪ an_expr
   size (tree.path_expr at p h) = whole_size p ∪ an_expr
   size (tree.continue_expr at jump) = an_expr
@@ -205,8 +212,8 @@ abbrev mutual
   size (tree.lazy_expr at op a b) = size_part a ∪ size_part b ∪ an_expr
   size (tree.list_expr at form es) = size_each es ∪ front_size form ∪ an_expr
   size (tree.repeat_expr at e c) = size_part e ∪ constant_size c ∪ an_expr
-  size (tree.const_expr at c) = constant_size c ∪ an_expr
-  size (tree.closure_expr at moves is_static xs t e) = params_size xs ∪ present_size t ∪ size_part e ∪ an_expr
+  size (tree.const_expr at c) = owned (rooted_size c ∪ an_expr)
+  size (tree.closure_expr at moves is_static xs t e) = owned (params_size xs ∪ present_size t ∪ size_part e ∪ an_expr)
   size (tree.method_call_expr at e name es generics) = size_part e ∪ size_each es ∪ args_size generics ∪ an_expr
   size (tree.cast_expr at e t) = size_part e ∪ type_part_size t ∪ an_expr
   -- where the path is absent or refused nothing else is read

@@ -1,6 +1,8 @@
 -- What lowering stores, and what it counts.
-use Rattle.std.specs.Prelude.{ℕ, ◌+◌, ◌≤◌, ◌^◌, ◌⊎◌, Bool, true, false, List, [], ◌∷◌, ◌++◌, Option, Some, None}
+use Rattle.std.specs.Prelude.{ℕ, ◌+◌, ◌-◌, ◌≤◌, ◌^◌, ◌⊎◌, Bool, true, false, List, [], ◌∷◌, ◌++◌, map, Option, Some, None, option_map}
 use Rattle.hir_store.specs.Pointers.{Pointer}
+use Rattle.hir_store.specs.Storing.{expr_id}
+use Rattle.hir_store.specs.declared.ids.ExprId.{ExprId}
 use Rattle.hir_meaning.specs.InnerWritten.{InnerBody, Bodies}
 
 pub record Size : Type 1 where
@@ -8,6 +10,8 @@ pub record Size : Type 1 where
   pub labels : ℕ
   -- names that are bound
   pub bindings : ℕ
+  -- of each of them what owns it: the last of the first so many expressions, or nothing so far
+  pub owners : List (Option ℕ)
   -- names that lowering makes up
   pub names : ℕ
   -- of each pattern, each type and each lifetime where it comes from, in the order in which they are stored
@@ -24,6 +28,7 @@ nothing = record {
   exprs = 0;
   labels = 0;
   bindings = 0;
+  owners = [];
   names = 0;
   pats = [];
   types = [];
@@ -39,7 +44,7 @@ abbrev pub a_label : Size
 a_label = record nothing { labels = 1 }
 
 abbrev pub a_binding : Size
-a_binding = record nothing { bindings = 1 }
+a_binding = record nothing { bindings = 1; owners = None ∷ [] }
 
 abbrev pub a_made_name : Size
 a_made_name = record nothing { names = 1 }
@@ -57,6 +62,26 @@ a_lifetime source = record nothing { lifetimes = source ∷ [] }
 abbrev pub a_body : InnerBody → Size → Size
 a_body b n = record n { inner = b ∷ [] }
 
+-- what owns a binding, where so many more expressions come first
+abbrev pub further : ℕ → Option ℕ → Option ℕ
+further n o = option_map (λ k. n + k) o
+
+abbrev pub owned_else_last : ℕ → Option ℕ → Option ℕ
+owned_else_last n None = Some n
+owned_else_last n (Some k) = Some k
+
+-- where the last of the expressions owns each binding that nothing in it owns
+abbrev pub owned : Size → Size
+owned n = record n { owners = map (owned_else_last n.exprs) n.owners }
+
+-- the last of the first so many expressions, behind this many
+abbrev pub placed_owner : ℕ → Option ℕ → Option ExprId
+placed_owner n o = option_map (λ k. expr_id (n + k - 1)) o
+
+-- what owns each binding, where all of it is stored behind so many expressions
+abbrev pub placed : ℕ → List (Option ℕ) → List (Option ExprId)
+placed n os = map (placed_owner n) os
+
 -- a `super` where so many are counted
 abbrev pub a_super : ℕ → Size
 a_super n = record nothing { overcounts = 2 ^ 32 ≤ n + 1 }
@@ -73,6 +98,7 @@ a ∪ b = record {
   exprs = a.exprs + b.exprs;
   labels = a.labels + b.labels;
   bindings = a.bindings + b.bindings;
+  owners = a.owners ++ map (further a.exprs) b.owners;
   names = a.names + b.names;
   pats = a.pats ++ b.pats;
   types = a.types ++ b.types;

@@ -1,10 +1,10 @@
 -- What stands in a store for a written tree: for each kept expression one stored expression of its form, which came from its own node
 -- and whose parts stand for its parts. An absent or disabled part is a missing expression that came from no node, or none where the
 -- form knows none. What is made up for a form came from the form's node, but what makes the iterator of a `for` from that of its head,
--- and a pattern from none. With it stand the ways of the tree: from the node of each written expression and label to what it became,
--- and to each missing one and each made up from no node. What its constants became stands for them, also where nothing names it. A top
--- pattern reads back as it is written, and so does one in a field without a name, which is part of nothing; the names of a top pattern
--- have one binding each, and what is in it stands for what is written there.
+-- and a pattern or the block in a coroutine from none. With it stand the ways of the tree: from the node of each written expression and
+-- label to what it became, and to each missing one and each made up from no node. What its constants became stands for them, also where
+-- nothing names it. A top pattern reads back as it is written, and so does one in a field without a name, which is part of nothing; the
+-- names of a top pattern have one binding each, and what is in it stands for what is written there.
 use Rattle.std.specs.Prelude.{◌≡◌, ℕ, Bool, true, false, List, [], ◌∷◌, ◌++◌, map, Option, Some, None, option_to_list, slice_get}
 use Rattle.std.specs.Prelude.{unwrap_or}
 use Rattle.hir_base.specs.declared.op.RangeOp.{RangeOp}
@@ -66,7 +66,7 @@ use Rattle.hir_one_result.specs.Leads.{Ways, No, OneWay, OneUnled, OneLabelWay, 
 pub use Rattle.hir_one_result.specs.StandsParts.{ExprAt, LabelAt, Open, opened, Absent, There, ThereIf, ReadsAs, statement_of, SomeExpr}
 pub use Rattle.hir_one_result.specs.StandsParts.{SomeConst}
 use Rattle.hir_one_result.specs.StandsMade.{StandsFor, StandsForLoop, StandsForTurn, StandsQuestion, StandsTry, StandsTypedTry, StandsWhile}
-use Rattle.hir_one_result.specs.StandsMade.{StandsClosure, StandsParam, StoredParams}
+use Rattle.hir_one_result.specs.StandsMade.{StandsClosure, StandsCoroutine, StandsParam, StoredParams}
 pub use Rattle.hir_one_result.specs.StandsParts.{WhereOn, Unless, StandsBefore, WherePath, BehindFront, Names, NewName, StandsName}
 
 -- in a store
@@ -352,6 +352,10 @@ module _ (store : Store) (source_map : SourceMap) where
         (λ x. StandsTry store source_map at item number (gives_value ss (is_left e))
         (λ label is o. StandsContents (try_rib label true ∷ rs) ss (λ around o. StandsKept around e o) is o) x)
         (λ y. TypeWays rs t & ReadsAs (stored_type store source_map) (written_type (tree.some_type t)) y) i
+    -- no jump in it reaches what is open around it
+    Stands rs (tree.coroutine_expr at kind moves number ss e) i =
+        StandsCoroutine store source_map at kind (capture_of moves) number (gives_value ss (is_left e))
+        (λ is o. StandsContents (barrier_rib ∷ rs) ss (λ around o. StandsKept around e o) is o) i
     Stands rs (tree.call_expr at f has_list es) i = λ ws.
         (callee : ExprId) × (arguments : List ExprId) × ExprAt store source_map i (hir.Call callee arguments) (Some at)
         × (StandsPart rs f callee & StandsEach rs es arguments & OneWay at i) ws

@@ -1,6 +1,6 @@
--- What stands for `while`, `for`, `?` and `try`. All that lowering makes up for one came from its node, but what makes an iterator of the
--- head of a `for` from the head's, and patterns from none. The node leads to the outermost alone, but that of a `try` with a written type
--- to the block in front of which its `let` stands.
+-- What stands for `while`, closures, coroutine blocks, `for`, `?` and `try`. All that lowering makes up for one came from its node, but
+-- what makes an iterator of the head of a `for` from the head's, and patterns and the block in a coroutine from none. The node leads to
+-- the outermost alone, but that of a `try` with a written type to the block in front of which its `let` stands.
 use Rattle.std.specs.Prelude.{◌≡◌, ℕ, Bool, false, List, [], ◌∷◌, Option, Some, None, slice_get}
 use Rattle.hir_binding.specs.declared.binding.BindingAnnotation.{BindingAnnotation}
 use Rattle.hir_binding.specs.declared.binding.BindingAnnotation.TheVariants.{Mutable, Unannotated}
@@ -8,6 +8,9 @@ use Rattle.hir_store.specs.Pointers.{Pointer}
 use Rattle.hir_store.specs.Stored.{Store, SourceMap}
 use Rattle.hir_store.specs.declared.hir.CaptureBy.{CaptureBy}
 use Rattle.hir_store.specs.declared.hir.ClosureKind.{ClosureKind}
+use Rattle.hir_store.specs.declared.hir.ClosureKind.TheVariants as closure
+use Rattle.hir_store.specs.declared.hir.CoroutineKind.{CoroutineKind}
+use Rattle.hir_store.specs.declared.hir.CoroutineSource.TheVariants as source
 use Rattle.hir_store.specs.declared.hir.Expr.{Expr as HirExpr}
 use Rattle.hir_store.specs.declared.hir.Expr.TheVariants as hir
 use Rattle.hir_store.specs.declared.hir.LoopSource.TheVariants.{ForLoop, While}
@@ -87,6 +90,17 @@ module _ (store : Store) (source_map : SourceMap) where
   StandsClosure at kind capture P T B i = λ ws. (l : StoredParams) × (ret : Option TypeRefId) × (body : ExprId)
       × ExprAt store source_map i (hir.Closure l.0 l.1 ret body kind capture) (Some at)
       × (P l & T ret & B body & OneWay at i) ws
+
+  -- ---- coroutine blocks
+
+  -- A block with this number, which comes from no node, and then a closure that takes nothing and does what the block does.
+  abbrev pub StandsCoroutine : Pointer → CoroutineKind → CaptureBy → Option BlockId → Bool → (List Statement → Option ExprId → Ways)
+      → ExprId → Ways
+  StandsCoroutine at kind capture number gives C i = λ ws. (kept : List Statement) × (last : Option ExprId)
+      × (contents : List Statement × Option ExprId) × BlockContents gives kept last contents × (body : ExprId)
+      × ExprAt store source_map i (hir.Closure [] [] None body (closure.Coroutine kind source.Block) capture) (Some at)
+      × ExprAt store source_map body (hir.Block false None number contents.0 contents.1) None
+      × (C kept last & OneUnled body & OneWay at i) ws
 
   -- ---- `?`
 

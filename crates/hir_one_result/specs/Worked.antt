@@ -1,4 +1,4 @@
--- Small trees: their faults, their blocks, and what whatever stands for them has stored.
+-- Small trees: their faults, their blocks, what whatever stands for them has stored, and what owns their bindings.
 use Rattle.std.specs.Prelude.{Option, ◌≡◌, ℕ, Bool, true, false, List, [], ◌∷◌, Some, None, slice_get}
 use Rattle.hir_binding.specs.declared.binding.BindingAnnotation.TheVariants.{Mutable, Unannotated}
 use Rattle.hir_binding.specs.declared.binding.BindingProblems.TheVariants.{BoundMoreThanOnce}
@@ -7,8 +7,11 @@ use Rattle.hir_store.specs.declared.diagnostics.ExpressionStoreDiagnostics.TheVa
 use Rattle.hir_store.specs.declared.diagnostics.ExpressionStoreDiagnostics.TheVariants.{UndeclaredLabel, UnreachableLabel}
 use Rattle.hir_store.specs.declared.diagnostics.AwaitLocation.{AwaitLocation}
 use Rattle.hir_store.specs.declared.hir.Array.TheVariants as array
+use Rattle.hir_store.specs.declared.hir.CaptureBy.{CaptureBy}
 use Rattle.hir_store.specs.declared.hir.CaptureBy.TheVariants as capture
 use Rattle.hir_store.specs.declared.hir.ClosureKind.TheVariants as closure
+use Rattle.hir_store.specs.declared.hir.CoroutineKind.{CoroutineKind}
+use Rattle.hir_store.specs.declared.hir.CoroutineSource.TheVariants as source
 use Rattle.hir_store.specs.declared.hir.Expr.{Expr as HirExpr}
 use Rattle.hir_store.specs.declared.hir.Expr.TheVariants as hir
 use Rattle.hir_store.specs.declared.hir.LoopSource.TheVariants.{ForLoop}
@@ -33,6 +36,7 @@ use Rattle.hir_scope.specs.Ribs.{try_rib, barrier_rib}
 use Rattle.hir_scope.specs.Scopes.{loop_scope, barrier}
 use Rattle.hir_env.specs.Answered as tree
 use Rattle.hir_env.specs.Answered.{ForItems, QuestionItems, Segment, Expr, OptionExpr, Exprs, Block, Stmts, Use, Pat, OptionPat}
+use Rattle.hir_env.specs.Answered.{Formals, Params}
 use Rattle.hir_data.specs.BindingRule.{made_for}
 use Rattle.hir_data.specs.Worked.{whole}
 use Rattle.hir_meaning.specs.Small.{at, root, one, two, literal_at, label_with, label_a, jump_a, first, in_braces, loop_of}
@@ -44,6 +48,8 @@ use Rattle.hir_one_result.specs.Stands.{Open, opened, Stands}
 use Rattle.hir_one_result.specs.StandsWhole.{StandsTop}
 use Rattle.hir_one_result.specs.Diagnostics.{diagnostics}
 use Rattle.hir_one_result.specs.Blocks.{blocks_of}
+use Rattle.hir_one_result.specs.Room.{body_size, size}
+use Rattle.hir_one_result.specs.Size.{placed}
 
 -- Whatever stands for the tree, where these labels are open, has this expression stored.
 abbrev pub StoredAs : Open → Expr → HirExpr → Type 0
@@ -415,3 +421,101 @@ pub record Closures : Type 0 where
   pub unreachable : diagnostics (loop_scope (Some label_a) ∷ []) closure_break ≡ UnreachableLabel jump_a.pointer jump_a.name ∷ []
   pub parameters_first : blocks_of closure_blocks ≡ block_id 2 ∷ block_id 3 ∷ []
   pub disabled : (by : CfgId) (p : OptionPat) → diagnostics [] (closure_disabled by p) ≡ InactiveCode (at 1) by ∷ []
+
+-- coroutine blocks
+
+-- `async { ss e }` with a number, of this kind, with `move` or without
+abbrev pub coroutine_of : CoroutineKind → Bool → Stmts → OptionExpr → Expr
+coroutine_of kind moves ss e = tree.coroutine_expr (at 0) kind moves (Some (block_id 7)) ss e
+
+-- `async { break 'a }`
+abbrev pub coroutine_break : CoroutineKind → Bool → Expr
+coroutine_break kind moves = coroutine_of kind moves tree.no_stmts (tree.some_expr break_a)
+
+-- Its node leads to it, and no node to the block in it.
+pub record IsCoroutine (kind : CoroutineKind) (takes : CaptureBy) (store : Store) (i : ExprId) (ws : List Way) : Type 0 where
+  pub block : ExprId
+  pub value : ExprId
+  pub whole : slice_get store.exprs i.0 ≡ Some (hir.Closure [] [] None block (closure.Coroutine kind source.Block) takes)
+  pub inner : slice_get store.exprs block.0 ≡ Some (hir.Block false None (Some (block_id 7)) [] (Some value))
+  pub breaks : slice_get store.exprs value.0 ≡ Some (hir.Break None None)
+  pub ways : ws ≡ expr_way (at 4) value ∷ unled_way block ∷ expr_way (at 0) i ∷ []
+
+abbrev pub BecomesCoroutine : Bool → CaptureBy → Type 0
+BecomesCoroutine moves takes =
+    (kind : CoroutineKind) (outer : LabelId) (store : Store) (source_map : SourceMap) (i : ExprId) (ws : List Way)
+    → Stands store source_map (opened label_a outer []) (coroutine_break kind moves) i ws → IsCoroutine kind takes store i ws
+
+pub record Coroutines : Type 0 where
+  -- a label that is open around it isn't in it, and that is told
+  pub moves : BecomesCoroutine true capture.Value
+  pub refers : BecomesCoroutine false capture.Ref
+  pub unreachable : (kind : CoroutineKind) (moves : Bool)
+      → diagnostics (loop_scope (Some label_a) ∷ []) (coroutine_break kind moves) ≡ UnreachableLabel jump_a.pointer jump_a.name ∷ []
+  pub own_number_first : (kind : CoroutineKind) (moves : Bool)
+      → blocks_of (coroutine_of kind moves tree.no_stmts (just 3)) ≡ block_id 7 ∷ block_id 3 ∷ []
+
+-- what owns bindings
+
+-- `let x;`
+abbrev pub let_x : Stmts
+let_x = tree.more_stmts (tree.let_stmt (tree.some_pat (x_at 8)) tree.no_type tree.no_expr tree.no_block) tree.no_stmts
+
+-- `{ ss }`
+abbrev pub braces : Stmts → Expr
+braces ss = tree.block_expr (tree.block (at 9) false None tt None ss tree.no_expr)
+
+-- `{ let x; }`
+abbrev pub lets_x : OptionExpr
+lets_x = tree.some_expr (braces let_x)
+
+abbrev pub closure_of : Params → OptionExpr → Expr
+closure_of xs e = tree.closure_expr (at 5) false false xs tree.no_type e
+
+-- `x` between bars
+abbrev pub param_x : Params
+param_x = tree.more_params (tree.param (tree.some_pat (x_at 8)) tree.no_type) tree.no_params
+
+-- `a::<{ let x; }>`
+abbrev pub with_argument : Expr
+with_argument =
+    let arguments = tree.some_arg_list (tree.more_args (tree.const_arg (tree.constant lets_x)) tree.no_args) in
+    tree.path_expr (at 2) (whole (tree.name_segment (letter 97) tt (tree.segment_args arguments tree.no_parens false)) []) root
+
+-- `x` behind `self`
+abbrev pub self_and_x : Formals
+self_and_x = record { receiver = tree.self_formal (at 1) use_x tt; formals = tree.formal (tree.some_pat (x_at 2)) ∷ [] }
+
+-- What owns each binding of the tree where it stands behind a literal, which is the expression 0, in a tuple.
+abbrev pub owners_in : Expr → List (Option ExprId)
+owners_in e =
+    let elements = tree.more_exprs (literal_at 1 one) (tree.more_exprs e tree.no_exprs) in
+    placed 0 (size (tree.list_expr (at 0) (tree.tuple_of false) elements)).owners
+
+abbrev pub owner : ℕ → Option ExprId
+owner n = Some (record { 0 = n })
+
+pub record Owners : Type 0 where
+  -- `|x| || { let x; }`: the block 1, the inner closure 2, the outer one 3
+  pub of_closures : owners_in (closure_of param_x (tree.some_expr (closure_of tree.no_params lets_x))) ≡ owner 3 ∷ owner 2 ∷ []
+  -- `{ || 1; let x; }`
+  pub behind : owners_in (braces (first (closure_of tree.no_params (literal_part 2)) let_x)) ≡ None ∷ []
+  -- `[1; { let x; }]`: the literal 1, the block 2, the array 3
+  pub of_length : owners_in (tree.repeat_expr (at 2) (literal_part 3) (tree.constant lets_x)) ≡ owner 2 ∷ []
+  -- in a closure, which is 4
+  pub innermost : owners_in (closure_of tree.no_params (tree.some_expr (tree.repeat_expr (at 2) (literal_part 3) (tree.constant lets_x))))
+      ≡ owner 2 ∷ []
+  -- `a::<{ let x; }>`: the block 1, the path 2
+  pub of_argument : owners_in with_argument ≡ owner 1 ∷ []
+  -- `const { let x; }`: the block 1, around it 2
+  pub of_const : owners_in (tree.const_expr (at 2) (tree.constant lets_x)) ≡ owner 2 ∷ []
+  -- `async { let x; || { let x; } }`: the inner block 1, the closure 2, the outer block 3, around it 4
+  pub of_coroutine : (kind : CoroutineKind) (moves : Bool)
+      → owners_in (coroutine_of kind moves let_x (tree.some_expr (closure_of tree.no_params lets_x))) ≡ owner 4 ∷ owner 2 ∷ []
+  -- `|| 1?`, of which both names are made up: the literal 1, what it becomes 2 to 9, the closure 10
+  pub of_made_names : (items : QuestionItems)
+      → owners_in (closure_of tree.no_params (tree.some_expr (question items))) ≡ owner 10 ∷ owner 10 ∷ []
+  -- `|x| 1` behind five others: the literal 5, the closure 6
+  pub behind_others : placed 5 (size (closure_of param_x (literal_part 1))).owners ≡ owner 6 ∷ []
+  -- `self` and `x` of a function
+  pub of_function : placed 0 (body_size false self_and_x (literal_part 3)).owners ≡ None ∷ None ∷ []

@@ -3,6 +3,7 @@ use Rattle.std.proofs.Common.{arith, refl, ℕ, Bool, true, false, List, Option,
 use Rattle.hir_binding.specs.declared.binding.BindingAnnotation.TheVariants.{Mutable, Unannotated}
 use Rattle.hir_store.specs.Pointers.{Pointer}
 use Rattle.hir_store.specs.Stored.{Stored}
+use Rattle.hir_store.specs.declared.hir.CoroutineKind.{CoroutineKind}
 use Rattle.hir_store.specs.declared.hir.Expr.{Expr as HirExpr}
 use Rattle.hir_store.specs.declared.hir.Expr.TheVariants as hir
 use Rattle.hir_store.specs.declared.hir.LoopSource.{LoopSource}
@@ -24,26 +25,27 @@ use Rattle.hir_env.specs.Answered.{ForItems, Jump, Label, Listing, QuestionItems
 use Rattle.hir_env.specs.NodeMap.{Site}
 use Rattle.hir_env.specs.Spot.{site_of}
 use Rattle.hir_lower_form.specs.declared.closures.ClosureParams.{ClosureParams}
-use Rattle.hir_lower_form.specs.Lowering.{Lowering, ◌>>=◌, alloc_expr, alloc_made}
+use Rattle.hir_lower_form.specs.Lowering.{Lowering, ◌>>=◌, alloc_expr, alloc_made, owning}
 use Rattle.hir_lower_form.specs.Made.{for_form, for_turn_form, made_loop_form, question_form, try_block_form, typed_try_form}
 use Rattle.hir_lower_form.specs.Types.{TypeSteps}
 use Rattle.hir_lower_form.specs.Forms.{ExprSteps, StoredContents, StoredFields, missing, if_form, loop_form, call_form, continue_form}
 use Rattle.hir_lower_form.specs.Forms.{break_form, paren_form, path_form, operand_form, operands_form, value_form, list_form}
 use Rattle.hir_lower_form.specs.Forms.{method_call_form, await_form, cast_form, offset_of_form, record_of, record_form, block_form}
 use Rattle.hir_lower_form.specs.Forms.{labelled, constant_form, let_form, match_form, assign_form, settled, repeat_form, const_form}
-use Rattle.hir_lower_form.specs.Forms.{closure_form, yield_form}
+use Rattle.hir_lower_form.specs.Forms.{closure_form, coroutine_block_form, coroutine_form, yield_form}
 use Rattle.hir_lower_form.specs.Ranges.{made_range, range_form}
 use Rattle.hir_steps.proofs.Frames.{Frame, loop_at, block_at}
 use Rattle.hir_steps.proofs.Steps.{Mark, Rel, Correct, correct_bind, correct_as, correct_pure, correct_alloc, correct_point}
 use Rattle.hir_steps.proofs.Steps.{correct_enter_block, correct_opened, correct_report_await, correct_target}
-use Rattle.hir_steps.proofs.Barriers.{correct_closure, correct_yield}
+use Rattle.hir_steps.proofs.Barriers.{correct_closure, correct_coroutine, correct_yield}
 use Rattle.hir_steps.proofs.Constants.{correct_constant}
 use Rattle.hir_steps.proofs.ApartForms.{flow_arm_apart, item_call_apart, made_path_apart, residual_apart, wrapped_apart}
 use Rattle.hir_steps.proofs.Keeping.{Any}
 use Rattle.hir_steps.proofs.MadeSteps.{correct_alloc_made, correct_made_bind, correct_made_number, correct_opened_try}
+use Rattle.hir_steps.proofs.Owning.{owning_keeps}
 use Rattle.hir_data.specs.Rule.{PathRead}
 use Rattle.hir_data.specs.Written as written
-use Rattle.hir_read_back.proofs.Layers.{Reads, a_constant, a_source}
+use Rattle.hir_read_back.proofs.Layers.{Layer, Reads, a_constant, a_source}
 use Rattle.hir_read_back.proofs.Going.{PathIs}
 use Rattle.hir_read_back.proofs.Walk.{Answers}
 
@@ -62,6 +64,18 @@ missing_from = alloc_from _ None
 pub ends_from : {A : Type 0} {x : Option Site} {R : Rel A} {p : Lowering A} {f : A → ExprSteps} → Correct p R
     → ((a : A) → From x (f a)) → From x (p >>= f)
 ends_from h k = correct_as (correct_bind h k) (λ final ps m m' i g row. record { is = row.second.is })
+
+-- it reads back the same, whatever owns bindings
+owning_reads : {A D : Type 0} {l : Layer A D} {x : D} (owner : A → ExprId) {p : Lowering A} → Correct p (Reads l x)
+    → Correct (owning owner p) (Reads l x)
+owning_reads owner h = owning_keeps owner (λ final ps m left start id a row. record { is = row.is }) h
+
+pub owning_from : {x : Option Site} {p : ExprSteps} → From x p → From x (owning (λ i. i) p)
+owning_from h = owning_reads (λ i. i) h
+
+-- what stands behind the barrier of a coroutine block
+pub coroutine_from : {x : Option Site} {p : ExprSteps} → From x p → From x (coroutine_form p)
+coroutine_from h = correct_as (correct_coroutine h) (λ final ps m m' i g row. record { is = row.inside.is })
 
 module _ (at : Pointer) where
   abbrev here : Option Site
@@ -140,6 +154,12 @@ module _ (at : Pointer) where
       → Correct t Any → Correct e Any → From here (closure_form at moves is_static p t e)
   closure_from moves is_static hp ht he = correct_as (correct_closure at moves is_static hp ht he)
       (λ final ps m m' i g row. record { is = λ d le. rw (row.made.number, row.made.from) refl })
+
+  pub coroutine_block_from : (kind : CoroutineKind) (moves : Bool) (number : Option BlockId) {c : Lowering StoredContents} → Correct c Any
+      → From here (coroutine_block_form at kind moves number c)
+  unfolding coroutine_block_form
+  coroutine_block_from kind moves number h =
+      ends_from (correct_enter_block number) (λ u. ends_from h (λ r. ends_from (alloc_from _ None) (λ b. stored_from _)))
 
   pub yield_from : {e : Lowering (Option ExprId)} → Correct e Any → From here (yield_form at e)
   yield_from h = correct_yield at _ (value_from hir.Yield h)
@@ -247,6 +267,9 @@ labelled_from (Some l) h = correct_as (correct_opened block_at l (λ n ps. refl)
 
 -- ---- constants
 
-pub constant_reads : {x : Option Site} {p : ExprSteps} → From x p → Correct (constant_form p) (Reads a_constant x)
-constant_reads h = correct_as (correct_constant h)
+rooted_reads : {x : Option Site} {p : ExprSteps} → From x p → Correct (constant_form p) (Reads a_constant x)
+rooted_reads h = correct_as (correct_constant h)
     (λ final ps m m' c g row. record { is = λ d le. row.first.is d (omega (le, row.after.entries, arith)) })
+
+pub constant_reads : {x : Option Site} {p : ExprSteps} → From x p → Correct (owning (λ c. c.expr) (constant_form p)) (Reads a_constant x)
+constant_reads h = owning_reads (λ c. c.expr) (rooted_reads h)

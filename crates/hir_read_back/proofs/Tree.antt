@@ -25,7 +25,7 @@ use Rattle.hir_lower_form.specs.Lower as lower
 use Rattle.hir_steps.proofs.Steps.{Correct, correct_report}
 use Rattle.hir_steps.proofs.Keeping.{part_any, present_any, each_any, block_part_any, contents_part_any, contents_any, fields_any}
 use Rattle.hir_steps.proofs.Keeping.{any, turn_any, spread_any, one_type_any, type_any, lower_path_any, args_any, top_any, arms_any}
-use Rattle.hir_steps.proofs.Keeping.{for_loop_any, target_any, constant_any, params_any, present_type_any}
+use Rattle.hir_steps.proofs.Keeping.{for_loop_any, target_any, constant_any, rooted_any, params_any, present_type_any}
 use Rattle.hir_data.specs.Data as datum
 use Rattle.hir_data.specs.Data.{TypesData, no_args}
 use Rattle.hir_data.specs.Rule.{broken, named}
@@ -33,7 +33,7 @@ use Rattle.hir_data.specs.Written as written
 use Rattle.hir_read_back.proofs.Layers.{a_type, types_before, maybe_type, a_bound, many_bounds, a_list, Reads, value0, Pushed}
 use Rattle.hir_read_back.proofs.Layers.{a_constant}
 use Rattle.hir_read_back.proofs.Sites as sites
-use Rattle.hir_read_back.proofs.Sites.{From, ends_from, missing_from}
+use Rattle.hir_read_back.proofs.Sites.{From, ends_from, missing_from, owning_from}
 use Rattle.hir_read_back.proofs.Layers.{pushed_all, type0}
 use Rattle.hir_read_back.proofs.Pats.{a_pat, many_pats}
 use Rattle.hir_read_back.proofs.TypePats as pats
@@ -245,6 +245,8 @@ mutual
   expr_from (tree.try_expr at item tree.no_type number ss e) = sites.try_from at item false number (contents_part_any ss e)
   expr_from (tree.try_expr at item (tree.some_type t) number ss e) =
       sites.typed_try_from at (any (sites.try_from at item true number (contents_part_any ss e))) (one_type_any None t)
+  expr_from (tree.coroutine_expr at kind moves number ss e) =
+      owning_from (sites.coroutine_from (sites.coroutine_block_from at kind moves number (contents_part_any ss e)))
   expr_from (tree.call_expr at f has_list es) = sites.call_from at (part_any f) (each_any [] es)
   expr_from (tree.path_expr at p h) = sites.path_from at h (lower_path_any p)
   expr_from (tree.continue_expr at jump) = sites.continue_from at jump
@@ -256,9 +258,9 @@ mutual
   expr_from (tree.lazy_expr at op a b) = sites.operands_from at _ (part_any a) (part_any b)
   expr_from (tree.list_expr at form es) = sites.list_from at form (each_any [] es)
   expr_from (tree.repeat_expr at e c) = sites.repeat_from at (part_any e) (constant_any c)
-  expr_from (tree.const_expr at c) = sites.const_from at (constant_any c)
-  expr_from (tree.closure_expr at moves is_static xs t e) =
-      sites.closure_from at moves is_static (params_any lower.no_closure_params xs) (present_type_any t) (part_any e)
+  expr_from (tree.const_expr at c) = owning_from (sites.const_from at (rooted_any c))
+  expr_from (tree.closure_expr at moves is_static xs t e) = owning_from
+      (sites.closure_from at moves is_static (params_any lower.no_closure_params xs) (present_type_any t) (part_any e))
   expr_from (tree.method_call_expr at e name es as') =
       sites.method_call_from at name (part_any e) (each_any [] es) (args_any as')
   expr_from (tree.leaving_expr at form e) = sites.value_from at _ (present_any e)

@@ -27,8 +27,9 @@ use Rattle.hir_lower_form.specs.Walks.{path_read, start}
 use Rattle.hir_steps.specs.Keeps.{Paired}
 use Rattle.hir_steps.proofs.ApartPats.{elements_apart, missing_pat_apart, named_apart}
 use Rattle.hir_steps.proofs.ApartTree as apart
-use Rattle.hir_steps.proofs.Barriers.{raises_yield, still_closure}
+use Rattle.hir_steps.proofs.Barriers.{raises_yield, still_closure, still_coroutine}
 use Rattle.hir_steps.proofs.Logic.{mark}
+use Rattle.hir_steps.proofs.Owning.{raises_owning, still_owning}
 use Rattle.hir_steps.proofs.StillPats.{elements_still, missing_pat_still, named_still}
 use Rattle.hir_steps.proofs.StillTree as still
 use Rattle.hir_steps.proofs.Yields.{Raises, RaisedTo, or_assoc, raises_as, raises_by, raises_begin, raises_end, raises_pure, raises_still}
@@ -146,6 +147,9 @@ mutual
   expr_raises (tree.try_expr at item (tree.some_type t) number ss e) =
       forms.typed_try_raises at (forms.try_raises at item true number (stmts_raise [] ss (kept_part_raises e)))
       (raises_still (apart.one_type_apart None t) (still.one_type_still None t))
+  expr_raises (tree.coroutine_expr at kind moves number ss e) = raises_still
+      (apart.node_apart (tree.coroutine_expr at kind moves number ss e)) (still_owning (λ i. i)
+      (still_coroutine (lower.coroutine_block_form at kind moves number (lower.lower_stmts [] ss (lower.kept_part e)))))
   expr_raises (tree.call_expr at f has_list es) = forms.call_raises at (part_raises f) (each_raise [] es)
   expr_raises (tree.path_expr at p h) = forms.path_form_off at h (path_off p)
   expr_raises (tree.continue_expr at jump) = forms.continue_off at jump
@@ -159,10 +163,11 @@ mutual
   expr_raises (tree.list_expr at form es) = forms.list_raises at form (each_raise [] es)
   expr_raises (tree.repeat_expr at e c) =
       forms.repeat_raises at (part_raises e) (raises_still (apart.a_constant_apart c) (still.a_constant_still c))
-  expr_raises (tree.const_expr at c) = forms.const_off at (raises_still (apart.a_constant_apart c) (still.a_constant_still c))
+  expr_raises (tree.const_expr at c) =
+      raises_owning (λ i. i) (forms.const_off at (raises_still (apart.rooted_apart c) (still.rooted_still c)))
   expr_raises (tree.closure_expr at moves is_static ps t e) =
-      raises_still (apart.node_apart (tree.closure_expr at moves is_static ps t e))
-      (still_closure at moves is_static (lower.lower_params lower.no_closure_params ps) (lower.present_type t) (lower.lower_part e))
+      raises_still (apart.node_apart (tree.closure_expr at moves is_static ps t e)) (still_owning (λ i. i)
+      (still_closure at moves is_static (lower.lower_params lower.no_closure_params ps) (lower.present_type t) (lower.lower_part e)))
   expr_raises (tree.method_call_expr at e name es generics) =
       forms.method_call_raises at name (part_raises e) (each_raise [] es)
       (raises_still (apart.args_apart generics) (still.args_still generics))

@@ -357,11 +357,17 @@ pub record BlockIs (at : Pointer) (is_unsafe : Bool) (label : Option LabelId) (n
   pub goes : Goes (base_of m) middle.nodes (contents final) x final ps held
   pub here : Allocated (hir.Block is_unsafe label number held.0 held.1) (Some at) final ps middle m' i
 
-abbrev block_walk : Stmts → OptionExpr → Walk Value
+-- what is in a block, as it runs
+abbrev pub block_walk : Stmts → OptionExpr → Walk Value
 block_walk ss e turns qs = run_stmts turns ss (is_left e) as_it_is (run_tail turns e) qs
 
 abbrev pub BlockRel : Stmts → OptionExpr → Rel StoredContents
 BlockRel ss e = Filled [] (ContentsRel (is_left e) (part_walk e) ss)
+
+pub settled_go : {final : Stored} {ps : List Frame} {m m' : Mark} {r : StoredContents} (base : Base) (ss : Stmts) (e : OptionExpr)
+    → Under base (base_of m) → BlockRel ss e final ps m m' r
+    → Goes base m'.nodes (contents final) (block_walk ss e) final ps (settled r.0 r.1)
+settled_go {m' = m'} {r = r} base ss e le h = rw h.is (contents_go ss e h.new r.1 (h.rel base m'.nodes le (omega arith)))
 
 block_form_fine : (at : Pointer) (is_unsafe : Bool) (label : Option LabelId) (number : Option BlockId) (ss : Stmts) (e : OptionExpr)
     {p : Lowering StoredContents} → Correct p (BlockRel ss e)
@@ -373,7 +379,7 @@ block_form_fine at is_unsafe label number ss e hp = correct_as
     (λ final ps m m' i g row. let r = row.second in record {
       middle = r.middle;
       held = settled r.one.0 r.one.1;
-      goes = rw r.first.is (contents_go ss e r.first.new r.one.1 (r.first.rel (base_of m) r.middle.nodes (omega arith) (omega arith)));
+      goes = settled_go (base_of m) ss e (omega arith) r.first;
       here = r.second;
     })
 

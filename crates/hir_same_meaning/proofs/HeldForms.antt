@@ -39,9 +39,9 @@ use Rattle.hir_read_back.proofs.Layers.{Pushed}
 use Rattle.hir_read_back.proofs.Walk.{Answers}
 use Rattle.hir_steps.proofs.Frames.{Frame, loop_at, block_at}
 use Rattle.hir_steps.proofs.Barriers.{correct_yield}
-use Rattle.hir_steps.proofs.Steps.{Mark, Rel, Correct, correct_bind, correct_as, correct_both, correct_pure, correct_alloc}
-use Rattle.hir_steps.proofs.Steps.{correct_report, correct_report_await, correct_point, correct_point_field, correct_enter_block}
-use Rattle.hir_steps.proofs.Steps.{correct_opened, correct_target}
+use Rattle.hir_steps.proofs.Steps.{Allocated, Grows, Mark, Rel, Correct, correct_bind, correct_as, correct_both, correct_pure}
+use Rattle.hir_steps.proofs.Steps.{correct_alloc, correct_report, correct_report_await, correct_point, correct_point_field}
+use Rattle.hir_steps.proofs.Steps.{correct_enter_block, correct_opened, correct_target}
 use Rattle.hir_same_meaning.proofs.Holding.{SameIn, inners_in, same_append, same_ids, same_bodies, Ids, an_expr, a_type, each, maybe, Holds}
 use Rattle.hir_same_meaning.proofs.Holding.{holds_none, holds_one, holds_two, holds_behind, expr_held, expr0, expr1, expr2}
 use Rattle.hir_same_meaning.proofs.HeldTypes.{a_constant, a_path, some_args}
@@ -453,16 +453,24 @@ turn_ended final n n' le o c ends (s ∷ ss) bs h = record {
   rest = turn_ended final n n' le o c ends ss h.others h.rest;
 }
 
+-- what is in it is in its parts, whatever it came from
+pub block_held : {es fs : Bodies} {final : Stored} {ps qs : List Frame} {m n m' k : Mark} {r : StoredContents} {source : Option Pointer}
+    {i : ExprId} (is_unsafe : Bool) (label : Option LabelId) (number : Option BlockId) → Filled [] es fs final ps m n r
+    → Allocated (settled_block is_unsafe label number (settled r.0 r.1)) source final qs n m' i → Grows n m'
+    → Holds an_expr (es ++ fs) final ps k m' i
+block_held {es = es} {fs = fs} {final = final} {n = n} {r = r} is_unsafe label number s here g =
+    let o = r.1 in let seen = n.nodes + n.entries in
+    expr_held here g (λ d le.
+    subst (λ ks. SameIn final (of_contents (inners_in final d) (settled ks o)) (es ++ fs)) (sym s.is)
+    (turn_all final seen (settled s.new o).0 (settled s.new o).1 (es ++ fs) (settled_turn final seen s.new o (es ++ fs) s.held) d le))
+
 pub block_form_held : {es fs : Bodies} (at : Pointer) (is_unsafe : Bool) (label : Option LabelId) (number : Option BlockId)
     {p : Lowering StoredContents} → Correct p (Filled [] es fs)
     → Correct (block_form at is_unsafe label number p) (Holds an_expr (es ++ fs))
 unfolding block_form
-block_form_held {es = es} {fs = fs} at is_unsafe label number h = holds_behind (correct_enter_block number) (λ u. correct_as
+block_form_held at is_unsafe label number h = holds_behind (correct_enter_block number) (λ u. correct_as
     (correct_bind h (λ r. correct_alloc (settled_block is_unsafe label number (settled r.0 r.1)) (Some at)))
-    (λ final ps m m' i g row. let s = row.first in let o = row.one.1 in let n = row.middle.nodes + row.middle.entries in
-    expr_held row.second row.after (λ d le.
-    subst (λ ks. SameIn final (of_contents (inners_in final d) (settled ks o)) (es ++ fs)) (sym s.is)
-    (turn_all final n (settled s.new o).0 (settled s.new o).1 (es ++ fs) (settled_turn final n s.new o (es ++ fs) s.held) d le))))
+    (λ final ps m m' i g row. block_held is_unsafe label number row.first row.second row.after))
 
 pub labelled_held : {es : Bodies} (label : Option Label) {f : Option LabelId → ExprSteps}
     → ((n : Option LabelId) → Correct (f n) (Holds an_expr es)) → Correct (labelled label f) (Holds an_expr es)

@@ -40,11 +40,12 @@ use Rattle.hir_steps.proofs.Frames.{barrier_at}
 use Rattle.hir_steps.proofs.Steps.{Correct, correct_as, correct_both, correct_in_store, correct_report}
 use Rattle.hir_steps.proofs.TypeAny.{lifetime_any, uses_any}
 use Rattle.hir_same_meaning.proofs.Body.{body_is}
-use Rattle.hir_same_meaning.proofs.Induction.{part_fine}
+use Rattle.hir_same_meaning.proofs.Induction.{contents_fine, part_fine}
 use Rattle.hir_same_meaning.proofs.Holding.{an_expr, a_type, each, maybe, Holds, holds_none, holds_one, holds_behind, none_held, more_held}
-use Rattle.hir_same_meaning.proofs.Holding.{type0, expr0, pat0, Ids, a_pat, a_type_pat}
+use Rattle.hir_same_meaning.proofs.Holding.{holds_owning, type0, expr0, pat0, Ids, a_pat, a_type_pat}
 use Rattle.hir_same_meaning.proofs.HeldClosures as closures
 use Rattle.hir_same_meaning.proofs.HeldClosures.{ParamsHeld}
+use Rattle.hir_same_meaning.proofs.HeldCoroutines.{coroutine_held}
 use Rattle.hir_same_meaning.proofs.HeldLimits as limits
 use Rattle.hir_same_meaning.proofs.HeldPats as pats
 use Rattle.hir_same_meaning.proofs.HeldPats.{PatHeld, Added, added_none, added_more, added_some, added_all}
@@ -197,7 +198,11 @@ mutual
   -- ---- constants
 
   pub constant_holds : (c : Constant) → Correct (lower.lower_constant c) (Holds a_constant (inner.constant_bodies c))
-  constant_holds (tree.constant e) = constant_held e (body_holds e)
+  constant_holds (tree.constant e) = holds_owning (λ c. c.expr) (constant_held e (body_holds e))
+
+  -- the one of a `const` block
+  rooted_holds : (c : Constant) → Correct (lower.lower_rooted c) (Holds a_constant (inner.constant_bodies c))
+  rooted_holds (tree.constant e) = constant_held e (body_holds e)
 
   -- ---- expressions
 
@@ -227,9 +232,11 @@ mutual
   expr_holds (tree.lazy_expr at op a b) = forms.both_held at (lower.stored_lazy op) (λ r i j. refl) (body_holds a) (body_holds b)
   expr_holds (tree.list_expr at form es) = forms.list_held at form (pushed_all (each_holds es []))
   expr_holds (tree.repeat_expr at e c) = forms.repeat_held at (body_holds e) (constant_holds c)
-  expr_holds (tree.const_expr at c) = forms.const_held at (constant_holds c)
-  expr_holds (tree.closure_expr at moves is_static ps t e) = closures.closure_held at moves is_static e
-      (params_hold ps lower.no_closure_params) (maybe_type_holds t) (body_holds e)
+  expr_holds (tree.const_expr at c) = holds_owning (λ i. i) (forms.const_held at (rooted_holds c))
+  expr_holds (tree.closure_expr at moves is_static ps t e) = holds_owning (λ i. i) (closures.closure_held at moves is_static e
+      (params_hold ps lower.no_closure_params) (maybe_type_holds t) (body_holds e))
+  expr_holds (tree.coroutine_expr at kind moves number ss e) = holds_owning (λ i. i)
+      (coroutine_held at kind moves number ss e (contents_fine ss e) (stmts_hold (kept_part_holds e) ss []))
   expr_holds (tree.method_call_expr at e name es generics) =
       forms.method_call_held at name (body_holds e) (list_holds generics) (pushed_all (each_holds es []))
   expr_holds (tree.cast_expr at e t) = forms.cast_held at (body_holds e) (part_holds None t)

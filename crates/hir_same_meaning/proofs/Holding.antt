@@ -9,11 +9,12 @@ use Rattle.hir_store.specs.declared.ids.PatId.{PatId}
 use Rattle.hir_store.specs.declared.ids.TypeRefId.{TypeRefId}
 use Rattle.hir_store.specs.declared.pat.Pat.{Pat as HirPat}
 use Rattle.hir_store.specs.declared.type_ref.TypeRef.{TypeRef}
-use Rattle.hir_lower_form.specs.Lowering.{Lowering, ◌>>=◌, pure, alloc_expr, alloc_pat, alloc_type}
+use Rattle.hir_lower_form.specs.Lowering.{Lowering, ◌>>=◌, pure, owning, alloc_expr, alloc_pat, alloc_type}
 use Rattle.hir_meaning.specs.Inner.{Bodies, Inners, inners, all_of, of_present, of_type, of_expr, of_pat, of_type_pat}
 use Rattle.hir_meaning.specs.Same.{SameBodies}
 use Rattle.hir_read_back.proofs.Layers.{Pushed}
 use Rattle.hir_steps.proofs.Frames.{Frame}
+use Rattle.hir_steps.proofs.Owning.{owning_keeps}
 use Rattle.hir_steps.proofs.PatSteps.{AllocatedPat, correct_alloc_pat}
 use Rattle.hir_steps.proofs.Steps.{Mark, Grows, Put, Rel, Correct, AllocatedBy, AllocatedType, correct_bind, correct_as, correct_pure}
 use Rattle.hir_steps.proofs.Steps.{correct_alloc, correct_alloc_type}
@@ -91,6 +92,11 @@ holds_two {f = f} {j = j} {es = es} {fs = fs} con e hp hq = correct_as
 pub holds_behind : {A B : Type 0} {R : Rel A} {k : Ids B} {es : Bodies} {p : Lowering A} {q : A → Lowering B}
     → Correct p R → ((a : A) → Correct (q a) (Holds k es)) → Correct (p >>= q) (Holds k es)
 holds_behind h k = correct_as (correct_bind h k) (λ final ps m m' b g row. record { same = row.second.same })
+
+-- whatever owns the bindings
+pub holds_owning : {A : Type 0} {ids : Ids A} {es : Bodies} (owner : A → ExprId) {p : Lowering A} → Correct p (Holds ids es)
+    → Correct (owning owner p) (Holds ids es)
+holds_owning owner h = owning_keeps owner (λ final ps m left start id a held. record { same = held.same }) h
 
 -- ---- lists that grow
 

@@ -23,17 +23,18 @@ use Rattle.hir_meaning.specs.Syntax.{run_expr, run_block_part, run_or_unit, run_
 use Rattle.hir_meaning.specs.Syntax.{run_present, run_arms, run_places, run_each_place, run_field_places}
 use Rattle.hir_data.specs.Written.{path_of}
 use Rattle.hir_read_back.proofs.Tree.{path_reads}
-use Rattle.hir_steps.proofs.Keeping.{constant_any, part_any}
+use Rattle.hir_steps.proofs.Keeping.{constant_any, contents_part_any, part_any, rooted_any}
 use Rattle.hir_steps.proofs.Steps.{Correct, correct_bind, correct_as, correct_pure, correct_report}
 use Rattle.hir_steps.proofs.TypeAny.{any}
 use Rattle.hir_same_meaning.proofs.Senses.{base_of}
-use Rattle.hir_same_meaning.proofs.Senses.{Walk, one, optional, many, Runs}
+use Rattle.hir_same_meaning.proofs.Senses.{Walk, one, optional, many, Runs, runs_owning}
 use Rattle.hir_same_meaning.proofs.Senses.{present as initial}
 use Rattle.hir_same_meaning.proofs.Blocks.{part_walk, KeptIs, ElseIs}
 use Rattle.hir_same_meaning.proofs.Nodes
 use Rattle.hir_same_meaning.proofs.Forms
 use Rattle.hir_same_meaning.proofs.Families
 use Rattle.hir_same_meaning.proofs.Closures
+use Rattle.hir_same_meaning.proofs.Coroutines
 use Rattle.hir_same_meaning.proofs.Typed
 use Rattle.hir_same_meaning.proofs.Patterned
 use Rattle.hir_same_meaning.proofs.Ranges
@@ -70,8 +71,11 @@ mutual
   expr_fine (tree.lazy_expr at op a b) = Families.lazy_fine at op (part_fine a) (part_fine b)
   expr_fine (tree.list_expr at form es) = Families.list_fine at form (Forms.pushed_all (each_fine es []))
   expr_fine (tree.repeat_expr at e c) = Families.repeat_fine at (part_fine e) (constant_any c)
-  expr_fine (tree.const_expr at c) = Families.const_fine at (constant_any c)
-  expr_fine (tree.closure_expr at moves is_static ps t e) = Closures.closure_fine at moves is_static ps t e (part_any e)
+  expr_fine (tree.const_expr at c) = runs_owning (λ i. i) (Families.const_fine at (rooted_any c))
+  expr_fine (tree.closure_expr at moves is_static ps t e) =
+      runs_owning (λ i. i) (Closures.closure_fine at moves is_static ps t e (part_any e))
+  expr_fine (tree.coroutine_expr at kind moves number ss e) =
+      runs_owning (λ i. i) (Coroutines.coroutine_fine at kind moves number (contents_part_any ss e))
   expr_fine (tree.method_call_expr at e name es generics) =
       Typed.method_call_fine at name generics (part_fine e) (Forms.pushed_all (each_fine es []))
   expr_fine (tree.cast_expr at e t) = Typed.cast_fine at t (part_fine e)
@@ -226,3 +230,7 @@ mutual
   stmts_fine t x hq (tree.more_stmts tree.item_stmt ss) done =
       correct_as (stmts_fine t x hq ss (done ++ statement.Item ∷ []))
       (λ final ps m m' r g p. Forms.filled_item t x ss done p)
+
+-- what is in a block
+pub contents_fine : (ss : Stmts) (e : OptionExpr) → Correct (lower_stmts [] ss (kept_part e)) (Forms.BlockRel ss e)
+contents_fine ss e = stmts_fine (is_left e) (part_walk e) (kept_part_fine e) ss []

@@ -10,6 +10,7 @@ pub mod Unmade
 pub mod Blocks
 pub mod Strict
 pub mod Forms
+pub mod Coroutines
 pub mod Named
 pub mod Families
 pub mod Closures
@@ -42,6 +43,7 @@ pub mod HeldPats
 pub mod HeldLimits
 pub mod HeldPatterned
 pub mod HeldClosures
+pub mod HeldCoroutines
 pub mod HeldTree
 pub mod Whole
 pub mod Computed

@@ -3,6 +3,7 @@ use Rattle.std.proofs.Common.{◌≡◌, refl, subst, sym, ℕ, Bool, true, fals
 use Rattle.hir_binding.specs.declared.binding.BindingAnnotation.TheVariants.{Mutable, Unannotated}
 use Rattle.hir_store.specs.Pointers.{Pointer}
 use Rattle.hir_store.specs.Stored.{Stored, store_of, map_of}
+use Rattle.hir_store.specs.declared.hir.CoroutineKind.{CoroutineKind}
 use Rattle.hir_store.specs.declared.hir.Expr.{Expr as HirExpr}
 use Rattle.hir_store.specs.declared.hir.LoopSource.{LoopSource}
 use Rattle.hir_store.specs.declared.ids.BlockId.{BlockId}
@@ -17,13 +18,13 @@ use Rattle.hir_env.specs.Answered.{Binary, Block, Expr, ForItems, Label, Leaf, L
 use Rattle.hir_env.specs.Answered.{QuestionItems, RangeForm, Unary}
 use Rattle.hir_data.proofs.MadeNames.{PathUnmade, path_unmade}
 use Rattle.hir_data.specs.Reading.{stored_path}
-use Rattle.hir_lower_form.specs.Lowering.{Lowering, ◌>>=◌, alloc_expr, alloc_made}
+use Rattle.hir_lower_form.specs.Lowering.{Lowering, ◌>>=◌, owning, alloc_expr, alloc_made}
 use Rattle.hir_lower_form.specs.Lower as lower
 use Rattle.hir_lower_form.specs.Made.{for_form, for_turn_form, made_loop_form, question_form, try_block_form, typed_try_form}
 use Rattle.hir_lower_form.specs.Forms.{ExprSteps, StoredContents, StoredFields, missing, if_form, loop_form, call_form, continue_form}
 use Rattle.hir_lower_form.specs.Forms.{break_form, paren_form, path_form, path_or_missing, operand_form, operands_form, value_form}
 use Rattle.hir_lower_form.specs.declared.closures.ClosureParams.{ClosureParams}
-use Rattle.hir_lower_form.specs.Forms.{list_form, repeat_form, const_form, closure_form}
+use Rattle.hir_lower_form.specs.Forms.{list_form, repeat_form, const_form, closure_form, coroutine_block_form, coroutine_form}
 use Rattle.hir_lower_form.specs.Forms.{method_call_form, await_form, cast_form, offset_of_form, record_of, record_form, block_form}
 use Rattle.hir_lower_form.specs.Forms.{labelled, let_form, match_form, assign_form, settled, stored_binary, stored_leaf}
 use Rattle.hir_lower_form.specs.Forms.{stored_leaving, stored_unary}
@@ -36,9 +37,11 @@ use Rattle.hir_steps.proofs.Steps.{correct_enter_block, correct_opened, correct_
 use Rattle.hir_steps.proofs.ApartForms.{flow_arm_apart, item_call_apart, made_path_apart, residual_apart, wrapped_apart}
 use Rattle.hir_steps.proofs.Keeping.{Any, any, args_any, arms_any, block_part_any, contents_any, contents_part_any, each_any, fields_any}
 use Rattle.hir_steps.proofs.Keeping.{for_loop_any, lower_path_any, one_type_any, part_any, present_any, spread_any, target_any, top_any}
-use Rattle.hir_steps.proofs.Barriers.{correct_closure, correct_yield}
-use Rattle.hir_steps.proofs.Keeping.{turn_any, type_any, constant_any, params_any, present_type_any}
+use Rattle.hir_steps.proofs.Barriers.{correct_closure, correct_coroutine, correct_yield}
+use Rattle.hir_steps.proofs.Keeping.{turn_any, type_any, constant_any, rooted_any, params_any, present_type_any}
 use Rattle.hir_steps.proofs.MadeSteps.{correct_alloc_made, correct_made_bind, correct_made_number, correct_opened_try}
+use Rattle.hir_steps.proofs.Owning.{owning_keeps}
+use Rattle.hir_same_meaning.proofs.Coroutines.{coroutine_is}
 
 -- what stands at this number is no made name
 pub record Unnamed (final : Stored) (ps : List Frame) (m m' : Mark) (i : ExprId) : Type 0 where
@@ -64,6 +67,10 @@ missing_unnamed = stored_unnamed _ None (λ final. refl)
 ends_unnamed : {A : Type 0} {R : Rel A} {p : Lowering A} {f : A → ExprSteps} → Correct p R → ((a : A) → Correct (f a) Unnamed)
     → Correct (p >>= f) Unnamed
 ends_unnamed h k = correct_as (correct_bind h k) (λ final ps m m' i g row. record { is = row.second.is })
+
+-- whatever owns the bindings
+unnamed_owning : {p : ExprSteps} → Correct p Unnamed → Correct (owning (λ i. i) p) Unnamed
+unnamed_owning h = owning_keeps (λ i. i) (λ final ps m left start id i row. record { is = row.is }) h
 
 -- kinds of families
 
@@ -105,6 +112,11 @@ module _ (at : Pointer) where
       → Correct t Any → Correct e Any → Correct (closure_form at moves is_static p t e) Unnamed
   closure_unnamed moves is_static hp ht he = correct_as (correct_closure at moves is_static hp ht he)
       (λ final ps m m' i g row. record { is = rw (row.made.number, row.made.here) refl })
+
+  coroutine_unnamed : (kind : CoroutineKind) (moves : Bool) (number : Option BlockId) {c : Lowering StoredContents} → Correct c Any
+      → Correct (coroutine_form (coroutine_block_form at kind moves number c)) Unnamed
+  coroutine_unnamed kind moves number h = correct_as (correct_coroutine (coroutine_is at kind moves number h))
+      (λ final ps m m' i g row. let x = row.inside in record { is = rw (x.made.number, x.made.here) refl })
 
   loop_unnamed : (from : LoopSource) (label : Option Label) {b : ExprSteps} → Correct b Any → Correct (loop_form at from label b) Unnamed
   unfolding loop_form
@@ -224,9 +236,12 @@ mutual
   expr_unnamed (tree.list_expr at form es) = list_unnamed at form (each_any [] es)
   expr_unnamed (tree.repeat_expr at e c) =
       ends_unnamed (part_any e) (λ i. ends_unnamed (constant_any c) (λ n. stored_unnamed _ (Some at) (λ final. refl)))
-  expr_unnamed (tree.closure_expr at moves is_static ps t e) =
-      closure_unnamed at moves is_static (params_any lower.no_closure_params ps) (present_type_any t) (part_any e)
-  expr_unnamed (tree.const_expr at c) = ends_unnamed (constant_any c) (λ n. stored_unnamed _ (Some at) (λ final. refl))
+  expr_unnamed (tree.closure_expr at moves is_static ps t e) = unnamed_owning
+      (closure_unnamed at moves is_static (params_any lower.no_closure_params ps) (present_type_any t) (part_any e))
+  expr_unnamed (tree.coroutine_expr at kind moves number ss e) =
+      unnamed_owning (coroutine_unnamed at kind moves number (contents_part_any ss e))
+  expr_unnamed (tree.const_expr at c) =
+      unnamed_owning (ends_unnamed (rooted_any c) (λ n. stored_unnamed _ (Some at) (λ final. refl)))
   expr_unnamed (tree.method_call_expr at e name es as') = ends_unnamed (part_any e) (λ i. ends_unnamed (each_any [] es)
       (λ is. ends_unnamed (args_any as') (λ g. stored_unnamed _ (Some at) (λ final. refl))))
   expr_unnamed (tree.leaving_expr at form e) = value_unnamed at _ (leaving_none form) (present_any e)

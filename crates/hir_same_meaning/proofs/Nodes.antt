@@ -1,5 +1,5 @@
 -- What each node of the store stands for, given what its parts stand for.
-use Rattle.std.proofs.Common.{◌≡◌, ◌≤◌, ℕ, Bool, false, if◌then◌else◌, List, [], ◌∷◌, Option, Some, None, refl, ap}
+use Rattle.std.proofs.Common.{◌≡◌, ◌≤◌, ℕ, Bool, false, if◌then◌else◌, List, [], ◌∷◌, Option, Some, None, option_map, refl, ap}
 use Rattle.hir_base.specs.declared.op.LogicOp.{LogicOp}
 use Rattle.hir_base.specs.declared.op.BinaryOp.TheVariants as ast
 use Rattle.hir_store.specs.Pointers.{Pointer}
@@ -31,6 +31,15 @@ use Rattle.hir_same_meaning.proofs.Senses.{Walk, one, optional, many, others, pr
 module _ {base : Base} {m m' : Mark} {at : Option Pointer} {final : Stored} {ps qs : List Frame} {i : ExprId} {put : Put} where
   pub goes_missing : AllocatedBy put hir.Missing at final qs m m' i → Goes base m'.nodes one (λ turns ss. ends (leave missing)) final ps i
   goes_missing h = goes_at h (λ turns d le f. same_ends (leave missing) refl) (λ d le. tt)
+
+  -- whatever it came from
+  pub goes_plain_block : {r : List Statement × Option ExprId} {x : Walk Value} (is_unsafe : Bool) (number : Option BlockId)
+      → Goes base m.nodes (contents final) x final ps r
+      → AllocatedBy put (hir.Block is_unsafe None number r.0 r.1) at final qs m m' i
+      → Goes base m'.nodes one (λ turns ss. entering is_unsafe number (option_map site_of at) (x turns ss)) final ps i
+  goes_plain_block is_unsafe number h a = goes_at a
+      (λ turns d le f. same_entering is_unsafe number (option_map site_of at) (same_plain_block (h.same turns d le f)))
+      (λ d le. h.jumps d le)
 
 module _ {base : Base} {m m' : Mark} {at : Pointer} {final : Stored} {ps qs : List Frame} {i : ExprId} {put : Put} where
   pub goes_if : {c t : ExprId} {e : Option ExprId} {x y z : Walk Value} → Goes base m.nodes one x final ps c
@@ -87,14 +96,6 @@ module _ {base : Base} {m m' : Mark} {at : Pointer} {final : Stored} {ps qs : Li
       (λ turns d le f. same_loop (same_turns_as (alike turns)
       (same_turns n (same_bind (same_fewer few (h.same turns d le (falls f))) (λ v. same_pure None)))) turns)
       (λ d le. let r = h.jumps d le in rw (loop_numbers n ps) at r)
-
-  pub goes_plain_block : {r : List Statement × Option ExprId} {x : Walk Value} (is_unsafe : Bool) (number : Option BlockId)
-      → Goes base m.nodes (contents final) x final ps r
-      → AllocatedBy put (hir.Block is_unsafe None number r.0 r.1) (Some at) final qs m m' i
-      → Goes base m'.nodes one (λ turns ss. entering is_unsafe number (Some (site_of at)) (x turns ss)) final ps i
-  goes_plain_block is_unsafe number h a = goes_at a
-      (λ turns d le f. same_entering is_unsafe number (Some (site_of at)) (same_plain_block (h.same turns d le f)))
-      (λ d le. h.jumps d le)
 
   pub goes_block : {base' : Base} {r : List Statement × Option ExprId} {x : Walk Value} (is_unsafe : Bool) (number : Option BlockId)
       (l : Label) (n : LabelId) → (Falls base.labels ps → Falls base'.labels (block_at l n ∷ ps)) → base.names ≤ base'.names

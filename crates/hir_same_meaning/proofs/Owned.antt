@@ -20,7 +20,8 @@ use Rattle.hir_lower_form.specs.Lower.{lower_target, lower_targets, lower_target
 use Rattle.hir_lower_form.specs.Lower.{stored_leaf, stored_unary, stored_binary, stored_lazy, stored_leaving, no_closure_params}
 use Rattle.hir_lower_form.specs.Pats.{Elements, no_elements}
 use Rattle.hir_same_meaning.specs.Reached.{of_each, of_fields, of_others, of_arms}
-use Rattle.hir_steps.proofs.Keeping.{constant_any, lower_path_any, params_any, part_any, present_type_any}
+use Rattle.hir_steps.proofs.Keeping.{constant_any, contents_part_any, lower_path_any, params_any, part_any, present_type_any}
+use Rattle.hir_steps.proofs.Keeping.{rooted_any}
 use Rattle.hir_steps.proofs.Steps.{Correct, correct_bind, correct_as, correct_pure, correct_report}
 use Rattle.hir_same_meaning.proofs.Forms.{Pushed, pushed_none, correct_statement}
 use Rattle.hir_same_meaning.proofs.OwningPats as Pats
@@ -28,7 +29,7 @@ use Rattle.hir_same_meaning.proofs.Owning.{OwnsAs, Owns, OwnsSome, owns_none, le
 use Rattle.hir_same_meaning.proofs.Owning.{unary_below, binary_below, leaving_below, of_field, contents_owns, operand_owns}
 use Rattle.hir_same_meaning.proofs.Owning.{operands_owns, value_owns, list_owns, method_call_owns, cast_owns, offset_of_owns, record_owns}
 use Rattle.hir_same_meaning.proofs.Owning.{field_owns, await_owns, nameless_owns, if_owns, call_owns, loop_owns, turn_owns}
-use Rattle.hir_same_meaning.proofs.Owning.{break_owns, repeat_owns, const_owns, closure_owns, yield_owns}
+use Rattle.hir_same_meaning.proofs.Owning.{break_owns, repeat_owns, const_owns, closure_owns, coroutine_owns, yield_owns, owns_owning}
 use Rattle.hir_same_meaning.proofs.Owning.{continue_owns, paren_owns, path_owns, kept_owns, disabled_owns, each_more, fields_more}
 use Rattle.hir_same_meaning.proofs.Owning.{fields_own_all, Filled, filled_end, filled_held, filled_none, filled_silent, filled_expr}
 use Rattle.hir_same_meaning.proofs.Owning.{block_owns, each_owns_all}
@@ -64,9 +65,11 @@ mutual
   expr_owns (tree.lazy_expr at op a b) = operands_owns at (stored_lazy op) (λ f s i j. refl) (part_owns a) (part_owns b)
   expr_owns (tree.list_expr at form es) = list_owns at form (each_owns_all (each_owns es []))
   expr_owns (tree.repeat_expr at e c) = repeat_owns at (part_owns e) (constant_any c)
-  expr_owns (tree.const_expr at c) = const_owns at (constant_any c)
-  expr_owns (tree.closure_expr at moves is_static ps t e) =
-      closure_owns at moves is_static (params_any no_closure_params ps) (present_type_any t) (part_any e)
+  expr_owns (tree.const_expr at c) = owns_owning (λ i. i) (const_owns at (rooted_any c))
+  expr_owns (tree.closure_expr at moves is_static ps t e) = owns_owning (λ i. i)
+      (closure_owns at moves is_static (params_any no_closure_params ps) (present_type_any t) (part_any e))
+  expr_owns (tree.coroutine_expr at kind moves number ss e) =
+      owns_owning (λ i. i) (coroutine_owns at kind moves number (contents_part_any ss e))
   expr_owns (tree.method_call_expr at e name es generics) =
       method_call_owns at name generics (part_owns e) (each_owns_all (each_owns es []))
   expr_owns (tree.cast_expr at e t) = cast_owns at t (part_owns e)

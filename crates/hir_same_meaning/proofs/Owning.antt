@@ -5,6 +5,7 @@ use Rattle.std.proofs.Common.{append_assoc, Option, Some, None, option_map, refl
 use Rattle.hir_store.specs.Pointers.{Pointer}
 use Rattle.hir_store.specs.Stored.{Stored, Store, store_of}
 use Rattle.hir_store.specs.declared.hir.Array.TheVariants as array
+use Rattle.hir_store.specs.declared.hir.CoroutineKind.{CoroutineKind}
 use Rattle.hir_store.specs.declared.hir.Expr.{Expr as HirExpr}
 use Rattle.hir_store.specs.declared.hir.Expr.TheVariants as hir
 use Rattle.hir_store.specs.declared.hir.LoopSource.{LoopSource}
@@ -26,7 +27,7 @@ use Rattle.hir_store.specs.declared.diagnostics.ExpressionStoreDiagnostics.TheVa
 use Rattle.hir_env.specs.Answered as tree
 use Rattle.hir_env.specs.Answered.{Leaf, Unary, Binary, Listing, Leaving}
 use Rattle.hir_env.specs.Answered.{OptionType, OptionPath, OptionArgs, Label, Jump, Expr}
-use Rattle.hir_lower_form.specs.Lowering.{Lowering, ◌>>=◌, pure, alloc_expr, report}
+use Rattle.hir_lower_form.specs.Lowering.{Lowering, ◌>>=◌, pure, owning, alloc_expr, report}
 use Rattle.hir_lower_form.specs.Lower.{ExprSteps, push_some, missing, some, if_form, loop_form, turn_form, call_form, continue_form}
 use Rattle.hir_lower_form.specs.Lower.{break_form}
 use Rattle.hir_lower_form.specs.Lower.{paren_form, path_or_missing, path_form, lower_path, settled, settled_block, StoredContents}
@@ -37,14 +38,16 @@ use Rattle.hir_lower_form.specs.Lower.{record_form, field_form}
 use Rattle.hir_lower_form.specs.Lower.{stored_leaf, stored_unary, stored_binary, stored_leaving}
 use Rattle.hir_lower_form.specs.Lower.{operand_form, operands_form, value_form, list_form, method_call_form, await_form}
 use Rattle.hir_lower_form.specs.declared.closures.ClosureParams.{ClosureParams}
-use Rattle.hir_lower_form.specs.Lower.{repeat_form, const_form, closure_form, yield_form}
+use Rattle.hir_lower_form.specs.Lower.{repeat_form, const_form, closure_form, coroutine_block_form, coroutine_form, yield_form}
 use Rattle.hir_same_meaning.specs.Reached.{of_some, of_each, of_fields, of_others, of_statement, of_statements, below, reached_to, Spread}
 use Rattle.hir_steps.proofs.Frames.{Frame, loop_at, block_at}
-use Rattle.hir_steps.proofs.Barriers.{correct_closure, correct_yield}
+use Rattle.hir_steps.proofs.Barriers.{correct_closure, correct_coroutine, correct_yield}
+use Rattle.hir_steps.proofs.Owning.{owning_keeps}
 use Rattle.hir_steps.proofs.Steps.{Mark, Grows, Put, Rel, Correct, AllocatedBy, correct_bind, correct_as, correct_pure}
 use Rattle.hir_steps.proofs.Steps.{correct_report, correct_report_await, correct_point, correct_enter_block, correct_alloc}
 use Rattle.hir_steps.proofs.Steps.{correct_opened, correct_target, correct_point_field}
 use Rattle.hir_steps.proofs.Keeping.{type_any, args_any, lower_path_any}
+use Rattle.hir_same_meaning.proofs.Coroutines.{coroutine_is}
 use Rattle.hir_same_meaning.proofs.Spread.{spread_none, spread_wider, spread_append, spread_node}
 use Rattle.hir_same_meaning.proofs.Forms.{Pushed, pushed_one}
 
@@ -76,6 +79,11 @@ owns_at {final = final} m {m1 = m1} {m' = m'} {i = i} at le h = record { spread 
     go : (d : ℕ) → m'.nodes ≤ d → Spread m.nodes m'.nodes (reached_to (store_of final) d i)
     go zero le' = absurd (omega (arith, at.next))
     go (suc d) le' = rw (at.number, at.here, at.next) (spread_node m.nodes m1.nodes _ le (h d (omega (arith, at.next))))
+
+-- whatever owns the bindings
+pub owns_owning : {A : Type 0} {numbers : (ExprId → List ℕ) → A → List ℕ} (owner : A → ExprId) {p : Lowering A}
+    → Correct p (OwnsAs numbers) → Correct (owning owner p) (OwnsAs numbers)
+owns_owning owner h = owning_keeps owner (λ final ps m left start id a row. record { spread = row.spread }) h
 
 -- forms
 
@@ -200,6 +208,14 @@ module _ (at : Pointer) where
   closure_owns moves is_static hp ht he = correct_as (correct_closure at moves is_static hp ht he)
       (λ final ps m m' i g row. owns_at m row.made (omega (row.to_params.nodes, row.to_ret.nodes, row.to_body.nodes, arith))
       (λ d le. spread_none m.nodes row.left.nodes))
+
+  -- nor is what is in a coroutine block
+  pub coroutine_owns : (kind : CoroutineKind) (moves : Bool) (number : Option BlockId) {p : Lowering StoredContents}
+      {R : Rel StoredContents} → Correct p R → Correct (coroutine_form (coroutine_block_form at kind moves number p)) Owns
+  coroutine_owns kind moves number h = correct_as (correct_coroutine (coroutine_is at kind moves number h))
+      (λ final ps m m' i g row. let x = row.inside in
+      owns_at m x.made (omega (x.to_entered.nodes, x.to_filled.nodes, x.to_left.nodes, arith))
+      (λ d le. spread_none m.nodes x.left.nodes))
 
   pub yield_owns : {p : Lowering (Option ExprId)} → Correct p OwnsSome → Correct (yield_form at p) Owns
   yield_owns h = correct_yield at _ (value_owns hir.Yield (λ f s o. refl) h)

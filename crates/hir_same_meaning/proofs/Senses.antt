@@ -9,6 +9,7 @@ use Rattle.hir_store.specs.declared.ids.ExprId.{ExprId}
 use Rattle.hir_store.specs.declared.ids.LabelId.{LabelId}
 use Rattle.hir_env.specs.NodeMap.{Site}
 use Rattle.hir_env.specs.Answering.{site_of}
+use Rattle.hir_lower_form.specs.Lowering.{Lowering, owning}
 use Rattle.hir_meaning.specs.Run.{Value}
 use Rattle.hir_scope.specs.Scopes.{Scope}
 use Rattle.hir_meaning.specs.Syntax.{SyntaxRun}
@@ -16,7 +17,8 @@ use Rattle.hir_meaning.specs.Store.{StoreRun, run_or_unit, run_each, run_others,
 use Rattle.hir_scope.specs.Each.{Each, IfPresent}
 use Rattle.hir_meaning.specs.Jumps.{EachStatement, OthersEnclosed, StoredEnclosed, EnclosedTo}
 use Rattle.hir_steps.proofs.Frames.{Frame, scopes, Falls, falls_more}
-use Rattle.hir_steps.proofs.Steps.{Mark, Grows, Rel, AllocatedBy, Put}
+use Rattle.hir_steps.proofs.Owning.{owning_keeps}
+use Rattle.hir_steps.proofs.Steps.{Mark, Grows, Rel, Correct, AllocatedBy, Put}
 use Rattle.hir_same_meaning.proofs.Views.{numbers}
 use Rattle.hir_same_meaning.proofs.Relation.{SameWhere, same_fewer}
 
@@ -92,6 +94,11 @@ pub record Goes {A B : Type 0} (base : Base) (nodes : ℕ) (r : Reading A B) (x 
 
 abbrev pub Runs : {A B : Type 0} → Reading A B → Walk B → Rel A
 Runs r x final ps m m' a = Goes (base_of m) m'.nodes r x final ps a
+
+-- whatever owns the bindings
+pub runs_owning : {A B : Type 0} {r : Reading A B} {x : Walk B} (owner : A → ExprId) {p : Lowering A} → Correct p (Runs r x)
+    → Correct (owning owner p) (Runs r x)
+runs_owning owner h = owning_keeps owner (λ final ps m left start id a goes. goes) h
 
 pub record Wider (base : Base) (nodes : ℕ) (base' : Base) (nodes' : ℕ) : Type 0 where
   pub labels_from : base'.labels ≤ base.labels

@@ -71,7 +71,7 @@ module _ (f : ExprId → List ℕ) where
     -- the length is a body by itself, and so is what is in a const block
     below (hir.Array (array.Repeat e c)) = f e
     below (hir.Const c) = []
-    -- what is in a closure runs when it is called
+    -- what is in a closure or in a coroutine block runs by itself, later
     below (hir.Closure args types ret body kind capture) = []
     below (hir.MethodCall e name generics es) = f e ++ of_each es
     below (hir.Cast e t) = f e

@@ -29,18 +29,19 @@ use Rattle.hir_scope.specs.Ribs.{Rib, Target, reachable, unreachable, undeclared
 use Rattle.hir_lower_form.specs.Lowering.{Lowering, ◌>>=◌, pure, alloc_binding, alloc_expr, alloc_made, alloc_pat, alloc_type}
 use Rattle.hir_lower_form.specs.Lowering.{alloc_lifetime}
 use Rattle.hir_lower_form.specs.Lowering.{close, define, enter_block, jump_target, made_number, open_label, open_try, point, point_field}
-use Rattle.hir_lower_form.specs.Lowering.{point_pat_field, report, report_await, set_problem, try_target}
+use Rattle.hir_lower_form.specs.Lowering.{owning, point_pat_field, report, report_await, set_problem, try_target}
 use Rattle.hir_lower_form.specs.declared.closures.ClosureParams.{ClosureParams}
 use Rattle.hir_lower_form.specs.Forms.{stored_closure}
-use Rattle.hir_lower_form.specs.Lower.{ExprSteps, closure_form, constant_form}
+use Rattle.hir_lower_form.specs.Lower.{ExprSteps, closure_form, constant_form, coroutine_form}
 use Rattle.hir_lower_form.specs.Made.{made_binding, made_bind_form}
 use Rattle.hir_lower_form.specs.Ranges.{inner_form}
 use Rattle.hir_steps.specs.Keeps.{MadeApart, times_bound, times_labelled, times_made, times_named}
-use Rattle.hir_steps.proofs.Barriers.{correct_closure}
+use Rattle.hir_steps.proofs.Barriers.{correct_closure, correct_coroutine}
 use Rattle.hir_steps.proofs.Constants.{correct_constant, correct_inner, with_root}
 use Rattle.hir_steps.proofs.Frames.{Frame, rib, ribs}
 use Rattle.hir_steps.proofs.MadeSteps.{correct_alloc_made, correct_made_bind, correct_made_number, correct_opened_try, correct_try_target}
 use Rattle.hir_steps.proofs.MadeSteps.{made_label, put_made}
+use Rattle.hir_steps.proofs.Owning.{owning_keeps}
 use Rattle.hir_steps.proofs.PatSteps.{correct_alloc_binding, correct_alloc_pat, correct_define, correct_point_pat_field}
 use Rattle.hir_steps.proofs.PatSteps.{correct_set_problem}
 use Rattle.hir_steps.proofs.PatSteps.{defining, with_field_pat, with_new_binding, with_pat, with_problem_of}
@@ -180,6 +181,14 @@ set_problem_apart id problem = correct_as (correct_set_problem id problem)
     (λ final ps m m' u g row. apart_stored (with_problem_of id problem) m m' (ap (λ c. c.7) row.counts_are) row.stored
     (λ s k. ap (λ t. t + times_labelled k s.labels.entries) (bound_at k id.0 problem s.bindings.entries)))
 
+-- names are the same, whatever owns bindings
+pub owning_apart : {A : Type 0} (owner : A → ExprId) {p : Lowering A} → Correct p Apart → Correct (owning owner p) Apart
+owning_apart owner h = owning_keeps owner (λ final ps m left start id a row. record {
+  names = row.names;
+  old = row.old;
+  apart = λ d. let x = row.apart d in record { once = x.once; later = x.later };
+}) h
+
 -- bodies inside
 
 root_times : (i : ExprId) (s : Stored) (k : ℕ) → times_made k (with_root i s) ≡ times_made k s
@@ -205,6 +214,9 @@ closure_apart at moves is_static hp ht he = correct_as (correct_closure at moves
     apart_trans (apart_of {qs = ps} {b = i} row.in_params) (apart_trans (apart_of {qs = ps} {b = i} row.in_ret)
     (apart_trans (apart_of {qs = ps} {b = i} row.in_body)
     (apart_stored (with_expr node (Some at)) row.left m' row.made.names row.made.stored (λ s k. refl)))))
+
+pub coroutine_apart : {p : ExprSteps} → Correct p Apart → Correct (coroutine_form p) Apart
+coroutine_apart h = correct_as (correct_coroutine h) (λ final ps m m' i g row. apart_of {qs = ps} {b = i} row.inside)
 
 -- names
 

@@ -2,6 +2,7 @@
 use Rattle.std.proofs.Common.{ℕ, Bool, true, false, List, [], ◌∷◌, Option, Some, None, refl}
 use Rattle.hir_binding.specs.declared.binding.BindingAnnotation.TheVariants.{Mutable, Unannotated}
 use Rattle.hir_store.specs.Pointers.{Pointer}
+use Rattle.hir_store.specs.declared.hir.CoroutineKind.{CoroutineKind}
 use Rattle.hir_store.specs.declared.hir.Expr.{Expr as HirExpr}
 use Rattle.hir_store.specs.declared.hir.LoopSource.{LoopSource}
 use Rattle.hir_store.specs.declared.hir.RecordLitField.{RecordLitField}
@@ -39,7 +40,7 @@ use Rattle.hir_lower_form.specs.Made.{arm_for, done_arm_form, for_form, for_turn
 use Rattle.hir_lower_form.specs.Made.{next_form}
 use Rattle.hir_store.specs.declared.ids.LangItemId.{LangItemId}
 use Rattle.hir_lower_form.specs.declared.closures.ClosureParams.{ClosureParams}
-use Rattle.hir_lower_form.specs.Lower.{settled, repeat_form, const_form, param_form, yield_form}
+use Rattle.hir_lower_form.specs.Lower.{settled, repeat_form, const_form, coroutine_block_form, param_form, yield_form}
 use Rattle.hir_lower_form.specs.Lowering.{pure, alloc_pat}
 use Rattle.hir_lower_form.specs.Made.{item_pat}
 
@@ -161,6 +162,12 @@ module _ (at : Pointer) where
       → Correct c Apart → Correct (block_form at is_unsafe label number c) Apart
   unfolding block_form
   block_form_apart is_unsafe label number h = then_apart (enter_block_apart number) (λ u. then_apart h (λ r. stored_apart _ at))
+
+  pub coroutine_block_apart : (kind : CoroutineKind) (moves : Bool) (number : Option BlockId) {c : Lowering StoredContents}
+      → Correct c Apart → Correct (coroutine_block_form at kind moves number c) Apart
+  unfolding coroutine_block_form
+  coroutine_block_apart kind moves number h = then_apart (enter_block_apart number)
+      (λ u. then_apart h (λ r. then_apart (expr_apart _ None) (λ b. stored_apart _ at)))
 
   -- made nodes
 

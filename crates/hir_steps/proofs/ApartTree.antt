@@ -23,7 +23,8 @@ use Rattle.hir_lower_form.specs.Walks.{start, at_first, super_read, path_read}
 use Rattle.hir_lower_form.specs.Types.{no_lists}
 use Rattle.hir_lower_form.specs.Lower.{lower_type, type_part, present_type, type_or_unit, lower_parts, read_segment, read_each, read_path}
 use Rattle.hir_lower_form.specs.Lower.{read_option, lower_path, lower_segment_args, parens_part, output_part, args_part, lower_args}
-use Rattle.hir_lower_form.specs.Lower.{lower_arg, lower_bounds, lower_bound, lower_constant, lower_param, lower_params, no_closure_params}
+use Rattle.hir_lower_form.specs.Lower.{lower_arg, lower_bounds, lower_bound, lower_constant, lower_rooted, lower_param, lower_params}
+use Rattle.hir_lower_form.specs.Lower.{no_closure_params}
 use Rattle.hir_lower_form.specs.Lowering.{Lowering}
 use Rattle.hir_lower_form.specs.Lower.{lower_fields, lower_field, lower_spread}
 use Rattle.hir_lower_form.specs.Lower.{lower, lower_part}
@@ -33,8 +34,8 @@ use Rattle.hir_lower_form.specs.Lower.{present_pat, lower_pats, lower_elements, 
 use Rattle.hir_lower_form.specs.Lower.{lower_pat_field, lower_side, lower_type_pat_part, lower_type_pat, lower_type_pats, lower_limit}
 use Rattle.hir_lower_form.specs.Lower.{limit_side, lower_target, lower_targets, lower_target_fields, lower_target_field}
 use Rattle.hir_lower_form.specs.Pats.{Table, no_names, next_alternative, Elements, no_elements, is_dots}
-use Rattle.hir_steps.proofs.Apart.{Apart, closure_apart, constant_apart, inner_apart}
-use Rattle.hir_steps.proofs.Apart.{pure_apart, report_apart}
+use Rattle.hir_steps.proofs.Apart.{Apart, closure_apart, constant_apart, coroutine_apart, inner_apart}
+use Rattle.hir_steps.proofs.Apart.{owning_apart, pure_apart, report_apart}
 use Rattle.hir_steps.proofs.Apart.{stored_pat_apart, stored_type_apart, then_apart}
 use Rattle.hir_steps.proofs.ApartPats.{alone_apart, arm_apart, array_target_apart, assign_apart, before_apart, bind_apart}
 use Rattle.hir_steps.proofs.ApartPats.{call_target_apart, element_apart, item_apart, let_apart, let_stmt_apart, limits_apart}
@@ -53,7 +54,7 @@ use Rattle.hir_steps.proofs.ApartForms.{missing_apart, stored_apart, some_apart,
 use Rattle.hir_steps.proofs.ApartForms.{continue_apart, break_apart, paren_apart, path_apart, operand_apart, operands_apart, value_apart}
 use Rattle.hir_steps.proofs.ApartForms.{list_apart, method_call_apart, cast_apart, offset_of_apart, record_apart, field_apart, await_apart}
 use Rattle.hir_steps.proofs.ApartForms.{block_form_apart, question_apart, try_apart, typed_try_apart, contents_apart, labelled_apart}
-use Rattle.hir_steps.proofs.ApartForms.{for_apart, kept_apart, repeat_apart, const_apart, param_apart, yield_apart}
+use Rattle.hir_steps.proofs.ApartForms.{for_apart, kept_apart, repeat_apart, const_apart, coroutine_block_apart, param_apart, yield_apart}
 
 mutual
   pub one_type_apart : (b : Option Binder) (t : Type_) → Correct (lower_type b t) Apart
@@ -161,7 +162,10 @@ mutual
   -- constants
 
   pub a_constant_apart : (c : Constant) → Correct (lower_constant c) Apart
-  a_constant_apart (tree.constant e) = constant_apart (part_apart e)
+  a_constant_apart (tree.constant e) = owning_apart (λ c. c.expr) (constant_apart (part_apart e))
+
+  pub rooted_apart : (c : Constant) → Correct (lower_rooted c) Apart
+  rooted_apart (tree.constant e) = constant_apart (part_apart e)
 
   -- expressions
 
@@ -179,6 +183,8 @@ mutual
       try_apart at item false number (stmts_apart [] ss (kept_part_apart e))
   node_apart (tree.try_expr at item (tree.some_type t) number ss e) =
       typed_try_apart at (try_apart at item true number (stmts_apart [] ss (kept_part_apart e))) (one_type_apart None t)
+  node_apart (tree.coroutine_expr at kind moves number ss e) = owning_apart (λ i. i)
+      (coroutine_apart (coroutine_block_apart at kind moves number (stmts_apart [] ss (kept_part_apart e))))
   node_apart (tree.call_expr at f has_list es) = call_apart at (part_apart f) (each_apart [] es)
   node_apart (tree.path_expr at p h) = path_apart at h (lower_path_apart p)
   node_apart (tree.continue_expr at jump) = continue_apart at jump
@@ -191,9 +197,9 @@ mutual
   node_apart (tree.lazy_expr at op a b) = operands_apart at _ (part_apart a) (part_apart b)
   node_apart (tree.list_expr at form es) = list_apart at form (each_apart [] es)
   node_apart (tree.repeat_expr at e c) = repeat_apart at (part_apart e) (a_constant_apart c)
-  node_apart (tree.const_expr at c) = const_apart at (a_constant_apart c)
-  node_apart (tree.closure_expr at moves is_static xs r e) =
-      closure_apart at moves is_static (params_apart no_closure_params xs) (present_type_apart r) (part_apart e)
+  node_apart (tree.const_expr at c) = owning_apart (λ i. i) (const_apart at (rooted_apart c))
+  node_apart (tree.closure_expr at moves is_static xs r e) = owning_apart (λ i. i)
+      (closure_apart at moves is_static (params_apart no_closure_params xs) (present_type_apart r) (part_apart e))
   node_apart (tree.method_call_expr at e name es generics) =
       method_call_apart at name (part_apart e) (each_apart [] es) (args_apart generics)
   node_apart (tree.cast_expr at e t) = cast_apart at (part_apart e) (type_apart None t)

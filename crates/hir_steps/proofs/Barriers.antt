@@ -15,7 +15,7 @@ use Rattle.hir_lower_form.specs.Builder.{Builder}
 use Rattle.hir_lower_form.specs.Forms.{ExprSteps, stored_closure, add_param}
 use Rattle.hir_lower_form.specs.Lowering.{Checked, go_on, Lowering, ◌>>=◌, ◌>>◌, pure, alloc_expr, open_barrier, close_barrier}
 use Rattle.hir_lower_form.specs.Lowering.{enter_root, leave_root, outside_root, record_root, note_yield}
-use Rattle.hir_lower_form.specs.Lower.{closure_form, constant_form, param_form, value_form, yield_form}
+use Rattle.hir_lower_form.specs.Lower.{closure_form, constant_form, coroutine_form, param_form, value_form, yield_form}
 use Rattle.hir_lower_form.specs.Ranges.{inner_form}
 use Rattle.hir_steps.specs.Keeps.{Paired}
 use Rattle.hir_steps.proofs.Constants.{entered, leaving}
@@ -122,6 +122,27 @@ correct_behind_barrier {p = p} {R = R} {f = f} {Q = Q} h k = record {
   holds = λ final ps b r. inside_of p R f Q k final ps b r (p (shut b)).0 (p (shut b)).1 refl
       (h.holds final (barrier_at ∷ ps) (shut b) (ap (λ rs. barrier_rib ∷ rs) r));
 }
+
+-- ---- coroutine blocks
+
+-- what is so of its block behind the barrier
+pub record CoroutineRow (R : Rel ExprId) (final : Stored) (ps : List Frame) (m m' : Mark) (i : ExprId) : Type 0 where
+  pub inside : R final (barrier_at ∷ ps) m m' i
+
+pub correct_coroutine : {p : ExprSteps} {R : Rel ExprId} → Correct p R → Correct (coroutine_form p) (CoroutineRow R)
+unfolding coroutine_form
+correct_coroutine h = correct_as (correct_behind_barrier h (λ i y. correct_pure i))
+    (λ final ps m m' i g row. rw (row.second.is, row.second.still) (record { inside = row.first }))
+
+-- none of its block is one of the body around it
+pub still_coroutine : (p : ExprSteps) → Still (coroutine_form p)
+unfolding coroutine_form open_barrier close_barrier
+still_coroutine p = record { still = λ b. by b (p (shut b)).0 (p (shut b)).1 }
+  where
+    by : (b : Builder) (o : Checked ExprId) (c : Builder)
+        → let r = go_on o c (λ i d. (Ok i, reopened b.yields d)) in LeavesTo b r.0 r.1
+    by b (Ok i) c = refl
+    by b (Err e) c = tt
 
 -- ---- steps of a closure, grouped otherwise
 

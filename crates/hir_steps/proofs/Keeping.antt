@@ -14,8 +14,8 @@ use Rattle.hir_lower_form.specs.declared.closures.ClosureParams.{ClosureParams}
 use Rattle.hir_lower_form.specs.Made.{for_turn_form, made_loop_form}
 use Rattle.hir_lower_form.specs.Builder.{Builder}
 use Rattle.hir_lower_form.specs.Lower.{ExprSteps, args_part, kept_part, lower_arms, lower_block_part, lower_constant, lower_each}
-use Rattle.hir_lower_form.specs.Lower.{lower_fields, lower_params, lower_part, lower_path, lower_spread, lower_stmts, lower_target}
-use Rattle.hir_lower_form.specs.Lower.{lower_top, present}
+use Rattle.hir_lower_form.specs.Lower.{lower_fields, lower_params, lower_part, lower_path, lower_rooted, lower_spread, lower_stmts}
+use Rattle.hir_lower_form.specs.Lower.{lower_target, lower_top, present}
 use Rattle.hir_lower_form.specs.Lower.{lower_type, present_type, record_contents, turn_form, type_part}
 use Rattle.hir_lower_form.specs.Lowering.{Checked, Lowering}
 use Rattle.hir_steps.specs.Keeps.{Keeps, Keeping, KeepsApart, MadeApart, Paired, PathsKeep, TypesKeep}
@@ -46,6 +46,9 @@ args_any as' = any (apart.args_apart as')
 
 pub constant_any : (c : Constant) → Correct (lower_constant c) Any
 constant_any c = any (apart.a_constant_apart c)
+
+pub rooted_any : (c : Constant) → Correct (lower_rooted c) Any
+rooted_any c = any (apart.rooted_apart c)
 
 pub params_any : (l : ClosureParams) (xs : Params) → Correct (lower_params l xs) Any
 params_any l xs = any (apart.params_apart l xs)

@@ -6,6 +6,7 @@ pub mod Steps
 pub mod MadeSteps
 pub mod Constants
 pub mod Yields
+pub mod Owning
 pub mod Opening
 pub mod Barriers
 pub mod StillTypes

@@ -1,5 +1,5 @@
 -- What steps bring about in a final store: the logic.
-use Rattle.std.proofs.Common.{◌≡◌, ℕ, suc, ◌+◌, ◌<◌, ◌≤◌, slice_get, List, []}
+use Rattle.std.proofs.Common.{◌≡◌, ℕ, ◌+◌, ◌<◌, ◌≤◌, slice_get, List, []}
 use Rattle.std.proofs.Common.{◌∷◌, ◌++◌, length, Some, Ok, Err, refl, sym, ap, ◌∙◌, arith, length-append}
 use Rattle.std.proofs.Common.{append_assoc}
 use Rattle.std.proofs.lemmas.Option.{slice_get-get_or}
@@ -10,7 +10,7 @@ use Rattle.hir_store.specs.Storing.{Extends}
 use Rattle.hir_store.proofs.Extending.{extends_refl, extends_trans}
 use Rattle.hir_lower_form.specs.Builder.{Builder}
 use Rattle.hir_lower_form.specs.Lowering.{Checked, go_on, Lowering, ◌>>=◌, pure}
-use Rattle.hir_steps.specs.Keeps.{Paired, Mapped, KeepsAll}
+use Rattle.hir_steps.specs.Keeps.{Paired, KeepsAll}
 use Rattle.hir_steps.proofs.Frames.{Frame, ribs}
 
 -- how far it has come: how many there are of each kind, how many types and patterns together, how many names are

@@ -1,6 +1,6 @@
 -- Steps that store patterns and bindings.
 use Rattle.std.proofs.Common.{◌≡◌, suc, Bool, true, false, if◌then◌else◌, nat_lt, slice_get, map, List, []}
-use Rattle.std.proofs.Common.{◌∷◌, ◌++◌, length, Option, Some, Ok, Err, refl, sym, ap, subst, arith, length-append}
+use Rattle.std.proofs.Common.{◌∷◌, ◌++◌, length, Option, Some, None, Ok, Err, refl, sym, ap, subst, arith, length-append}
 use Rattle.hir_binding.specs.declared.binding.BindingProblems.{BindingProblems}
 use Rattle.hir_store.specs.Pointers.{Pointer}
 use Rattle.hir_store.specs.Arenas.{Sourced, Prefix, with_entry}
@@ -18,6 +18,7 @@ use Rattle.hir_store.specs.declared.ids.PatId.{PatId}
 use Rattle.hir_store.proofs.Arenas.{continues_refl, continues_entry, prefix_refl}
 use Rattle.hir_store.proofs.BindingLemmas.{bindings_refl, length_at}
 use Rattle.hir_store.proofs.Maps.{maps_back_entry}
+use Rattle.hir_store.proofs.OwnerLemmas.{stay_more}
 use Rattle.hir_store.proofs.Extending.{extends_refl, extends_definition, extends_problem, extends_pat_field}
 use Rattle.hir_lower_form.specs.Builder.{Builder}
 use Rattle.hir_lower_form.specs.Lowering.{Checked, alloc_pat, alloc_binding, define, set_problem, point_pat_field}
@@ -154,6 +155,7 @@ bindings_push : (a : Bindings) (x : Binding) → BindingsContinue a (with_bindin
 bindings_push a x = record {
   entries = record { more = without_problem x ∷ []; is = map_more without_problem a.entries x };
   definitions = lists_more a.definitions [];
+  owners = stay_more a.owners None;
   limit = refl;
 }
 

@@ -1,11 +1,8 @@
 -- What the steps of lowering bring about in a final store.
-use Rattle.std.proofs.Common.{◌≡◌, ℕ, suc, ◌+◌, ◌<◌, ◌≤◌, Bool, true, false, if◌then◌else◌, nat_lt, slice_get, List, []}
+use Rattle.std.proofs.Common.{◌≡◌, ℕ, suc, ◌+◌, Bool, true, false, if◌then◌else◌, nat_lt, slice_get, List, []}
 use Rattle.std.proofs.Common.{◌∷◌, ◌++◌, length, Option, Some, None, Ok, Err, refl, sym, ap, ◌∙◌, arith, length-append}
-use Rattle.std.proofs.Common.{append_assoc}
-use Rattle.std.proofs.lemmas.Option.{slice_get-get_or}
-use Rattle.std.proofs.Math.Seq.{get_or-append_seam}
 use Rattle.hir_store.specs.Pointers.{Pointer}
-use Rattle.hir_store.specs.Arenas.{Sourced, Prefix, with_entry, with_way}
+use Rattle.hir_store.specs.Arenas.{Sourced, with_entry, with_way}
 use Rattle.hir_store.specs.Stored.{Stored}
 use Rattle.hir_store.specs.Storing as storing
 use Rattle.hir_store.specs.FirstMap.{with_first_by}
@@ -30,7 +27,7 @@ use Rattle.hir_lower_scope.specs.Labels.{rest}
 use Rattle.hir_lower_form.specs.Builder.{Builder}
 use Rattle.hir_lower_form.specs.Lowering.{Checked, go_on, Lowering, ◌>>=◌, pure, alloc_expr, point, point_field, report}
 use Rattle.hir_lower_form.specs.Lowering.{report_await, enter_block, open_label, close, jump_target, found_or_fault, count_out}
-use Rattle.hir_steps.specs.Keeps.{Paired, Mapped, KeepsAll}
+use Rattle.hir_steps.specs.Keeps.{Paired, Mapped}
 use Rattle.hir_steps.proofs.Frames.{Frame, rib, ribs}
 pub use Rattle.hir_steps.proofs.Logic.{Mark, mark, Grows, Rel, Answers, Holds, Correct, Seq, Both, InStore, IsPure, kept_still}
 pub use Rattle.hir_steps.proofs.Logic.{correct_bind, correct_as, correct_both, correct_in_store, correct_pure}

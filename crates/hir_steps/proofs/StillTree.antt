@@ -17,12 +17,13 @@ use Rattle.hir_lower_form.specs.Walks.{start, at_first, super_read, path_read}
 use Rattle.hir_lower_form.specs.Types.{no_lists}
 use Rattle.hir_lower_form.specs.Lower.{lower_type, type_part, present_type, type_or_unit, lower_parts, read_segment, read_each, read_path}
 use Rattle.hir_lower_form.specs.Lower.{read_option, lower_path, lower_segment_args, parens_part, output_part, args_part, lower_args}
-use Rattle.hir_lower_form.specs.Lower.{lower_arg, lower_bounds, lower_bound, lower_constant, lower_part}
+use Rattle.hir_lower_form.specs.Lower.{lower_arg, lower_bounds, lower_bound, lower_constant, lower_part, lower_rooted}
 use Rattle.hir_lower_form.specs.Lower.{lower_top, lower_pat, pat_part, present_pat, lower_pats, lower_elements, lower_alternatives}
 use Rattle.hir_lower_form.specs.Lower.{lower_later, lower_pat_fields, lower_pat_field, lower_side, lower_type_pat_part, lower_type_pat}
 use Rattle.hir_lower_form.specs.Lower.{lower_type_pats, lower_limit, lower_param, lower_params}
 use Rattle.hir_lower_form.specs.Pats.{Table, no_names, next_alternative, Elements, no_elements, is_dots}
 use Rattle.hir_steps.proofs.Barriers.{still_constant, still_inner, param_still}
+use Rattle.hir_steps.proofs.Owning.{still_owning}
 use Rattle.hir_steps.proofs.StillPats.{alone_still, bind_still, element_still, limits_still, literal_pat_still, literal_side_still}
 use Rattle.hir_steps.proofs.StillPats.{missing_pat_still, name_side_still, or_still, over_pat_still, pat_field_still, path_pat_still}
 use Rattle.hir_steps.proofs.StillPats.{path_side_still, pattern_type_still, range_pat_still, record_pat_still, settle_still}
@@ -140,7 +141,10 @@ mutual
   -- constants
 
   pub a_constant_still : (c : Constant) → Still (lower_constant c)
-  a_constant_still (tree.constant e) = still_constant (lower_part e)
+  a_constant_still (tree.constant e) = still_owning (λ c. c.expr) (still_constant (lower_part e))
+
+  pub rooted_still : (c : Constant) → Still (lower_rooted c)
+  rooted_still (tree.constant e) = still_constant (lower_part e)
 
   -- patterns
 

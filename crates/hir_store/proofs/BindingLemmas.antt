@@ -1,18 +1,20 @@
 -- What bindings keep as they grow.
 use Rattle.std.proofs.Common.{arith, ℕ, zero, suc, ◌≤◌, ◌<◌, ◌≡◌, ◌∙◌, ap, refl, sym}
-use Rattle.std.proofs.Common.{List, [], ◌∷◌, ◌++◌, length, length-append, append-nil, Option, Some}
+use Rattle.std.proofs.Common.{List, [], ◌∷◌, ◌++◌, length, length-append, append-nil, Option, Some, None}
 use Rattle.std.specs.Prelude.{map, slice_get, slice_set, Result, Ok, Err, OnOk, OnErr}
 use Rattle.std.proofs.lemmas.Option.{same_Some}
 use Rattle.hir_store.specs.declared.fault.StoreFault.TheVariants.{Full}
 use Rattle.hir_store.specs.declared.ids.BindingId.{BindingId}
+use Rattle.hir_store.specs.declared.ids.ExprId.{ExprId}
 use Rattle.hir_store.specs.declared.ids.PatId.{PatId}
 use Rattle.hir_store.specs.declared.pat.Binding.{Binding}
 use Rattle.hir_binding.specs.declared.binding.BindingProblems.{BindingProblems}
 use Rattle.hir_store.specs.Arenas.{past}
 use Rattle.hir_store.specs.Bindings.{Bindings, BindingsContinue, EachGoesOn, AddsBinding, KeptBindings}
 use Rattle.hir_store.specs.Bindings.{at_place, pattern_added, problem_set, without_problem}
-use Rattle.hir_store.specs.Bindings.{binding_id, with_binding, with_definition, with_problem}
+use Rattle.hir_store.specs.Bindings.{binding_id, with_binding, with_definition, with_owner, with_problem}
 use Rattle.hir_store.proofs.Arenas.{prefix_refl, prefix_push, prefix_trans, room, no_room}
+use Rattle.hir_store.proofs.OwnerLemmas.{length_owned, stay_more, stay_owned, stay_refl, stay_trans}
 
 pub length_at : {A : Type 0} (n : ℕ) (f : A → A) (xs : List A) → length (at_place n f xs) ≡ length xs
 length_at n f [] = refl
@@ -80,12 +82,14 @@ each_at zero x (xs ∷ xss) = (prefix_push xs x, each_refl xss)
 each_at (suc n) x (xs ∷ xss) = (prefix_refl xs, each_at n x xss)
 
 pub bindings_refl : (a : Bindings) → BindingsContinue a a
-bindings_refl a = record { entries = prefix_refl _; definitions = each_refl a.definitions; limit = refl }
+bindings_refl a =
+    record { entries = prefix_refl _; definitions = each_refl a.definitions; owners = stay_refl a.owners; limit = refl }
 
 pub bindings_trans : {a b c : Bindings} → BindingsContinue a b → BindingsContinue b c → BindingsContinue a c
 bindings_trans {a} {b} {c} g h = record {
   entries = prefix_trans g.entries h.entries;
   definitions = each_trans a.definitions b.definitions c.definitions g.definitions h.definitions;
+  owners = stay_trans a.owners b.owners c.owners g.owners h.owners;
   limit = h.limit ∙ g.limit;
 }
 
@@ -93,12 +97,13 @@ bindings_more : (a : Bindings) (x : Binding) → BindingsContinue a (with_bindin
 bindings_more a x = record {
   entries = record { more = without_problem x ∷ []; is = map_append without_problem a.entries (x ∷ []) };
   definitions = each_more a.definitions [];
+  owners = stay_more a.owners None;
   limit = refl;
 }
 
 pub bindings_definition : (a : Bindings) (id : BindingId) (p : PatId) → BindingsContinue a (with_definition a id p)
 bindings_definition a id p =
-    record { entries = prefix_refl _; definitions = each_at id.0 p a.definitions; limit = refl }
+    record { entries = prefix_refl _; definitions = each_at id.0 p a.definitions; owners = stay_refl a.owners; limit = refl }
 
 pub bindings_problem : (a : Bindings) (id : BindingId) (problem : Option BindingProblems) → BindingsContinue a (with_problem a id problem)
 bindings_problem a id problem = record {
@@ -107,6 +112,15 @@ bindings_problem a id problem = record {
     is = map_at without_problem id.0 (problem_set problem) a.entries (λ b. refl) ∙ sym (append-nil _);
   };
   definitions = each_refl a.definitions;
+  owners = stay_refl a.owners;
+  limit = refl;
+}
+
+pub bindings_owner : (a : Bindings) (start : BindingId) (id : ExprId) → BindingsContinue a (with_owner a start id)
+bindings_owner a start id = record {
+  entries = prefix_refl _;
+  definitions = each_refl a.definitions;
+  owners = stay_owned start.0 id a.owners;
   limit = refl;
 }
 
@@ -116,20 +130,31 @@ pub kept_binding : (a : Bindings) (x : Binding) → KeptBindings a → length a.
 kept_binding a x h room =
     let l = length-append a.entries (x ∷ []) in
     let d = length-append a.definitions ([] ∷ []) in
+    let o = length-append a.owners (None ∷ []) in
     let m = h.as_many in
-    record { as_many = omega (arith, l, d, m); fits = omega (arith, l, room) }
+    let n = h.as_many_owners in
+    record { as_many = omega (arith, l, d, m); as_many_owners = omega (arith, l, o, n); fits = omega (arith, l, room) }
 
 pub kept_definition : (a : Bindings) (id : BindingId) (p : PatId) → KeptBindings a → KeptBindings (with_definition a id p)
 kept_definition a id p h =
-    record { as_many = length_at id.0 (pattern_added p) a.definitions ∙ h.as_many; fits = h.fits }
+    record {
+      as_many = length_at id.0 (pattern_added p) a.definitions ∙ h.as_many;
+      as_many_owners = h.as_many_owners;
+      fits = h.fits;
+    }
 
 pub kept_problem : (a : Bindings) (id : BindingId) (problem : Option BindingProblems) → KeptBindings a
     → KeptBindings (with_problem a id problem)
 kept_problem a id problem h =
     let l = length_at id.0 (problem_set problem) a.entries in
     let m = h.as_many in
+    let n = h.as_many_owners in
     let f = h.fits in
-    record { as_many = omega (arith, l, m); fits = omega (arith, l, f) }
+    record { as_many = omega (arith, l, m); as_many_owners = omega (arith, l, n); fits = omega (arith, l, f) }
+
+pub kept_owner : (a : Bindings) (start : BindingId) (id : ExprId) → KeptBindings a → KeptBindings (with_owner a start id)
+kept_owner a start id h =
+    record { as_many = h.as_many; as_many_owners = length_owned start.0 id a.owners ∙ h.as_many_owners; fits = h.fits }
 
 -- ---- outcomes
 

@@ -6,7 +6,7 @@ use Rattle.hir_store.specs.Stored.{Stored}
 use Rattle.hir_store.specs.FirstMap.{with_first_by}
 use Rattle.hir_store.specs.Storing.{Checked, Extends, same_expr, same_pat, expr_id, label_id, pat_id, type_id, lifetime_id}
 use Rattle.hir_store.specs.Pointers.{Pointer}
-use Rattle.hir_store.specs.Bindings.{Bindings, AddsBinding, with_definition, with_problem}
+use Rattle.hir_store.specs.Bindings.{Bindings, AddsBinding, with_definition, with_owner, with_problem}
 use Rattle.hir_store.specs.declared.ids.LabelId.{LabelId}
 use Rattle.hir_store.specs.declared.ids.TypeRefId.{TypeRefId}
 use Rattle.hir_store.specs.declared.ids.LifetimeRefId.{LifetimeRefId}
@@ -25,7 +25,7 @@ use Rattle.hir_store.specs.declared.ids.BlockId.{BlockId}
 use Rattle.hir_store.specs.declared.diagnostics.ExpressionStoreDiagnostics.{ExpressionStoreDiagnostics}
 use Rattle.hir_store.proofs.Arenas.{first_stays, prefix_refl, prefix_push, prefix_trans}
 use Rattle.hir_store.proofs.Arenas.{continues_refl, continues_trans, continues_way}
-use Rattle.hir_store.proofs.BindingLemmas.{bindings_definition, bindings_problem, bindings_refl, bindings_trans}
+use Rattle.hir_store.proofs.BindingLemmas.{bindings_definition, bindings_owner, bindings_problem, bindings_refl, bindings_trans}
 
 pub extends_refl : (s : Stored) → Extends s s
 extends_refl s = record {
@@ -259,6 +259,22 @@ extends_problem s id problem = record {
   labels = continues_refl s.labels;
   pats = continues_refl s.pats;
   bindings = bindings_problem s.bindings id problem;
+  types = continues_refl s.types;
+  lifetimes = continues_refl s.lifetimes;
+  roots = prefix_refl s.roots;
+  field_map_back = prefix_refl s.field_map_back;
+  pat_field_map_back = prefix_refl s.pat_field_map_back;
+  block_scopes = prefix_refl s.block_scopes;
+  diagnostics = prefix_refl s.diagnostics;
+}
+
+pub extends_owner : (s : Stored) (start : BindingId) (id : ExprId)
+    → Extends s (record s { bindings = with_owner s.bindings start id })
+extends_owner s start id = record {
+  exprs = continues_refl s.exprs;
+  labels = continues_refl s.labels;
+  pats = continues_refl s.pats;
+  bindings = bindings_owner s.bindings start id;
   types = continues_refl s.types;
   lifetimes = continues_refl s.lifetimes;
   roots = prefix_refl s.roots;

@@ -262,6 +262,7 @@ pub record StoreInRange (s : Store) : Type 0 where
   pub of_types : Within s (past_each past_type s.types)
   pub of_pats : Within s (past_pats s.pats)
   pub bindings : past bindings_in s.pats ≤ length s.bindings
+  pub owners : past (past_option past_expr) s.binding_owners ≤ length s.exprs
   pub roots : past past_root s.roots ≤ length s.exprs
   pub pats_ends : past pats_end s.roots ≤ length s.pats
   pub bindings_ends : past bindings_end s.roots ≤ length s.bindings

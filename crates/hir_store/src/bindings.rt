@@ -1,13 +1,13 @@
-//! Bindings, each with the patterns that make it.
+//! Bindings, each with the patterns that make it and with what owns it.
 
-ghost use Rattle.std.specs.Prelude.{◌≡◌, ◌<◌, OnOk, OnErr, length, slice_get};
+ghost use Rattle.std.specs.Prelude.{◌≡◌, ◌<◌, ◌++◌, ◌∷◌, [], None, OnOk, OnErr, false, length, slice_get, true};
 ghost use Rattle.std.specs.Option.{option_copied};
-ghost use Rattle.hir_store.specs.Bindings.{AddsBinding, KeptBindings, at_place, none_bound, pattern_added, problem_set};
-ghost use Rattle.hir_store.specs.Bindings.{with_definition, with_problem};
+ghost use Rattle.hir_store.specs.Bindings.{AddsBinding, KeptBindings, at_place, none_bound, own_from, owner_at};
+ghost use Rattle.hir_store.specs.Bindings.{pattern_added, problem_set, unowned_from, with_definition, with_owner, with_problem};
 
 use crate::arena::Arena;
 use crate::fault::StoreFault;
-use crate::ids::{BindingId, PatId};
+use crate::ids::{BindingId, ExprId, PatId};
 use crate::pat::Binding;
 use hir_base::Seq;
 use hir_binding::binding::BindingProblems;
@@ -43,6 +43,38 @@ impl Definitions {
     }
 }
 
+/// What owns each binding, where something does.
+pub struct Owners {
+    of: Vec<Option<ExprId>>,
+}
+
+impl Drop for Owners {
+    fn drop(self) {
+        let Owners { of: _ } = self;
+    }
+}
+
+impl Model for Owners {
+    ghost use Rattle.std.specs.Prelude.{List, Option};
+    ghost use Rattle.hir_store.specs.declared.ids.ExprId.{ExprId};
+
+    ghost Value = { List (Option ExprId) };
+
+    ghost view = { λ o. o.of.items };
+}
+
+impl Owners {
+    /// What owns the binding, where something does.
+    pub fn of(&self, id: BindingId) -> Option<ExprId>
+        ensures { result ≡ owner_at self.now id.0 }
+    {
+        match self.of.get(id.0 as usize) {
+            None => None,
+            Some(owner) => *owner,
+        }
+    }
+}
+
 /// Adds a pattern to the list at this place. Where memory is refused nothing changes.
 fn push_at(lists: &mut Vec<Seq<PatId>>, at: usize, pat: PatId) -> Result<(), AllocError>
     requires { at < length lists.old.items }
@@ -60,10 +92,39 @@ fn note_at(entries: &mut Vec<Binding>, at: usize, problem: Option<BindingProblem
     entries[at].problems = problem;
 }
 
-/// Bindings, each with the patterns that make it. A problem is noted behind the last of them.
+/// What owns bindings, and those that nothing owns yet. These are a list of their own, ascending, so that each is looked at once when
+/// what owns it is found, however deep it stands.
+struct Owning {
+    owners: Vec<Option<ExprId>>,
+    unowned: Vec<BindingId>,
+}
+
+impl Drop for Owning {
+    fn drop(self) {
+        let Owning {
+            owners: _,
+            unowned: _,
+        } = self;
+    }
+}
+
+impl Model for Owning {
+    ghost use Rattle.std.specs.Prelude.{◌≡◌, List, Option, map};
+    ghost use Rattle.hir_store.specs.Bindings.{unowned_from};
+    ghost use Rattle.hir_store.specs.declared.ids.ExprId.{ExprId};
+
+    ghost Value = { List (Option ExprId) };
+
+    ghost view = { λ o. o.owners.items };
+
+    ghost invariant = { λ o. map (λ b. b.0) o.unowned.items ≡ unowned_from 0 o.owners.items };
+}
+
+/// Bindings, each with the patterns that make it and with what owns it. A problem is noted behind the last of the patterns.
 pub struct BindingArena {
     entries: Vec<Binding>,
     definitions: Vec<Seq<PatId>>,
+    owners: Owning,
     limit: u32,
     alloc: Global,
 }
@@ -73,6 +134,7 @@ impl Drop for BindingArena {
         let BindingArena {
             entries: _,
             definitions: _,
+            owners: _,
             limit: _,
             alloc: _,
         } = self;
@@ -85,9 +147,66 @@ impl Model for BindingArena {
 
     ghost Value = { Bindings };
 
-    ghost view = { λ a. bindings_of a.entries.items a.definitions.items a.limit };
+    ghost view = { λ a. bindings_of a.entries.items a.definitions.items a.owners a.limit };
 
-    ghost invariant = { λ a. KeptBindings (bindings_of a.entries.items a.definitions.items a.limit) × (a.limit < 2 ^ 32) };
+    ghost invariant = { λ a. KeptBindings (bindings_of a.entries.items a.definitions.items a.owners a.limit) × (a.limit < 2 ^ 32) };
+}
+
+impl Owning {
+    /// Of no bindings. It takes no memory.
+    fn new(alloc: Global) -> Owning
+        ensures { result ≡ [] }
+    {
+        Owning {
+            owners: Vec::new(alloc),
+            unowned: Vec::new(alloc),
+        }
+    }
+
+    /// A binding more, of this number, which nothing owns. Where memory is refused nothing changes.
+    fn add(&mut self, at: u32) -> Result<(), AllocError>
+        requires { at ≡ length self.old }
+        ensures ok { OnOk result (self.new ≡ self.old ++ None ∷ []) }
+        ensures unchanged { OnErr result (self.new ≡ self.old) }
+    {
+        self.owners.reserve(1)?;
+        self.unowned.reserve(1)?;
+        self.owners.push_reserved(None);
+        self.unowned.push_reserved(BindingId(at));
+        Ok(())
+    }
+
+    /// Lets the expression own the last binding that nothing owns, where that is this one or comes behind it. Whether there was one.
+    fn own_last(&mut self, start: BindingId, owner: ExprId) -> bool
+        ensures same { result ≡ true → own_from start.0 owner self.new ≡ own_from start.0 owner self.old }
+        ensures fewer { result ≡ true → length (unowned_from 0 self.new) < length (unowned_from 0 self.old) }
+        ensures none { result ≡ false → self.new ≡ own_from start.0 owner self.old }
+    {
+        let Some(last) = self.unowned.last() else {
+            return false;
+        };
+        let last = *last;
+        if last.0 < start.0 {
+            return false;
+        }
+        let _ = self.unowned.pop();
+        self.owners[last.0 as usize] = Some(owner);
+        true
+    }
+
+    /// From this binding on the expression owns each that nothing owned.
+    fn own(&mut self, start: BindingId, owner: ExprId)
+        ensures { self.new ≡ own_from start.0 owner self.old }
+    {
+        while self.own_last(start, owner) {}
+    }
+
+    fn into_owners(self) -> Owners
+        ensures { result ≡ self }
+    {
+        let Owning { owners, unowned: _ } = self;
+        Owners { of: owners }
+    }
 }
 
 impl BindingArena {
@@ -98,6 +217,7 @@ impl BindingArena {
         BindingArena {
             entries: Vec::new(alloc),
             definitions: Vec::new(alloc),
+            owners: Owning::new(alloc),
             limit,
             alloc,
         }
@@ -128,6 +248,7 @@ impl BindingArena {
         }
         self.entries.reserve(1)?;
         self.definitions.reserve(1)?;
+        self.owners.add(at)?;
         let none = Seq::new(self.alloc);
         self.entries.push_reserved(binding);
         self.definitions.push_reserved(none);
@@ -152,28 +273,38 @@ impl BindingArena {
         note_at(&mut self.entries, id.0 as usize, problem);
     }
 
-    /// Each binding has its patterns, and no more are there than there may be.
+    /// From this binding on the expression owns each that nothing owned.
+    pub fn own(&mut self, start: BindingId, owner: ExprId)
+        ensures { self.new ≡ with_owner self.old start owner }
+    {
+        self.owners.own(start, owner);
+    }
+
+    /// Each binding has its patterns and may have an owner, and no more are there than there may be.
     pub fn kept(&self)
         ensures { KeptBindings self.now }
     {
         let _ = &self.entries;
     }
 
-    /// The bindings and their patterns. It takes no memory.
-    pub fn split(self) -> (Arena<Binding>, Definitions)
+    /// The bindings, their patterns, and what owns them. It takes no memory.
+    pub fn split(self) -> (Arena<Binding>, Definitions, Owners)
         ensures entries { result.0 ≡ record { entries = self.entries; limit = self.limit } }
         ensures definitions { result.1 ≡ self.definitions }
+        ensures owners { result.2 ≡ self.owners }
         ensures kept { KeptBindings self }
     {
         let BindingArena {
             entries,
             definitions,
+            owners,
             limit,
             alloc: _,
         } = self;
         (
             Arena::of(entries, limit),
             Definitions { lists: definitions },
+            owners.into_owners(),
         )
     }
 }

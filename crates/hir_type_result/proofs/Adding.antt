@@ -8,6 +8,7 @@ use Rattle.hir_same_meaning.specs.Reached.{Between}
 use Rattle.hir_store.specs.Pointers.{Pointer}
 use Rattle.hir_store.specs.Stored.{Stored}
 use Rattle.hir_store.specs.declared.hir.Expr.{Expr as HirExpr}
+use Rattle.hir_store.specs.declared.ids.BindingId.{BindingId}
 use Rattle.hir_store.specs.declared.ids.ExprId.{ExprId}
 use Rattle.hir_store.specs.declared.ids.PatId.{PatId}
 use Rattle.hir_store.specs.declared.ids.TypeRefId.{TypeRefId}
@@ -17,8 +18,10 @@ use Rattle.hir_store.specs.declared.type_ref.TypeRef.TheVariants as ty
 use Rattle.hir_store.specs.declared.type_ref.LifetimeRef.{LifetimeRef}
 use Rattle.hir_lower_form.specs.Builder.{Builder}
 use Rattle.hir_lower_form.specs.Lowering.{Checked, Lowering, ◌>>=◌, pure, alloc_expr, alloc_made, alloc_pat, alloc_type, alloc_lifetime}
+use Rattle.hir_lower_form.specs.Lowering.{owning}
 use Rattle.hir_steps.proofs.Frames.{Frame}
 use Rattle.hir_steps.proofs.MadeSteps.{correct_alloc_made}
+use Rattle.hir_steps.proofs.Owning.{owned_by, owning_keeps}
 use Rattle.hir_steps.proofs.PatSteps.{correct_alloc_pat}
 use Rattle.hir_steps.proofs.Steps.{Mark, Grows, Rel, Seq, Holds, Correct, correct_bind, correct_as, correct_pure, correct_alloc}
 use Rattle.hir_steps.proofs.Steps.{correct_alloc_type, correct_alloc_lifetime}
@@ -266,6 +269,25 @@ tabled h = correct_as h (λ final ps m m' a g row. record {
   grown = row.grown;
   earlier = row.earlier;
 })
+
+-- whatever owns bindings
+
+earlier_owned : {was now : Numbers} {final : Stored} {m left : Mark} (start : BindingId) (id : ExprId) (s : Sort)
+    → ((d all : ℕ) → known s left ≤ d → known s left ≤ all → Earlier s was final m left all (now (look s final d)))
+    → (d all : ℕ) → known s (owned_by start id left) ≤ d → known s (owned_by start id left) ≤ all
+    → Earlier s was final m (owned_by start id left) all (now (look s final d))
+earlier_owned start id the_types h d all le le' =
+    let x = h d all le le' in record { depth = x.depth; deep = x.deep; counted = x.counted }
+earlier_owned start id the_pats h d all le le' =
+    let x = h d all le le' in record { depth = x.depth; deep = x.deep; counted = x.counted }
+
+pub adds_owning : {A : Type 0} {bs : List ℕ} {was : Numbers} {cs : A → List ℕ} {now : A → Numbers} (owner : A → ExprId) {p : Lowering A}
+    → Correct p (Steps bs was cs now) → Correct (owning owner p) (Steps bs was cs now)
+adds_owning {was = was} {now = now} owner h = owning_keeps owner (λ final ps m left start id a row. record {
+  bound = λ lo le t w. let x = row.bound lo le t w in record { known = x.known; named = x.named; made = x.made };
+  grown = row.grown;
+  earlier = λ s. earlier_owned {was = was} {now = now a} start id s (row.earlier s);
+}) h
 
 -- of more
 pub adds_from : {A : Type 0} {bs : List ℕ} {was was' : Numbers} {cs : A → List ℕ} {now : A → Numbers} {p : Lowering A}

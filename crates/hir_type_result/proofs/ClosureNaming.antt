@@ -1,16 +1,18 @@
--- A closure names the types and the patterns of its parameters and what it returns.
-use Rattle.std.proofs.Common.{arith, ap, ℕ, List, [], ◌∷◌, ◌++◌, Bool, Option}
+-- A closure names the types and the patterns of its parameters and what it returns; a coroutine block names by what is in it.
+use Rattle.std.proofs.Common.{arith, ap, ℕ, List, [], ◌∷◌, ◌++◌, Bool, Option, Some, None}
 use Rattle.hir_store.specs.Pointers.{Pointer}
 use Rattle.hir_store.specs.Stored.{Stored}
+use Rattle.hir_store.specs.declared.hir.CoroutineKind.{CoroutineKind}
 use Rattle.hir_store.specs.declared.hir.Expr.TheVariants as hir
+use Rattle.hir_store.specs.declared.ids.BlockId.{BlockId}
 use Rattle.hir_store.specs.declared.ids.ExprId.{ExprId}
 use Rattle.hir_store.specs.declared.ids.PatId.{PatId}
 use Rattle.hir_store.specs.declared.ids.TypeRefId.{TypeRefId}
 use Rattle.hir_lower_form.specs.declared.closures.ClosureParams.{ClosureParams}
-use Rattle.hir_lower_form.specs.Forms.{ExprSteps, add_param, stored_closure}
-use Rattle.hir_lower_form.specs.Lower.{closure_form, param_form, yield_form}
+use Rattle.hir_lower_form.specs.Forms.{ExprSteps, StoredContents, add_param, stored_closure, stored_coroutine}
+use Rattle.hir_lower_form.specs.Lower.{closure_form, coroutine_block_form, coroutine_form, param_form, yield_form}
 use Rattle.hir_lower_form.specs.Lowering.{Lowering}
-use Rattle.hir_steps.proofs.Barriers.{correct_closure, correct_yield}
+use Rattle.hir_steps.proofs.Barriers.{correct_closure, correct_coroutine, correct_yield}
 use Rattle.hir_steps.proofs.Frames.{Frame}
 use Rattle.hir_steps.proofs.Logic.{grows_trans}
 use Rattle.hir_steps.proofs.Steps.{Correct, Mark, correct_as}
@@ -18,10 +20,10 @@ use Rattle.hir_type_result.specs.Named.{Look, of_expr}
 use Rattle.hir_type_result.specs.Reached.{of_each, of_present}
 use Rattle.hir_type_result.proofs.Counted.{◌⊑◌, times_append}
 use Rattle.hir_type_result.proofs.Numbers.{each_push}
-use Rattle.hir_type_result.proofs.Adding.{Adds, Numbers, Quiet, Steps, added_beside, added_quiet, adds_beside, adds_pure, adds_seq}
-use Rattle.hir_type_result.proofs.Adding.{adds_then}
-use Rattle.hir_type_result.proofs.Adding.{expr_adds, named, none}
-use Rattle.hir_type_result.proofs.NamingForms.{value_quiet}
+use Rattle.hir_type_result.proofs.Adding.{Adds, Numbers, Quiet, Steps, added_beside, added_quiet, adds_beside, adds_expr, adds_pure}
+use Rattle.hir_type_result.proofs.Adding.{adds_seq, adds_then, expr_adds, named, none}
+use Rattle.hir_type_result.proofs.Naming.{quiet_enter_block, quiet_then}
+use Rattle.hir_type_result.proofs.NamingForms.{contents, settled_less, value_quiet}
 use Rattle.hir_type_result.proofs.Owned.{a_pat, maybe_type}
 
 -- the patterns, and then the types
@@ -108,3 +110,17 @@ module _ (at : Pointer) where
 
   pub yield_quiet : {e : Lowering (Option ExprId)} → Correct e Quiet → Correct (yield_form at e) Quiet
   yield_quiet h = correct_yield at _ (value_quiet at hir.Yield (λ v l k. omega arith) h)
+
+-- ---- coroutine blocks
+
+module _ (at : Pointer) where
+  pub coroutine_block_quiet : (kind : CoroutineKind) (moves : Bool) (number : Option BlockId) {c : Lowering StoredContents}
+      → Correct c (Adds none contents) → Correct (coroutine_block_form at kind moves number c) Quiet
+  unfolding coroutine_block_form
+  coroutine_block_quiet kind moves number h = quiet_then (quiet_enter_block number)
+      (λ u. adds_then h (λ r. adds_then (adds_expr _ None (settled_less r.0 r.1))
+      (λ b. adds_expr (stored_coroutine kind moves b) (Some at) (λ l k. omega arith))))
+
+-- behind the barrier
+pub coroutine_quiet : {p : ExprSteps} → Correct p Quiet → Correct (coroutine_form p) Quiet
+coroutine_quiet h = correct_as (correct_coroutine h) (λ final ps m m' i g row. added_in row.inside)

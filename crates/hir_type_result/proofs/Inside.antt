@@ -34,7 +34,8 @@ use Rattle.hir_lower_form.specs.Lower.{lower, lower_part, present, kept_part, lo
 use Rattle.hir_lower_form.specs.Lower.{lower_block, lower_block_part, lower_stmts, lower_stmt, lower_path, args_part, type_part}
 use Rattle.hir_lower_form.specs.Lower.{lower_type, present_type, type_or_unit, lower_parts, read_segment, read_each, read_path}
 use Rattle.hir_lower_form.specs.Lower.{read_option, lower_segment_args, parens_part, output_part, lower_args, lower_arg}
-use Rattle.hir_lower_form.specs.Lower.{lower_bounds, lower_bound, lower_constant, present_block, lower_arms, lower_arm, lower_guard}
+use Rattle.hir_lower_form.specs.Lower.{lower_bounds, lower_bound, lower_constant, lower_rooted, present_block, lower_arms, lower_arm}
+use Rattle.hir_lower_form.specs.Lower.{lower_guard}
 use Rattle.hir_lower_form.specs.Lower.{lower_top, lower_pat, pat_part, present_pat, lower_pats, lower_elements, lower_alternatives}
 use Rattle.hir_lower_form.specs.Lower.{lower_later, lower_pat_fields, lower_pat_field, lower_side, lower_type_pat_part, lower_type_pat}
 use Rattle.hir_lower_form.specs.Lower.{lower_type_pats, lower_limit, limit_side, lower_target, lower_targets, lower_target_fields}
@@ -53,7 +54,7 @@ use Rattle.hir_type_result.proofs.Counted.{times, times_append, counted_spread}
 use Rattle.hir_type_result.proofs.Weighed.{Cost, view, free, an_expr, a_type, a_type_pat, a_pat, a_limit, a_target, a_constant, sum}
 use Rattle.hir_type_result.proofs.Weighed.{Adds, adds_pure}
 use Rattle.hir_type_result.proofs.Weighed.{adds_then, adds_beside, adds_any, adds_from, adds_type, adds_expr, adds_constant}
-use Rattle.hir_type_result.proofs.Weighed.{adds_limit, adds_pat, adds_target}
+use Rattle.hir_type_result.proofs.Weighed.{adds_limit, adds_owning, adds_pat, adds_target}
 use Rattle.hir_type_result.proofs.Weighed.{adds_type_pat}
 use Rattle.hir_type_result.proofs.Weights as weights
 use Rattle.hir_type_result.proofs.InsideTypes.{maybe_type, types, a_bound, bounds, arguments, lists, maybe_path, walk, reading}
@@ -189,8 +190,11 @@ mutual
 
   -- constants
 
-  pub constant_adds : (c : Constant) → Correct (lower_constant c) (Adds free a_constant)
-  constant_adds (tree.constant e) = adds_constant (body_adds e)
+  constant_adds : (c : Constant) → Correct (lower_constant c) (Adds free a_constant)
+  constant_adds (tree.constant e) = adds_owning (λ c. c.expr) (adds_constant (body_adds e))
+
+  pub rooted_adds : (c : Constant) → Correct (lower_rooted c) (Adds free a_constant)
+  rooted_adds (tree.constant e) = adds_constant (body_adds e)
 
   -- patterns of types
 
@@ -236,6 +240,8 @@ mutual
       made.try_block_adds at item false number (stmts_apart [] ss (kept_part_adds e))
   node_adds (tree.try_expr at item (tree.some_type t) number ss e) =
       made.typed_try_adds at (made.try_block_adds at item true number (stmts_apart [] ss (kept_part_adds e))) (type_adds None t)
+  node_adds (tree.coroutine_expr at kind moves number ss e) = adds_owning (λ i. i)
+      (closures.coroutine_adds (closures.coroutine_block_adds at kind moves number (stmts_add [] ss (kept_part_adds e))))
   node_adds (tree.call_expr at f has_list es) = forms.call_adds at (body_adds f) (each_expr_adds [] es)
   node_adds (tree.path_expr at p h) = forms.path_adds at h (path_adds p)
   node_adds (tree.continue_expr at jump) = forms.continue_adds at jump
@@ -248,9 +254,9 @@ mutual
   node_adds (tree.lazy_expr at op a b) = forms.operands_adds at _ forms.two_less (body_adds a) (body_adds b)
   node_adds (tree.list_expr at form es) = forms.list_adds at form (each_expr_adds [] es)
   node_adds (tree.repeat_expr at e c) = forms.repeat_adds at (body_adds e) (constant_adds c)
-  node_adds (tree.const_expr at c) = forms.const_adds at (constant_adds c)
-  node_adds (tree.closure_expr at moves is_static xs t e) =
-      closures.closure_adds at moves is_static (params_add no_closure_params xs) (present_adds t) (body_adds e)
+  node_adds (tree.const_expr at c) = adds_owning (λ i. i) (forms.const_adds at (rooted_adds c))
+  node_adds (tree.closure_expr at moves is_static xs t e) = adds_owning (λ i. i)
+      (closures.closure_adds at moves is_static (params_add no_closure_params xs) (present_adds t) (body_adds e))
   node_adds (tree.method_call_expr at e name es generics) =
       forms.method_call_adds at name (body_adds e) (each_expr_adds [] es) (args_add generics)
   node_adds (tree.cast_expr at e t) = forms.cast_adds at (body_adds e) (part_adds None t)

@@ -1,23 +1,26 @@
--- A closure holds what its parameters, its type and its body hold, and its body, which is reached by itself.
-use Rattle.std.proofs.Common.{◌≡◌, arith, ℕ, ◌+◌, ◌≤◌, List, [], ◌∷◌, ◌++◌, Bool, Option, length}
+-- A closure holds what its parameters, its type and its body hold, and its body, which is reached by itself; so does a coroutine block.
+use Rattle.std.proofs.Common.{◌≡◌, arith, ℕ, ◌+◌, ◌≤◌, List, [], ◌∷◌, ◌++◌, Bool, false, Option, Some, None, length}
 use Rattle.hir_store.specs.Pointers.{Pointer}
 use Rattle.hir_store.specs.Stored.{Stored}
+use Rattle.hir_store.specs.declared.hir.CoroutineKind.{CoroutineKind}
 use Rattle.hir_store.specs.declared.hir.Expr.TheVariants as hir
+use Rattle.hir_store.specs.declared.ids.BlockId.{BlockId}
 use Rattle.hir_store.specs.declared.ids.ExprId.{ExprId}
 use Rattle.hir_store.specs.declared.ids.PatId.{PatId}
 use Rattle.hir_store.specs.declared.ids.TypeRefId.{TypeRefId}
 use Rattle.hir_lower_form.specs.declared.closures.ClosureParams.{ClosureParams}
-use Rattle.hir_lower_form.specs.Forms.{ExprSteps, add_param, stored_closure}
-use Rattle.hir_lower_form.specs.Lower.{closure_form, param_form, yield_form}
+use Rattle.hir_lower_form.specs.Forms.{ExprSteps, StoredContents, add_param, stored_closure, stored_coroutine}
+use Rattle.hir_lower_form.specs.Lower.{closure_form, coroutine_block_form, coroutine_form, param_form, yield_form}
 use Rattle.hir_lower_form.specs.Lowering.{Lowering}
 use Rattle.hir_meaning.specs.Inner.{Inners, all_of, of_params, of_present}
-use Rattle.hir_steps.proofs.Barriers.{correct_closure, correct_yield}
+use Rattle.hir_steps.proofs.Barriers.{correct_closure, correct_coroutine, correct_yield}
 use Rattle.hir_steps.proofs.Logic.{grows_trans}
-use Rattle.hir_steps.proofs.Steps.{Correct, correct_as, correct_in_store}
-use Rattle.hir_type_result.proofs.InsideForms.{maybe, value_adds, value_less}
+use Rattle.hir_steps.proofs.Steps.{Correct, correct_as, correct_bind, correct_enter_block, correct_in_store}
+use Rattle.hir_type_result.proofs.InsideForms.{contents, maybe, settled_block_less, value_adds, value_less}
 use Rattle.hir_type_result.proofs.InsideTypes.{maybe_type}
-use Rattle.hir_type_result.proofs.Weighed.{Adds, Cost, View, a_limit, a_pat, added_beside, added_expr, added_then, adds_aside, adds_beside}
-use Rattle.hir_type_result.proofs.Weighed.{adds_pure, adds_then, an_expr, beside, free, in_expr, sum, sum_append, view}
+use Rattle.hir_type_result.proofs.Weighed.{Adds, Cost, View, a_limit, a_pat, added_aside, added_beside, added_expr, added_then, adds_any}
+use Rattle.hir_type_result.proofs.Weighed.{adds_aside, adds_beside, adds_expr, adds_pure, adds_then, an_expr, beside, free, in_expr}
+use Rattle.hir_type_result.proofs.Weighed.{sum, sum_append, view}
 use Rattle.hir_type_result.proofs.Weights as weights
 
 -- in the patterns, and in the types
@@ -92,3 +95,31 @@ module _ (at : Pointer) where
 
   pub yield_adds : {e : Lowering (Option ExprId)} → Correct e (Adds free (maybe an_expr)) → Correct (yield_form at e) (Adds free an_expr)
   yield_adds h = correct_yield at _ (value_adds at hir.Yield value_less h)
+
+-- ---- coroutine blocks
+
+-- its block is its body
+coroutine_less : (kind : CoroutineKind) (moves : Bool) (body : ExprId) (v : View)
+    → in_expr (stored_coroutine kind moves body) v ≤ a_limit body v
+coroutine_less kind moves body v = omega arith
+
+pub coroutine_block_adds : (at : Pointer) (kind : CoroutineKind) (moves : Bool) (number : Option BlockId) {c : Lowering StoredContents}
+    → Correct c (Adds free contents) → Correct (coroutine_block_form at kind moves number c) (Adds free an_expr)
+unfolding coroutine_block_form
+coroutine_block_adds at kind moves number h = correct_as
+    (correct_bind (adds_any {was = free} (correct_enter_block number)) (λ u. correct_bind h
+    (λ r. correct_bind (adds_expr {was = contents r} _ None (settled_block_less false None number r))
+    (λ b. adds_expr {was = a_limit b} _ (Some at) (coroutine_less kind moves b)))))
+    (λ final ps m m' i g row.
+    let filled = row.second in
+    let made = filled.second in
+    let to_block = grows_trans row.before (grows_trans filled.before made.before) in
+    let in_block : Adds free an_expr final ps row.middle made.middle made.one = added_then made.before filled.first made.first in
+    let block : Adds free an_expr final ps m made.middle made.one =
+    added_then (grows_trans filled.before made.before) row.first in_block in
+    let held : Adds free a_limit final ps m made.middle made.one = added_aside to_block (body_aside made.one final) block in
+    added_then made.after held made.second)
+
+-- behind the barrier
+pub coroutine_adds : {p : ExprSteps} → Correct p (Adds free an_expr) → Correct (coroutine_form p) (Adds free an_expr)
+coroutine_adds h = correct_as (correct_coroutine h) (λ final ps m m' i g row. record { earlier = row.inside.earlier })

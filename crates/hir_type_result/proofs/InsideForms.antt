@@ -28,7 +28,7 @@ use Rattle.hir_lower_form.specs.Lower.{turn_form, repeat_form, const_form}
 use Rattle.hir_lower_form.specs.Lower.{continue_form, break_form, operand_form, operands_form, value_form, list_form}
 use Rattle.hir_lower_form.specs.Lower.{method_call_form, await_form, paren_form, path_form, path_or_missing, cast_form}
 use Rattle.hir_lower_form.specs.Lower.{offset_of_form, record_contents, record_of, record_form, field_form, block_form, labelled}
-use Rattle.hir_lower_form.specs.Lower.{stored_leaf, stored_unary, stored_binary, stored_leaving, settled, kept}
+use Rattle.hir_lower_form.specs.Lower.{stored_leaf, stored_unary, stored_binary, stored_leaving, settled, settled_block, kept}
 use Rattle.hir_meaning.specs.Inner as inner
 use Rattle.hir_meaning.specs.Inner.{all_of, of_constant, of_present, of_list, of_path}
 use Rattle.hir_steps.proofs.Frames.{loop_at, block_at}
@@ -209,6 +209,13 @@ block_less is_unsafe label number ss o v =
     let y = statements_are ss v in
     let z = maybe_is o v in omega arith
 
+pub settled_block_less : (is_unsafe : Bool) (label : Option LabelId) (number : Option BlockId) (r : StoredContents) (v : View)
+    → in_expr (settled_block is_unsafe label number (settled r.0 r.1)) v ≤ contents r v
+settled_block_less is_unsafe label number r v =
+    let s = settled r.0 r.1 in
+    let x = block_less is_unsafe label number s.0 s.1 v in
+    let y = settled_less r.0 r.1 v in omega arith
+
 module _ (at : Pointer) where
   pub leaf_adds : (form : Leaf) → Correct (alloc_expr (stored_leaf form) (Some at)) (Adds free an_expr)
   leaf_adds form = adds_expr _ (Some at) (leaf_less form)
@@ -290,9 +297,7 @@ module _ (at : Pointer) where
       → Correct c (Adds free contents) → Correct (block_form at is_unsafe label number c) (Adds free an_expr)
   unfolding block_form
   block_form_adds is_unsafe label number h = adds_then (adds_any (correct_enter_block number))
-      (λ u. adds_then h (λ r. adds_expr _ (Some at) (λ v. let s = settled r.0 r.1 in
-      let x = block_less is_unsafe label number s.0 s.1 v in
-      let y = settled_less r.0 r.1 v in omega arith)))
+      (λ u. adds_then h (λ r. adds_expr _ (Some at) (settled_block_less is_unsafe label number r)))
 
   -- those that name types
 

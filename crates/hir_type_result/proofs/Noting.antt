@@ -6,6 +6,7 @@ use Rattle.hir_store.specs.Pointers.{Pointer}
 use Rattle.hir_store.specs.Stored.{Store, SourceMap, Stored, store_of, map_of}
 use Rattle.hir_store.specs.Storing as storing
 use Rattle.hir_store.specs.Storing.{Extends, root_at}
+use Rattle.hir_store.specs.declared.ids.BindingId.{BindingId}
 use Rattle.hir_store.specs.declared.ids.ExprId.{ExprId}
 use Rattle.hir_store.specs.declared.pat.Pat.{Pat}
 use Rattle.hir_store.specs.declared.roots.ExprRoot.{ExprRoot}
@@ -19,15 +20,17 @@ use Rattle.hir_env.specs.Answered.{Limit, OptionExpr}
 use Rattle.hir_scope.specs.Ribs.{barrier_rib}
 use Rattle.hir_lower_form.specs.Builder.{Builder}
 use Rattle.hir_lower_form.specs.Lowering.{Checked, go_on, Lowering, ◌>>=◌, ◌>>◌, pure, alloc_pat, alloc_type, alloc_lifetime, open_barrier}
-use Rattle.hir_lower_form.specs.Lowering.{enter_root, close_barrier, leave_root, outside_root, record_root, count_out}
-use Rattle.hir_lower_form.specs.Lower.{constant_form, lower_limit, lower_part}
+use Rattle.hir_lower_form.specs.Lowering.{enter_root, close_barrier, leave_root, outside_root, record_root, count_out, bindings_end, own}
+use Rattle.hir_lower_form.specs.Lowering.{owning}
+use Rattle.hir_lower_form.specs.Lower.{ExprSteps, constant_form, lower_limit, lower_part}
 use Rattle.hir_lower_form.specs.Ranges.{inner_form}
 use Rattle.hir_meaning.specs.Inner.{Bodies, InnerBody, constant_body, limit_body}
 use Rattle.hir_steps.specs.Keeps.{Paired, KeepsAll, Keeps}
 use Rattle.hir_steps.proofs.Frames.{Frame, frames, ribs_frames}
 use Rattle.hir_steps.proofs.Constants.{correct_constant, correct_inner}
-use Rattle.hir_steps.proofs.Keeping.{kept_by}
+use Rattle.hir_steps.proofs.Keeping.{kept_by, part_any}
 use Rattle.hir_steps.proofs.Logic.{kept_trans, longer}
+use Rattle.hir_steps.proofs.Owning.{correct_bindings_end, correct_own}
 use Rattle.hir_steps.proofs.PatSteps.{correct_alloc_pat}
 use Rattle.hir_steps.proofs.Steps.{Mark, mark, Rel, Holds, Correct, correct_pure, correct_alloc_type, correct_alloc_lifetime}
 use Rattle.hir_steps.proofs.TypeAny.{Any, any}
@@ -44,12 +47,12 @@ use Rattle.hir_type_result.specs.Roots.{Lengths, lengths_now, ends_of, Further, 
 use Rattle.hir_type_result.specs.Roots.{pats_between, types_between}
 use Rattle.hir_type_result.specs.Unrun.{unrun_in}
 use Rattle.hir_type_result.proofs.Adding.{Quiet}
-use Rattle.hir_type_result.proofs.Inside.{constant_adds, inside_once, limit_adds}
+use Rattle.hir_type_result.proofs.Inside.{inside_once, limit_adds, rooted_adds}
 use Rattle.hir_type_result.proofs.Meaning.{constant_means, limit_means}
 use Rattle.hir_type_result.proofs.Named.{bindings_came, pats_once, types_came}
 use Rattle.hir_type_result.proofs.Ranges.{came_between}
-use Rattle.hir_type_result.proofs.RootStands.{contents, contents_any, rooted, root_settles}
-use Rattle.hir_type_result.proofs.TreeNamed.{constant_quiet, limit_quiet}
+use Rattle.hir_type_result.proofs.RootStands.{ShowsInner, constant_shows, contents, contents_any, limit_shows, rooted, root_settles}
+use Rattle.hir_type_result.proofs.TreeNamed.{limit_quiet, rooted_quiet}
 
 -- ---- lengths
 
@@ -235,6 +238,24 @@ pub notes_count_out : {A : Type 0} → Notes {A = A} [] count_out
 unfolding count_out
 notes_count_out = record { notes = λ b. tt }
 
+notes_bindings_end : Notes [] bindings_end
+notes_bindings_end = notes_none correct_bindings_end (λ final ps m m' start row. record {
+  roots = ap (λ x. x.stored.roots) row.still;
+  bindings = ap (λ x. x.stored.bindings.entries) row.still;
+})
+
+notes_own : (start : BindingId) (id : ExprId) → Notes [] (own start id)
+notes_own start id = notes_none (correct_own start id) (λ final ps m m' u row. record {
+  roots = ap (λ x. x.stored.roots) row.is;
+  bindings = ap (λ x. x.stored.bindings.entries) row.is;
+})
+
+-- what owns bindings is no root
+pub notes_owning : {A : Type 0} {es : Bodies} (owner : A → ExprId) {p : Lowering A} → Notes es p → Notes es (owning owner p)
+unfolding owning
+notes_owning owner h =
+    notes_then notes_bindings_end (λ start. notes_end h (λ x. notes_end (notes_own start (owner x)) (λ u. notes_pure x)))
+
 -- ---- bodies inside
 
 -- what is so of a body inside by what its lowering stored
@@ -284,46 +305,46 @@ module _ {A : Type 0} {p : Lowering A} (x : InnerBody) (b c : Builder) (a : A) (
 abbrev entered : Builder → Builder
 entered b = record b { scopes = barrier_rib ∷ b.scopes; in_root = true; yields = false }
 
-module _ {A : Type 0} (make : ExprId → A) (x : InnerBody) where
+module _ {A : Type 0} (make : ExprId → A) (x : InnerBody) (p : ExprSteps) where
   abbrev leaving : Bool → Bool → ExprId → Lowering A
   leaving outside outer id = close_barrier outside >> (leave_root outer id >> pure (make id))
 
   abbrev behind : Lowering A
-  behind = open_barrier >>= (λ outside. enter_root >>= (λ outer. contents x >>= leaving outside outer))
+  behind = open_barrier >>= (λ outside. enter_root >>= (λ outer. p >>= leaving outside outer))
 
-  notes_behind : Correct (contents x) Any → Correct behind Any
+  notes_behind : ShowsInner x p → Correct p Any → Correct behind Any
       → ((b c : Builder) (i : ExprId) → Paired b.stored → behind b ≡ (Ok (make i), c) → (later : Stored) → Extends c.stored later
       → Facts x b.stored c.stored i later) → Notes (x ∷ []) behind
   unfolding open_barrier enter_root close_barrier leave_root outside_root record_root storing.record_root
-  notes_behind any_inside any_all facts = record {
-    notes = λ b. by b b.in_root refl (contents x (entered b)).0 (contents x (entered b)).1 refl (kept_by any_inside (entered b))
+  notes_behind shows any_inside any_all facts = record {
+    notes = λ b. by b b.in_root refl (p (entered b)).0 (p (entered b)).1 refl (kept_by any_inside (entered b))
         (kept_by any_all b) (facts b);
   }
     where
-      by : (b : Builder) (outer : Bool) → b.in_root ≡ outer → (o : Checked ExprId) (c : Builder) → contents x (entered b) ≡ (o, c)
+      by : (b : Builder) (outer : Bool) → b.in_root ≡ outer → (o : Checked ExprId) (c : Builder) → p (entered b) ≡ (o, c)
           → Keeps (entered b) o c → Keeps b (go_on o c (leaving b.yields outer)).0 (go_on o c (leaving b.yields outer)).1
           → ((d : Builder) (i : ExprId) → Paired b.stored → go_on o c (leaving b.yields outer) ≡ (Ok (make i), d) → (later : Stored)
           → Extends d.stored later → Facts x b.stored d.stored i later)
           → Noted (x ∷ []) b (go_on o c (leaving b.yields outer)).0 (go_on o c (leaving b.yields outer)).1
       by b true in' (Ok i) c is inner kept facts = record {
         kept = kept;
-        settled = λ d. root_settles x (entered b) c i d is;
+        settled = λ d. root_settles x shows (entered b) c i d is;
         noted = λ outside. absurd (true≢false (sym in' ∙ outside));
       }
       by b false in' (Ok i) c is inner kept facts =
           let root = root_at (store_of c.stored) i in
           let left = (go_on {B = A} (Ok i) c (leaving b.yields false)).1 in record {
             kept = kept;
-            settled = λ d. root_settles x (entered b) c i d is;
+            settled = λ d. root_settles x shows (entered b) c i d is;
             noted = λ outside d later e.
                 let stays = extends_trans (extends_root c.stored root) e in
                 let f = facts left i d refl later e in
-                let goes_on = further_stored inner.stays (root_settles x (entered b) c i d is) in
+                let goes_on = further_stored inner.stays (root_settles x shows (entered b) c i d is) in
                 let types_end = length c.stored.types.entries in
                 let begins = lengths_now b.stored in
                 let whole : Settled c.stored later
                 → RootIs (store_of later) (map_of later) b.scopes begins (ends_of root types_end) root x =
-                λ s. let shown = rooted x (entered b) c i d is later stays s in record {
+                λ s. let shown = rooted x shows (entered b) c i d is later stays s in record {
                   same = f.same;
                   ways = shown.ways;
                   stands = shown.stands;
@@ -346,14 +367,14 @@ module _ {A : Type 0} (make : ExprId → A) (x : InnerBody) where
 pub notes_constant : (e : OptionExpr) → Notes (constant_body e ∷ []) (constant_form (lower_part e))
 unfolding constant_form unrun_in
 notes_constant e =
-    let inside = contents_any (constant_body e) in
-    let all = any (correct_constant inside) in
-    notes_behind (λ i. record { expr = i }) (constant_body e) inside all (λ b c i paired is later stays.
+    let all = any (correct_constant (part_any e)) in
+    notes_behind (λ i. record { expr = i }) (constant_body e) (lower_part e) (constant_shows e) (part_any e) all
+    (λ b c i paired is later stays.
     let x : ConstRef = record { expr = i } in
-    facts_of (constant_body e) b c x i paired is later stays (constant_quiet (tree.constant e))
+    facts_of (constant_body e) b c x i paired is later stays (rooted_quiet (tree.constant e))
     (subst (λ r. Keeps b r.0 r.1) is (kept_by all b))
     (constant_means e (frames b.scopes) b c x (ribs_frames b.scopes) paired is later stays)
-    (λ depth le. inside_once (constant_adds (tree.constant e)) b c x paired is later stays depth le
+    (λ depth le. inside_once (rooted_adds (tree.constant e)) b c x paired is later stays depth le
     (i ∷ unrun_in (store_of later) i) (λ k. omega arith)))
 
 limit_facts : (l : Limit) (b c : Builder) (i : ExprId) → Paired b.stored → lower_limit l b ≡ (Ok i, c) → Keeps b (Ok i) c
@@ -364,13 +385,12 @@ limit_facts l b c i paired is kept later stays =
     (limit_means l (frames b.scopes) b c i (ribs_frames b.scopes) paired is later stays)
     (λ depth le. inside_once (limit_adds l) b c i paired is later stays depth le (i ∷ unrun_in (store_of later) i) (λ k. omega arith))
 
-limit_notes : (l : Limit) → lower_limit l ≡ inner_form (contents (limit_body l))
-    → Notes (limit_body l ∷ []) (inner_form (contents (limit_body l)))
+limit_notes : (l : Limit) → lower_limit l ≡ inner_form (contents l) → Notes (limit_body l ∷ []) (inner_form (contents l))
 unfolding inner_form
 limit_notes l is_form =
-    let inside = contents_any (limit_body l) in
+    let inside = contents_any l in
     let all = any (correct_inner inside) in
-    notes_behind (λ i. i) (limit_body l) inside all (λ b c i paired is later stays.
+    notes_behind (λ i. i) (limit_body l) (contents l) (limit_shows l) inside all (λ b c i paired is later stays.
     limit_facts l b c i paired (ap (λ q. q b) is_form ∙ is) (subst (λ r. Keeps b r.0 r.1) is (kept_by all b)) later stays)
 
 pub notes_limit : (l : Limit) → Notes (limit_body l ∷ []) (lower_limit l)

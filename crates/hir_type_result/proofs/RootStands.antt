@@ -5,14 +5,14 @@ use Rattle.hir_store.specs.Storing.{Extends}
 use Rattle.hir_store.specs.declared.ids.ExprId.{ExprId}
 use Rattle.hir_store.proofs.Extending.{extends_refl}
 use Rattle.hir_env.specs.Answered as tree
-use Rattle.hir_env.specs.Answered.{Limit, Side}
+use Rattle.hir_env.specs.Answered.{Limit, OptionExpr, Side}
 use Rattle.hir_lower_form.specs.Builder.{Builder}
 use Rattle.hir_lower_form.specs.Lower.{ExprSteps, limit_side, lower_part, missing}
 use Rattle.hir_lower_form.specs.Ranges.{before_form, item_form}
 use Rattle.hir_meaning.specs.Inner.{InnerBody, constant_body, limit_body}
 use Rattle.hir_steps.specs.Keeps.{Paired}
 use Rattle.hir_steps.proofs.Frames.{ribs_frames}
-use Rattle.hir_steps.proofs.Keeping.{lower_path_any, part_any}
+use Rattle.hir_steps.proofs.Keeping.{lower_path_any}
 use Rattle.hir_steps.proofs.PatAny.{before_any, item_any, literal_limit_any, name_limit_any, path_limit_any}
 use Rattle.hir_steps.proofs.Steps as steps
 use Rattle.hir_steps.proofs.Steps.{correct_alloc}
@@ -28,12 +28,11 @@ use Rattle.hir_one_result.proofs.Standing.{Shows, missing_stands}
 use Rattle.hir_one_result.proofs.TreeStands.{part_stands, whole_left}
 use Rattle.hir_type_result.specs.Roots.{StandsInner}
 
--- what is done behind the barrier
-abbrev pub contents : InnerBody → ExprSteps
-contents (constant_body e) = lower_part e
-contents (limit_body (tree.item_limit item)) = item_form item
-contents (limit_body (tree.side_limit s)) = limit_side s
-contents (limit_body (tree.before_limit item s)) = before_form item (limit_side s)
+-- what is done behind the barrier of an end of a range
+abbrev pub contents : Limit → ExprSteps
+contents (tree.item_limit item) = item_form item
+contents (tree.side_limit s) = limit_side s
+contents (tree.before_limit item s) = before_form item (limit_side s)
 
 missing_any : steps.Correct missing Any
 unfolding missing
@@ -47,11 +46,10 @@ side_any (tree.path_side at p) = path_limit_any at (lower_path_any p)
 side_any tree.other_side = missing_any
 
 -- it is made of steps
-pub contents_any : (x : InnerBody) → steps.Correct (contents x) Any
-contents_any (constant_body e) = part_any e
-contents_any (limit_body (tree.item_limit item)) = item_any item
-contents_any (limit_body (tree.side_limit s)) = side_any s
-contents_any (limit_body (tree.before_limit item s)) = before_any item (side_any s)
+pub contents_any : (l : Limit) → steps.Correct (contents l) Any
+contents_any (tree.item_limit item) = item_any item
+contents_any (tree.side_limit s) = side_any s
+contents_any (tree.before_limit item s) = before_any item (side_any s)
 
 side_shows : (s : Side) → Correct (limit_side s) (Shows (λ final rs i. StandsLimitSide (store_of final) (map_of final) rs s i))
 side_shows tree.no_side = missing_stands
@@ -60,26 +58,32 @@ side_shows (tree.name_side at n _) = name_limit_stands at n
 side_shows (tree.path_side at p) = path_limit_stands at p (whole_left p)
 side_shows tree.other_side = missing_stands
 
-inner_shows : (x : InnerBody)
-    → Correct (contents x) (Shows (λ final rs i. StandsInner (store_of final) (map_of final) rs x i))
-inner_shows (constant_body e) = part_stands e
-inner_shows (limit_body (tree.item_limit item)) = item_stands item
-inner_shows (limit_body (tree.side_limit s)) = side_shows s
-inner_shows (limit_body (tree.before_limit item s)) = before_stands item (side_shows s)
+-- the steps leave what stands for a body inside
+abbrev pub ShowsInner : InnerBody → ExprSteps → Type 0
+ShowsInner x p = Correct p (Shows (λ final rs i. StandsInner (store_of final) (map_of final) rs x i))
+
+pub constant_shows : (e : OptionExpr) → ShowsInner (constant_body e) (lower_part e)
+constant_shows e = part_stands e
+
+pub limit_shows : (l : Limit) → ShowsInner (limit_body l) (contents l)
+limit_shows (tree.item_limit item) = item_stands item
+limit_shows (tree.side_limit s) = side_shows s
+limit_shows (tree.before_limit item s) = before_stands item (side_shows s)
 
 -- what stands for it in a later store in which nothing is wrong with the bindings that wasn't
 pub record Rooted (x : InnerBody) (b : Builder) (i : ExprId) (later : Stored) : Type 0 where
   pub ways : List Way
   pub stands : StandsInner (store_of later) (map_of later) b.scopes x i ways
 
-pub rooted : (x : InnerBody) (b c : Builder) (i : ExprId) → Paired b.stored → contents x b ≡ (Ok i, c)
-    → (later : Stored) → Extends c.stored later → Settled c.stored later → Rooted x b i later
-rooted x b c i paired is later stays settled =
-    let lasts = after_lowering (inner_shows x) b i c paired is later stays in
-    let y = subst (λ rs. Shown (StandsInner (store_of later) (map_of later) rs x i) b.stored c.stored) (sym (ribs_frames b.scopes))
-    (lasts.rel (unchanged_settled (bound b.stored) settled)).shown in
-    record { ways = y.ways; stands = y.shown }
+module _ (x : InnerBody) {p : ExprSteps} (shows : ShowsInner x p) (b c : Builder) (i : ExprId) (paired : Paired b.stored)
+    (is : p b ≡ (Ok i, c)) where
+  pub rooted : (later : Stored) → Extends c.stored later → Settled c.stored later → Rooted x b i later
+  rooted later stays settled =
+      let lasts = after_lowering shows b i c paired is later stays in
+      let y = subst (λ rs. Shown (StandsInner (store_of later) (map_of later) rs x i) b.stored c.stored) (sym (ribs_frames b.scopes))
+      (lasts.rel (unchanged_settled (bound b.stored) settled)).shown in
+      record { ways = y.ways; stands = y.shown }
 
--- what was settled of the bindings stays
-pub root_settles : (x : InnerBody) (b c : Builder) (i : ExprId) → Paired b.stored → contents x b ≡ (Ok i, c) → Settled b.stored c.stored
-root_settles x b c i paired is = (after_lowering (inner_shows x) b i c paired is c.stored (extends_refl c.stored)).settled
+  -- what was settled of the bindings stays
+  pub root_settles : Settled b.stored c.stored
+  root_settles = (after_lowering shows b i c paired is c.stored (extends_refl c.stored)).settled

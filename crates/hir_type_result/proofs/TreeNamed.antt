@@ -33,7 +33,8 @@ use Rattle.hir_lower_form.specs.Lower.{lower, lower_part, present, kept_part, lo
 use Rattle.hir_lower_form.specs.Lower.{lower_block, lower_block_part, lower_stmts, lower_stmt, lower_path, args_part, type_part}
 use Rattle.hir_lower_form.specs.Lower.{lower_type, present_type, type_or_unit, lower_parts, read_segment, read_each, read_path}
 use Rattle.hir_lower_form.specs.Lower.{read_option, lower_segment_args, parens_part, output_part, lower_args, lower_arg}
-use Rattle.hir_lower_form.specs.Lower.{lower_bounds, lower_bound, lower_constant, present_block, lower_arms, lower_arm, lower_guard}
+use Rattle.hir_lower_form.specs.Lower.{lower_bounds, lower_bound, lower_constant, lower_rooted, present_block, lower_arms, lower_arm}
+use Rattle.hir_lower_form.specs.Lower.{lower_guard}
 use Rattle.hir_lower_form.specs.Lower.{lower_top, lower_pat, pat_part, present_pat, lower_pats, lower_elements, lower_alternatives}
 use Rattle.hir_lower_form.specs.Lower.{lower_later, lower_pat_fields, lower_pat_field, lower_side, lower_type_pat_part, lower_type_pat}
 use Rattle.hir_lower_form.specs.Lower.{lower_type_pats, lower_limit, limit_side, lower_target, lower_targets, lower_target_fields}
@@ -44,7 +45,7 @@ use Rattle.hir_type_result.specs.Named.{Look, of_arm, of_pat_field, of_statement
 use Rattle.hir_type_result.proofs.Counted.{times_append}
 use Rattle.hir_type_result.proofs.Numbers as numbers
 use Rattle.hir_type_result.proofs.Adding.{Numbers, none, Adds, Quiet, adds_pure, adds_then, adds_beside, adds_quiet, adds_from}
-use Rattle.hir_type_result.proofs.Adding.{adds_type, adds_pat, adds_done, framed, tabled}
+use Rattle.hir_type_result.proofs.Adding.{adds_type, adds_owning, adds_pat, adds_done, framed, tabled}
 use Rattle.hir_type_result.proofs.Owned.{a_type, maybe_type, types, a_bound, bounds, arguments, lists, maybe_path, walk, reading, a_pat}
 use Rattle.hir_type_result.proofs.Owned.{uses_add, leaf_below, error_adds, unit_adds, over_adds, array_adds, tuple_adds, path_type_adds}
 use Rattle.hir_type_result.proofs.Owned.{ref_adds, fn_adds, impl_adds, dyn_adds, path_bound_adds, proceed_adds, whole_adds, super_adds}
@@ -59,7 +60,8 @@ use Rattle.hir_type_result.proofs.NamingMade.{question_quiet, try_block_quiet, t
 use Rattle.hir_type_result.proofs.NamingFors.{for_quiet}
 use Rattle.hir_env.specs.Targets.{head_pointer}
 use Rattle.hir_type_result.proofs.NamingForms.{call_quiet, continue_quiet, break_quiet, paren_quiet, operand_quiet, operands_quiet}
-use Rattle.hir_type_result.proofs.ClosureNaming.{closure_quiet, param_adds, params_named, yield_quiet}
+use Rattle.hir_type_result.proofs.ClosureNaming.{closure_quiet, coroutine_block_quiet, coroutine_quiet, param_adds, params_named}
+use Rattle.hir_type_result.proofs.ClosureNaming.{yield_quiet}
 use Rattle.hir_type_result.proofs.NamingForms.{value_quiet, list_quiet, await_quiet, field_quiet, block_form_quiet, path_quiet, cast_quiet}
 use Rattle.hir_type_result.proofs.NamingForms.{offset_of_quiet, method_call_quiet, record_quiet, contents_quiet, labelled_quiet}
 use Rattle.hir_type_result.proofs.NamingForms.{kept_quiet, contents}
@@ -199,8 +201,11 @@ mutual
 
   -- constants
 
-  pub constant_quiet : (c : Constant) → Correct (lower_constant c) Quiet
-  constant_quiet (tree.constant e) = quiet_constant (part_quiet e)
+  constant_quiet : (c : Constant) → Correct (lower_constant c) Quiet
+  constant_quiet (tree.constant e) = adds_owning (λ c. c.expr) (quiet_constant (part_quiet e))
+
+  pub rooted_quiet : (c : Constant) → Correct (lower_rooted c) Quiet
+  rooted_quiet (tree.constant e) = quiet_constant (part_quiet e)
 
   -- patterns of types, whose limits are expressions
 
@@ -246,6 +251,8 @@ mutual
       try_block_quiet at item false number (stmts_add [] ss (kept_part_quiet e))
   node_quiet (tree.try_expr at item (tree.some_type t) number ss e) =
       typed_try_quiet at (try_block_quiet at item true number (stmts_add [] ss (kept_part_quiet e))) (type_adds None t)
+  node_quiet (tree.coroutine_expr at kind moves number ss e) = adds_owning (λ i. i)
+      (coroutine_quiet (coroutine_block_quiet at kind moves number (stmts_add [] ss (kept_part_quiet e))))
   node_quiet (tree.call_expr at f has_list es) = call_quiet at (part_quiet f) (each_quiet [] es)
   node_quiet (tree.path_expr at p h) = path_quiet at h (path_adds p)
   node_quiet (tree.continue_expr at jump) = continue_quiet at jump
@@ -258,9 +265,9 @@ mutual
   node_quiet (tree.lazy_expr at op a b) = operands_quiet at _ (λ i j f k. omega arith) (part_quiet a) (part_quiet b)
   node_quiet (tree.list_expr at form es) = list_quiet at form (each_quiet [] es)
   node_quiet (tree.repeat_expr at e c) = repeat_quiet at (part_quiet e) (constant_quiet c)
-  node_quiet (tree.const_expr at c) = const_quiet at (constant_quiet c)
-  node_quiet (tree.closure_expr at moves is_static xs t e) =
-      closure_quiet at moves is_static (params_add no_closure_params xs) (present_adds t) (part_quiet e)
+  node_quiet (tree.const_expr at c) = adds_owning (λ i. i) (const_quiet at (rooted_quiet c))
+  node_quiet (tree.closure_expr at moves is_static xs t e) = adds_owning (λ i. i)
+      (closure_quiet at moves is_static (params_add no_closure_params xs) (present_adds t) (part_quiet e))
   node_quiet (tree.method_call_expr at e name es generics) =
       method_call_quiet at name (part_quiet e) (each_quiet [] es) (args_add generics)
   node_quiet (tree.cast_expr at e t) = cast_quiet at (part_quiet e) (part_adds None t)

@@ -22,6 +22,7 @@ use Rattle.hir_one_result.specs.Room.{arg_size, bounds_size, bound_size, limit_s
 use Rattle.hir_one_result.proofs.PathRooms.{seen}
 use Rattle.hir_one_result.proofs.TreeRooms.{each_tells, own_tells, args_tell}
 use Rattle.hir_type_result.proofs.Noting.{notes_then, notes_end, notes_pure, notes_type, notes_constant, notes_limit, notes_pat}
+use Rattle.hir_type_result.proofs.Noting.{notes_owning}
 use Rattle.hir_type_result.proofs.NotingForms.{NotesOf, error_notes, unit_notes, lifetime_notes, lifetime_option_notes, uses_note}
 use Rattle.hir_type_result.proofs.NotingForms.{over_notes, array_notes, tuple_notes, path_type_notes, ref_notes, fn_notes, impl_notes}
 use Rattle.hir_type_result.proofs.NotingForms.{dyn_notes, path_bound_notes, reads_note, whole_notes, first_notes, counted_notes}
@@ -29,7 +30,7 @@ use Rattle.hir_type_result.proofs.NotingForms.{with_trait_notes, parens_notes, b
 use Rattle.hir_type_result.proofs.NotingForms.{limits_notes, missing_pat_notes, pattern_notes}
 
 constant_notes : (c : Constant) → NotesOf (constant_size c) (lower_constant c)
-constant_notes (tree.constant e) = notes_constant e
+constant_notes (tree.constant e) = notes_owning (λ c. c.expr) (notes_constant e)
 
 -- the end of a range in a type
 limit_notes : (l : Limit) → NotesOf (limit_size l) (lower_limit l)

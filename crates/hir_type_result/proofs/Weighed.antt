@@ -11,7 +11,7 @@ use Rattle.hir_store.specs.declared.pat.Pat.{Pat}
 use Rattle.hir_store.specs.declared.type_ref.ConstRef.{ConstRef}
 use Rattle.hir_store.specs.declared.type_ref.TypeRef.{TypeRef}
 use Rattle.hir_env.specs.Answered.{Label}
-use Rattle.hir_lower_form.specs.Lowering.{Lowering, ◌>>=◌, pure, alloc_expr, alloc_made, alloc_pat, alloc_type, open_label, close}
+use Rattle.hir_lower_form.specs.Lowering.{Lowering, ◌>>=◌, pure, owning, alloc_expr, alloc_made, alloc_pat, alloc_type, open_label, close}
 use Rattle.hir_lower_form.specs.Lower.{ExprSteps, constant_form}
 use Rattle.hir_lower_form.specs.Ranges.{inner_form}
 use Rattle.hir_meaning.specs.Inner.{Inners, of_type, of_expr, of_constant, of_limit, of_type_pat}
@@ -19,6 +19,7 @@ use Rattle.hir_meaning.specs.Places.{places_in, places_to}
 use Rattle.hir_steps.proofs.Constants.{correct_constant, correct_inner}
 use Rattle.hir_steps.proofs.Frames.{Frame, rib, ribs}
 use Rattle.hir_steps.proofs.MadeSteps.{correct_alloc_made}
+use Rattle.hir_steps.proofs.Owning.{owning_keeps}
 use Rattle.hir_steps.proofs.PatSteps.{correct_alloc_pat}
 use Rattle.hir_steps.proofs.Steps.{Mark, Grows, Rel, Correct, correct_bind, correct_as, correct_in_store, correct_pure, correct_alloc}
 use Rattle.hir_steps.proofs.Steps.{correct_alloc_type, correct_opened, with_label, Put, AllocatedBy}
@@ -192,11 +193,12 @@ adds_any h = correct_as h (λ final ps m m' a g row. record {
 })
 
 -- An expression that is held and not run costs what it reaches by itself.
-pub adds_aside : {A : Type 0} {now held : A → Cost} {p : Lowering A}
-    → ((a : A) (final : Stored) (all number reach hold place : ℕ)
+
+pub added_aside : {A : Type 0} {now held : A → Cost} {final : Stored} {ps : List Frame} {m m' : Mark} {a : A} → Grows m m'
+    → ((all number reach hold place : ℕ)
     → held a (view final all number reach hold place) ≤ now a (view final all number all hold place))
-    → Correct p (Adds free now) → Correct p (Adds free held)
-adds_aside less_is h = correct_as h (λ final ps m m' a g row. record {
+    → Adds free now final ps m m' a → Adds free held final ps m m' a
+added_aside g less_is row = record {
   earlier = λ all number reach hold place d.
       let x = row.earlier all number all hold place (record {
         all_of = d.all_of;
@@ -204,8 +206,35 @@ adds_aside less_is h = correct_as h (λ final ps m m' a g row. record {
         inside = d.inside;
         placed = d.placed;
       }) in
-      still_deep reach hold place g d (let c = x.counted in let l = less_is a final all number reach hold place in omega arith);
-})
+      still_deep reach hold place g d (let c = x.counted in let l = less_is all number reach hold place in omega arith);
+}
+
+pub adds_aside : {A : Type 0} {now held : A → Cost} {p : Lowering A}
+    → ((a : A) (final : Stored) (all number reach hold place : ℕ)
+    → held a (view final all number reach hold place) ≤ now a (view final all number all hold place))
+    → Correct p (Adds free now) → Correct p (Adds free held)
+adds_aside less_is h = correct_as h (λ final ps m m' a g row. added_aside g (less_is a final) row)
+
+-- whatever owns bindings
+pub adds_owning : {A : Type 0} {was : Cost} {now : A → Cost} (owner : A → ExprId) {p : Lowering A} → Correct p (Adds was now)
+    → Correct (owning owner p) (Adds was now)
+adds_owning owner h = owning_keeps owner (λ final ps m left start id a row. record {
+  earlier = λ all number reach hold place d.
+      let x = row.earlier all number reach hold place (record {
+        all_of = d.all_of;
+        deep = d.deep;
+        inside = d.inside;
+        placed = d.placed;
+      }) in record {
+        reach = x.reach;
+        hold = x.hold;
+        place = x.place;
+        deep = x.deep;
+        inside = x.inside;
+        placed = x.placed;
+        counted = x.counted;
+      };
+}) h
 
 -- of more
 pub adds_from : {A : Type 0} {was was' : Cost} {now : A → Cost} {p : Lowering A} → ((v : View) → was v ≤ was' v)

@@ -60,6 +60,7 @@ type_results limit t i new is =
       exprs = let n = fits.exprs in omega arith;
       labels = let n = fits.labels in omega arith;
       bindings = let n = fits.bindings in omega arith;
+      owners = fits.owners refl;
       pats = let n = fits.pats in omega arith;
       types = let n = fits.types in omega arith;
       lifetimes = let n = fits.lifetimes in omega arith;

@@ -16,6 +16,7 @@ use Rattle.hir_meaning.specs.Same.{SameBodies}
 use Rattle.hir_one_result.specs.Blocks.{blocks_of_type_part}
 use Rattle.hir_one_result.specs.Diagnostics.{type_part_faults}
 use Rattle.hir_one_result.specs.Room.{Short, type_part_size}
+use Rattle.hir_one_result.specs.Size.{placed}
 use Rattle.hir_one_result.specs.Stands.{TypePartWays}
 use Rattle.hir_type_result.specs.Named.{of_exprs, of_pats, of_pats_alone, of_types_alone}
 use Rattle.hir_type_result.specs.Pats.{of_types, pats_reached}
@@ -29,14 +30,16 @@ use Rattle.hir_type_result.specs.Unrun.{unrun_in_type}
 -- which they are done, also one that the type doesn't reach. Nodes of patterns, types and lifetimes lead to them, those of
 -- expressions and labels to what they became, and no other nodes lead anywhere. However deep one looks, the type, all expressions
 -- and all patterns together reach no type in two ways, types and expressions no pattern, and what the type holds and doesn't run no
--- expression. Each binding is that of a name of a top pattern in these bodies, and has the patterns that make it. The faults and the
--- entered blocks are those of these bodies.
+-- expression. Each binding is that of a name of a top pattern in these bodies, has the patterns that make it, and is owned by the
+-- innermost closure, coroutine, `const` block, length or argument around it. The faults and the entered blocks are those of these
+-- bodies.
 pub record TypeResult (store : Store) (source_map : SourceMap) (i : TypeRefId) (t : OptionType) : Type 0 where
   pub reads_back : stored_type store source_map i ≡ written_type t
   pub inner : SameBodies store source_map (type_inner_bodies store i) (part_bodies t)
   pub exprs : length store.exprs ≡ (type_part_size t).exprs
   pub labels : length store.labels ≡ (type_part_size t).labels
   pub bindings : length store.bindings ≡ (type_part_size t).bindings
+  pub owners : store.binding_owners ≡ placed 0 (type_part_size t).owners
   pub pats : length store.pats ≡ length (type_part_size t).pats
   pub types : length store.types ≡ length (type_part_size t).types
   pub lifetimes : length store.lifetimes ≡ length (type_part_size t).lifetimes

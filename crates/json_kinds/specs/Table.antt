@@ -34,7 +34,7 @@ row kind.BlockExpr = record {
   groups = group.Expr ∷ group.Block ∷ group.Else ∷ [];
   fields = (codes "mod" ∶ sort.WordIfThere words.Modifiers)
       ∷ (codes "label" ∶ sort.PlainLabel)
-      ∷ (codes "move" ∶ sort.NotYet)
+      ∷ (codes "move" ∶ sort.Flag)
       ∷ (codes "ty" ∶ sort.TryType)
       ∷ (codes "stmts" ∶ sort.List group.Stmt)
       ∷ (codes "tail" ∶ sort.Part group.Expr)

@@ -38,7 +38,7 @@ abbrev pub words : Words → List (List ℕ)
 words set.Literals = literals
 words set.Segments = segments
 words set.Bounds = codes "path" ∷ codes "use" ∷ codes "lifetime" ∷ []
-words set.Modifiers = codes "unsafe" ∷ codes "try" ∷ codes "const" ∷ []
+words set.Modifiers = codes "unsafe" ∷ codes "try" ∷ codes "const" ∷ codes "async" ∷ codes "gen" ∷ codes "asyncgen" ∷ []
 words set.UnaryOps = codes "*" ∷ codes "!" ∷ codes "-" ∷ []
 words set.BinaryOps = binary_ops
 words set.RangeOps = codes ".." ∷ codes "..=" ∷ []

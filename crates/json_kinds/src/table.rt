@@ -304,7 +304,7 @@ impl Kind {
             Kind::IfExpr =>
                 listed!("condition": Part(Expr), "then": Part(Block), "else": Part(Else)),
             Kind::BlockExpr => listed!(
-                "mod": WordIfThere(Words::Modifiers), "label": PlainLabel, "move": NotYet, "ty": TryType,
+                "mod": WordIfThere(Words::Modifiers), "label": PlainLabel, "move": Flag, "ty": TryType,
                 "stmts": List(Stmt), "tail": Part(Expr)
             ),
             Kind::Literal =>

@@ -30,7 +30,7 @@ impl Words {
             Words::Literals => &["str", "bytestr", "cstr", "char", "bool", "int", "float"],
             Words::Segments => &["name", "self", "crate", "super", "Self", "type"],
             Words::Bounds => &["path", "use", "lifetime"],
-            Words::Modifiers => &["unsafe", "try", "const"],
+            Words::Modifiers => &["unsafe", "try", "const", "async", "gen", "asyncgen"],
             Words::UnaryOps => &["*", "!", "-"],
             Words::BinaryOps => &[
                 "||", "&&", "==", "!=", "<=", "<", ">=", ">", "+", "*", "-", "/", "%", "<<", ">>",

@@ -38,10 +38,16 @@ abbrev modifier_word : BlockModifier → List ℕ
 modifier_word modifiers.Unsafe = codes "unsafe"
 modifier_word modifiers.Try = codes "try"
 modifier_word modifiers.Const = codes "const"
+modifier_word modifiers.Async = codes "async"
+modifier_word modifiers.Gen = codes "gen"
+modifier_word modifiers.AsyncGen = codes "asyncgen"
 
--- the modifier that a word is, of those that are read yet
+abbrev all_modifiers : List BlockModifier
+all_modifiers = modifiers.Unsafe ∷ modifiers.Try ∷ modifiers.Const ∷ modifiers.Async ∷ modifiers.Gen ∷ modifiers.AsyncGen ∷ []
+
+-- the modifier that a word is
 abbrev pub modifier_of : List ℕ → Option BlockModifier
-modifier_of word = with_word modifier_word (modifiers.Unsafe ∷ modifiers.Try ∷ modifiers.Const ∷ []) word
+modifier_of word = with_word modifier_word all_modifiers word
 
 unfoldable pub of_block : Here → Option ExprPart
 of_block h = Some (expr_part.Block (roll-BlockExpr (record {
@@ -50,6 +56,7 @@ of_block h = Some (expr_part.Block (roll-BlockExpr (record {
   mod_ = option_and_then modifier_of (text_in (codes "mod") h.value);
   label = part_in h as_label (codes "label");
   ty = part_in h as_type (codes "ty");
+  move_ = flag_of (get (codes "move") h.value);
   stmts = list_in h as_stmt (codes "stmts");
   tail = part_in h as_expr (codes "tail");
 })))

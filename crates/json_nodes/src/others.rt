@@ -63,6 +63,9 @@ fn modifier_with(word: &str) -> Option<BlockModifier>
         "unsafe" => Some(BlockModifier::Unsafe),
         "try" => Some(BlockModifier::Try),
         "const" => Some(BlockModifier::Const),
+        "async" => Some(BlockModifier::Async),
+        "gen" => Some(BlockModifier::Gen),
+        "asyncgen" => Some(BlockModifier::AsyncGen),
         _ => None,
     }
 }
@@ -89,6 +92,7 @@ pub fn of_block<F: Fields>(node: &F, refused: &mut bool) -> Option<ExprPart>
         mod_: modifier(node.value()),
         label,
         ty,
+        move_: flag(node.value(), "move"),
         stmts,
         tail,
     };

@@ -2,8 +2,10 @@
 
 mod lines;
 mod numbering;
+mod owners;
 mod pats;
 mod printer;
+mod shown;
 mod types;
 mod waiting;
 mod words;
@@ -17,6 +19,7 @@ use hir_store::source_map::ExpressionStoreSourceMap;
 use hir_store::store::ExpressionStore;
 use hir_syntax::ast;
 use printer::Printer;
+use shown::Shown;
 use std::alloc::{AllocError, Global};
 
 /// What is listed: a store with its source map, the language's items by whose names those in it are printed, and whether
@@ -29,32 +32,36 @@ pub struct Listed<'a> {
     pub sources: bool,
 }
 
-/// The listing of a body: a line with its `self`, where it has one, one for each other parameter, one with itself, one for
-/// each binding and each label in them, one for each diagnostic. Only memory can fail.
-pub fn body_listing(
+fn listing<'a>(
     alloc: Global,
-    listed: Listed<'_>,
-    self_param: Option<BindingId>,
-    params: &[Param<PatId>],
+    listed: Listed<'a>,
+    shown: Shown<'a>,
 ) -> Result<String, AllocError> {
     let mut printer = Printer::new(alloc, listed);
-    let printed = printer.listing(self_param, params);
+    let printed = printer.listing(shown);
     let text = printer.finish();
     printed?;
     Ok(text)
 }
 
-/// The listing of parameters without their body. Only memory can fail.
-pub fn params_listing(
+/// The listing of a body: a line with its `self`, where it has one, one for each other parameter, one with itself, one for
+/// each binding and each label in them, one for each diagnostic. Only memory can fail.
+pub fn body_listing<'a>(
     alloc: Global,
-    listed: Listed<'_>,
-    params: &[Param<PatId>],
+    listed: Listed<'a>,
+    self_param: Option<BindingId>,
+    params: &'a [Param<PatId>],
 ) -> Result<String, AllocError> {
-    let mut printer = Printer::new(alloc, listed);
-    let printed = printer.params_listing(params);
-    let text = printer.finish();
-    printed?;
-    Ok(text)
+    listing(alloc, listed, Shown::Body(self_param, params))
+}
+
+/// The listing of parameters without their body. Only memory can fail.
+pub fn params_listing<'a>(
+    alloc: Global,
+    listed: Listed<'a>,
+    params: &'a [Param<PatId>],
+) -> Result<String, AllocError> {
+    listing(alloc, listed, Shown::Params(params))
 }
 
 /// The listing of a path: a line with it, or that it is refused; where it isn't, one for each name of the written
@@ -63,13 +70,9 @@ pub fn path_listing<'a>(
     alloc: Global,
     listed: Listed<'a>,
     path: Option<&'a Path>,
-    written: &ast::Path,
+    written: &'a ast::Path,
 ) -> Result<String, AllocError> {
-    let mut printer = Printer::new(alloc, listed);
-    let printed = printer.path_listing(path, written);
-    let text = printer.finish();
-    printed?;
-    Ok(text)
+    listing(alloc, listed, Shown::Path(path, written))
 }
 
 /// The listing of a type: a line with it, then as for a body. Only memory can fail.
@@ -78,9 +81,5 @@ pub fn type_listing(
     listed: Listed<'_>,
     ty: TypeRefId,
 ) -> Result<String, AllocError> {
-    let mut printer = Printer::new(alloc, listed);
-    let printed = printer.type_listing(ty);
-    let text = printer.finish();
-    printed?;
-    Ok(text)
+    listing(alloc, listed, Shown::Type_(ty))
 }

@@ -1,5 +1,6 @@
 use Rattle.hir_one_result.proofs.PatRows.{patterned}
 use Rattle.hir_one_result.proofs.Rows.{jumps, statements, enters_in_order, leaves, plain_forms, tries, fors, consts, closures}
+use Rattle.hir_one_result.proofs.Rows.{coroutines, owners}
 use Rattle.hir_one_result.proofs.small_trees.Goals as goal
 
 pub returns-clause-jumps : goal.returns-clause-jumps
@@ -31,3 +32,9 @@ returns-clause-consts c = consts
 
 pub returns-clause-closures : goal.returns-clause-closures
 returns-clause-closures c = closures
+
+pub returns-clause-coroutines : goal.returns-clause-coroutines
+returns-clause-coroutines c = coroutines
+
+pub returns-clause-owners : goal.returns-clause-owners
+returns-clause-owners c = owners

@@ -1,11 +1,12 @@
-//! The lines of segments, labels and diagnostics.
+//! The lines of segments, bindings, labels and diagnostics.
 
+use super::owners::Owners;
 use super::words::{await_word, missing_body_word, mode_word, problem_word};
 use super::writer::Writer;
 use hir_base::node::{AstPtr, InFile};
 use hir_lower::{named_parts, segment_name};
 use hir_store::diagnostics::ExpressionStoreDiagnostics;
-use hir_store::ids::{BindingId, LabelId};
+use hir_store::ids::{BindingId, ExprId, LabelId};
 use hir_store::source_map::ExpressionStoreSourceMap;
 use hir_store::store::ExpressionStore;
 use hir_syntax::ast::{Path, PathSegment};
@@ -46,9 +47,10 @@ pub fn segments(writer: &mut Writer, path: &Path) -> Result<(), AllocError> {
     segment_line(writer, number, "None")
 }
 
-/// Adds a line for each of these bindings, the k-th with the number k. None is owned yet.
+/// Adds a line for each of these bindings, the k-th with the number k. It ends with the number of what owns the binding.
 pub fn bindings(
     writer: &mut Writer,
+    owners: &mut Owners,
     bindings: &[BindingId],
     store: &ExpressionStore,
 ) -> Result<(), AllocError> {
@@ -59,9 +61,25 @@ pub fn bindings(
             writer.word(mode_word(binding.mode))?;
             writer.word(problem_word(binding.problems))?;
         }
-        writer.word(" -\n")?;
+        owner(writer, owners, store.binding_owner(*id))?;
+        writer.word("\n")?;
     }
     Ok(())
+}
+
+fn owner(
+    writer: &mut Writer,
+    owners: &mut Owners,
+    owner: Option<ExprId>,
+) -> Result<(), AllocError> {
+    let number = match owner {
+        Some(id) => owners.number(id)?,
+        None => None,
+    };
+    match number {
+        Some(number) => writer.numbered(" o", number),
+        None => writer.word(" -"),
+    }
 }
 
 /// Adds a line for each of these labels, the k-th with the number k.

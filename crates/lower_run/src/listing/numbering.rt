@@ -1,6 +1,7 @@
 //! Numbers by first printing.
 
 ghost use Rattle.std.specs.Prelude.{◌≡◌, [], OnOk, OnErr, IfOk};
+ghost use Rattle.std.specs.List.{list_any};
 ghost use Rattle.indexmap.specs.IndexSet.{insert_key};
 ghost use Rattle.lower_run.specs.Numbering.{place_of};
 
@@ -44,6 +45,13 @@ impl<T: Eq + Hash + Copy> Numbering<T> {
     {
         let (number, _) = self.printed.insert_full(item)?;
         Ok(number)
+    }
+
+    /// Whether an item has a number.
+    pub fn has(&self, item: T) -> bool
+        ensures { result ≡ list_any (T.eq item) self.now }
+    {
+        self.printed.contains(&item)
     }
 
     /// The items in the order of their numbers.

@@ -1,7 +1,9 @@
 //! Printing of expressions, patterns and types.
 
 use super::numbering::Numbering;
+use super::owners::Owners;
 use super::pats::type_or_absent;
+use super::shown::Shown;
 use super::waiting::{Piece, Waiting, arg_piece};
 use super::words::{expr_word, lang_word, pat_word, statement_word};
 use super::writer::Writer;
@@ -24,6 +26,7 @@ pub struct Printer<'a> {
     writer: Writer,
     bindings: Numbering<BindingId>,
     labels: Numbering<LabelId>,
+    owners: Owners,
     waiting: Waiting<'a>,
 }
 
@@ -34,6 +37,7 @@ impl Drop for Printer<'_> {
             writer: _,
             bindings: _,
             labels: _,
+            owners: _,
             waiting: _,
         } = self;
     }
@@ -47,6 +51,7 @@ impl<'a> Printer<'a> {
             writer: Writer::new(alloc, listed.sources),
             bindings: Numbering::new(alloc),
             labels: Numbering::new(alloc),
+            owners: Owners::new(alloc),
             waiting: Waiting::new(alloc),
         }
     }
@@ -58,55 +63,60 @@ impl<'a> Printer<'a> {
             writer,
             bindings: _,
             labels: _,
+            owners: _,
             waiting: _,
         } = self;
         writer.finish()
     }
 
-    /// Prints the whole listing of a body: its `self`, its other parameters and itself, then its bindings and labels by
-    /// number, then the diagnostics.
-    pub fn listing(
-        &mut self,
-        self_param: Option<BindingId>,
-        params: &[Param<PatId>],
-    ) -> Result<(), AllocError> {
-        if let Some(id) = self_param {
+    /// Prints the whole listing: the lines of what is shown, then its bindings and labels by number, then the diagnostics.
+    ///
+    /// Where bindings in it have owners, the lines are printed once more, with the owners' numbers. All other numbers are those
+    /// of the first time, since the order is.
+    pub fn listing(&mut self, shown: Shown<'a>) -> Result<(), AllocError> {
+        self.shown(shown)?;
+        if self.owners.all_found() {
+            self.writer.clear();
+            self.shown(shown)?;
+        }
+        self.others()
+    }
+
+    fn shown(&mut self, shown: Shown<'a>) -> Result<(), AllocError> {
+        match shown {
+            Shown::Body(self_param, params) => {
+                self.self_param(self_param)?;
+                self.params(params)?;
+                self.body()
+            }
+            Shown::Params(params) => self.params(params),
+            Shown::Path(path, written) => self.path(path, written),
+            Shown::Type_(ty) => {
+                self.writer.word("type ")?;
+                self.line(Piece::Type_(ty))
+            }
+        }
+    }
+
+    /// Prints a line for a `self`, where there is one.
+    fn self_param(&mut self, param: Option<BindingId>) -> Result<(), AllocError> {
+        if let Some(id) = param {
             self.writer.word("self ")?;
             self.line(Piece::Binding(id))?;
         }
-        self.params(params)?;
-        self.body()?;
-        self.others()
+        Ok(())
     }
 
-    /// Prints the whole listing of parameters alone, then as for a body.
-    pub fn params_listing(&mut self, params: &[Param<PatId>]) -> Result<(), AllocError> {
-        self.params(params)?;
-        self.others()
-    }
-
-    /// Prints the whole listing of a path: the path, the names of its segments, then as for a body.
-    pub fn path_listing(
-        &mut self,
-        path: Option<&'a Path>,
-        written: &ast::Path,
-    ) -> Result<(), AllocError> {
+    /// Prints a line for a path, then one for the name of each of its segments.
+    fn path(&mut self, path: Option<&'a Path>, written: &ast::Path) -> Result<(), AllocError> {
         self.writer.word("path ")?;
         match path {
             Some(path) => {
                 self.line(Piece::Path(path, HygieneId::ROOT))?;
-                lines::segments(&mut self.writer, written)?;
+                lines::segments(&mut self.writer, written)
             }
-            None => self.writer.word("None\n")?,
+            None => self.writer.word("None\n"),
         }
-        self.others()
-    }
-
-    /// Prints the whole listing of a type: the type, then as for a body.
-    pub fn type_listing(&mut self, ty: TypeRefId) -> Result<(), AllocError> {
-        self.writer.word("type ")?;
-        self.line(Piece::Type_(ty))?;
-        self.others()
     }
 
     /// Prints a piece and ends the line.
@@ -128,6 +138,7 @@ impl<'a> Printer<'a> {
     fn others(&mut self) -> Result<(), AllocError> {
         lines::bindings(
             &mut self.writer,
+            &mut self.owners,
             self.bindings.as_slice(),
             self.listed.store,
         )?;
@@ -493,6 +504,7 @@ impl<'a> Printer<'a> {
     }
 
     fn binding(&mut self, id: BindingId) -> Result<(), AllocError> {
+        self.owners.find(self.listed.store.binding_owner(id))?;
         let number = self.bindings.number(id)?;
         self.writer.numbered("#", number)
     }
@@ -506,6 +518,7 @@ impl<'a> Printer<'a> {
     /// no store holds, prints as a missing expression.
     fn open_expr(&mut self, id: ExprId) -> Result<(), AllocError> {
         self.root_mark(id)?;
+        self.owner_mark(id)?;
         let Some(expr) = self.listed.store.expr(id) else {
             return self.writer.word("(Missing)");
         };
@@ -549,6 +562,17 @@ impl<'a> Printer<'a> {
                 self.writer.word("=")
             }
             Err(_) => Ok(()),
+        }
+    }
+
+    /// Prints `ok=` where the expression owns a binding that is printed, the k-th to do so.
+    fn owner_mark(&mut self, id: ExprId) -> Result<(), AllocError> {
+        match self.owners.number(id)? {
+            Some(number) => {
+                self.writer.numbered("o", number)?;
+                self.writer.word("=")
+            }
+            None => Ok(()),
         }
     }
 }

@@ -3,8 +3,8 @@
 use hir_env::lang::LangItems;
 use hir_store::diagnostics::{AwaitLocation, MissingBodyItemKind};
 use hir_store::hir::{
-    Array, BindingAnnotation, BindingProblems, CaptureBy, ClosureKind, Expr, LoopSource,
-    Movability, Mutability, Pat, Rawness, Statement,
+    Array, BindingAnnotation, BindingProblems, CaptureBy, ClosureKind, CoroutineKind,
+    CoroutineSource, Expr, LoopSource, Movability, Mutability, Pat, Rawness, Statement,
 };
 use hir_store::ids::LangItemId;
 use hir_store::type_ref::{ExternAbi, TypeRef};
@@ -95,6 +95,18 @@ pub fn closure_word(kind: ClosureKind) -> &'static str {
         ClosureKind::Closure => "closure",
         ClosureKind::OldCoroutine(Movability::Movable) => "old:movable",
         ClosureKind::OldCoroutine(Movability::Static) => "old:static",
+        ClosureKind::Coroutine {
+            kind,
+            source: CoroutineSource::Block,
+        } => block_coroutine_word(kind),
+    }
+}
+
+fn block_coroutine_word(kind: CoroutineKind) -> &'static str {
+    match kind {
+        CoroutineKind::Async => "co:async:block",
+        CoroutineKind::Gen => "co:gen:block",
+        CoroutineKind::AsyncGen => "co:asyncgen:block",
     }
 }
 
@@ -265,6 +277,7 @@ pub fn await_word(location: AwaitLocation) -> &'static str {
         AwaitLocation::Static => "diag AwaitOutsideOfAsync static",
         AwaitLocation::Constant => "diag AwaitOutsideOfAsync constant",
         AwaitLocation::EnumVariant => "diag AwaitOutsideOfAsync enum variant",
+        AwaitLocation::NonAsyncGenBlock => "diag AwaitOutsideOfAsync non-async gen block",
         AwaitLocation::ConstantBlock => "diag AwaitOutsideOfAsync constant block",
         AwaitLocation::NonAsyncClosure => "diag AwaitOutsideOfAsync non-async closure",
         AwaitLocation::Unknown => "diag AwaitOutsideOfAsync unknown",

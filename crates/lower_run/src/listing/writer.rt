@@ -39,6 +39,11 @@ impl Writer {
         }
     }
 
+    /// Forgets the text written so far, but no number of a name.
+    pub fn clear(&mut self) {
+        self.out.clear();
+    }
+
     /// The text written so far.
     pub fn finish(self) -> String {
         let Writer {

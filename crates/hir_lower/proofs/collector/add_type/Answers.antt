@@ -1,4 +1,5 @@
-use Rattle.hir_lower.proofs.TypeMeanings.{adds_if, apart_type_if, ends_of_type_if, no_room_if, outside_type_if, scopes_if, unchanged_if}
+use Rattle.hir_lower.proofs.TypeMeanings.{adds_if, apart_type_if, ends_of_type_if, may_be_owned_type_if, no_room_if, outside_type_if}
+use Rattle.hir_lower.proofs.TypeMeanings.{scopes_if, unchanged_if}
 use Rattle.hir_lower.proofs.collector.add_type.Goals as goal
 
 pub returns-clause-adds : goal.returns-clause-adds
@@ -21,3 +22,6 @@ returns-clause-outside c = λ out. outside_type_if _ _ _ _ c.alloc_type.result c
 
 pub returns-clause-apart : goal.returns-clause-apart
 returns-clause-apart c = λ m. apart_type_if _ _ _ _ c.alloc_type.result c.alloc_type.ensures m
+
+pub returns-clause-owners : goal.returns-clause-owners
+returns-clause-owners c = λ m. may_be_owned_type_if _ _ _ _ c.alloc_type.result c.alloc_type.ensures m

@@ -1,17 +1,20 @@
-use Rattle.hir_lower.proofs.Meanings.{apart_if, outside_if, rooted_if, stays_unless, too_large_if}
+use Rattle.hir_lower.proofs.Meanings.{apart_if, may_be_owned_if, outside_if, rooted_if, stays_unless, too_large_if}
 use Rattle.hir_lower.proofs.collector.lower_root.Goals as goal
 
 pub returns-clause-rooted : goal.returns-clause-rooted
-returns-clause-rooted g c = λ d. rooted_if _ _ _ c.root_steps.result c.root_steps.ensures d
+returns-clause-rooted g c = λ d m. rooted_if _ _ _ c.root_steps.result c.root_steps.ensures d m
 
 pub returns-clause-outside : goal.returns-clause-outside
 returns-clause-outside g c = outside_if _ _ _ c.root_steps.result c.root_steps.ensures
 
 pub returns-clause-stays : goal.returns-clause-stays
-returns-clause-stays g c = λ n. stays_unless _ _ _ c.root_steps.result c.root_steps.ensures n
+returns-clause-stays g c = λ m n. stays_unless _ _ _ c.root_steps.result c.root_steps.ensures m n
 
 pub returns-clause-too_large : goal.returns-clause-too_large
 returns-clause-too_large g c = λ is. too_large_if _ _ _ c.root_steps.result c.root_steps.ensures is
 
 pub returns-clause-apart : goal.returns-clause-apart
 returns-clause-apart g c = λ d m. apart_if _ _ _ c.root_steps.result c.root_steps.ensures d m
+
+pub returns-clause-owners : goal.returns-clause-owners
+returns-clause-owners g c = λ m. may_be_owned_if _ _ _ c.root_steps.result c.root_steps.ensures m

@@ -1,4 +1,4 @@
-use Rattle.hir_lower.proofs.PathMeanings.{data_if, ends_if, names_if, outside_path_if, path_apart_if, path_stays_if}
+use Rattle.hir_lower.proofs.PathMeanings.{data_if, ends_if, names_if, outside_path_if, path_apart_if, path_may_be_owned_if, path_stays_if}
 use Rattle.hir_lower.proofs.PathMeanings.{path_too_large_if, rooted_path_if}
 use Rattle.hir_lower.proofs.collector.lower_whole_path.Goals as goal
 
@@ -9,7 +9,7 @@ pub returns-clause-segments : goal.returns-clause-segments
 returns-clause-segments g c = λ d. names_if _ _ _ _ c.lower_path.result c.lower_path.ensures d
 
 pub returns-clause-rooted : goal.returns-clause-rooted
-returns-clause-rooted g c = λ d out. rooted_path_if _ _ _ _ c.lower_path.result c.lower_path.ensures d out
+returns-clause-rooted g c = λ d m out. rooted_path_if _ _ _ _ c.lower_path.result c.lower_path.ensures d m out
 
 pub returns-clause-outside : goal.returns-clause-outside
 returns-clause-outside g c = λ out. outside_path_if _ _ _ _ c.lower_path.result c.lower_path.ensures out
@@ -21,7 +21,10 @@ pub returns-clause-too_large : goal.returns-clause-too_large
 returns-clause-too_large g c = λ is. path_too_large_if _ _ _ _ c.lower_path.result c.lower_path.ensures is
 
 pub returns-clause-stays : goal.returns-clause-stays
-returns-clause-stays g c = λ d n. path_stays_if _ _ _ _ c.lower_path.result c.lower_path.ensures n
+returns-clause-stays g c = λ m n. path_stays_if _ _ _ _ c.lower_path.result c.lower_path.ensures m n
 
 pub returns-clause-apart : goal.returns-clause-apart
 returns-clause-apart g c = λ d m. path_apart_if _ _ _ _ c.lower_path.result c.lower_path.ensures d m
+
+pub returns-clause-owners : goal.returns-clause-owners
+returns-clause-owners g c = λ m. path_may_be_owned_if _ _ _ _ c.lower_path.result c.lower_path.ensures m

@@ -9,7 +9,8 @@ returns-clause-data g c = rw (← c.mode.ensures) (c.in_ok-lowered.ensures.data 
 pub returns-clause-rooted : goal.returns-clause-rooted
 returns-clause-rooted g c =
     let self = c.args.self.now in
-    rw (← c.mode.ensures) (c.in_ok-lowered.ensures.rooted (self.paired c.if-self.false) (self.outside c.if-self.false))
+    rw (← c.mode.ensures)
+    (c.in_ok-lowered.ensures.rooted (self.paired c.if-self.false) (self.owners c.if-self.false) (self.outside c.if-self.false))
 
 pub returns-then-self-clause-stays : goal.returns-then-self-clause-stays
 returns-then-self-clause-stays g c = λ n. stays_refl _

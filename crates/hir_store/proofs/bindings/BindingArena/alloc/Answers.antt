@@ -6,7 +6,7 @@ use Rattle.hir_store.proofs.bindings.BindingArena.alloc.Goals as goal
 pub invariant_of-self-2 : goal.invariant_of-self-2
 invariant_of-self-2 c =
     let i = c.self.inside in
-    let a : Bindings = bindings_of i.entries.items i.definitions.items i.limit in
+    let a : Bindings = bindings_of i.entries.items i.definitions.items i.owners i.limit in
     let len : c.len-at.result ≡ length a.entries = c.len-at.ensures ∙ ap (λ v. length v.entries) (sym c.self.view_is) in
     let below = c.if-at-self.false in
     rw (
@@ -14,13 +14,14 @@ invariant_of-self-2 c =
       c.push_reserved-2.ensures.items,
       c.in_ok-reserve.ensures.items,
       c.in_ok-reserve-2.ensures.items,
+      c.in_ok-add.ensures.ok,
       c.new-none.ensures,
     ) (kept_binding a c.args.binding c.self.invariant.0 (omega (arith, below, len)), c.self.invariant.1)
 
 pub returns : goal.returns
 returns c =
     let i = c.self.inside in
-    let a : Bindings = bindings_of i.entries.items i.definitions.items i.limit in
+    let a : Bindings = bindings_of i.entries.items i.definitions.items i.owners i.limit in
     let len : c.len-at.result ≡ length a.entries = c.len-at.ensures ∙ ap (λ v. length v.entries) (sym c.self.view_is) in
     let below = c.if-at-self.false in
     let P : Bindings → Type 0 = λ v.
@@ -30,6 +31,7 @@ returns c =
       c.push_reserved-2.ensures.items,
       c.in_ok-reserve.ensures.items,
       c.in_ok-reserve-2.ensures.items,
+      c.in_ok-add.ensures.ok,
       c.new-none.ensures,
       len,
     )

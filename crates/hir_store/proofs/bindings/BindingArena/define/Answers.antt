@@ -13,5 +13,5 @@ push_at-requires c =
 pub invariant_of-self-2 : goal.invariant_of-self-2
 invariant_of-self-2 c =
     let i = c.self.inside in
-    let a : Bindings = bindings_of i.entries.items i.definitions.items i.limit in
+    let a : Bindings = bindings_of i.entries.items i.definitions.items i.owners i.limit in
     rw c.in_ok-push_at.ensures.ok (kept_definition a c.args.id c.args.pat c.self.invariant.0, c.self.invariant.1)

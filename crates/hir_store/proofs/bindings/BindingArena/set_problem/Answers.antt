@@ -11,5 +11,5 @@ note_at-requires c =
 pub invariant_of-self : goal.invariant_of-self
 invariant_of-self c =
     let i = c.self.inside in
-    let a : Bindings = bindings_of i.entries.items i.definitions.items i.limit in
+    let a : Bindings = bindings_of i.entries.items i.definitions.items i.owners i.limit in
     rw c.note_at.ensures (kept_problem a c.args.id c.args.problem c.self.invariant.0, c.self.invariant.1)

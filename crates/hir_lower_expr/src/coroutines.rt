@@ -1,0 +1,108 @@
+//! `async`, `gen` and `async gen` blocks: coroutines, whose blocks are bodies of their own.
+
+ghost use Rattle.std.specs.Prelude.{◌≡◌};
+ghost use Rattle.hir_syntax.specs.declared.ast.BlockExpr.{out-BlockExpr};
+ghost use Rattle.hir_store.specs.Range.{HasExpr};
+ghost use Rattle.hir_env.specs.Paths as of;
+ghost use Rattle.hir_env.specs.Whole.{answered_plain, in_coroutine};
+ghost use Rattle.hir_lower_form.specs.Forms as form;
+ghost use Rattle.hir_lower_form.specs.Lower as spec;
+ghost use Rattle.hir_lower_form.specs.Lowering.{Lowers};
+ghost use Rattle.hir_lower_form.specs.Methods.{LowersInside, coroutine_steps_at};
+ghost use Rattle.hir_lower_form.specs.declared.parts.BlockRole.TheVariants as role;
+
+use crate::closures::capture_by;
+use hir_env::place::Place;
+use hir_lower_form::builder::BodyBuilder;
+use hir_lower_form::parts::{BlockRole, LowerParts, Lowerer};
+use hir_store::diagnostics::AwaitLocation;
+use hir_store::fault::StoreFault;
+use hir_store::hir::{ClosureKind, CoroutineKind, CoroutineSource, Expr};
+use hir_store::ids::ExprId;
+use hir_syntax::{Seq, ast};
+use std::alloc::Global;
+
+/// Where what is in such a block is read that is written at this place.
+fn inside_coroutine(kind: CoroutineKind, place: Place) -> Place
+    ensures { result ≡ of.inside_coroutine kind place }
+{
+    let await_location = match kind {
+        CoroutineKind::Async | CoroutineKind::AsyncGen => None,
+        CoroutineKind::Gen => Some(AwaitLocation::NonAsyncGenBlock),
+    };
+    Place {
+        await_location,
+        ..place
+    }
+}
+
+/// The coroutine around the block that is its body.
+pub(crate) fn coroutine(alloc: Global, kind: CoroutineKind, moves: bool, body: ExprId) -> Expr
+    ensures { result ≡ form.stored_coroutine kind moves body }
+{
+    let source = CoroutineSource::Block;
+    Expr::Closure {
+        args: Seq::new(alloc),
+        arg_types: Seq::new(alloc),
+        ret_type: None,
+        body,
+        closure_kind: ClosureKind::Coroutine { kind, source },
+        capture_by: capture_by(moves),
+    }
+}
+
+/// The block, read inside of it, and the coroutine around that.
+fn inner_coroutine<P: LowerParts>(
+    lowerer: &Lowerer<P>,
+    state: &mut BodyBuilder,
+    kind: CoroutineKind,
+    node: &ast::BlockExpr,
+) -> Result<ExprId, StoreFault>
+    requires { (P.can lowerer.now.parts).block (of.inside_coroutine kind (P.spot lowerer.now.parts).place) node.now }
+    ensures { let inside = in_coroutine kind (P.spot lowerer.now.parts) in
+        let own = role.Coroutine kind (out-BlockExpr node.now).move_ in
+        LowersInside own (answered_plain inside node.now) state.old result state.new }
+{
+    let moves = node.move_;
+    let role = BlockRole::Coroutine { kind, moves };
+    let inside = inside_coroutine(kind, lowerer.parts.place());
+    lowerer
+        .parts
+        .collect_block_inside(state, inside, role, node)
+}
+
+/// The same behind a border: no jump in it reaches what is open around it, and a `yield` in it is its own.
+#[tactic(auto, unfolding(hir_lower_form::specs::Forms::coroutine_form))]
+fn bordered_coroutine<P: LowerParts>(
+    lowerer: &Lowerer<P>,
+    state: &mut BodyBuilder,
+    kind: CoroutineKind,
+    node: &ast::BlockExpr,
+) -> Result<ExprId, StoreFault>
+    requires { (P.can lowerer.now.parts).block (of.inside_coroutine kind (P.spot lowerer.now.parts).place) node.now }
+    ensures { let inside = in_coroutine kind (P.spot lowerer.now.parts) in
+        let own = role.Coroutine kind (out-BlockExpr node.now).move_ in
+        Lowers HasExpr (spec.coroutine_form (spec.lower_inside own (answered_plain inside node.now))) state.old result state.new }
+{
+    let outside = state.open_barrier()?;
+    let id = inner_coroutine(lowerer, state, kind, node)?;
+    let _ = state.close_barrier(outside);
+    Ok(id)
+}
+
+/// Such a block, of which neither a label nor a type counts. The coroutine owns the bindings that are made in it.
+#[tactic(auto, unfolding(hir_lower_form::specs::Lowering::owning))]
+pub(crate) fn coroutine_form<P: LowerParts>(
+    lowerer: &Lowerer<P>,
+    state: &mut BodyBuilder,
+    kind: CoroutineKind,
+    node: &ast::BlockExpr,
+) -> Result<ExprId, StoreFault>
+    requires { (P.can lowerer.now.parts).block (of.inside_coroutine kind (P.spot lowerer.now.parts).place) node.now }
+    ensures { Lowers HasExpr (coroutine_steps_at (P.spot lowerer.now.parts) kind node.now) state.old result state.new }
+{
+    let start = state.bindings_end();
+    let id = bordered_coroutine(lowerer, state, kind, node)?;
+    state.own(start, id);
+    Ok(id)
+}
