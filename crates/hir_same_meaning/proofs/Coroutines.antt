@@ -1,5 +1,5 @@
 -- A coroutine block runs as it is written: it is one event, and what is in it is a body inside.
-use Rattle.std.proofs.Common.{subst, Bool, false, [], Option, Some, None}
+use Rattle.std.proofs.Common.{subst, Bool, false, List, [], Option, Some, None}
 use Rattle.hir_store.specs.Pointers.{Pointer}
 use Rattle.hir_store.specs.Stored.{Stored}
 use Rattle.hir_store.specs.declared.hir.CaptureBy.{CaptureBy}

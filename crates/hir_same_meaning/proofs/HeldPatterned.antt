@@ -1,5 +1,5 @@
 -- What forms with patterns become holds what their parts hold: targets, `let`, `match` and ranges.
-use Rattle.std.proofs.Common.{◌≡◌, ◌∙◌, refl, ap, Bool, false, List, [], ◌∷◌, ◌++◌, append-nil, ℕ, ◌+◌, arith}
+use Rattle.std.proofs.Common.{◌≡◌, ◌∙◌, refl, ap, Bool, false, List, [], ◌++◌, append-nil, ℕ, ◌+◌, arith}
 use Rattle.std.proofs.Common.{◌≤◌, Option, Some, None}
 use Rattle.hir_store.specs.Pointers.{Pointer}
 use Rattle.hir_store.specs.declared.hir.Expr.TheVariants as hir

@@ -15,7 +15,7 @@ use Rattle.hir_env.specs.Answered.{Label, Jump}
 use Rattle.hir_env.specs.Answering.{site_of}
 use Rattle.hir_meaning.specs.Run.{Value, unit, is_true, break, continue, leave, missing}
 use Rattle.hir_meaning.specs.Run.{ends, pure, ◌>>=◌, tests, entering}
-use Rattle.hir_meaning.specs.Catching.{turn, loop, block}
+use Rattle.hir_meaning.specs.Catching.{loop, block}
 use Rattle.hir_scope.specs.Scopes.{block_scope, try_scope, break_target, continue_target, outward, continue_past_block}
 use Rattle.hir_meaning.specs.Syntax.{run_lazy}
 use Rattle.hir_meaning.specs.Jumps.{NamesAmong}

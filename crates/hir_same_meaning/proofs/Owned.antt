@@ -13,7 +13,7 @@ use Rattle.hir_env.specs.Answered as tree
 use Rattle.hir_env.specs.Answered.{Expr, OptionExpr, Exprs, Fields, Field, Block, OptionBlock, Stmts, Arms, Arm, Guard, Target, Targets}
 use Rattle.hir_env.specs.Answered.{TargetFields, TargetField}
 use Rattle.hir_env.specs.Targets.{head_pointer}
-use Rattle.hir_lower_form.specs.Lowering.{Lowering, ◌>>=◌}
+use Rattle.hir_lower_form.specs.Lowering.{Lowering}
 use Rattle.hir_lower_form.specs.Lower.{push_some, lower, lower_part, present, kept_part, lower_each, lower_block, lower_block_part}
 use Rattle.hir_lower_form.specs.Lower.{lower_fields, lower_field, lower_spread, lower_stmts, lower_arms, lower_arm, lower_guard}
 use Rattle.hir_lower_form.specs.Lower.{lower_target, lower_targets, lower_target_fields, lower_target_field, present_block}

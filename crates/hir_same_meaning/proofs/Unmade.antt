@@ -1,5 +1,5 @@
 -- What is written is no made name, so the store runs it as what it reads back as.
-use Rattle.std.proofs.Common.{◌≡◌, ◌∙◌, ◌⊎◌, inl, inr, ⊎_elim, refl, sym, ap, subst, ℕ, zero, suc, ◌+◌, ◌<◌, ◌≤◌, false, true}
+use Rattle.std.proofs.Common.{◌≡◌, ◌∙◌, ◌⊎◌, inl, inr, ⊎_elim, refl, sym, ap, subst, ℕ, zero, suc, ◌+◌, ◌<◌, ◌≤◌, false}
 use Rattle.std.proofs.Common.{true≢false, slice_get, length}
 use Rattle.std.proofs.Common.{List, [], ◌∷◌, Option, Some, None, arith}
 use Rattle.hir_store.specs.Pointers.{Pointer}
