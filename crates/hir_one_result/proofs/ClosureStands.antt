@@ -183,6 +183,7 @@ coroutine_stands at kind moves number ss e h = owning_shows (λ i. i) (correct_a
       shown = shown_as row.inside.shown (λ ws y.
           let r = y.0 in
           let is = has_contents (store_of final) (map_of final) (barrier_rib ∷ ribs ps) ss e r.0 r.1 y.4.left y.4.first in
-          let node = λ c. Placed final i (hir.Closure [] [] None y.1 (closure.Coroutine kind source.Block) c) (Some at) in
-          (r.0, r.1, settled r.0 r.1, is, y.1, subst node (captures_as moves) y.2, y.3, y.4));
+          let placed = subst (λ c. Placed final i (hir.Closure [] [] None y.1 (closure.Coroutine kind source.Block) c) (Some at))
+          (captures_as moves) y.2 in
+          (r.0, r.1, settled r.0 r.1, is, y.1, placed, y.3, y.4));
     }))
