@@ -1,6 +1,6 @@
 -- Steps whose answer is the last expression that is stored.
 use Rattle.std.proofs.Common.{arith, ◌≡◌, ◌∙◌, refl, sym, ap, suc, Bool, true, false, nat_lt, length, length-append, [], ◌∷◌, Option}
-use Rattle.std.proofs.Common.{Some, None, Ok, Err}
+use Rattle.std.proofs.Common.{None, Ok, Err}
 use Rattle.hir_store.specs.Pointers.{Pointer}
 use Rattle.hir_store.specs.Storing as storing
 use Rattle.hir_store.specs.declared.hir.Expr.{Expr}

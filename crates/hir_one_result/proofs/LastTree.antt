@@ -1,5 +1,5 @@
 -- What lowering an expression answers is the last expression that is stored: a line for each form, of which only the last step counts.
-use Rattle.std.proofs.Common.{refl, ℕ, Bool, true, false, List, Option, Some, None}
+use Rattle.std.proofs.Common.{refl, Bool, true, false, List, Option, Some, None}
 use Rattle.hir_store.specs.Pointers.{Pointer}
 use Rattle.hir_store.specs.declared.diagnostics.AwaitLocation.{AwaitLocation}
 use Rattle.hir_store.specs.declared.hir.CoroutineKind.{CoroutineKind}
@@ -31,7 +31,7 @@ use Rattle.hir_lower_form.specs.Made.{flow_arm_form, for_form, for_turn_form, it
 use Rattle.hir_lower_form.specs.Made.{made_path_form, question_form, residual_form, try_block_form, typed_try_form, wrapped_form}
 use Rattle.hir_lower_form.specs.Ranges.{made_range, range_form}
 use Rattle.hir_lower_form.specs.Types.{TypeSteps}
-use Rattle.hir_one_result.proofs.Last.{IsLast, Last, coroutine_last, hands_pure, hands_then, last_alloc, last_hands, last_made, last_then}
+use Rattle.hir_one_result.proofs.Last.{IsLast, coroutine_last, hands_pure, hands_then, last_alloc, last_hands, last_made, last_then}
 use Rattle.hir_one_result.proofs.Last.{missing_last, owning_last, paren_last, quiet_close}
 
 module _ (at : Pointer) where

@@ -1,5 +1,5 @@
 -- Where the source map leads once something more comes from the node of what was stored before it: to that, and no more to those.
-use Rattle.std.proofs.Common.{arith, ◌≡◌, ◌∙◌, refl, sym, ap, subst, ◌+◌, ◌<◌, length, map, Bool, true, false, if◌then◌else◌, true≢false}
+use Rattle.std.proofs.Common.{arith, ◌≡◌, ◌∙◌, refl, sym, ap, subst, ◌<◌, length, map, Bool, true, false, if◌then◌else◌, true≢false}
 use Rattle.std.proofs.Common.{List, [], ◌∷◌, ◌++◌, suc, Some, Contains, ◌⊎◌, inl, inr, ⊎_elim}
 use Rattle.std.proofs.lemmas.List.Elements.{Contains-append_left, Contains-append_right, Contains-append_cases, Contains-push}
 use Rattle.std.proofs.lemmas.List.Elements.{Contains-push_cases}
@@ -9,12 +9,10 @@ use Rattle.hir_store.specs.Stored.{Stored, map_of}
 use Rattle.hir_store.specs.Storing.{expr_id}
 use Rattle.hir_store.proofs.Maps.{found_new, found_other, pointer_is, same_self}
 use Rattle.hir_store.specs.declared.hir.Expr.{Expr}
-use Rattle.hir_store.specs.declared.ids.BindingId.{BindingId}
 use Rattle.hir_store.specs.declared.ids.ExprId.{ExprId}
-use Rattle.hir_store.specs.declared.ids.LabelId.{LabelId}
 use Rattle.hir_steps.proofs.Steps.{with_expr}
 use Rattle.hir_one_result.specs.Leads.{Way, expr_way, label_way, unled_way, field_way, pat_field_way, binding_way, label_ways, overtaken}
-use Rattle.hir_one_result.specs.Leads.{Leads, MapLeads, Led, OneWay, Overtaken, Ways, ◌&◌}
+use Rattle.hir_one_result.specs.Leads.{Leads, Led, OneWay, Overtaken, Ways, ◌&◌}
 use Rattle.hir_one_result.proofs.Leading.{Moved, Shown, moved_then, same_number, shown_new, shown_to}
 
 -- ---- lists
