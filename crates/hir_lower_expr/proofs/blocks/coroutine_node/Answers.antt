@@ -3,8 +3,8 @@ use Rattle.hir_lower_form.proofs.BlockLemmas.{settled_in_range}
 use Rattle.hir_lower_form.specs.Lower.{coroutine_block_form}
 use Rattle.hir_lower_expr.proofs.blocks.coroutine_node.Goals as goal
 
-pub alloc_expr-body-requires : goal.alloc_expr-body-requires
-alloc_expr-body-requires g c =
+pub alloc_expr-requires : goal.alloc_expr-requires
+alloc_expr-requires g c =
     let inner = c.in_ok-statements.ensures in
     let settled = settled_in_range c.contents.new.state.stored _ _ _ _ c.settle-tail.ensures inner.2.0 inner.2.1 in
     let has = settled.0 in (
