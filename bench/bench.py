@@ -284,6 +284,51 @@ def barriers(size):
     return nodes
 
 
+def owners(size):
+    """Many chains of closures with a parameter, each the body of the one around it."""
+    nodes, block = body()
+    while len(nodes.all) + 3 * CHAIN <= size:
+        nodes.statement(block)
+        for _ in range(CHAIN - 1):
+            here = nodes.add("ClosureExpr")
+            param = nodes.add("Param")
+            nodes.all[here]["params"] = [param]
+            nodes.all[param]["pat"] = nodes.add("IdentPat", name="x")
+            nodes.all[here]["body"] = param + 2
+        nodes.add("UnderscoreExpr")
+    return nodes
+
+
+def coroutines(size):
+    """Many chains of `async` blocks with a binding, each the tail of the one around it."""
+    nodes, block = body()
+    while len(nodes.all) + 3 * CHAIN <= size:
+        nodes.statement(block)
+        for _ in range(CHAIN - 1):
+            here = nodes.add("BlockExpr", mod="async")
+            statement = nodes.add("LetStmt")
+            nodes.all[here]["stmts"] = [statement]
+            nodes.all[statement]["pat"] = nodes.add("IdentPat", name="x")
+            nodes.all[here]["tail"] = statement + 2
+        nodes.add("UnderscoreExpr")
+    return nodes
+
+
+def owned(size):
+    """One chain of closures as deep as a tree may be, around a block of very many bindings, 100,000 of them at 200,000 nodes."""
+    nodes, block = body()
+    nodes.statement(block)
+    for _ in range(CHAIN - 2):
+        here = nodes.add("ClosureExpr")
+        nodes.all[here]["body"] = here + 1
+    inner = nodes.add("BlockExpr", stmts=[])
+    while len(nodes.all) + 2 <= size:
+        statement = nodes.add("LetStmt")
+        nodes.all[statement]["pat"] = nodes.add("IdentPat", name="x")
+        nodes.all[inner]["stmts"].append(statement)
+    return nodes
+
+
 SHAPES = {
     "wide": wide,
     "calls": calls,
@@ -295,6 +340,9 @@ SHAPES = {
     "questions": questions,
     "closures": closures,
     "barriers": barriers,
+    "owners": owners,
+    "coroutines": coroutines,
+    "owned": owned,
     "segments": segments,
     "arguments": arguments,
     "constants": constants,

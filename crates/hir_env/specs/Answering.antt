@@ -380,7 +380,7 @@ module _ (env : Answers) {S : Sorts} (part : Reader S) where
       tree.try_expr (in_file p (ptr b.id b.range)) env.lang_items.try_trait_from_output (type_or_none part.type_ b.ty p)
       (option_map (λ n. n.0) number) c.0 c.1
 
-  -- read inside of it
+  -- a coroutine block, at the place inside of it
   abbrev pub coroutine_at : CoroutineKind → BlockExprLayer S → Place → Expr
   coroutine_at kind b p =
       let number = numbered env p b.id in

@@ -344,7 +344,7 @@ const_level at b =
 abbrev pub in_coroutine : CoroutineKind → Spot → Spot
 in_coroutine kind at = record at { place = inside_coroutine kind at.place }
 
--- read inside of it
+-- a coroutine block, at the spot inside of it
 abbrev pub coroutine_level : CoroutineKind → Spot → AstBlockExpr → Expr
 coroutine_level kind at b =
     let level = out-BlockExpr b in

@@ -1,5 +1,5 @@
 -- Steps whose bindings are owned, and coroutine blocks, are made of such steps.
-use Rattle.std.proofs.Common.{arith, ◌≡◌, ◌≤◌, ◌∙◌, refl, sym, ap, subst, ℕ, zero, suc, Bool, List, [], ◌∷◌, ◌++◌, length}
+use Rattle.std.proofs.Common.{arith, ◌≤◌, ◌∙◌, refl, sym, ap, subst, ℕ, zero, suc, Bool, List, [], ◌∷◌, ◌++◌, length}
 use Rattle.std.proofs.Common.{Option, Some, None, Ok, Err}
 use Rattle.hir_store.specs.Arenas.{Prefix}
 use Rattle.hir_store.specs.Bindings.{binding_id, own_from}
@@ -47,7 +47,7 @@ pub leading_owning : {A : Type 0} {L : Low A} (owner : A → ExprId) {p : Loweri
 unfolding owning bindings_end own storing.own
 leading_owning {A = A} {L = L} owner {p = p} h = record { goes = λ b. by b (p b).0 (p b).1 (h.goes b) }
   where
-    abbrev owned : ℕ → A → Lowering A
+    owned : ℕ → A → Lowering A
     owned n x = own (binding_id n) (owner x) >>= (λ _. pure x)
 
     by : (b : Builder) (o : Checked A) (c : Builder) → Goes L b o c
@@ -61,7 +61,7 @@ leading_behind : (outside : Bool) {p : ExprSteps} → Leading since p
 unfolding close_barrier
 leading_behind outside {p = p} h = record { goes = λ b. by b (p b).0 (p b).1 (h.goes b) }
   where
-    abbrev left : ExprId → ExprSteps
+    left : ExprId → ExprSteps
     left i = close_barrier outside >>= (λ _. pure i)
 
     by : (b : Builder) (o : Checked ExprId) (c : Builder) → Goes since b o c → Goes since b (go_on o c left).0 (go_on o c left).1

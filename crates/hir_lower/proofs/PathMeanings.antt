@@ -1,5 +1,5 @@
 -- What is lowered as a path is what is written.
-use Rattle.std.proofs.Common.{◌≡◌, ◌≢◌, ◌∙◌, refl, sym, ap, subst, Bool, false, [], Option, Some, None, option_map, Result, Ok, Err}
+use Rattle.std.proofs.Common.{◌≡◌, ◌≢◌, ◌∙◌, refl, sym, ap, subst, Bool, false, [], Option, Some, None, Result, Ok, Err}
 use Rattle.std.specs.Prelude.{IfOk, IsErrAnd, IsErrOf}
 use Rattle.hir_syntax.specs.declared.ast.Path.{Path as AstPath}
 use Rattle.hir_store.specs.Stored.{Stored, store_of, map_of}
@@ -7,7 +7,6 @@ use Rattle.hir_store.specs.Storing.{Extends}
 use Rattle.hir_store.specs.declared.path.Path.{Path}
 use Rattle.hir_store.specs.declared.fault.StoreFault.{StoreFault}
 use Rattle.hir_store.specs.declared.fault.StoreFault.TheVariants.{Memory, Full}
-use Rattle.hir_env.specs.Answered.{OptionPath}
 use Rattle.hir_env.specs.Spot.{Spot}
 use Rattle.hir_data.specs.Reading.{stored_path}
 use Rattle.hir_data.proofs.Segments.{segment_law}

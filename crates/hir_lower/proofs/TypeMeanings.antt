@@ -1,11 +1,11 @@
 -- What is stored as a type is one more.
-use Rattle.std.proofs.Common.{arith, ◌≡◌, ◌≢◌, ◌∙◌, refl, sym, ap, subst, ℕ, ◌≤◌, Bool, true, false, nat_lt, length}
+use Rattle.std.proofs.Common.{arith, ◌≡◌, ◌≢◌, ◌∙◌, refl, sym, ap, subst, ℕ, Bool, true, false, nat_lt, length}
 use Rattle.std.proofs.Common.{Option, Some, None, Ok, Err}
 use Rattle.std.proofs.lemmas.Bool.Decides.{nat_tests}
 use Rattle.std.specs.Prelude.{IfOk, IsErrOf, Result}
 use Rattle.hir_store.specs.Pointers.{Pointer}
 use Rattle.hir_syntax.specs.declared.types.Type_.{Type_ as AstType_}
-use Rattle.hir_store.specs.Stored.{Stored, Store, SourceMap, store_of, map_of}
+use Rattle.hir_store.specs.Stored.{Store, SourceMap, store_of}
 use Rattle.hir_store.specs.Storing as storing
 use Rattle.hir_store.specs.Storing.{type_id}
 use Rattle.hir_store.specs.Range.{HasType}

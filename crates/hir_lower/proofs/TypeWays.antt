@@ -1,5 +1,5 @@
 -- What is done with the parts of types and paths is made of such steps.
-use Rattle.std.proofs.Common.{Bool, true, false, List, [], ◌∷◌, ◌++◌, Option, Some, None}
+use Rattle.std.proofs.Common.{Bool, List, [], ◌∷◌, Option, Some, None}
 use Rattle.hir_store.specs.Pointers.{Pointer}
 use Rattle.hir_store.specs.declared.hir.Mutability.{Mutability}
 use Rattle.hir_store.specs.declared.type_ref.ConstRef.{ConstRef}
@@ -14,11 +14,10 @@ use Rattle.hir_store.specs.declared.type_ref.UseArgRef.{UseArgRef}
 use Rattle.hir_env.specs.declared.place.ImplTrait.{ImplTrait}
 use Rattle.hir_env.specs.Answered as tree
 use Rattle.hir_env.specs.Answered.{Binder, FnHead, Lifetime, TypeUnary, UseRead}
-use Rattle.hir_lower_form.specs.declared.args.ArgLists.{ArgLists}
 use Rattle.hir_lower_form.specs.declared.walk.PathWalk.{PathWalk}
 use Rattle.hir_lower_form.specs.declared.walk.Reading.{Reading}
 use Rattle.hir_lower_form.specs.declared.walk.Reading.TheVariants.{Refused, Ended, Open}
-use Rattle.hir_lower_form.specs.Lowering.{Lowering, ◌>>=◌}
+use Rattle.hir_lower_form.specs.Lowering.{Lowering}
 use Rattle.hir_lower_form.specs.Paths.{proceed, whole, counted, read_trait, with_trait, parens_form, or_else, segment_args_form}
 use Rattle.hir_lower_form.specs.Types.{error_type, unit_type, lower_lifetime, lower_lifetime_option, lower_use, lower_uses, over_form}
 use Rattle.hir_lower_form.specs.Types.{TypeSteps, tuple_type_form, path_type_form, ref_type_form, fn_type_form}

@@ -1,5 +1,5 @@
 -- What the entry functions make of a tree.
-use Rattle.std.specs.Prelude.{◌≡◌, ℕ, Bool, true, false, is_some, map, option_map, [], Option, Some, None, Ok, Err}
+use Rattle.std.specs.Prelude.{◌≡◌, ℕ, Bool, true, false, is_some, map, option_map, Option, Some, None, Ok, Err}
 use Rattle.hir_store.specs.Range.{HasExpr}
 use Rattle.hir_store.specs.Stored.{Store, SourceMap, Stored, store_of, map_of}
 use Rattle.hir_store.specs.declared.fault.StoreFault.TheVariants.{Full}

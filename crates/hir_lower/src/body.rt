@@ -390,7 +390,8 @@ fn body_steps<E: LowerEnv>(
 /// Each parameter reads back as it is written, in order, and `self` is the binding of its name, of which nothing is wrong.
 /// Parameters are read of functions alone, and of each item that is skipped, `self` first and then those that no condition
 /// disables. In an extern block, and in a trait where the function has no body, a parameter is a plain name or `_`, and any other
-/// is missing and owes a fault. Of a skipped body each is missing. Until coroutines come the caller hands in neither flag.
+/// is missing and owes a fault. Of a skipped body each is missing. Until functions are made coroutines the caller hands in
+/// neither flag.
 pub fn lower_body<E: LowerEnv>(
     alloc: Global,
     db: &E,

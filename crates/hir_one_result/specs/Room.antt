@@ -146,7 +146,7 @@ abbrev mutual
   pub constant_size : Constant → Size
   constant_size (tree.constant e) = a_body (constant_body e) (owned (size_part e))
 
-  -- that of a `const` block, of which the block owns what is bound in it
+  -- that of a `const` block: what is bound in it is owned by the expression around it
   pub rooted_size : Constant → Size
   rooted_size (tree.constant e) = a_body (constant_body e) (size_part e)
 

@@ -32,7 +32,7 @@ pub record Size : Type 1 where
   pub labels : ℕ
   -- names that are bound
   pub bindings : ℕ
-  -- of each of them what owns it: the last of the first so many expressions, or nothing so far
+  -- of each of them what owns it: the last of the first so many expressions, or none where nothing in this part does
   pub owners : List (Option ℕ)
   -- names that lowering makes up
   pub names : ℕ

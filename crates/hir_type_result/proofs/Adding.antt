@@ -272,13 +272,13 @@ tabled h = correct_as h (λ final ps m m' a g row. record {
 
 -- whatever owns bindings
 
-earlier_owned : {was now : Numbers} {final : Stored} {m left : Mark} (start : BindingId) (id : ExprId) (s : Sort)
+earlier_owned : {was : Numbers} (now : Numbers) {final : Stored} {m left : Mark} (start : BindingId) (id : ExprId) (s : Sort)
     → ((d all : ℕ) → known s left ≤ d → known s left ≤ all → Earlier s was final m left all (now (look s final d)))
     → (d all : ℕ) → known s (owned_by start id left) ≤ d → known s (owned_by start id left) ≤ all
     → Earlier s was final m (owned_by start id left) all (now (look s final d))
-earlier_owned start id the_types h d all le le' =
+earlier_owned now start id the_types h d all le le' =
     let x = h d all le le' in record { depth = x.depth; deep = x.deep; counted = x.counted }
-earlier_owned start id the_pats h d all le le' =
+earlier_owned now start id the_pats h d all le le' =
     let x = h d all le le' in record { depth = x.depth; deep = x.deep; counted = x.counted }
 
 pub adds_owning : {A : Type 0} {bs : List ℕ} {was : Numbers} {cs : A → List ℕ} {now : A → Numbers} (owner : A → ExprId) {p : Lowering A}
@@ -286,7 +286,7 @@ pub adds_owning : {A : Type 0} {bs : List ℕ} {was : Numbers} {cs : A → List 
 adds_owning {was = was} {now = now} owner h = owning_keeps owner (λ final ps m left start id a row. record {
   bound = λ lo le t w. let x = row.bound lo le t w in record { known = x.known; named = x.named; made = x.made };
   grown = row.grown;
-  earlier = λ s. earlier_owned {was = was} {now = now a} start id s (row.earlier s);
+  earlier = λ s. earlier_owned {was = was} (now a) start id s (row.earlier s);
 }) h
 
 -- of more

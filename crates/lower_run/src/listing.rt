@@ -32,11 +32,7 @@ pub struct Listed<'a> {
     pub sources: bool,
 }
 
-fn listing<'a>(
-    alloc: Global,
-    listed: Listed<'a>,
-    shown: Shown<'a>,
-) -> Result<String, AllocError> {
+fn listing<'a>(alloc: Global, listed: Listed<'a>, shown: Shown<'a>) -> Result<String, AllocError> {
     let mut printer = Printer::new(alloc, listed);
     let printed = printer.listing(shown);
     let text = printer.finish();

@@ -1,4 +1,4 @@
-//! What the nodes of `const` blocks, repeat arrays and closures lead to, and how much is stored for them.
+//! What the nodes of `const` blocks, repeat arrays, closures and coroutines lead to, and how much is stored for them.
 
 use crate::lowered::lowered_text;
 use crate::ways::node;
@@ -37,6 +37,14 @@ const CLOSURE: &str = r#"{"nodes": [
     {"k": "PathSegment", "seg": "name", "name": "A"},
     {"k": "Param", "pat": 9},
     {"k": "IdentPat", "name": "x"},
+    {"k": "Literal", "lit": "int", "t": "1"}
+]}"#;
+
+/// `fn f() { async { 1 } }`
+const ASYNC: &str = r#"{"nodes": [
+    {"k": "Fn", "body": 1},
+    {"k": "BlockExpr", "tail": 2},
+    {"k": "BlockExpr", "mod": "async", "tail": 3},
     {"k": "Literal", "lit": "int", "t": "1"}
 ]}"#;
 
@@ -129,4 +137,34 @@ fn a_closure_has_a_pattern_for_each_parameter_and_is_no_root(rt: HostRuntime) {
     let types = [Some(TypeRefId(0)), None];
     let became = (Led::Closure(pats, types, ExprId(0)), 3, 1);
     assert_eq!(rt; became_in_text(rt.alloc(), CLOSURE), Ok(Some(became)));
+}
+
+#[test]
+fn an_async_block_leads_to_the_coroutine_around_its_block(rt: HostRuntime) {
+    let became = (Led::Closure([None, None], [None, None], ExprId(1)), 4, 1);
+    assert_eq!(rt; became_in_text(rt.alloc(), ASYNC), Ok(Some(became)));
+}
+
+/// Whether the expressions came from nodes, in the order of their numbers; for the first four.
+fn have_nodes(alloc: Global, text: &str) -> Result<Option<[bool; 4]>, ReadError> {
+    match lowered_text(alloc, text)? {
+        Some((body, source_map)) => {
+            let have = [
+                source_map.store.expr_syntax(ExprId(0)).is_some(),
+                source_map.store.expr_syntax(ExprId(1)).is_some(),
+                source_map.store.expr_syntax(ExprId(2)).is_some(),
+                source_map.store.expr_syntax(ExprId(3)).is_some(),
+            ];
+            drop(body);
+            drop(source_map);
+            Ok(Some(have))
+        }
+        None => Ok(None),
+    }
+}
+
+#[test]
+fn the_block_in_a_coroutine_comes_from_no_node(rt: HostRuntime) {
+    let have = [true, false, true, true];
+    assert_eq!(rt; have_nodes(rt.alloc(), ASYNC), Ok(Some(have)));
 }

@@ -22,6 +22,8 @@ mod nodes;
 #[cfg(test)]
 mod objects;
 #[cfg(test)]
+mod owners;
+#[cfg(test)]
 mod paths;
 #[cfg(test)]
 mod patterns;

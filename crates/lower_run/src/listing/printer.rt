@@ -20,7 +20,7 @@ use std::alloc::{AllocError, Global};
 /// Prints what a store holds: expressions, patterns, paths and types.
 ///
 /// What is still to be printed waits in a list, so that a deep body or type takes memory and no stack, and each
-/// stored part is looked at once.
+/// stored part is looked at once in a printing.
 pub struct Printer<'a> {
     listed: Listed<'a>,
     writer: Writer,
