@@ -130,17 +130,18 @@ may_be_owned_if e b b' (Err x) l m = tt
 
 -- where there is no room
 
-root_too_large : (e : OptionExpr) (b b' : Builder) (x : StoreFault) → root_of e b ≡ (Err x, b') → TooLarge b e
-root_too_large e b b' x h = by (lower_part e (closed b)).0 (lower_part e (closed b)).1 (all_fit e (closed b)) (sym (root_steps e b) ∙ h)
+root_too_large : (e : OptionExpr) (b b' : Builder) (x : StoreFault) → Paired b.stored → root_of e b ≡ (Err x, b') → TooLarge b e
+root_too_large e b b' x d h =
+    by (lower_part e (closed b)).0 (lower_part e (closed b)).1 (all_fit e (closed b) d) (sym (root_steps e b) ∙ h)
   where
     by : (o : Checked ExprId) (c : Builder) → FitsUnless e b o c → go_on o c (recorded (first b)) ≡ (Err x, b') → TooLarge b e
     by (Ok i) c f g = let no = ap (λ (q : Checked ExprId × Builder). q.0) g in cc
     by (Err y) c f g = f
 
-pub too_large_if : (e : OptionExpr) (b b' : Builder) (r : Checked ExprId) → Lowers HasExpr (root_of e) b r b'
+pub too_large_if : (e : OptionExpr) (b b' : Builder) (r : Checked ExprId) → Lowers HasExpr (root_of e) b r b' → Paired b.stored
     → IsErrOf r Full → TooLarge b e
-too_large_if e b b' (Ok i) l is = cc
-too_large_if e b b' (Err x) l is = let other : x ≢ Memory = λ m. cc in root_too_large e b b' x (l other).0
+too_large_if e b b' (Ok i) l d is = cc
+too_large_if e b b' (Err x) l d is = let other : x ≢ Memory = λ m. cc in root_too_large e b b' x d (l other).0
 
 -- a root
 
@@ -186,7 +187,7 @@ module _ (e : OptionExpr) (b inner : Builder) (i : ExprId) (none_open : b.scopes
   owned_inside =
       let size = size_part e in
       let start = length b.stored.bindings.entries in
-      let fits : Grown size b.stored inner.stored = subst (λ r. FitsUnless e b r.0 r.1) is (all_fit e b) in
+      let fits : Grown size b.stored inner.stored = subst (λ r. FitsUnless e b r.0 r.1) is (all_fit e b paired) in
       let last : suc i.0 ≡ length inner.stored.exprs.entries =
       subst (λ (r : Checked ExprId × Builder). EndsWith (λ j. j) r.0 r.1) is ((part_last e).last b) in
       record {
@@ -200,6 +201,7 @@ module _ (e : OptionExpr) (b inner : Builder) (i : ExprId) (none_open : b.scopes
         types = fits.types;
         lifetimes = fits.lifetimes;
         pat_sources = fits.pat_sources;
+        pat_ways = fits.pat_ways;
         type_sources = fits.type_sources;
         lifetime_sources = fits.lifetime_sources;
       }
@@ -240,6 +242,7 @@ module _ (e : OptionExpr) (b inner : Builder) (i : ExprId) (none_open : b.scopes
           types = fits.types;
           lifetimes = fits.lifetimes;
           pat_sources = fits.pat_sources;
+          pat_ways = fits.pat_ways;
           type_sources = fits.type_sources;
           lifetime_sources = fits.lifetime_sources;
         };

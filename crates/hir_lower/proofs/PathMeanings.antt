@@ -121,7 +121,7 @@ module _ (at : Spot) (x : AstPath) (b b' : Builder) where
       let faults = faults_behind b b' y d l.0 (whole_reports p) [] (none_around none) in
       let kept : KeepsAll b b' = subst (λ q. Keeps b q.0 q.1) l.0 (paths_keep (whole_path at x) b) in
       let grown : Grown (whole_size (whole_path at x)) b.stored b'.stored =
-      subst (λ q. GrownUnless (whole_size (whole_path at x)) b q.0 q.1) l.0 (paths_fit (whole_path at x) b) in
+      subst (λ q. GrownUnless (whole_size (whole_path at x)) b q.0 q.1) l.0 (paths_fit (whole_path at x) b d) in
       record {
         inner = λ later ext. (path_roots p b b' y d l.0 later ext).1;
         lives = λ later ext still. constants_live later none stays.bindings (ways_behind b b' y d l.0 (whole_left p) later ext still);
@@ -161,12 +161,13 @@ module _ (at : Spot) (x : AstPath) (b b' : Builder) where
   ends_if (Ok y) l is = cc
   ends_if (Err e) l is = let other : e ≢ Memory = λ m. cc in (l other).1
 
-  short_if : (e : StoreFault) → lower_path (whole_path at x) b ≡ (Err e, b') → Short (whole_size (whole_path at x)) b
-  short_if e is = subst (λ q. GrownUnless (whole_size (whole_path at x)) b q.0 q.1) is (paths_fit (whole_path at x) b)
+  short_if : (e : StoreFault) → Paired b.stored → lower_path (whole_path at x) b ≡ (Err e, b') → Short (whole_size (whole_path at x)) b
+  short_if e d is = subst (λ q. GrownUnless (whole_size (whole_path at x)) b q.0 q.1) is (paths_fit (whole_path at x) b d)
 
-  pub path_too_large_if : (r : Checked (Option Path)) → Alone r → IsErrOf r Full → Short (whole_size (whole_path at x)) b
-  path_too_large_if (Ok y) l is = cc
-  path_too_large_if (Err e) l is = let other : e ≢ Memory = λ m. cc in short_if e (l other).0
+  pub path_too_large_if : (r : Checked (Option Path)) → Alone r → Paired b.stored → IsErrOf r Full
+      → Short (whole_size (whole_path at x)) b
+  path_too_large_if (Ok y) l d is = cc
+  path_too_large_if (Err e) l d is = let other : e ≢ Memory = λ m. cc in short_if e d (l other).0
 
   pub path_stays_if : (r : Checked (Option Path)) → Alone r → MayBeOwned b.stored → r ≢ Err Memory → Stays b.stored b'.stored
   path_stays_if (Ok y) l m n = subst (λ q. Stays b.stored q.1.stored) l.0 (path_stays m)

@@ -1,15 +1,13 @@
 -- What the parameters of a body become.
-use Rattle.std.specs.Prelude.{◌≤◌, ℕ, suc, length, Bool, true, false, [], Option, Some, None}
+use Rattle.std.specs.Prelude.{Bool, true, false, [], Option, Some, None}
 use Rattle.hir_syntax.specs.declared.ast.ElseBranch.TheOpen.{PatKind-F}
 use Rattle.hir_syntax.specs.declared.ast.Name.{Name as AstName}
 use Rattle.hir_syntax.specs.declared.params.ParamList.{ParamList as AstParamList}
 use Rattle.hir_syntax.specs.declared.pats.Pat.{Pat as AstPat}
 use Rattle.hir_binding.specs.declared.binding.BindingAnnotation.TheVariants.{Unannotated}
 use Rattle.hir_store.specs.Pointers.{Pointer}
-use Rattle.hir_store.specs.Arenas.{past_option}
-use Rattle.hir_store.specs.Range.{HasPatOption, HasPats}
+use Rattle.hir_store.specs.Range.{HasExpr, HasPatOption, HasPats}
 use Rattle.hir_store.specs.Stored.{Stored}
-use Rattle.hir_store.specs.declared.ids.BindingId.{BindingId}
 use Rattle.hir_store.specs.declared.ids.DefWithBodyId.{DefWithBodyId}
 use Rattle.hir_store.specs.declared.ids.DefWithBodyId.TheVariants as owner
 use Rattle.hir_store.specs.declared.ids.PatId.{PatId}
@@ -25,17 +23,19 @@ use Rattle.hir_env.specs.Answering.{name_written}
 use Rattle.hir_lower_form.specs.Builder.{Builder}
 use Rattle.hir_lower_form.specs.Lowering.{Checked, Lowers}
 use Rattle.hir_lower_pat.specs.Methods.{use_with}
-pub use Rattle.hir_one_result.specs.Formals.{Given, each_formal, formals_read, lower_formal, lower_self}
+pub use Rattle.hir_one_result.specs.Formals.{Given, InFunction, Received, each_formal, formals_read, lower_formal, lower_self}
 unfoldable pub use Rattle.hir_one_result.specs.Formals.{lower_formals}
+pub use Rattle.hir_lower_form.specs.Methods.{HasSelf}
 
-abbrev past_binding_id : BindingId → ℕ
-past_binding_id b = suc b.0
-
-abbrev pub HasSelf : Stored → Option BindingId → Type 0
-HasSelf s o = past_option past_binding_id o ≤ length s.bindings.entries
+abbrev pub HasReceived : Stored → Received → Type 0
+HasReceived s r = HasSelf s r.0 × HasPats s r.1
 
 abbrev pub HasGiven : Stored → Given → Type 0
-HasGiven s g = HasSelf s g.0 × HasPats s g.1
+HasGiven s g = HasReceived s g.0 × HasReceived s g.1
+
+-- what is in a function that is a coroutine
+abbrev pub HasInFunction : Stored → InFunction → Type 0
+HasInFunction s r = HasReceived s r.0 × HasExpr s r.1.1
 
 abbrev pub LowersFormal : Formal → Builder → Checked (Option PatId) → Builder → Type 0
 LowersFormal f old result new = Lowers HasPatOption (lower_formal false f) old result new

@@ -246,10 +246,10 @@ handed_hand_out done (x ∷ xs) = correct_as (correct_bind (correct_handed x) (�
 -- nothing is named
 module _ {which : CoroutineKind} {from : CoroutineSource} {lets : List Statement} {body : ExprId} {final : Stored} {ps : List Frame}
     {m m' : Mark} {c : ExprId} (row : MadeCoroutine which from lets body final ps m m' c) where
-  coroutine_names : m'.names ≡ m.names
+  pub coroutine_names : m'.names ≡ m.names
   coroutine_names = row.made.names ∙ row.inside.names
 
-  coroutine_times : (k : ℕ) → times k m'.stored ≡ times k m.stored
+  pub coroutine_times : (k : ℕ) → times k m'.stored ≡ times k m.stored
   coroutine_times k = ap (times k) row.made.stored ∙ ap (times k) row.inside.stored
 
 pub made_coroutine_apart : (which : CoroutineKind) (from : CoroutineSource) (lets : List Statement) (body : ExprId)

@@ -128,7 +128,7 @@ pub record IsHanded (k : ℕ) (store : Store) : Type 0 where
   pub two : IsOfTwo k store.bindings store.labels
 
 -- Where so many names are made up, each of them is the name of one binding or label at most, or of two bindings where one of them is a
--- formal parameter of a closure whose body is a coroutine: the other one is what the coroutine begins with. No other made name is of any.
+-- formal parameter of a closure whose body is a coroutine. No other made name is of any.
 pub record MadeApart (names : ℕ) (s : Stored) : Type 0 where
   pub once : (k : ℕ) → (times_made k s ≤ 1) ⊎ IsHanded k (store_of s)
   pub later : (k : ℕ) → names ≤ k → times_made k s ≡ 0
