@@ -58,7 +58,7 @@ pub record Steps (body : Lowering (Given × ExprId)) (b : Builder) (given : Give
   pub left : rooted inner i ≡ b'
 
 module _ (body : Lowering (Given × ExprId)) (b : Builder) where
-  ended : Given × ExprId → Lowering (Given × ExprId)
+  abbrev ended : Given × ExprId → Lowering (Given × ExprId)
   ended r = λ t. (Ok r, rooted t r.1)
 
   pub steps : (b' : Builder) (given : Given) (i : ExprId) → behind body b ≡ (Ok (given, i), b') → Steps body b given i b'

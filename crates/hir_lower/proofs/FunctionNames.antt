@@ -129,7 +129,7 @@ in_function_apart kind skipped self fs e = correct_as
     let lets = four.first in
     let known = self_later self _ _ (extends_trans row.first.stays two.first.stays) written in
     let same : x.1.0 ≡ lets.more = ap (λ (z : InFunction). z.1.0) five.second.is
-        ∙ (lets.handed ∙ ap (λ h. h ++ lets.more) three.first.none) in
+    ∙ (lets.handed ∙ ap (λ h. h ++ lets.more) three.first.none) in
     let more = lets.names in
     let names : m'.names ≡ four.middle.names = ap (λ (z : Mark). z.names) five.second.still ∙ coroutine_names five.first in
     let still : (k : ℕ) → times k m'.stored ≡ times k four.middle.stored =
@@ -179,7 +179,7 @@ coroutine_once kind skipped f e = correct_as
     let bound : ℕ → ℕ = λ k. times_handed k xs in
     let twice : (k : ℕ) → times k m'.stored ≡ more_of true (bound k) (more_of true (bound k) (times k early.stored)) =
     λ k. ap (λ (z : Mark). times k z.stored) three.second.still ∙ (hands.times_are k ∙ ap (more_of true (bound k))
-        (ap (λ (z : Mark). times k z.stored) own.is ∙ within.times_are k)) in
+    (ap (λ (z : Mark). times k z.stored) own.is ∙ within.times_are k)) in
     let formal : (k : ℕ) → bound k ≡ 1 → IsOneOf k (store_of final) r.0.0.1 = λ k one. record {
       names = names_of xs;
       are = ap (λ (z : Given × ExprId). map (name_alone (store_of final)) z.0.0.1) three.second.is
@@ -189,8 +189,8 @@ coroutine_once kind skipped f e = correct_as
       once = λ a k.
           let p = within.before.apart (row.first.one.apart a) in
           let free : bound k ≡ 1 → sum (times k early.stored) ≡ 0 = λ one. ⊎_elim
-              (λ lt. let none = within.new_names.new k lt in absurd (omega (arith, none, one))) (λ le. p.later k le)
-              (cases_lt k early.names) in
+          (λ lt. let none = within.new_names.new k lt in absurd (omega (arith, none, one))) (λ le. p.later k le)
+          (cases_lt k early.names) in
           subst (λ t. Once final k t ⊎ OfHanded final k r.0.0.1 t) (sym (twice k)) (⊎_elim (λ o. inl o)
           (λ z. inr (record { formal = formal k z.0; bound = z.1; labelled = z.2 }))
           (bound_twice final k (bound k) (times k early.stored) (within.new_names.once k) (p.once k) free));

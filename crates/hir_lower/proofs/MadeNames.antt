@@ -2,6 +2,7 @@
 use Rattle.std.proofs.Common.{arith, ◌≡◌, ◌∙◌, ◌⊎◌, ◌≤◌, ◌+◌, ⊎_elim, inl, inr, refl, sym, ap, subst, ℕ, Bool, List, [], Option, None}
 use Rattle.std.proofs.Common.{Result, Ok, Err}
 use Rattle.std.specs.Prelude.{IfOk}
+use Rattle.std.proofs.Math.Logic.{∥∥₁_map}
 use Rattle.hir_syntax.specs.declared.types.Type_.{Type_ as AstType_}
 use Rattle.hir_store.specs.Pointers.{Pointer}
 use Rattle.hir_store.specs.Stored.{SourceMap, Store, Stored, store_of}
@@ -32,12 +33,19 @@ use Rattle.hir_lower.proofs.FunctionNames.{OfHanded, body_once}
 use Rattle.hir_lower.proofs.Params.{given_is_of}
 
 -- nothing is made up where nothing is stored
-pub fresh_apart : (b : Builder) (limit : ℕ) → b ≡ fresh limit → MadeApart b.names b.stored
-fresh_apart b limit h = rw h (record { once = λ k. omega arith; later = λ k le. refl })
+
+apart_from_nothing : (limit : ℕ) → MadeApart 0 (fresh limit).stored
+apart_from_nothing limit = record { once = λ k. inl (omega arith); later = λ k le. refl }
+
+pub fresh_apart : (b : Builder) (limit : ℕ) → b ≡ fresh limit → ∥ MadeApart b.names b.stored ∥₁
+fresh_apart b limit h = rw h (∣ apart_from_nothing limit ∣₁)
 
 -- by what stays apart in all that is stored
-pub once_of : (names : ℕ) (s : Stored) (store : Store) → store ≡ store_of s → MadeApart names s → MadeOnce store []
-once_of names s store is m = rw is (λ k. ⊎_elim (λ le. inl le) (λ x. inr (inl x)) (m.once k))
+once_if : (names : ℕ) (s : Stored) → MadeApart names s → MadeOnce (store_of s) []
+once_if names s m = λ k. ⊎_elim (λ le. inl le) (λ x. inr (inl x)) (m.once k)
+
+pub once_of : (names : ℕ) (s : Stored) (store : Store) → store ≡ store_of s → ∥ MadeApart names s ∥₁ → ∥ MadeOnce store [] ∥₁
+once_of names s store is m = rw is (∥∥₁_map m (once_if names s))
 
 once_in : (final : Stored) (formals : List PatId) (k : ℕ)
     → Once final k (times k final) ⊎ OfHanded final k formals (times k final)
@@ -90,8 +98,8 @@ module _ (kind : Option CoroutineKind) (skipped : Bool) (node : Pointer) (k : Op
 module _ (at : Spot) (x : Option AstType_) (limit : ℕ) where
   type_once : (i : TypeRefId) (store : Store) (source_map : SourceMap)
       → AnswersFromNothing (type_part None (whole_type at x)) limit i store source_map → MadeOnce store []
-  type_once i store source_map s = once_of _ _ store s.store_is (apart_by (type_apart None (whole_type at x)) (fresh limit) s.builder i
-      (record { exprs = refl; labels = refl; pats = refl; types = refl; lifetimes = refl }) s.done (fresh_apart (fresh limit) limit refl))
+  type_once i store source_map s = rw s.store_is (once_if _ _ (apart_by (type_apart None (whole_type at x)) (fresh limit) s.builder i
+      (record { exprs = refl; labels = refl; pats = refl; types = refl; lifetimes = refl }) s.done (apart_from_nothing limit)))
 
   pub type_once_if : {A E : Type 0} (store : A → Store) (source_map : A → SourceMap) (id : A → TypeRefId) (r : Result A E)
       → IfOk r (λ a. AnswersFromNothing (type_part None (whole_type at x)) limit (id a) (store a) (source_map a))

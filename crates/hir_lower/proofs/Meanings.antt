@@ -1,6 +1,7 @@
 -- What is lowered as a root is what is written.
 use Rattle.std.proofs.Common.{◌≡◌, ◌≢◌, ◌∙◌, refl, sym, ap, subst, suc, true, length, [], ◌∷◌, ◌++◌, Ok, Err}
 use Rattle.std.specs.Prelude.{IfOk, IsErrOf}
+use Rattle.std.proofs.Math.Logic.{∥∥₁_map}
 use Rattle.hir_store.specs.Bindings.{binding_id}
 use Rattle.hir_store.specs.Stored.{Stored, store_of, map_of}
 use Rattle.hir_store.specs.Storing as storing
@@ -24,6 +25,7 @@ use Rattle.hir_steps.proofs.Keeping.{apart_by, keeping}
 use Rattle.hir_steps.proofs.Owning.{with_owned}
 use Rattle.hir_same_meaning.specs.Headline.{Lowered}
 use Rattle.hir_same_meaning.proofs.Whole.{headline}
+use Rattle.hir_steps.proofs.Formals.{apart_in, apart_now}
 use Rattle.hir_one_result.specs.Laws.{FitsUnless, Grown, MayBeOwned, Settled}
 use Rattle.hir_one_result.specs.Room.{TooLarge, size_part}
 use Rattle.hir_one_result.specs.Size.{owned}
@@ -32,7 +34,7 @@ use Rattle.hir_one_result.specs.Stands.{StandsPart}
 use Rattle.hir_one_result.proofs.Last.{EndsWith}
 use Rattle.hir_one_result.proofs.LastTree.{part_last}
 use Rattle.hir_one_result.proofs.Owners.{last_owns}
-use Rattle.hir_one_result.proofs.TreeStands.{all_stand}
+use Rattle.hir_one_result.proofs.AllStand.{all_stand}
 use Rattle.hir_one_result.proofs.TreeFaults.{diagnostics_are}
 use Rattle.hir_one_result.proofs.TreeBlocks.{blocks_are}
 use Rattle.hir_one_result.proofs.Fits.{all_fit}
@@ -275,13 +277,18 @@ rooted_if e b b' (Ok i) l d m = root_rooted e b b' i d m l.0
 rooted_if e b b' (Err f) l d m = tt
 
 -- made names stay apart
-pub apart_if : (e : OptionExpr) (b b' : Builder) (r : Checked ExprId) → Lowers HasExpr (root_of e) b r b' → Paired b.stored
-    → MadeApart b.names b.stored → IfOk r (λ i. MadeApart b'.names b'.stored)
-apart_if e b b' (Ok i) l d m =
-    let p : Parts e b i b' = parts e b b' i l.0 in
+root_apart : (e : OptionExpr) (b b' : Builder) (i : ExprId) → root_of e b ≡ (Ok i, b') → Paired b.stored → MadeApart b.names b.stored
+    → MadeApart b'.names b'.stored
+root_apart e b b' i h d m =
+    let p : Parts e b i b' = parts e b b' i h in
     let kept : MadeApart p.inner.names p.inner.stored = apart_by (part_apart e) (closed b) p.inner i d p.is m in
+    let stands = apart_in (recorded_extends (first b) p.inner i) kept in
     let P : Builder → Type 0 = λ x. MadeApart x.names x.stored in
-    subst P p.left (record { once = kept.once; later = kept.later })
+    subst P p.left (apart_now (record { once = stands.once; later = stands.later }))
+
+pub apart_if : (e : OptionExpr) (b b' : Builder) (r : Checked ExprId) → Lowers HasExpr (root_of e) b r b' → Paired b.stored
+    → ∥ MadeApart b.names b.stored ∥₁ → IfOk r (λ i. ∥ MadeApart b'.names b'.stored ∥₁)
+apart_if e b b' (Ok i) l d m = ∥∥₁_map m (root_apart e b b' i l.0 d)
 apart_if e b b' (Err f) l d m = tt
 
 -- after a root all is closed again

@@ -1,6 +1,7 @@
 -- The parameters of a body are read back as they are written, and handed in as the body wants them.
-use Rattle.std.proofs.Common.{arith, ◌≡◌, ◌≤◌, ◌∙◌, refl, sym, ap, subst, ℕ, suc, Bool, true, false, length, length-map, map, List, []}
+use Rattle.std.proofs.Common.{arith, ◌≡◌, ◌≤◌, ◌∙◌, refl, sym, ap, subst, ℕ, suc, Bool, true, false, length, map, List, []}
 use Rattle.std.proofs.Common.{◌∷◌, ◌++◌, Option, Some, None, option_map, slice_get, Result, Ok, Err, true≢false, is_some}
+use Rattle.std.proofs.lemmas.List.{length-map}
 use Rattle.std.specs.Prelude.{IfOk, option_and_then}
 use Rattle.hir_store.specs.Pointers.{Pointer}
 use Rattle.hir_store.specs.Stored.{Store, SourceMap, Stored, store_of, map_of}
@@ -125,11 +126,12 @@ record SelfStands (bs : List Binding) (s : SelfFormal) (o : Option BindingId) : 
   there : is_some o ≡ is_some (receiver_read s)
 
 absent_stands : (bs : List Binding) (s : SelfFormal) (o : Option BindingId) → receiver_read s ≡ None → o ≡ None → SelfStands bs s o
-absent_stands bs s o none h = rw (h, none) (record { is = refl; there = refl })
+absent_stands bs s o none h = record { is = ap (bound bs) h ∙ sym none; there = ap is_some h ∙ sym (ap is_some none) }
 
 present_stands : (bs : List Binding) (s : SelfFormal) (o : Option BindingId) (b : BindingId) (x : Binding) → receiver_read s ≡ Some x
     → o ≡ Some b → slice_get bs b.0 ≡ Some x → SelfStands bs s o
-present_stands bs s o b x some h found = rw (h, some) (record { is = found; there = refl })
+present_stands bs s o b x some h found =
+    record { is = ap (bound bs) h ∙ (found ∙ sym some); there = ap is_some h ∙ sym (ap is_some some) }
 
 self_stands : (store : Store) (s : SelfFormal) (o : Option BindingId) (ws : List Way) → StandsSelf store s o ws
     → SelfStands store.bindings s o
@@ -201,9 +203,6 @@ module _ (kind : Option CoroutineKind) (skipped : Bool) (f : Formals) (e : Optio
 
 -- ---- what is written, and what it is handed in by
 
-lengths_same : {A B : Type 0} (f g : A → B) (xs ys : List A) → map f xs ≡ map g ys → length xs ≡ length ys
-lengths_same f g xs ys h = sym (length-map f xs) ∙ (ap length h ∙ length-map g ys)
-
 module _ {A : Type 0} where
   formals_back : (xs ys : List A) → length xs ≡ length ys → map (λ p. p.formal) (both xs ys) ≡ xs
   formals_back [] [] h = refl
@@ -248,7 +247,7 @@ as_many : (kind : Option CoroutineKind) (skipped : Bool) (f : Formals) (given : 
 as_many None skipped f given s r = ap (λ (x : Received). length x.1) r.handed
 as_many (Some kind) skipped f given s r =
     let read : PatId → PatData = λ p. stored_pat (store_of s) (map_of s) p in
-    sym (length-map read given.0.1) ∙ (ap length r.handed ∙ (handed_length _ ∙ (sym (ap length r.patterns) ∙ length-map read given.1.1)))
+    sym (length-map given.0.1 read) ∙ (ap length r.handed ∙ (handed_length _ ∙ (sym (ap length r.patterns) ∙ length-map given.1.1 read)))
 
 given_is : (b : Body) (given : Given) → length given.0.1 ≡ length given.1.1 → is_some given.0.0 ≡ is_some given.1.0
     → b.self_param ≡ both_if_present given.0.0 given.1.0 → b.params ≡ both given.0.1 given.1.1 → given_of b ≡ given

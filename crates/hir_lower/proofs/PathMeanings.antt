@@ -2,6 +2,7 @@
 use Rattle.std.proofs.Common.{◌≡◌, ◌≢◌, ◌∙◌, refl, sym, ap, subst, Bool, false, [], Option, Some, None, Result, Ok, Err}
 use Rattle.std.specs.Prelude.{IfOk, IsErrAnd, IsErrOf}
 use Rattle.hir_syntax.specs.declared.ast.Path.{Path as AstPath}
+use Rattle.std.proofs.Math.Logic.{∥∥₁_map}
 use Rattle.hir_store.specs.Stored.{Stored, store_of, map_of}
 use Rattle.hir_store.specs.Storing.{Extends}
 use Rattle.hir_store.specs.declared.path.Path.{Path}
@@ -152,9 +153,9 @@ module _ (at : Spot) (x : AstPath) (b b' : Builder) where
       record { scopes = kept.scopes ∙ o.scopes; in_root = kept.in_root ∙ o.in_root }
   outside_path_if (Err e) l o = tt
 
-  pub path_apart_if : (r : Checked (Option Path)) → Alone r → Paired b.stored → MadeApart b.names b.stored
-      → IfOk r (λ y. MadeApart b'.names b'.stored)
-  path_apart_if (Ok y) l d m = apart_by (lower_path_apart (whole_path at x)) b b' y d l.0 m
+  pub path_apart_if : (r : Checked (Option Path)) → Alone r → Paired b.stored → ∥ MadeApart b.names b.stored ∥₁
+      → IfOk r (λ y. ∥ MadeApart b'.names b'.stored ∥₁)
+  path_apart_if (Ok y) l d m = ∥∥₁_map m (apart_by (lower_path_apart (whole_path at x)) b b' y d l.0)
   path_apart_if (Err e) l d m = tt
 
   pub ends_if : (r : Checked (Option Path)) → Alone r → IsErrOf r Full → SomeEnd b'

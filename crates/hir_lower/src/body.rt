@@ -1,6 +1,6 @@
 //! Bodies of items.
 
-ghost use Rattle.std.specs.Prelude.{◌≡◌, ◌≢◌, Bool, is_some, IfOk, IsErrOf, option_copied};
+ghost use Rattle.std.specs.Prelude.{◌≡◌, ◌≢◌, Bool, false, is_some, IfOk, IsErrOf, option_copied};
 ghost use Rattle.hir_store.specs.Range.{InRange};
 ghost use Rattle.hir_store.specs.Stored.{map_of, store_of};
 ghost use Rattle.hir_lower_form.specs.Builder.{fresh};
@@ -21,7 +21,7 @@ ghost use Rattle.hir_lower.specs.Roots.{body_spot, both, both_if_present, formal
 use crate::collector::collect_expr_opt;
 use crate::coroutine_functions::{around, coroutine_form};
 use crate::error::LowerError;
-use crate::formals::{Given, Received, formals_form, must_be_bare, self_node};
+use crate::formals::{Given, formals_form, must_be_bare, self_node};
 use hir_base::Seq;
 use hir_base::node::{AstPtr, HirFileId, InFile};
 use hir_env::env::LowerEnv;
@@ -308,7 +308,9 @@ fn lower_item<E: LowerEnv>(
         value: node,
     };
     let params = if is_function(owner) { params } else { None };
-    kept_item(alloc, env, place, state, kind, bare, node, required, params, body)
+    kept_item(
+        alloc, env, place, state, kind, bare, node, required, params, body,
+    )
 }
 
 /// The node of the `self` that the item's body has.
@@ -351,10 +353,7 @@ fn params_of(
     Ok(params)
 }
 
-fn self_param_of(
-    formal: Option<BindingId>,
-    written: Option<BindingId>,
-) -> Option<Param<BindingId>>
+fn self_param_of(formal: Option<BindingId>, written: Option<BindingId>) -> Option<Param<BindingId>>
     ensures { result ≡ both_if_present formal written }
 {
     match (formal, written) {
@@ -370,17 +369,17 @@ fn self_param_of(
 fn finished(
     alloc: Global,
     state: BodyBuilder,
-    formals: Received,
-    written: Received,
+    given: Given,
     self_param: Option<InFile<AstPtr>>,
 ) -> Result<(Body, BodySourceMap), AllocError>
     ensures store { IfOk result (λ r. r.0.store ≡ store_of state.stored) }
     ensures source_map { IfOk result (λ r. r.1.store ≡ map_of state.stored) }
-    ensures params { IfOk result (λ r. r.0.params ≡ both formals.1 written.1) }
-    ensures receiver { IfOk result (λ r. r.0.self_param ≡ both_if_present formals.0 written.0) }
+    ensures params { IfOk result (λ r. r.0.params ≡ both given.0.1 given.1.1) }
+    ensures receiver { IfOk result (λ r. r.0.self_param ≡ both_if_present given.0.0 given.1.0) }
     ensures self_param { IfOk result (λ r. r.1.self_param ≡ self_param) }
     ensures in_range { IfOk result (λ r. InRange r.0.store r.1.store) }
 {
+    let (formals, written) = given;
     match params_of(formals.1.as_slice(), written.1.as_slice(), alloc) {
         Ok(params) => {
             let (store, source_map) = state.into_store().finish();
@@ -454,9 +453,9 @@ fn body_steps<E: LowerEnv>(
         params,
         body,
     ) {
-        Ok(((formals, written), _root)) => {
+        Ok((given, _root)) => {
             let self_param = item_self(db, place, owner, params);
-            match finished(alloc, state, formals, written, self_param) {
+            match finished(alloc, state, given, self_param) {
                 Ok(lowered) => Ok(lowered),
                 Err(_) => Err(LowerError::Memory),
             }

@@ -98,8 +98,8 @@ pub(crate) fn lower_root<E: LowerEnv>(
         Paired state.old.stored → MayBeOwned state.old.stored → IfOk result (λ i. Rooted state.old.stored state.new.stored i e) }
     ensures owners { MayBeOwned state.old.stored → IfOk result (λ i. MayBeOwned state.new.stored) }
     ensures outside { IfOk result (λ i. Outside state.new) }
-    ensures apart { Paired state.old.stored → MadeApart state.old.names state.old.stored
-        → IfOk result (λ i. MadeApart state.new.names state.new.stored) }
+    ensures apart { Paired state.old.stored → ∥ MadeApart state.old.names state.old.stored ∥₁
+        → IfOk result (λ i. ∥ MadeApart state.new.names state.new.stored ∥₁) }
     ensures too_large { let e = expr_part (spot_at (E.answers env.now) place) (option_copied expr.entry) in
         Paired state.old.stored → IsErrOf result StoreFault.Full → TooLarge state.old e }
     ensures stays { MayBeOwned state.old.stored → result ≢ Err StoreFault.Memory → Stays state.old.stored state.new.stored }
@@ -123,8 +123,8 @@ fn lower_whole_path<E: LowerEnv>(
         → IfOk result (λ r. PathRooted state.old.stored state.new.stored r p) }
     ensures owners { MayBeOwned state.old.stored → IfOk result (λ r. MayBeOwned state.new.stored) }
     ensures outside { Outside state.old → IfOk result (λ r. Outside state.new) }
-    ensures apart { Paired state.old.stored → MadeApart state.old.names state.old.stored
-        → IfOk result (λ r. MadeApart state.new.names state.new.stored) }
+    ensures apart { Paired state.old.stored → ∥ MadeApart state.old.names state.old.stored ∥₁
+        → IfOk result (λ r. ∥ MadeApart state.new.names state.new.stored ∥₁) }
     ensures full { IsErrOf result StoreFault.Full → SomeEnd state.new }
     ensures too_large { let p = whole_path (spot_at (E.answers env.now) place) path.now in
         Paired state.old.stored → IsErrOf result StoreFault.Full → Short (whole_size p) state.old }
@@ -147,7 +147,8 @@ fn add_type(
     ensures scopes { result ≢ Err StoreFault.Memory → state.new.scopes ≡ state.old.scopes }
     ensures owners { MayBeOwned state.old.stored → IfOk result (λ i. MayBeOwned state.new.stored) }
     ensures outside { Outside state.old → IfOk result (λ i. Outside state.new) }
-    ensures apart { MadeApart state.old.names state.old.stored → IfOk result (λ i. MadeApart state.new.names state.new.stored) }
+    ensures apart { Paired state.old.stored → ∥ MadeApart state.old.names state.old.stored ∥₁
+        → IfOk result (λ i. ∥ MadeApart state.new.names state.new.stored ∥₁) }
 {
     state.alloc_type(ty, Some(source))
 }
@@ -165,7 +166,7 @@ pub struct ExprCollector<'db, E: LowerEnv> {
     ghost paired: { failed ≡ false → Paired state.stored },
     ghost owners: { failed ≡ false → MayBeOwned state.stored },
     ghost outside: { failed ≡ false → Outside state },
-    ghost apart: { failed ≡ false → MadeApart state.names state.stored },
+    ghost apart: { failed ≡ false → ∥ MadeApart state.names state.stored ∥₁ },
 }
 
 impl<'db, E: LowerEnv> Drop for ExprCollector<'db, E> {
@@ -198,7 +199,6 @@ impl<'db, E: LowerEnv> ExprCollector<'db, E> {
     }
 
     /// A collector whose arenas hold as many entries each as the limit says. It takes no memory.
-    #[tactic(auto, using(crate::proofs::MadeNames::fresh_apart))]
     pub fn with_limit(
         alloc: Global,
         db: &'db E,
@@ -350,7 +350,7 @@ impl<'db, E: LowerEnv> ExprCollector<'db, E> {
         ensures failed { self.entry.failed ≡ true → result ≡ Err LowerError.Failed }
         ensures works { self.entry.failed ≡ false
             → IsOkAnd result (λ r. (r.0 ≡ store_of self.entry.state.stored) × (r.1 ≡ map_of self.entry.state.stored)) }
-        ensures made_once { IfOk result (λ r. MadeOnce r.0 []) }
+        ensures made_once { IfOk result (λ r. ∥ MadeOnce r.0 [] ∥₁) }
         ensures in_range { IfOk result (λ r. InRange r.0 r.1) }
     {
         let ExprCollector {

@@ -1,16 +1,17 @@
 //! Functions with `async`, `gen` or both, whose bodies are coroutines.
 
-ghost use Rattle.std.specs.Prelude.{option_copied};
+ghost use Rattle.std.specs.Prelude.{◌≡◌, option_copied};
 ghost use Rattle.hir_env.specs.Formals.{answered_formals};
 ghost use Rattle.hir_env.specs.Whole.{expr_part};
 ghost use Rattle.hir_lower_form.specs.Lowering.{Lowers, owning};
 ghost use Rattle.hir_lower_handlers.specs.Spots.{spot_at};
 ghost use Rattle.hir_one_result.specs.Formals as spec;
+ghost use Rattle.hir_lower.specs.Formals as forms;
 ghost use Rattle.hir_lower.specs.Formals.{HasInFunction, HasSelf, outside_place, outside_the_body};
 ghost use Rattle.hir_lower.specs.Roots.{HasGivenBody};
 
 use crate::collector::collect_expr_opt;
-use crate::formals::{Given, Received, pats_form, receiver_form};
+use crate::formals::{Given, Received, pats_form, self_form};
 use hir_env::env::LowerEnv;
 use hir_env::place::Place;
 use hir_lower_form::builder::BodyBuilder;
@@ -92,9 +93,36 @@ fn owned_in_function<E: LowerEnv>(
     Ok(inner)
 }
 
+/// The coroutine, and then what the outside hands its arguments to.
+#[tactic(auto, unfolding(crate::specs::Formals::behind_self))]
+fn behind_self<E: LowerEnv>(
+    alloc: Global,
+    env: &E,
+    place: Place,
+    state: &mut BodyBuilder,
+    kind: CoroutineKind,
+    skipped: bool,
+    bare: bool,
+    receiver: Option<BindingId>,
+    params: Option<&ast::ParamList>,
+    body: Option<&ast::Expr>,
+) -> Result<(Given, ExprId), StoreFault>
+    requires { HasSelf state.old.stored receiver }
+    ensures { let at = spot_at (E.answers env.now) place in
+        let formals = (answered_formals (outside_the_body at) bare (option_copied params.entry)).formals in
+        let read = expr_part at (option_copied body.entry) in
+        Lowers HasGivenBody (forms.behind_self kind skipped receiver formals read) state.old result state.new }
+{
+    let (written, (handed, coroutine)) = owned_in_function(
+        alloc, env, place, state, kind, skipped, bare, receiver, params, body,
+    )?;
+    let formals = lower_handed(alloc, state, handed.as_slice())?;
+    Ok((((receiver, formals), written), coroutine))
+}
+
 /// Lowers parameters, `self` first, and behind them a body that is a coroutine. It begins with a `let` of each parameter; what the
 /// outside hands its arguments to comes last.
-#[tactic(auto, unfolding(hir_one_result::specs::Formals::coroutine_body))]
+#[tactic(auto, unfolding(hir_one_result::specs::Formals::coroutine_body, crate::specs::Formals::behind_self))]
 pub(crate) fn coroutine_form<E: LowerEnv>(
     alloc: Global,
     env: &E,
@@ -111,10 +139,15 @@ pub(crate) fn coroutine_form<E: LowerEnv>(
         let read = expr_part at (option_copied body.entry) in
         Lowers HasGivenBody (spec.coroutine_body kind skipped formals read) state.old result state.new }
 {
-    let receiver = receiver_form(alloc, env, around(place), state, params)?;
-    let (written, (handed, coroutine)) = owned_in_function(
-        alloc, env, place, state, kind, skipped, bare, receiver, params, body,
-    )?;
-    let formals = lower_handed(alloc, state, handed.as_slice())?;
-    Ok((((receiver, formals), written), coroutine))
+    match params {
+        None => behind_self(
+            alloc, env, place, state, kind, skipped, bare, None, None, body,
+        ),
+        Some(list) => {
+            let receiver = self_form(alloc, env, around(place), state, &list.self_)?;
+            behind_self(
+                alloc, env, place, state, kind, skipped, bare, receiver, params, body,
+            )
+        }
+    }
 }

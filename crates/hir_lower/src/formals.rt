@@ -1,6 +1,6 @@
 //! The parameters of a body.
 
-ghost use Rattle.std.specs.Prelude.{◌≡◌, [], Bool, Some, true, option_copied};
+ghost use Rattle.std.specs.Prelude.{◌≡◌, [], Some, true, option_copied};
 ghost use Rattle.hir_syntax.specs.declared.pats.PatKind.{out-PatKind};
 ghost use Rattle.hir_store.specs.Range.{HasBindingId, HasPatOption, HasPats};
 ghost use Rattle.hir_env.specs.Answered as tree;
@@ -228,7 +228,7 @@ fn self_binding<E: LowerEnv>(
 }
 
 /// The binding of `self`, none where it is absent or a condition disables it.
-fn self_form<E: LowerEnv>(
+pub(crate) fn self_form<E: LowerEnv>(
     alloc: Global,
     env: &E,
     place: Place,
@@ -287,23 +287,6 @@ pub(crate) fn must_be_bare(container: ItemContainerId, has_body: bool) -> bool
     }
 }
 
-/// The binding of `self`, none where there is no list of parameters.
-pub(crate) fn receiver_form<E: LowerEnv>(
-    alloc: Global,
-    env: &E,
-    place: Place,
-    state: &mut BodyBuilder,
-    params: Option<&ast::ParamList>,
-) -> Result<Option<BindingId>, StoreFault>
-    ensures { (bare : Bool) → let at = spot_at (E.answers env.now) place in
-        Lowers HasSelf (lower_self (answered_formals at bare (option_copied params.entry)).receiver) state.old result state.new }
-{
-    match params {
-        None => Ok(None),
-        Some(params) => self_form(alloc, env, place, state, &params.self_),
-    }
-}
-
 /// The patterns of the parameters behind `self` that are kept. Those of a skipped body are missing.
 pub(crate) fn pats_form<E: LowerEnv>(
     alloc: Global,
@@ -348,7 +331,13 @@ pub(crate) fn formals_form<E: LowerEnv>(
     ensures { let at = spot_at (E.answers env.now) place in
         Lowers HasReceived (lower_formals skipped (answered_formals at bare (option_copied params.entry))) state.old result state.new }
 {
-    let receiver = receiver_form(alloc, env, place, state, params)?;
-    let pats = pats_form(alloc, env, place, state, skipped, bare, params)?;
-    Ok((receiver, pats))
+    match params {
+        None => Ok((None, Seq::new(alloc))),
+        Some(list) => {
+            let receiver = self_form(alloc, env, place, state, &list.self_)?;
+            let params = list.params.as_slice();
+            let pats = each_form(alloc, env, place, state, skipped, bare, params)?;
+            Ok((receiver, pats))
+        }
+    }
 }

@@ -1,5 +1,5 @@
 -- Steps by what they reach and hold where all is looked into so deep: what one of them leaves beside goes on to the next.
-use Rattle.std.proofs.Common.{ap, refl, ℕ, ◌+◌, ◌≤◌, List, arith}
+use Rattle.std.proofs.Common.{ℕ, ◌+◌, ◌≤◌, List, arith}
 use Rattle.hir_store.specs.Stored.{Stored}
 use Rattle.hir_lower_form.specs.Lowering.{Lowering, ◌>>=◌, pure}
 use Rattle.hir_steps.proofs.Frames.{Frame}

@@ -1,6 +1,6 @@
 -- Of a body behind its parameters each expression is reached in one way, by itself or by a constant inside it or inside what its arguments
 -- are handed to.
-use Rattle.std.proofs.Common.{◌≡◌, ap, arith, subst, sym, ℕ, ◌≤◌, Bool, true, false, length, List, [], ◌∷◌, ◌++◌, Option, Some, None}
+use Rattle.std.proofs.Common.{arith, subst, ◌≤◌, Bool, true, false, length, List, [], ◌∷◌, ◌++◌, Option, Some, None}
 use Rattle.std.proofs.lemmas.List.{map-append}
 use Rattle.hir_store.specs.Stored.{store_of}
 use Rattle.hir_store.specs.declared.hir.CoroutineKind.{CoroutineKind}
@@ -14,7 +14,7 @@ use Rattle.hir_lower_form.specs.Lowering.{Lowering}
 use Rattle.hir_meaning.specs.Inner.{all_of, by_itself}
 use Rattle.hir_steps.proofs.PatSteps.{correct_alloc_binding}
 use Rattle.hir_steps.proofs.Steps.{Correct, correct_report}
-use Rattle.hir_one_result.specs.Formals.{Given, InFunction, Received, coroutine_body, each_formal, in_function, lower_body, lower_formal}
+use Rattle.hir_one_result.specs.Formals.{Given, Received, coroutine_body, each_formal, in_function, lower_body, lower_formal}
 use Rattle.hir_one_result.specs.Formals.{lower_formals, lower_self, plain_body}
 use Rattle.hir_same_meaning.specs.Reached.{Spread, of_each, reached_to}
 use Rattle.hir_type_result.specs.Inside.{BodyInsideReachedOnce}
@@ -24,7 +24,7 @@ use Rattle.hir_type_result.proofs.Weighed.{View, Cost, Adds, view, free, beside,
 use Rattle.hir_type_result.proofs.Weighed.{adds_any, adds_beside, adds_from, adds_owning, adds_pure, adds_then}
 use Rattle.hir_type_result.proofs.InsideAtOnce.{adds_at_once, at_once_beside, at_once_from}
 use Rattle.hir_type_result.proofs.InsidePats.{maybe_pat, missing_pat_adds, pats, pushed}
-use Rattle.hir_type_result.proofs.InsidePreludes.{each_handed_adds, let_params_add, let_self_adds, made_coroutine_adds, prelude}
+use Rattle.hir_type_result.proofs.InsidePreludes.{each_handed_adds, let_params_add, let_self_adds, made_coroutine_adds}
 use Rattle.hir_type_result.proofs.Inside.{body_adds, inside_once, top_adds}
 
 -- ---- parameters

@@ -1,6 +1,5 @@
 -- Steps by what they name where all is looked at so deep: what one of them leaves beside goes on to the next.
 use Rattle.std.proofs.Common.{ap, refl, ℕ, ◌≤◌, List, Option, arith}
-use Rattle.hir_scope.specs.Each.{Each}
 use Rattle.hir_same_meaning.specs.Reached.{Between}
 use Rattle.hir_store.specs.Pointers.{Pointer}
 use Rattle.hir_store.specs.Stored.{Stored}
@@ -12,7 +11,7 @@ use Rattle.hir_steps.proofs.Frames.{Frame}
 use Rattle.hir_steps.proofs.Owning.{owned_by}
 use Rattle.hir_steps.proofs.Steps.{Mark, Grows, Correct, correct_alloc, correct_as, correct_bind, correct_pure}
 use Rattle.hir_type_result.specs.Named.{Look, of_bindings_alone, of_expr}
-use Rattle.hir_type_result.proofs.Counted.{less, less_grows, times, times_append, ◌⊑◌}
+use Rattle.hir_type_result.proofs.Counted.{times_append, ◌⊑◌}
 use Rattle.hir_type_result.proofs.Adding.{Adds, AtOnce, CountedAt, Numbers, Quiet, Sort, at_once_done, both, expr_at_once, fewer, grows}
 use Rattle.hir_type_result.proofs.Adding.{known, look, made_then, named, none, none_made, parted, the_pats, the_types, wider}
 use Rattle.hir_type_result.proofs.Owned.{beside}

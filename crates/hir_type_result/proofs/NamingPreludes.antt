@@ -1,5 +1,5 @@
 -- What stands in front of the body of a coroutine names the patterns of its parameters, and those that are made up for them, each once.
-use Rattle.std.proofs.Common.{ap, refl, Bool, true, false, List, [], ◌∷◌, ◌++◌, Option, Some, None, arith}
+use Rattle.std.proofs.Common.{ap, Bool, true, false, List, [], ◌∷◌, ◌++◌, Option, Some, None, arith}
 use Rattle.hir_store.specs.Stored.{Stored}
 use Rattle.hir_store.specs.declared.hir.CoroutineKind.{CoroutineKind}
 use Rattle.hir_store.specs.declared.hir.CoroutineSource.{CoroutineSource}
@@ -23,7 +23,6 @@ use Rattle.hir_lower_form.specs.Preludes.{add_handed, bound_anew, coroutine_of, 
 use Rattle.hir_steps.proofs.Preludes.{Told, correct_binding_of, correct_own_name_of}
 use Rattle.hir_steps.proofs.Steps.{Correct, correct_as}
 use Rattle.hir_type_result.specs.Named.{Look, of_statement}
-use Rattle.hir_type_result.specs.Reached.{of_each}
 use Rattle.hir_type_result.proofs.Counted.{times_append, ◌⊑◌}
 use Rattle.hir_type_result.proofs.Numbers.{each_append}
 use Rattle.hir_type_result.proofs.Adding.{Adds, AtOnce, Numbers, Quiet, adds_beside, adds_from, adds_pat, adds_pat_beside, adds_pure}

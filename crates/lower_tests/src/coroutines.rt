@@ -114,10 +114,8 @@ fn closure_and_coroutine(body: &Body, source_map: &BodySourceMap) -> Option<(Exp
     }
 }
 
-fn closure_and_coroutine_in_text(
-    alloc: Global,
-    text: &str,
-) -> Result<Option<(ExprId, ExprId)>, ReadError> {
+/// The same of a text.
+fn numbers_in_text(alloc: Global, text: &str) -> Result<Option<(ExprId, ExprId)>, ReadError> {
     match lowered_text(alloc, text)? {
         Some((body, source_map)) => {
             let found = closure_and_coroutine(&body, &source_map);
@@ -132,5 +130,5 @@ fn closure_and_coroutine_in_text(
 #[test]
 fn a_coroutine_is_stored_right_in_front_of_its_closure(rt: HostRuntime) {
     let numbers = (ExprId(4), ExprId(3));
-    assert_eq!(rt; closure_and_coroutine_in_text(rt.alloc(), CLOSURE), Ok(Some(numbers)));
+    assert_eq!(rt; numbers_in_text(rt.alloc(), CLOSURE), Ok(Some(numbers)));
 }
