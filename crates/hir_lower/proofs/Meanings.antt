@@ -30,11 +30,14 @@ use Rattle.hir_one_result.specs.Laws.{FitsUnless, Grown, MayBeOwned, Settled}
 use Rattle.hir_one_result.specs.Room.{TooLarge, size_part}
 use Rattle.hir_one_result.specs.Size.{owned}
 use Rattle.hir_one_result.specs.Diagnostics.{forget}
+use Rattle.hir_one_result.specs.Leads.{OwnedBy}
 use Rattle.hir_one_result.specs.Stands.{StandsPart}
 use Rattle.hir_one_result.proofs.Last.{EndsWith}
 use Rattle.hir_one_result.proofs.LastTree.{part_last}
 use Rattle.hir_one_result.proofs.Owners.{last_owns}
-use Rattle.hir_one_result.proofs.AllStand.{all_stand}
+use Rattle.hir_one_result.proofs.AllStand.{all_stand, part_shown}
+use Rattle.hir_one_result.proofs.Leading.{Shown}
+use Rattle.hir_one_result.proofs.OwnedWays.{shown_owned}
 use Rattle.hir_one_result.proofs.TreeFaults.{diagnostics_are}
 use Rattle.hir_one_result.proofs.TreeBlocks.{blocks_are}
 use Rattle.hir_one_result.proofs.Fits.{all_fit}
@@ -168,14 +171,35 @@ parts e b b' i h = by (lower_part e (closed b)).0 (lower_part e (closed b)).1 re
 -- what is so of an expression inside of a root, where no label is open
 module _ (e : OptionExpr) (b inner : Builder) (i : ExprId) (none_open : b.scopes ≡ []) (paired : Paired b.stored)
     (is : lower_part e b ≡ (Ok i, inner)) where
-  pub lives_inside : (later : Stored) → Extends inner.stored later → Settled inner.stored later → Lives b.stored inner.stored later i e
-  lives_inside later ext still =
+  -- what stands for it once it owns what is bound in it
+  owns_inside : (later : Stored) → Extends inner.stored later → Settled inner.stored later
+      → Shown (OwnedBy i (StandsPart (store_of later) (map_of later) [] e i)) b.stored (with_owned (first b) i inner.stored)
+  owns_inside later ext still =
+      let x = subst (λ rs. Shown (StandsPart (store_of later) (map_of later) rs e i) b.stored inner.stored) none_open
+      (part_shown e b i inner paired is later ext still) in
+      shown_owned (first b) i refl x refl
+
+  lives_inside : (later : Stored) → Extends inner.stored later → Settled inner.stored later → MayBeOwned b.stored
+      → Lives b.stored (with_owned (first b) i inner.stored) later i e
+  lives_inside later ext still may =
       let lowered : Lowered e b i inner = record { none_open = none_open; paired = paired; is = is } in
-      let standing = all_stand e b i inner paired is later ext still in record {
+      let owns = owns_inside later ext still in
+      let m = owns.moved in
+      record {
         same = headline e b inner i lowered later ext;
-        ways = standing.ways;
-        stands = subst (λ rs. StandsPart (store_of later) (map_of later) rs e i standing.ways) none_open standing.stands;
-        reaches = standing.reaches;
+        ways = owns.ways;
+        stands = owns.shown;
+        reaches = record {
+          covers = m.covers;
+          covers_labels = m.covers_labels;
+          covers_bindings = m.covers_bindings;
+          led = m.led;
+          labels = m.labels;
+          settled = (all_stand e b i inner paired is later ext still).reaches.settled;
+          defined = m.defined;
+          owner_ways = λ may. (m.owners may).are;
+        };
+        owner_ways = (m.owners may).are;
         reached_once = λ depth le. expr_inside e b inner i lowered later ext depth le;
         types_reached_once = expr_types_once e b inner i paired is later ext;
         pats_reached_once = expr_pats_once e b inner i paired is later ext;
@@ -217,7 +241,7 @@ module _ (e : OptionExpr) (b inner : Builder) (i : ExprId) (none_open : b.scopes
       let after = kept.paired paired in
       record {
         lives = λ later x still.
-            let live = lives_inside later (extends_trans (recorded_extends (first b) inner i) x) still in record {
+            let live = lives_inside later (extends_trans (recorded_extends (first b) inner i) x) still may in record {
               same = live.same;
               ways = live.ways;
               stands = live.stands;
@@ -229,7 +253,9 @@ module _ (e : OptionExpr) (b inner : Builder) (i : ExprId) (none_open : b.scopes
                 labels = live.reaches.labels;
                 settled = live.reaches.settled;
                 defined = live.reaches.defined;
+                owner_ways = live.reaches.owner_ways;
               };
+              owner_ways = live.owner_ways;
               reached_once = live.reached_once;
               types_reached_once = live.types_reached_once;
               pats_reached_once = live.pats_reached_once;

@@ -159,7 +159,7 @@ self_reads None store source_map skipped f e given root ws h =
     }
 self_reads (Some kind) store source_map skipped f e given root ws h =
     let outer = self_stands store f.receiver given.0.0 h.6.left h.6.first in
-    let lets = h.6.second.first.second.second in
+    let lets = h.6.second.first.2.second.second in
     let inner = let_stands store source_map f.receiver given.1.0 h.1 lets.left lets.first in record {
       written = inner.is;
       handed = outer.is;

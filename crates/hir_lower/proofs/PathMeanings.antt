@@ -89,10 +89,10 @@ module _ (at : Spot) (x : AstPath) (b b' : Builder) where
         lifetimes = ways.lifetimes.ways;
       }
 
-  constants_live : (later : Stored) → b.scopes ≡ [] → Settled b.stored b'.stored
+  constants_live : (later : Stored) → b.scopes ≡ [] → MayBeOwned b.stored → Settled b.stored b'.stored
       → Shown (WholeWays (store_of later) (map_of later) b.scopes (whole_path at x)) b.stored b'.stored
       → ConstantsLive b.stored b'.stored later (whole_path at x)
-  constants_live later none settled w = record {
+  constants_live later none may settled w = record {
     ways = w.ways;
     stands = subst (λ rs. WholeWays (store_of later) (map_of later) rs (whole_path at x) w.ways) none w.shown;
     reaches = record {
@@ -103,7 +103,9 @@ module _ (at : Spot) (x : AstPath) (b b' : Builder) where
       labels = w.moved.labels;
       settled = settled;
       defined = w.moved.defined;
+      owner_ways = λ may. (w.moved.owners may).are;
     };
+    owner_ways = (w.moved.owners may).are;
   }
 
   abbrev RootsIn : Stored → Open → Bool → Type 0
@@ -125,7 +127,7 @@ module _ (at : Spot) (x : AstPath) (b b' : Builder) where
       subst (λ q. GrownUnless (whole_size (whole_path at x)) b q.0 q.1) l.0 (paths_fit (whole_path at x) b d) in
       record {
         inner = λ later ext. (path_roots p b b' y d l.0 later ext).1;
-        lives = λ later ext still. constants_live later none stays.bindings (ways_behind b b' y d l.0 (whole_left p) later ext still);
+        lives = λ later ext still. constants_live later none m stays.bindings (ways_behind b b' y d l.0 (whole_left p) later ext still);
         roots = λ later ext. roots_outside later out (path_roots p b b' y d l.0 later ext).0;
         more = faults.more;
         faults = faults.is;

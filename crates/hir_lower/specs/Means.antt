@@ -51,7 +51,7 @@ use Rattle.hir_one_result.specs.Diagnostics.{Faults, part_diagnostics, whole_fau
 use Rattle.hir_one_result.specs.Laws.{Grown, Reaches, Settled}
 use Rattle.hir_one_result.specs.Room.{size_part, whole_size}
 use Rattle.hir_one_result.specs.Size.{owned, placed}
-use Rattle.hir_one_result.specs.Leads.{Way}
+use Rattle.hir_one_result.specs.Leads.{OwnedBy, OwnersAre, Way}
 use Rattle.hir_one_result.specs.Stands.{StandsPart, WholeWays}
 use Rattle.hir_lower.specs.declared.body.Param.{Param}
 use Rattle.hir_lower.specs.Formals.{formals_read}
@@ -62,19 +62,20 @@ use Rattle.hir_type_result.specs.Roots.{RootsOf}
 use Rattle.hir_type_result.specs.Reached.{of_path, of_present, types_reached}
 use Rattle.hir_type_result.specs.Reached.{of_each as of_all}
 
--- What is so of a root in a later store. Its expression does what the tree does; it stands for the tree, and each expression
--- that came with it is what a written one became, or a missing one for an absent or disabled part or in front of a tuple with a
--- leading comma, or what is called for a range, or the block in a coroutine, the coroutine of a closure or a name that is read in front
--- of its body, or a further node of a `while`, a `for`, a `?` or a `try`;
--- where the source map led by then it leads still, or by the ways of the tree; each label and each binding more is what a written one
--- became, or of a made name, and there are as many; each number that it reaches, or that one does which it holds and doesn't run, is
--- reached once, and is one that lowering it gave out, and so is each type that the expressions and patterns reach that came with it,
+-- What is so of a root in a later store. Its expression does what the tree does; it stands for the tree, and owns each binding that
+-- nothing in it owns; each expression that came with it is what a written one became, or a missing one for an absent or disabled part or
+-- in front of a tuple with a leading comma, or what is called for a range, or the block in a coroutine, the coroutine of a closure or a
+-- name that is read in front of its body, or a further node of a `while`, a `for`, a `?` or a `try`; where the source map led by then it
+-- leads still, or by the ways of the tree; each label and each binding more is what a written one became, or of a made name, and there are
+-- as many, and what owns each binding is what its way says; each number that it reaches, or that one does which it holds and doesn't run,
+-- is reached once, and is one that lowering it gave out, and so is each type that the expressions and patterns reach that came with it,
 -- and each pattern that the expressions and types do.
 pub record Lives (old new later : Stored) (i : ExprId) (e : OptionExpr) : Type 0 where
   pub same : SameMeaning (store_of later) (map_of later) i e
   pub ways : List Way
-  pub stands : StandsPart (store_of later) (map_of later) [] e i ways
+  pub stands : OwnedBy i (StandsPart (store_of later) (map_of later) [] e i) ways
   pub reaches : Reaches old new ways
+  pub owner_ways : OwnersAre new.bindings.owners ways
   pub reached_once : (depth : ℕ) → length later.exprs.entries ≤ depth
       → Spread (length old.exprs.entries) (length new.exprs.entries)
       (of_each (reached_to (store_of later) depth) (i ∷ unrun_in (store_of later) i))
@@ -84,8 +85,8 @@ pub record Lives (old new later : Stored) (i : ExprId) (e : OptionExpr) : Type 0
 -- What lowering a root leaves. It is the last of the recorded roots, to which all belongs that was stored since the one before:
 -- as many expressions, labels and bindings as the tree becomes, and patterns, types and lifetimes from just those of its nodes that
 -- become one. The patterns that came make bindings that came, each owned by the innermost closure, coroutine, `const` block, length or
--- argument around it, or, in none of these, by the root. Behind the faults and the blocks that were noted before come those of the
--- tree.
+-- argument around it, or, in none of these, by the root, as `lives` says, and by its number, as `owners` does. Behind the faults and the
+-- blocks that were noted before come those of the tree.
 pub record Rooted (old new : Stored) (i : ExprId) (e : OptionExpr) : Type 0 where
   pub lives : (later : Stored) → Extends new later → Settled new later → Lives old new later i e
   pub grown : Grown (owned (size_part e)) old new
@@ -167,12 +168,14 @@ pub record ConstantsLive (old new later : Stored) (p : OptionPath) : Type 0 wher
   pub ways : List Way
   pub stands : WholeWays (store_of later) (map_of later) [] p ways
   pub reaches : Reaches old new ways
+  pub owner_ways : OwnersAre new.bindings.owners ways
 
 -- What lowering a path to r leaves: types and lifetimes from just those of its nodes that become one, and its constants. Those are
 -- roots, also where r is none; behind the faults and the blocks that were noted before come theirs. In each later store each body
 -- inside r does what the written one does; r and the expressions and patterns that came reach each type in one way only, and none that
 -- was stored before; so do the expressions and types that came reach each pattern. The patterns that came make bindings that came,
--- each owned by the innermost closure, coroutine, `const` block, length or argument around it.
+-- each owned by the innermost closure, coroutine, `const` block, length or argument around it, as `lives` says, and by its number, as
+-- `owners` does.
 pub record PathRooted (old new : Stored) (r : Option Path) (p : OptionPath) : Type 0 where
   pub inner : (later : Stored) → Extends new later
       → SameBodies (store_of later) (map_of later) (of_some (path_inner_bodies (store_of later)) r) (path_bodies p)

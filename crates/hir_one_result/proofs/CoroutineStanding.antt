@@ -1,5 +1,5 @@
 -- What a closure that is a coroutine becomes stands for it.
-use Rattle.std.proofs.Common.{◌≡◌, ◌∙◌, sym, ap, subst, suc, Bool, map, List, [], ◌∷◌, ◌++◌, Option, Some, Ok, Err}
+use Rattle.std.proofs.Common.{◌≡◌, ◌∙◌, refl, sym, ap, subst, suc, Bool, map, List, [], ◌∷◌, ◌++◌, Option, Some, Ok, Err}
 use Rattle.hir_store.specs.Bindings.{binding_id}
 use Rattle.hir_store.specs.Pointers.{Pointer}
 use Rattle.hir_store.specs.Stored.{Stored, store_of, map_of}
@@ -34,7 +34,7 @@ use Rattle.hir_steps.proofs.Owning.{with_owned}
 use Rattle.hir_steps.proofs.Preludes.{correct_handed}
 use Rattle.hir_steps.proofs.Steps as steps
 use Rattle.hir_steps.proofs.Steps.{Both, Holds, Mark, Rel}
-use Rattle.hir_one_result.specs.Leads.{OneUnled, Ways, ◌&◌}
+use Rattle.hir_one_result.specs.Leads.{OneUnled, OwnedBy, Ways, ◌&◌}
 use Rattle.hir_one_result.specs.StandsMade.{StoredParams}
 use Rattle.hir_one_result.specs.StandsPreludes.{IsCoroutine, StandsCoroutineClosure, StandsLets}
 use Rattle.hir_one_result.specs.Stands.{Open}
@@ -42,8 +42,10 @@ use Rattle.hir_one_result.proofs.ClosureStands.{ParamsBehind}
 use Rattle.hir_one_result.proofs.CoroutineRooms.{handed_known, written_lasts}
 use Rattle.hir_one_result.proofs.Knowing.{Now}
 use Rattle.hir_one_result.proofs.Last.{EndsWith, Last, within_last}
-use Rattle.hir_one_result.proofs.Lasting.{Correct, correct_as, correct_bind, correct_both, correct_coroutine_closure, correct_pure}
-use Rattle.hir_one_result.proofs.Leading.{moved_owner, shown_after, shown_as, shown_before, shown_both}
+use Rattle.hir_one_result.proofs.Lasting.{Correct, correct_as, correct_bind, correct_both, correct_coroutine_closure, correct_counted}
+use Rattle.hir_one_result.proofs.Lasting.{correct_pure}
+use Rattle.hir_one_result.proofs.Leading.{shown_as, shown_before, shown_both}
+use Rattle.hir_one_result.proofs.OwnedWays.{shown_owned}
 use Rattle.hir_one_result.proofs.PreludeRooms.{Froms, froms_last}
 use Rattle.hir_one_result.proofs.PreludeStanding.{handed_stand, lets_stand, made_coroutine_stands, named}
 use Rattle.hir_one_result.proofs.Standing.{Of, Placed, Shows, expr_at, moved_pure, own, owning_shows}
@@ -163,25 +165,26 @@ module _ (P : Stored → Open → StoredParams → Ways) {T : Of (Option TypeRef
       → Correct (lower_params no_closure_params xs) (Shows (λ final rs l. ParamsBehind no_closure_params (P final rs) l))
       → Correct (present_type t) (Shows T) → Correct (lower_part e) (Shows S)
       → Correct (owning (λ i. i) (coroutine_closure_form at kind moves (lower_params no_closure_params xs) (present_type t) (lower_part e)))
-      (Shows (λ final rs i. StandsCoroutineClosure (store_of final) (map_of final) at kind (capture_of moves) (params_data xs)
-      (λ l. P final (barrier_rib ∷ rs) l) (λ y. T final (barrier_rib ∷ rs) y) (λ x. S final (barrier_rib ∷ rs) x) i))
+      (Shows (λ final rs i. OwnedBy i (StandsCoroutineClosure (store_of final) (map_of final) at kind (capture_of moves) (params_data xs)
+      (λ l. P final (barrier_rib ∷ rs) l) (λ y. T final (barrier_rib ∷ rs) y) (λ x. S final (barrier_rib ∷ rs) x) i)))
   coroutine_closure_stands at moves hp ht he = owning_shows (λ i. i) (correct_as
-      (correct_coroutine_closure at kind moves _ _ _
+      (correct_counted (correct_coroutine_closure at kind moves _ _ _
       (correct_both (within_stands hp ht he) (steps.correct_both known (ends_at (within_last kind _ _ _) (any known))))
-      (λ hs. correct_both (handed_stand [] hs (params_data xs)) (handed_nodes [] hs)))
-      (λ final ps m m' i g row.
+      (λ hs. correct_both (handed_stand [] hs (params_data xs)) (handed_nodes [] hs))))
+      (λ final ps m m' i g x.
+      let row = x.row in
       let w = row.within in
       let start = binding_id m.bindings in
       let told = row.in_within.other in
       let left = row.left.stored in
       let after = with_owned start w.coroutine left in
       let from = froms_last w.handed (params_data xs) left after (extends_owner left start w.coroutine) told.one.now in
-      let owned = moved_owner start w.coroutine row.left.stored in
-      let formals = shown_after owned (row.in_formals.one.shown from) in
+      let inside = shown_owned start w.coroutine x.counted row.in_within.one.shown refl in
+      let formals = row.in_formals.one.shown from in
       let number = row.made.number ∙ (row.in_formals.other.is ∙ told.other.is) in
       record {
-        shown = shown_as (shown_both row.in_within.one.shown (shown_both formals (own row.made))) (λ ws z.
-            let x = z.first in
+        shown = shown_as (shown_both inside (shown_both formals (own row.made))) (λ ws z.
+            let x = z.first.2 in
             let y = z.second in
             let new = y.first in
             let is = closure_as w.ret w.coroutine kind new.1 x.4 (captures_as moves) in
@@ -201,7 +204,7 @@ module _ (P : Stored → Open → StoredParams → Ways) {T : Of (Option TypeRef
                 left = z.left;
                 right = z.right;
                 is = z.is;
-                first = x.6;
+                first = (z.first.0, z.first.1, x.6);
                 second = record { left = y.left; right = y.right; is = y.is; first = new.2; second = y.second };
               },
             ));

@@ -43,10 +43,11 @@ use Rattle.hir_one_result.specs.StandsPreludes.{the_name}
 use Rattle.hir_one_result.proofs.CoroutineRooms.{written_lasts}
 use Rattle.hir_one_result.proofs.Formals.{HasSelf, each_now, formals_read_as, self_known, self_lasts}
 use Rattle.hir_one_result.proofs.FunctionRooms.{handed_known}
-use Rattle.hir_one_result.proofs.Lasting.{Correct, correct_as, correct_bind, correct_both, correct_owning, correct_pure, in_prefix, keeping}
-use Rattle.hir_one_result.proofs.Lasting.{settled_as, unchanged_behind}
-use Rattle.hir_one_result.proofs.Leading.{Shown, moved_bind, moved_owner, moved_to, shown_after, shown_as, shown_before, shown_binding}
+use Rattle.hir_one_result.proofs.Lasting.{Correct, correct_as, correct_bind, correct_both, correct_counted, correct_owning, correct_pure}
+use Rattle.hir_one_result.proofs.Lasting.{in_prefix, keeping, settled_as, unchanged_behind}
+use Rattle.hir_one_result.proofs.Leading.{Shown, moved_bind, moved_to, shown_after, shown_as, shown_before, shown_binding}
 use Rattle.hir_one_result.proofs.Leading.{shown_both, shown_none}
+use Rattle.hir_one_result.proofs.OwnedWays.{shown_owned}
 use Rattle.hir_one_result.proofs.PatStanding.{Behind}
 use Rattle.hir_one_result.proofs.PreludeRooms.{froms_last}
 use Rattle.hir_one_result.proofs.PreludeStanding.{ShowsIf, handed_stand, lets_stand, made_coroutine_stands, name_stands, named, pat_found}
@@ -258,16 +259,16 @@ module _ (kind : CoroutineKind) (skipped : Bool) (f : Formals) (e : OptionExpr) 
   unfolding coroutine_body
   coroutine_body_stands hs hf he = correct_as
       (correct_bind (correct_both hs (self_known f.receiver)) (λ self.
-      correct_bind (correct_owning (λ x. x.1.1)
-      (correct_both (in_function_stands kind f.receiver skipped self f.formals e hf he) (handed_known kind skipped self f.formals e))) (λ x.
-      correct_bind (handed_stand [] x.1.0 written_data) (λ is. correct_pure (((self, is), x.0), x.1.1)))))
+      correct_bind (correct_counted (correct_owning (λ x. x.1.1)
+      (correct_both (in_function_stands kind f.receiver skipped self f.formals e hf he) (handed_known kind skipped self f.formals e))))
+      (λ x. correct_bind (handed_stand [] x.1.0 written_data) (λ is. correct_pure (((self, is), x.0), x.1.1)))))
       (λ final ps m m' x g row.
       let two = row.second in let three = two.second in
-      let own = two.first in
+      let own = two.first.row in
       let start = binding_id row.middle.bindings in
       let root = two.one.1.1 in
-      let owned = moved_to (ap (λ k. k.stored) own.is) (moved_owner start root own.left.stored) in
-      let inside = shown_before (own.first.one.shown row.first.other.now) owned in
+      let in_it = own.first.one.shown row.first.other.now in
+      let inside = shown_owned start root two.first.counted in_it (ap (λ k. k.stored) own.is) in
       let later = subst (λ k. Extends own.left.stored k.stored) (sym own.is) (extends_owner own.left.stored start root) in
       let from = froms_last two.one.1.0 written_data own.left.stored two.middle.stored later own.first.other.now in
       let hands = StandsHanded (store_of final) (map_of final) (map named two.one.1.0) written_data in
@@ -276,7 +277,7 @@ module _ (kind : CoroutineKind) (skipped : Bool) (f : Formals) (e : OptionExpr) 
       rw three.second.is (record {
         shown = shown_as (shown_both row.first.one.shown (shown_both inside behind)) (λ ws z.
             let rest = z.second in
-            let x = rest.first in (
+            let x = rest.first.2 in (
               x.0,
               x.1,
               map named two.one.1.0,
@@ -288,7 +289,13 @@ module _ (kind : CoroutineKind) (skipped : Bool) (f : Formals) (e : OptionExpr) 
                 right = z.right;
                 is = z.is;
                 first = z.first;
-                second = record { left = rest.left; right = rest.right; is = rest.is; first = x.5; second = rest.second };
+                second = record {
+                  left = rest.left;
+                  right = rest.right;
+                  is = rest.is;
+                  first = (rest.first.0, rest.first.1, x.5);
+                  second = rest.second;
+                };
               },
             ));
       }))

@@ -1,6 +1,6 @@
 -- Steps by what they bring about in a final store in which the bindings that they make stay as they are by then.
 use Rattle.std.proofs.Common.{arith, ◌≡◌, ◌∙◌, ◌⊎◌, inl, inr, refl, sym, ap, subst, ℕ, zero, suc, ◌≤◌, List, [], ◌∷◌, ◌++◌, length}
-use Rattle.std.proofs.Common.{slice_get, Bool, Option, Some, None, is_some, true≢false}
+use Rattle.std.proofs.Common.{slice_get, Bool, Option, Some, None, Ok, Err, is_some, true≢false}
 use Rattle.hir_store.specs.Arenas.{Prefix}
 use Rattle.hir_store.specs.Pointers.{Pointer}
 use Rattle.hir_store.specs.Stored.{Stored}
@@ -20,13 +20,14 @@ use Rattle.hir_store.proofs.Arenas.{prefix_refl, prefix_push, prefix_trans}
 use Rattle.hir_env.specs.Answered.{Jump, Label}
 use Rattle.hir_scope.specs.Ribs.{Rib, Target, reachable, unreachable, undeclared, target}
 use Rattle.hir_store.specs.declared.hir.CoroutineKind.{CoroutineKind}
+use Rattle.hir_lower_form.specs.Builder.{Builder}
 use Rattle.hir_lower_form.specs.declared.closures.ClosureParams.{ClosureParams}
 use Rattle.hir_lower_form.specs.declared.preludes.Handed.{Handed}
 use Rattle.hir_lower_form.specs.declared.preludes.Within.{Within}
 use Rattle.hir_lower_form.specs.Preludes.{coroutine_closure_form, lower_handed, within_form}
 use Rattle.hir_lower_form.specs.Lower.{ExprSteps, closure_form, constant_form, coroutine_form}
-use Rattle.hir_lower_form.specs.Lowering.{Lowering, ◌>>=◌, pure, alloc_binding, alloc_expr, alloc_lifetime, alloc_pat, alloc_type, close}
-use Rattle.hir_lower_form.specs.Lowering.{count_out, enter_block, jump_target, open_label, point, point_field, point_pat_field}
+use Rattle.hir_lower_form.specs.Lowering.{Checked, Lowering, ◌>>=◌, pure, alloc_binding, alloc_expr, alloc_lifetime, alloc_pat, alloc_type}
+use Rattle.hir_lower_form.specs.Lowering.{close, count_out, enter_block, jump_target, open_label, point, point_field, point_pat_field}
 use Rattle.hir_lower_form.specs.Lowering.{report, report_await, alloc_made, made_number, open_try, owning, try_target}
 use Rattle.hir_lower_form.specs.Ranges.{inner_form}
 use Rattle.hir_steps.proofs.Barriers as barriers
@@ -44,7 +45,7 @@ use Rattle.hir_steps.proofs.Owning.{Owning}
 use Rattle.hir_steps.proofs.PatSteps as pats
 use Rattle.hir_steps.proofs.PatSteps.{AllocatedBinding, AllocatedPat, PatWrites, with_field_pat}
 use Rattle.hir_steps.proofs.Steps as steps
-use Rattle.hir_steps.proofs.Steps.{Allocated, AllocatedLifetime, AllocatedType, Both, IsPure, Mark, Opened, OpenedBy, Rel, Seq}
+use Rattle.hir_steps.proofs.Steps.{Allocated, AllocatedLifetime, AllocatedType, Both, Holds, IsPure, Mark, Opened, OpenedBy, Rel, Seq}
 use Rattle.hir_steps.proofs.Steps.{Targeted}
 use Rattle.hir_steps.proofs.Steps.{Writes, Grows}
 use Rattle.hir_steps.proofs.Steps.{pointing, with_await, with_block, with_fault, with_field, with_jump, with_target}
@@ -96,6 +97,25 @@ pub correct_as : {A : Type 0} {p : Lowering A} {R Q : Rel A} → Correct p R
     → ((final : Stored) (ps : List Frame) (m m' : Mark) (a : A) → Grows m m' → R final ps m m' a → Q final ps m m' a) → Correct p Q
 correct_as h less = steps.correct_as h (λ final ps m m' a g row.
     record { settled = row.settled; rel = λ s. less final ps m m' a g (row.rel s) })
+
+-- where they begin, as many bindings are counted as are stored
+pub record Counted {A : Type 0} (R : Rel A) (final : Stored) (ps : List Frame) (m m' : Mark) (a : A) : Type 0 where
+  pub counted : m.bindings ≡ bound m.stored
+  pub row : R final ps m m' a
+
+with_count : {A : Type 0} {p : Lowering A} {R : Rel A} → steps.Correct p R → steps.Correct p (Counted R)
+with_count {A = A} {p = p} {R = R} h =
+    record { holds = λ final ps b r. by final ps b (p b).0 (p b).1 (h.holds final ps b r) }
+  where
+    by : (final : Stored) (ps : List Frame) (b : Builder) (o : Checked A) (c : Builder) → Holds R final ps b o c
+        → Holds (Counted R) final ps b o c
+    by final ps b (Ok a) c y =
+        record { kept = y.kept; grows = y.grows; in_final = λ d pre. record { counted = refl; row = y.in_final d pre } }
+    by final ps b (Err e) c y = y
+
+pub correct_counted : {A : Type 0} {p : Lowering A} {R : Rel A} → Correct p R → Correct p (Counted R)
+correct_counted h = steps.correct_as (with_count h) (λ final ps m m' a g x.
+    record { settled = x.row.settled; rel = λ s. record { counted = x.counted; row = x.row.rel s } })
 
 seq_lasts : {A B : Type 0} {R : Rel A} {Q : A → Rel B} {final : Stored} {ps : List Frame} {m m' : Mark} {b : B}
     → Seq (Lasts R) (λ a. Lasts (Q a)) final ps m m' b → Lasts (Seq R Q) final ps m m' b

@@ -23,7 +23,7 @@ use Rattle.hir_one_result.specs.WorkedPreludes.{CoroutineClosures, IsCoroutineCl
 
 module _ (store : Store) (source_map : SourceMap) where
   -- `let`s of one parameter
-  single : (y : PatData) (xs : List Named) (is : List PatId) (ss : List Statement) (ws : List Way)
+  pub single : (y : PatData) (xs : List Named) (is : List PatId) (ss : List Statement) (ws : List Way)
       → StandsLets store source_map xs (y ∷ []) is ss ws → (x : Named) × (q : PatId) × (xs ≡ x ∷ []) × (is ≡ q ∷ [])
   single y [] is ss ws h = absurd h
   single y (x ∷ xs) [] ss ws h = absurd h
@@ -34,9 +34,10 @@ module _ (store : Store) (source_map : SourceMap) where
 is_coroutine_closure : (moves : Bool) (kind : CoroutineKind) (outer : LabelId) (store : Store) (source_map : SourceMap) (i : ExprId)
     (ws : List Way) → Stands store source_map (opened label_a outer []) (async_break kind moves) i ws
     → IsCoroutineClosure kind (capture_of moves) store source_map i
-is_coroutine_closure moves kind outer store source_map i ws h =
+is_coroutine_closure moves kind outer store source_map i ws x =
+    let h = x.2 in
     let y = written_pat plain_x in
-    let within = h.11.first in
+    let within = h.11.first.2 in
     let inner = within.second.second in
     let body = inner.first in
     let front = inner.second in

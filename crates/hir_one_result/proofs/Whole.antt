@@ -83,6 +83,7 @@ one_results limit owed kind skipped f e given id new is =
       covers = moved.covers;
       covers_labels = moved.covers_labels;
       covers_bindings = moved.covers_bindings;
+      owner_ways = (moved.owners refl).are;
       leads = moved.led [] (leads_nowhere refl refl refl refl);
       labels = let l = moved.labels in omega (arith, l);
       more = faults.more;

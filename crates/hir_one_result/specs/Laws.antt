@@ -14,7 +14,7 @@ use Rattle.hir_lower_form.specs.Lower.{type_part, lower_path, lower_part}
 use Rattle.hir_steps.specs.Keeps.{Paired}
 use Rattle.hir_one_result.specs.Definitions.{DefinitionsAre}
 use Rattle.hir_one_result.specs.Formals.{lower_body}
-use Rattle.hir_one_result.specs.Leads.{Way, label_ways, Covers, CoversLabels, CoversBindings, Led}
+use Rattle.hir_one_result.specs.Leads.{Way, label_ways, Covers, CoversLabels, CoversBindings, Led, OwnersAre}
 use Rattle.hir_one_result.specs.Stands.{StandsPart}
 use Rattle.hir_one_result.specs.Diagnostics.{Faults, part_diagnostics, Around}
 use Rattle.hir_one_result.specs.Blocks.{blocks_of_part}
@@ -36,8 +36,12 @@ Settled old new = Prefix old.bindings.entries new.bindings.entries
 abbrev pub Defined : Stored → Type 0
 Defined s = DefinitionsAre s.pats.entries (length s.bindings.entries) s.bindings.definitions
 
+-- Of each binding it is stored what owns it, or that nothing does.
+abbrev pub MayBeOwned : Stored → Type 0
+MayBeOwned s = length s.bindings.owners ≡ length s.bindings.entries
+
 -- What is stored between these two is what these ways lead to: what led somewhere before leads there or by the ways, and each
--- expression, label and binding more is the end of one.
+-- expression, label and binding more is the end of one. What owns a binding is what its way says.
 pub record Reaches (old new : Stored) (ways : List Way) : Type 0 where
   pub covers : Covers ways (length old.exprs.entries) (length new.exprs.entries)
   pub covers_labels : CoversLabels ways (length old.labels.entries) (length new.labels.entries)
@@ -46,6 +50,7 @@ pub record Reaches (old new : Stored) (ways : List Way) : Type 0 where
   pub labels : length new.labels.entries ≡ length old.labels.entries + label_ways ways
   pub settled : Settled old new
   pub defined : Defined old → Defined new
+  pub owner_ways : MayBeOwned old → OwnersAre new.bindings.owners ways
 
 -- The expression stands for the tree, and so does each one that is stored with it.
 pub record Standing (final : Stored) (e : OptionExpr) (old new : Builder) (id : ExprId) : Type 0 where
@@ -82,12 +87,8 @@ BlocksAre = WhereLowered (λ e old id new. new.stored.block_scopes ≡ old.store
 
 -- numbers
 
--- Of each binding it is stored what owns it, or that nothing does.
-abbrev pub MayBeOwned : Stored → Type 0
-MayBeOwned s = length s.bindings.owners ≡ length s.bindings.entries
-
--- So many expressions, labels and bindings come behind those that were stored, each binding with what owns it, and patterns, types and
--- lifetimes with these sources. Of patterns it is said which the nodes lead to.
+-- So many expressions, labels and bindings come behind those that were stored, and patterns, types and lifetimes with these sources. Of
+-- patterns it is said which the nodes lead to, and of bindings the numbers of what owns them, in the order in which they come.
 pub record Grown (n : Size) (old new : Stored) : Type 0 where
   pub exprs : length new.exprs.entries ≡ length old.exprs.entries + n.exprs
   pub labels : length new.labels.entries ≡ length old.labels.entries + n.labels

@@ -18,8 +18,8 @@ use Rattle.hir_one_result.specs.Blocks.{blocks_of_part, blocks_of_tops}
 use Rattle.hir_one_result.specs.Definitions.{DefinitionsAre}
 use Rattle.hir_one_result.specs.Diagnostics.{Faults, body_faults}
 use Rattle.hir_one_result.specs.Formals.{Given, Received, formals_read, lower_body}
-use Rattle.hir_one_result.specs.Leads.{Way, Ways, No, OneBindingWay, OneUnled, ◌&◌, label_ways, Covers, CoversLabels, CoversBindings}
-use Rattle.hir_one_result.specs.Leads.{LeadBack, MapLeads}
+use Rattle.hir_one_result.specs.Leads.{Way, Ways, No, OneBindingWay, OneUnled, OwnedBy, ◌&◌, label_ways, Covers, CoversLabels}
+use Rattle.hir_one_result.specs.Leads.{CoversBindings, LeadBack, MapLeads, OwnersAre}
 use Rattle.hir_one_result.specs.Room.{body_size, formals_data}
 use Rattle.hir_one_result.specs.Size.{led_source, pat_source_of, placed}
 use Rattle.hir_one_result.specs.Stands.{Open, Absent, StandsBefore, StandsPart}
@@ -45,14 +45,14 @@ StandsGiven store source_map rs skipped f given =
     StandsSelf store f.receiver given.0 & StandsTops store source_map rs (formals_read skipped f.formals) given.1
 
 -- A plain body is handed what was written. What the outside hands the arguments of a coroutine to is `self` in front of it, and behind
--- it a pattern for each other parameter; in it `self` is what a `let` makes it.
+-- it a pattern for each other parameter; in it `self` is what a `let` makes it. The coroutine owns what is bound in it.
 abbrev pub StandsBody : Store → SourceMap → Open → Option CoroutineKind → Bool → Formals → OptionExpr → Given → ExprId → Ways
 StandsBody store source_map rs None skipped f e given i = λ ws. (given.1 ≡ given.0)
     × (StandsGiven store source_map rs skipped f given.0 & StandsPart store source_map rs e i) ws
 StandsBody store source_map rs (Some kind) skipped f e given i = λ ws. (body : ExprId) × (begin : List Statement) × (xs : List Named)
     × (lets : List Statement) × (block : ExprId) × IsCoroutine store source_map kind source.Fn (begin ++ lets) body block i
     × (StandsSelf store f.receiver given.0.0
-    & (StandsTops store source_map rs (formals_read skipped f.formals) given.1.1 & StandsPart store source_map rs e body
+    & OwnedBy i (StandsTops store source_map rs (formals_read skipped f.formals) given.1.1 & StandsPart store source_map rs e body
     & StandsSelfLet store source_map f.receiver given.1.0 begin
     & StandsLets store source_map xs (formals_data skipped f.formals) given.1.1 lets & OneUnled block & OneUnled i)
     & StandsHanded store source_map xs (formals_data skipped f.formals) given.0.1) ws
@@ -66,10 +66,10 @@ StandsBody store source_map rs (Some kind) skipped f e given i = λ ws. (body : 
 -- read in front of its body, or is made up for a `for`, a `?` or a `try`; each label is what a written one or a `try` became, and there
 -- are as many; each binding is that of a name of a top pattern, or of `self`, or of a name that is made up or that a parameter is handed
 -- in by, has the patterns that make it, and is owned by the innermost closure, coroutine, `const` block, length or argument around it, or
--- by nothing. The source map leads from each written expression and label to what it became, and from nowhere else; the nodes of
--- patterns, types and lifetimes lead to them, but for patterns that are made up, and no other nodes do. Behind the faults that the body
--- owes as a whole come those of what is read of the tree, in some order. The blocks with numbers are those of the tree, in the
--- order of entering.
+-- by nothing, as its way says and as it is counted. The source map leads from each written expression and label to what it became, and
+-- from nowhere else; the nodes of patterns, types and lifetimes lead to them, but for patterns that are made up, and no other nodes do.
+-- Behind the faults that the body owes as a whole come those of what is read of the tree, in some order. The blocks with numbers are those
+-- of the tree, in the order of entering.
 pub record OneResult (store : Store) (source_map : SourceMap) (owed : Faults) (kind : Option CoroutineKind) (skipped : Bool) (f : Formals)
     (given : Given) (e : OptionExpr) : Type 0 where
   pub root : ExprId
@@ -94,6 +94,7 @@ pub record OneResult (store : Store) (source_map : SourceMap) (owed : Faults) (k
   pub covers : Covers ways 0 (length store.exprs)
   pub covers_labels : CoversLabels ways 0 (length store.labels)
   pub covers_bindings : CoversBindings ways 0 (length store.bindings)
+  pub owner_ways : OwnersAre store.binding_owners ways
   pub leads : MapLeads source_map ways
   pub labels : length store.labels ≡ label_ways ways
   pub more : Faults

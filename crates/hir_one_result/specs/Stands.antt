@@ -3,9 +3,10 @@
 -- form knows none. What is made up for a form came from the form's node, but what makes the iterator of a `for` from that of its head;
 -- from none came a pattern, the block in a coroutine, and of a closure that is a coroutine its coroutine and what stands in front of the
 -- body, where what is made up for a pattern came from the pattern's node. With it stand the ways of the tree: from the node of each
--- written expression and label to what it became, and to each missing one and each made up from no node. What its constants became stands
--- for them, also where nothing names it. A top pattern reads back as it is written, and so does one in a field without a name, which is
--- part of nothing; the names of a top pattern have one binding each, and what is in it stands for what is written there.
+-- written expression and label to what it became, and to each missing one and each made up from no node; and to each binding, with what
+-- owns it: the innermost closure, coroutine, `const` block, length or argument around it. What its constants became stands for them, also
+-- where nothing names it. A top pattern reads back as it is written, and so does one in a field without a name, which is part of nothing;
+-- the names of a top pattern have one binding each, and what is in it stands for what is written there.
 use Rattle.std.specs.Prelude.{◌≡◌, ℕ, Bool, true, false, List, [], ◌∷◌, ◌++◌, map, Option, Some, None, option_to_list, slice_get}
 use Rattle.std.specs.Prelude.{unwrap_or}
 use Rattle.hir_base.specs.declared.op.RangeOp.{RangeOp}
@@ -59,7 +60,7 @@ use Rattle.hir_meaning.specs.Contents.{BlockContents}
 use Rattle.hir_one_result.specs.Forms.{leaf_form, unary_form, binary_form, lazy_form, leaving_form, item_form, no_macro, path_of_name}
 use Rattle.hir_one_result.specs.Forms.{pat_unary_form, range_fields}
 use Rattle.hir_one_result.specs.PathRoom.{Seen, nothing_seen, at_first, segments_read, own_read, yields}
-use Rattle.hir_one_result.specs.Leads.{Ways, No, OneWay, OneUnled, OneLabelWay, OneFieldWay, OnePatFieldWay, Overtaken, ◌&◌}
+use Rattle.hir_one_result.specs.Leads.{Ways, No, OneWay, OneUnled, OneLabelWay, OneFieldWay, OnePatFieldWay, OwnedBy, Overtaken, ◌&◌}
 pub use Rattle.hir_one_result.specs.StandsParts.{ExprAt, LabelAt, Open, opened, Absent, There, ThereIf, ReadsAs, statement_of, SomeExpr}
 pub use Rattle.hir_one_result.specs.StandsParts.{SomeConst}
 use Rattle.hir_one_result.specs.StandsMade.{StandsFor, StandsForLoop, StandsForTurn, StandsQuestion, StandsTry, StandsTypedTry, StandsWhile}
@@ -261,9 +262,13 @@ module _ (store : Store) (source_map : SourceMap) where
     BoundWays rs (tree.lifetime_bound l) = No
     BoundWays rs (tree.use_bound us) = No
 
-    -- no jump in it reaches what is open around it
+    -- a length or an argument, of which the expression owns what is bound in it; no jump in it reaches what is open around it
     pub StandsConstant : Open → Constant → ConstRef → Ways
-    StandsConstant rs (tree.constant e) n = StandsPart (barrier_rib ∷ rs) e n.expr
+    StandsConstant rs (tree.constant e) n = OwnedBy n.expr (StandsPart (barrier_rib ∷ rs) e n.expr)
+
+    -- that of a `const` block: what is bound in it is owned by the expression around it
+    pub StandsRooted : Open → Constant → ConstRef → Ways
+    StandsRooted rs (tree.constant e) n = StandsPart (barrier_rib ∷ rs) e n.expr
 
     pub TypePatWays : Open → TypePat → Ways
     TypePatWays rs (tree.not_null_type_pat at) = No
@@ -327,10 +332,10 @@ module _ (store : Store) (source_map : SourceMap) where
         (λ x. StandsTry store source_map at item number (gives_value ss (is_left e))
         (λ label is o. StandsContents (try_rib label true ∷ rs) ss (λ around o. StandsKept around e o) is o) x)
         (λ y. TypeWays rs t & ReadsAs (stored_type store source_map) (written_type (tree.some_type t)) y) i
-    -- no jump in it reaches what is open around it
+    -- no jump in it reaches what is open around it, and it owns what is bound in it
     Stands rs (tree.coroutine_expr at kind moves number ss e) i =
-        StandsCoroutine store source_map at kind (capture_of moves) number (gives_value ss (is_left e))
-        (λ is o. StandsContents (barrier_rib ∷ rs) ss (λ around o. StandsKept around e o) is o) i
+        OwnedBy i (StandsCoroutine store source_map at kind (capture_of moves) number (gives_value ss (is_left e))
+        (λ is o. StandsContents (barrier_rib ∷ rs) ss (λ around o. StandsKept around e o) is o) i)
     Stands rs (tree.call_expr at f has_list es) i = λ ws.
         (callee : ExprId) × (arguments : List ExprId) × ExprAt store source_map i (hir.Call callee arguments) (Some at)
         × (StandsPart rs f callee & StandsEach rs es arguments & OneWay at i) ws
@@ -350,15 +355,16 @@ module _ (store : Store) (source_map : SourceMap) where
     Stands rs (tree.repeat_expr at e c) i =
         StandsOverTwo (λ x n. hir.Array (array.Repeat x n)) at (λ x. StandsPart rs e x) (λ n. StandsConstant rs c n) i
     -- the block in it came from the same node, which leads to the const block alone
-    Stands rs (tree.const_expr at c) i = StandsOver hir.Const at (λ n. Overtaken at (StandsConstant rs c n)) i
-    -- no jump in it reaches what is open around it
+    Stands rs (tree.const_expr at c) i = OwnedBy i (StandsOver hir.Const at (λ n. Overtaken at (StandsRooted rs c n)) i)
+    -- no jump in it reaches what is open around it, and it owns what is bound in it
     Stands rs (tree.closure_expr at moves is_static xs t e) i =
-        StandsClosure store source_map at (kind_of is_static e) (capture_of moves) (λ l. StandsParams (barrier_rib ∷ rs) xs l)
-        (λ y. ReadsAsType store source_map t (PresentTypeWays (barrier_rib ∷ rs) t) y) (λ x. StandsPart (barrier_rib ∷ rs) e x) i
+        OwnedBy i (StandsClosure store source_map at (kind_of is_static e) (capture_of moves) (λ l. StandsParams (barrier_rib ∷ rs) xs l)
+        (λ y. ReadsAsType store source_map t (PresentTypeWays (barrier_rib ∷ rs) t) y) (λ x. StandsPart (barrier_rib ∷ rs) e x) i)
+    -- and its coroutine owns what is bound in that
     Stands rs (tree.coroutine_closure_expr at kind moves xs t e) i =
-        StandsCoroutineClosure store source_map at kind (capture_of moves) (map written_pat (params_tops xs))
+        OwnedBy i (StandsCoroutineClosure store source_map at kind (capture_of moves) (map written_pat (params_tops xs))
         (λ l. StandsParams (barrier_rib ∷ rs) xs l) (λ y. ReadsAsType store source_map t (PresentTypeWays (barrier_rib ∷ rs) t) y)
-        (λ x. StandsPart (barrier_rib ∷ rs) e x) i
+        (λ x. StandsPart (barrier_rib ∷ rs) e x) i)
     Stands rs (tree.method_call_expr at e name es generics) i =
         StandsOverThree (λ receiver arguments g. hir.MethodCall receiver name g arguments) at
         (λ x. StandsPart rs e x) (λ is. StandsEach rs es is)

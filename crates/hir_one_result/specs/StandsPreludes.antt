@@ -29,7 +29,7 @@ use Rattle.hir_env.specs.Answered.{SelfFormal}
 use Rattle.hir_data.specs.Data.{PatData}
 use Rattle.hir_data.specs.Preludes.{HandedIn, by_name, by_its_name, by_made_name, handed_in, source_of}
 use Rattle.hir_one_result.specs.Forms.{no_macro, path_of_name}
-use Rattle.hir_one_result.specs.Leads.{Ways, No, OneBindingWay, OneUnled, OneWay, ◌&◌}
+use Rattle.hir_one_result.specs.Leads.{Ways, No, OneBindingWay, OneUnled, OneWay, OwnedBy, ◌&◌}
 use Rattle.hir_one_result.specs.StandsMade.{StoredParams}
 use Rattle.hir_one_result.specs.StandsParts.{ExprAt, StandsBefore}
 
@@ -114,13 +114,13 @@ module _ (store : Store) (source_map : SourceMap) where
     pub around : ExprAt store source_map coroutine (hir.Closure [] [] None block (closure.Coroutine kind from) capture.Ref) None
     pub inside : ExprAt store source_map block (hir.Block false None None lets (Some body)) None
 
-  -- The parameters that were written, what it returns, its body, and in front of that the `let`s; behind the coroutine what the outside
-  -- hands arguments to; and then the closure, which has the number behind the coroutine's.
+  -- The parameters that were written, what it returns, its body, and in front of that the `let`s, all of which the coroutine owns; behind
+  -- that what the outside hands arguments to; and then the closure, which has the number behind the coroutine's.
   abbrev pub StandsCoroutineClosure : Pointer → CoroutineKind → CaptureBy → List PatData → (StoredParams → Ways)
       → (Option TypeRefId → Ways) → (ExprId → Ways) → ExprId → Ways
   StandsCoroutineClosure at kind by ys P T B i = λ ws. (l : StoredParams) × (ret : Option TypeRefId) × (body : ExprId)
       × (xs : List Named) × (lets : List Statement) × (block : ExprId) × (coroutine : ExprId) × (formals : List PatId)
       × ExprAt store source_map i (hir.Closure formals l.1 ret coroutine (closure.CoroutineClosure kind) by) (Some at)
       × (suc coroutine.0 ≡ i.0) × IsCoroutine kind source.Closure lets body block coroutine
-      × ((P l & T ret & B body & StandsLets xs ys l.0 lets & OneUnled block & OneUnled coroutine)
+      × (OwnedBy coroutine (P l & T ret & B body & StandsLets xs ys l.0 lets & OneUnled block & OneUnled coroutine)
       & StandsHanded xs ys formals & OneWay at i) ws

@@ -238,7 +238,7 @@ pub record BindsTwice (store : Store) (q : PatId) (ws : List Way) : Type 0 where
   pub second_binds : slice_get store.pats second.0 ≡ Some (pat.Bind one None)
   pub made : made_for store one ≡ Some use_x
   pub shows : (x : Binding) → slice_get store.bindings one.0 ≡ Some x → x.problems ≡ Some BoundMoreThanOnce
-  pub ways : ws ≡ binding_way one ∷ []
+  pub ways : ws ≡ binding_way one None ∷ []
 
 -- `1 = 2`
 abbrev pub assign_one : Expr

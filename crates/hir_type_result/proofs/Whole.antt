@@ -83,6 +83,7 @@ type_results limit t i new is =
       covers = left.moved.covers;
       covers_labels = left.moved.covers_labels;
       covers_bindings = left.moved.covers_bindings;
+      owner_ways = (left.moved.owners refl).are;
       leads = left.moved.led [] (leads_nowhere refl refl refl refl);
       types_reached_once = λ depth le.
           types_once None t old new i none is new.stored stays depth le new.stored.exprs.entries refl new.stored.pats.entries refl;

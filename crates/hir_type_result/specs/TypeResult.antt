@@ -10,7 +10,7 @@ use Rattle.hir_lower_form.specs.Builder.{Builder, fresh}
 use Rattle.hir_lower_form.specs.Lower.{type_part}
 use Rattle.hir_same_meaning.specs.Reached.{Spread, of_each, reached_to}
 use Rattle.hir_one_result.specs.Definitions.{DefinitionsAre}
-use Rattle.hir_one_result.specs.Leads.{Way, Covers, CoversBindings, CoversLabels, MapLeads, LeadBack}
+use Rattle.hir_one_result.specs.Leads.{Way, Covers, CoversBindings, CoversLabels, MapLeads, LeadBack, OwnersAre}
 use Rattle.hir_meaning.specs.Inner.{part_bodies, type_inner_bodies}
 use Rattle.hir_meaning.specs.Same.{SameBodies}
 use Rattle.hir_one_result.specs.Blocks.{blocks_of_type_part}
@@ -32,7 +32,8 @@ use Rattle.hir_type_result.specs.Unrun.{unrun_in_type}
 -- lead anywhere. However deep one looks, the type, all expressions and all patterns together reach no type in two ways, types and
 -- expressions no pattern, and what the type holds and doesn't run no expression. Each binding is that of a name of a top pattern in these
 -- bodies, or of a name that is made up or that a parameter is handed in by, has the patterns that make it, and is owned by the innermost
--- closure, coroutine, `const` block, length or argument around it. The faults and the entered blocks are those of these bodies.
+-- closure, coroutine, `const` block, length or argument around it, as its way says and as it is counted. The faults and the entered
+-- blocks are those of these bodies.
 pub record TypeResult (store : Store) (source_map : SourceMap) (i : TypeRefId) (t : OptionType) : Type 0 where
   pub reads_back : stored_type store source_map i ≡ written_type t
   pub inner : SameBodies store source_map (type_inner_bodies store i) (part_bodies t)
@@ -57,6 +58,7 @@ pub record TypeResult (store : Store) (source_map : SourceMap) (i : TypeRefId) (
   pub covers : Covers ways 0 (length store.exprs)
   pub covers_labels : CoversLabels ways 0 (length store.labels)
   pub covers_bindings : CoversBindings ways 0 (length store.bindings)
+  pub owner_ways : OwnersAre store.binding_owners ways
   pub leads : MapLeads source_map ways
   pub types_reached_once : (depth : ℕ) → length store.types ≤ depth
       → let f = types_reached store.types depth in let l = of_types_alone f in
