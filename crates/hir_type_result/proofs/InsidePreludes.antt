@@ -29,7 +29,8 @@ use Rattle.hir_type_result.proofs.InsideAtOnce.{at_once_then}
 use Rattle.hir_type_result.proofs.InsideForms.{a_statement, block_less, contents, each, each_append}
 use Rattle.hir_type_result.proofs.InsidePats.{let_less, pats, pushed}
 use Rattle.hir_type_result.proofs.Weighed.{Adds, Cost, View, a_limit, a_pat, adds_any, adds_aside, adds_beside, adds_expr, adds_from}
-use Rattle.hir_type_result.proofs.Weighed.{adds_pat, adds_pat_beside, adds_pure, adds_then, an_expr, beside, free, in_expr, sum_append, view}
+use Rattle.hir_type_result.proofs.Weighed.{adds_pat, adds_pat_beside, adds_pure, adds_then, an_expr, beside, free, in_expr}
+use Rattle.hir_type_result.proofs.Weighed.{sum_append, view}
 
 -- ---- names that are handed in
 
