@@ -314,6 +314,36 @@ def coroutines(size):
     return nodes
 
 
+def preludes(size):
+    """Many chains of `async` closures with a parameter that is handed in between, each the body of the one around it."""
+    nodes, block = body()
+    while len(nodes.all) + 3 * CHAIN <= size:
+        nodes.statement(block)
+        for _ in range(CHAIN - 1):
+            here = nodes.add("ClosureExpr")
+            nodes.all[here]["async"] = True
+            param = nodes.add("Param")
+            nodes.all[here]["params"] = [param]
+            nodes.all[param]["pat"] = nodes.add("IdentPat", name="x", ref=True)
+            nodes.all[here]["body"] = param + 2
+        nodes.add("UnderscoreExpr")
+    return nodes
+
+
+def handed(size):
+    """One `async` closure with very many parameters, 100,000 of them at 200,000 nodes."""
+    nodes, block = body()
+    nodes.statement(block)
+    closure = nodes.add("ClosureExpr", params=[])
+    nodes.all[closure]["async"] = True
+    while len(nodes.all) + 3 <= size:
+        param = nodes.add("Param")
+        nodes.all[closure]["params"].append(param)
+        nodes.all[param]["pat"] = nodes.add("IdentPat", name="x")
+    nodes.all[closure]["body"] = nodes.add("UnderscoreExpr")
+    return nodes
+
+
 def owned(size):
     """One chain of closures as deep as a tree may be, around a block of very many bindings, 100,000 of them at 200,000 nodes."""
     nodes, block = body()
@@ -343,6 +373,8 @@ SHAPES = {
     "owners": owners,
     "coroutines": coroutines,
     "owned": owned,
+    "preludes": preludes,
+    "handed": handed,
     "segments": segments,
     "arguments": arguments,
     "constants": constants,

@@ -9,6 +9,7 @@ pub mod Targets
 pub mod Tops
 pub mod Yields
 pub mod Closures
+pub mod Preludes
 pub mod Reading
 pub mod BindingRule
 pub mod Lookup

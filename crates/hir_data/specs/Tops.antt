@@ -47,6 +47,7 @@ abbrev mutual
   expr_tops (tree.repeat_expr at e c) = tops_of e
   expr_tops (tree.const_expr at c) = []
   expr_tops (tree.closure_expr at by_move is_static ps t e) = params_tops ps
+  expr_tops (tree.coroutine_closure_expr at kind by_move ps t e) = params_tops ps
   expr_tops (tree.method_call_expr at e name es generics) = tops_of e ++ each_tops es
   expr_tops (tree.leaving_expr at form e) = tops_of e
   expr_tops (tree.become_expr at e) = tops_of e

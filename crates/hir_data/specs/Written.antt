@@ -340,6 +340,7 @@ abbrev mutual
   expr_site (tree.repeat_expr at e c) = Some (site_of at)
   expr_site (tree.const_expr at c) = Some (site_of at)
   expr_site (tree.closure_expr at by_move is_static ps t e) = Some (site_of at)
+  expr_site (tree.coroutine_closure_expr at kind by_move ps t e) = Some (site_of at)
   expr_site (tree.method_call_expr at e name es as') = Some (site_of at)
   expr_site (tree.leaving_expr at form e) = Some (site_of at)
   expr_site (tree.become_expr at e) = Some (site_of at)

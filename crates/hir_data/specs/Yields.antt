@@ -38,6 +38,7 @@ abbrev mutual
   expr_yields (tree.repeat_expr at e c) = yields_in e
   expr_yields (tree.const_expr at c) = false
   expr_yields (tree.closure_expr at by_move is_static ps t e) = false
+  expr_yields (tree.coroutine_closure_expr at kind by_move ps t e) = false
   expr_yields (tree.method_call_expr at e name es generics) = yields_in e || each_yields es
   expr_yields (tree.leaving_expr at form e) = yields_in e
   expr_yields (tree.become_expr at e) = yields_in e

@@ -141,9 +141,9 @@ module _ (env : Answers) where
   expr_at_is (ExprKind-F.ArrayExpr es) p s = λ j. tree.list_expr s tree.array_of (exprs_is rd.expr es p j)
   expr_at_is (ExprKind-F.RepeatExpr e n) p s = λ j.
       tree.repeat_expr s (expr_is rd.expr e p j) (tree.constant (expr_is rd.expr n (inside_constant p) j))
-  expr_at_is (ExprKind-F.ClosureExpr ps r e moves is_static) p s = λ j.
-      tree.closure_expr s moves is_static (closure_params_are rd.param ps p j) (answer_is rd.type_ r p j)
-      (expr_is rd.expr e (inside_closure p) j)
+  expr_at_is (ExprKind-F.ClosureExpr ps r e is_async is_gen moves is_static) p s = λ j.
+      of.closure_of (of.coroutine_kind is_async is_gen) s moves is_static (closure_params_are rd.param ps p j)
+      (answer_is rd.type_ r p j) (expr_is rd.expr e (inside_closure is_async p) j)
   expr_at_is (ExprKind-F.ReturnExpr e) p s = λ j. tree.leaving_expr s tree.returning (expr_is rd.expr e p j)
   expr_at_is (ExprKind-F.BecomeExpr e) p s = λ j. tree.become_expr s (expr_is rd.expr e p j)
   expr_at_is (ExprKind-F.YieldExpr e) p s = λ j. tree.yield_expr s (expr_is rd.expr e p j)

@@ -1,5 +1,5 @@
 -- The node of an answered expression is its own.
-use Rattle.std.proofs.Common.{◌≡◌, ◌∙◌, refl, ap, Option, Some, None, Result, Ok, Err, option_map}
+use Rattle.std.proofs.Common.{◌≡◌, ◌∙◌, refl, ap, true, false, Option, Some, None, Result, Ok, Err, option_map}
 use Rattle.hir_base.specs.declared.op.BinaryOp.TheVariants as op
 use Rattle.hir_syntax.specs.declared.ast.BlockModifier.{BlockModifier}
 use Rattle.hir_syntax.specs.declared.ast.BlockModifier.TheVariants as modifier
@@ -76,7 +76,10 @@ kept_pointer at (ExprKind-F.RefExpr r m e) s = refl
 kept_pointer at (ExprKind-F.TupleExpr comma es) s = refl
 kept_pointer at (ExprKind-F.ArrayExpr es) s = refl
 kept_pointer at (ExprKind-F.RepeatExpr e n) s = refl
-kept_pointer at (ExprKind-F.ClosureExpr ps r e moves is_static) s = refl
+kept_pointer at (ExprKind-F.ClosureExpr ps r e false false moves is_static) s = refl
+kept_pointer at (ExprKind-F.ClosureExpr ps r e true false moves is_static) s = refl
+kept_pointer at (ExprKind-F.ClosureExpr ps r e false true moves is_static) s = refl
+kept_pointer at (ExprKind-F.ClosureExpr ps r e true true moves is_static) s = refl
 kept_pointer at (ExprKind-F.ReturnExpr e) s = refl
 kept_pointer at (ExprKind-F.BecomeExpr e) s = refl
 kept_pointer at (ExprKind-F.YieldExpr e) s = refl

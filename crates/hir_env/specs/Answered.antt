@@ -300,6 +300,9 @@ mutual
     -- A closure: whether `move` and whether `static` stands in front of it, its parameters, what it returns, and its body, which is a
     -- body of its own.
     closure_expr : Pointer → Bool → Bool → Params → OptionType → OptionExpr → Expr
+    -- A closure with `async`, `gen` or both: which of these, whether `move` stands in front of it, its parameters, what it returns, and its
+    -- body, which is a coroutine.
+    coroutine_closure_expr : Pointer → CoroutineKind → Bool → Params → OptionType → OptionExpr → Expr
     method_call_expr : Pointer → OptionExpr → Name → Exprs → OptionArgs → Expr
     leaving_expr : Pointer → Leaving → OptionExpr → Expr
     become_expr : Pointer → OptionExpr → Expr

@@ -44,7 +44,7 @@ use Rattle.hir_env.specs.Layers.{RecordExprFieldListLayer, StmtLayer, MatchArmLa
 use Rattle.hir_env.specs.Answered as tree
 use Rattle.hir_env.specs.Answered.{Label, Jump, Path, Expr, OptionExpr, Exprs, RecordHead, Fields, Field, Spread, Block, OptionBlock}
 use Rattle.hir_env.specs.Answered.{Stmts, Stmt, Constant, Arms, Arm, Guard, IsWrittenLabel, OptionPat}
-use Rattle.hir_env.specs.Answered.{ForItems, QuestionItems}
+use Rattle.hir_env.specs.Answered.{ForItems, OptionType, Params, QuestionItems}
 
 -- names and labels
 
@@ -139,6 +139,19 @@ for_items items = for_items_if items.into_iter_into_iter items.iterator_next ite
 abbrev pub for_of : Option ForItems → Pointer → (label : Option Label) → IsWrittenLabel label → OptionPat → OptionExpr → OptionExpr → Expr
 for_of None s label w p h b = tree.itemless_expr s
 for_of (Some items) s label w p h b = tree.for_expr s items label w p h b
+
+-- closures and functions
+
+-- what `async` and `gen` make of a body
+abbrev pub coroutine_kind : Bool → Bool → Option CoroutineKind
+coroutine_kind false false = None
+coroutine_kind true false = Some coroutine.Async
+coroutine_kind false true = Some coroutine.Gen
+coroutine_kind true true = Some coroutine.AsyncGen
+
+abbrev pub closure_of : Option CoroutineKind → Pointer → Bool → Bool → Params → OptionType → OptionExpr → Expr
+closure_of None s moves is_static ps r e = tree.closure_expr s moves is_static ps r e
+closure_of (Some kind) s moves is_static ps r e = tree.coroutine_closure_expr s kind moves ps r e
 
 -- blocks
 
@@ -302,9 +315,9 @@ module _ (env : Answers) {S : Sorts} (part : Reader S) where
   expr_at (ExprKind-F.ArrayExpr es) p s = tree.list_expr s tree.array_of (exprs_of part.expr es p)
   expr_at (ExprKind-F.RepeatExpr e n) p s = tree.repeat_expr s (expr_or_none part.expr e p) (constant_step env part n p)
   -- the parameters and what it returns are read outside of it
-  expr_at (ExprKind-F.ClosureExpr ps r e moves is_static) p s =
-      tree.closure_expr s moves is_static (closure_params_or_none part.param ps p) (answer_or_none (ret_type_step env part) r p)
-      (expr_or_none part.expr e (inside_closure p))
+  expr_at (ExprKind-F.ClosureExpr ps r e is_async is_gen moves is_static) p s =
+      closure_of (coroutine_kind is_async is_gen) s moves is_static (closure_params_or_none part.param ps p)
+      (answer_or_none (ret_type_step env part) r p) (expr_or_none part.expr e (inside_closure is_async p))
   expr_at (ExprKind-F.ReturnExpr e) p s = tree.leaving_expr s tree.returning (expr_or_none part.expr e p)
   expr_at (ExprKind-F.BecomeExpr e) p s = tree.become_expr s (expr_or_none part.expr e p)
   expr_at (ExprKind-F.YieldExpr e) p s = tree.yield_expr s (expr_or_none part.expr e p)

@@ -118,6 +118,7 @@ abbrev mutual
   count_expr (tree.repeat_expr at e c) = suc (count_option_expr e + count_constant c)
   count_expr (tree.const_expr at c) = suc (count_constant c)
   count_expr (tree.closure_expr at moves is_static ps r e) = suc (count_params ps + (count_option_type r + count_option_expr e))
+  count_expr (tree.coroutine_closure_expr at kind moves ps r e) = suc (count_params ps + (count_option_type r + count_option_expr e))
   count_expr (tree.method_call_expr at e name es as') = suc (count_option_expr e + (count_exprs es + count_option_args as'))
   count_expr (tree.leaving_expr at form e) = suc (count_option_expr e)
   count_expr (tree.become_expr at e) = suc (count_option_expr e)

@@ -121,9 +121,10 @@ inside_coroutine coroutine.Async p = record p { await_location = None }
 inside_coroutine coroutine.Gen p = record p { await_location = Some location.NonAsyncGenBlock }
 inside_coroutine coroutine.AsyncGen p = record p { await_location = None }
 
--- Inside of the body of a closure, which is what an `await` there stands in.
-abbrev pub inside_closure : Place → Place
-inside_closure p = record p { await_location = Some location.NonAsyncClosure }
+-- Inside of the body of a closure, which is what an `await` there stands in, where the closure isn't async.
+abbrev pub inside_closure : Bool → Place → Place
+inside_closure true p = record p { await_location = None }
+inside_closure false p = record p { await_location = Some location.NonAsyncClosure }
 
 -- segments
 

@@ -43,6 +43,7 @@ pointer_of (tree.list_expr at form es) = at
 pointer_of (tree.repeat_expr at e c) = at
 pointer_of (tree.const_expr at c) = at
 pointer_of (tree.closure_expr at moves is_static ps r e) = at
+pointer_of (tree.coroutine_closure_expr at kind moves ps r e) = at
 pointer_of (tree.method_call_expr at e name es as') = at
 pointer_of (tree.leaving_expr at form e) = at
 pointer_of (tree.become_expr at e) = at

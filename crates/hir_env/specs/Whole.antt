@@ -332,9 +332,9 @@ try_level at b =
 abbrev pub in_const_block : Spot → Spot
 in_const_block at = record at { place = inside_const_block at.place }
 
--- the spot inside of the body of a closure
-abbrev pub in_closure : Spot → Spot
-in_closure at = record at { place = inside_closure at.place }
+-- the spot inside of the body of a closure, which is async or isn't
+abbrev pub in_closure : Bool → Spot → Spot
+in_closure is_async at = record at { place = inside_closure is_async at.place }
 
 abbrev pub const_level : Spot → AstBlockExpr → Expr
 const_level at b =

@@ -1,22 +1,34 @@
--- The steps of a body behind its parameters.
-use Rattle.std.proofs.Common.{◌≡◌, ◌∙◌, refl, sym, ap, ℕ, Bool, true, false, [], ◌∷◌, ◌++◌, Option, Some, None, Result, Ok, Err}
+-- The steps of a body as a root.
+use Rattle.std.proofs.Common.{◌≡◌, ◌∙◌, refl, sym, ap, subst, ℕ, Bool, true, false, [], ◌∷◌, ◌++◌, Option, Some, None, Result, Ok, Err}
 use Rattle.hir_store.specs.Pointers.{Pointer}
-use Rattle.hir_store.specs.Stored.{store_of}
+use Rattle.hir_store.specs.Stored.{Stored, store_of}
 use Rattle.hir_store.specs.Storing as storing
-use Rattle.hir_store.specs.Storing.{root_at}
+use Rattle.hir_store.specs.Storing.{Extends, root_at}
 use Rattle.hir_store.specs.declared.diagnostics.MissingBodyItemKind.{MissingBodyItemKind}
 use Rattle.hir_store.specs.declared.fault.StoreFault.{StoreFault}
+use Rattle.hir_store.specs.declared.hir.CoroutineKind.{CoroutineKind}
 use Rattle.hir_store.specs.declared.ids.ExprId.{ExprId}
 use Rattle.hir_env.specs.Answered.{Formals, OptionExpr}
 use Rattle.hir_lower_form.specs.Builder.{Builder}
 use Rattle.hir_lower_form.specs.Lowering.{Checked, Lowering, ◌>>=◌, go_on, close_labels, enter_root, outside_root, pure, record_root}
 use Rattle.hir_lower_form.specs.Lowering.{report}
 use Rattle.hir_lower_form.specs.Lower.{lower_part}
-use Rattle.hir_one_result.specs.Formals.{lower_body}
+use Rattle.hir_steps.specs.Keeps.{Paired}
+use Rattle.hir_steps.proofs.Frames.{frames, ribs_frames}
+use Rattle.hir_steps.proofs.Steps.{Correct, Holds, Rel, mark}
+use Rattle.hir_one_result.specs.Formals.{lower_body, lower_formals, plain_body}
 use Rattle.hir_one_result.specs.OneResult.{fresh_owing}
-use Rattle.hir_lower.specs.Formals.{Given, lower_formals}
-use Rattle.hir_lower.specs.Means.{body_fault, missing_fault, owed_faults, unless_skipped}
+use Rattle.hir_lower.specs.Formals.{Given, Received}
+use Rattle.hir_lower.specs.Means.{body_fault, kind_unless_skipped, missing_fault, owed_faults, unless_skipped}
 use Rattle.hir_lower.specs.Roots.{behind, body_of, fresh, report_missing}
+
+-- what a step that is correct answers
+pub answered : {A : Type 0} {p : Lowering A} {R : Rel A} → Correct p R → (o o' : Builder) (a : A) → Paired o.stored → p o ≡ (Ok a, o')
+    → (final : Stored) → Extends o'.stored final → R final (frames o.scopes) (mark o) (mark o') a
+answered {R = R} h o o' a d e final x =
+    let ps = frames o.scopes in
+    let held : Holds R final ps o (Ok a) o' = subst (λ r. Holds R final ps o r.0 r.1) e (h.holds final ps o (ribs_frames o.scopes)) in
+    held.in_final d x
 
 -- inside of a root no label is open
 abbrev pub closed : Builder → Builder
@@ -28,24 +40,8 @@ rooted b i = record b {
   in_root = false;
 }
 
-pub record Steps (skipped : Bool) (f : Formals) (e : OptionExpr) (b : Builder) (given : Given) (i : ExprId) (b' : Builder) : Type 0 where
-  pub middle : Builder
-  pub inner : Builder
-  pub formals : lower_formals skipped f (closed b) ≡ (Ok given, middle)
-  pub body : lower_part e middle ≡ (Ok i, inner)
-  pub left : rooted inner i ≡ b'
-
-abbrev ended : Given → ExprId → Lowering (Given × ExprId)
-ended given i = λ t. (Ok (given, i), rooted t i)
-
-abbrev together : Given → ExprId → Lowering (Given × ExprId)
-together given i = pure (given, i)
-
 ok_same : {A E : Type 0} (a c : A) → ◌≡◌ {A = Result A E} (Ok a) (Ok c) → a ≡ c
 ok_same a c h = cc
-
-both_same : {A B E : Type 0} (a c : A) (x y : B) → ◌≡◌ {A = Result (A × B) E} (Ok (a, x)) (Ok (c, y)) → (a ≡ c) × (x ≡ y)
-both_same a c x y h = let same = ok_same (a, x) (c, y) h in (ap (λ q. q.0) same, ap (λ q. q.1) same)
 
 not_refused : {A E : Type 0} (e : E) (a : A) → ◌≡◌ {A = Result A E} (Err e) (Ok a) → ⊥
 not_refused e a h = cc
@@ -53,72 +49,92 @@ not_refused e a h = cc
 err_same : {A E : Type 0} (e x : E) → ◌≡◌ {A = Result A E} (Err e) (Err x) → e ≡ x
 err_same e x h = cc
 
-module _ (skipped : Bool) (f : Formals) (e : OptionExpr) (b : Builder) where
-  abbrev Ending : Type 0
-  Ending = Checked (Given × ExprId) × Builder
+abbrev Ending : Type 0
+Ending = Checked (Given × ExprId) × Builder
 
-  abbrev own : Checked Given × Builder
-  own = lower_formals skipped f (closed b)
+pub record Steps (body : Lowering (Given × ExprId)) (b : Builder) (given : Given) (i : ExprId) (b' : Builder) : Type 0 where
+  pub inner : Builder
+  pub lowered : body (closed b) ≡ (Ok (given, i), inner)
+  pub left : rooted inner i ≡ b'
 
-  pub steps : (b' : Builder) (given : Given) (i : ExprId) → behind (lower_formals skipped f) e b ≡ (Ok (given, i), b')
-      → Steps skipped f e b given i b'
+module _ (body : Lowering (Given × ExprId)) (b : Builder) where
+  abbrev ended : Given × ExprId → Lowering (Given × ExprId)
+  ended r = λ t. (Ok r, rooted t r.1)
+
+  pub steps : (b' : Builder) (given : Given) (i : ExprId) → behind body b ≡ (Ok (given, i), b') → Steps body b given i b'
   unfolding behind close_labels enter_root record_root outside_root storing.record_root
-  steps b' given i h = first own.0 own.1 refl h
+  steps b' given i h = by (body (closed b)).0 (body (closed b)).1 refl h
     where
-      second : (g : Given) (c : Builder) → own ≡ (Ok g, c) → (o : Checked ExprId) (d : Builder) → lower_part e c ≡ (o, d)
-          → go_on o d (ended g) ≡ (Ok (given, i), b') → Steps skipped f e b given i b'
-      second g c own_is (Ok j) d is k =
-          let same = both_same g given j i (ap (λ (q : Ending). q.0) k) in
-          let end = ap (λ (q : Ending). q.1) k in record {
-            middle = c;
-            inner = d;
-            formals = own_is ∙ ap (λ x. (Ok x, c)) same.0;
-            body = is ∙ ap (λ x. (Ok x, d)) same.1;
-            left = sym (ap (rooted d) same.1) ∙ end;
+      by : (o : Checked (Given × ExprId)) (c : Builder) → body (closed b) ≡ (o, c) → go_on o c ended ≡ (Ok (given, i), b')
+          → Steps body b given i b'
+      by (Ok r) c is k =
+          let same : r ≡ (given, i) = ok_same r (given, i) (ap (λ (q : Ending). q.0) k) in
+          let end : rooted c r.1 ≡ b' = ap (λ (q : Ending). q.1) k in record {
+            inner = c;
+            lowered = is ∙ ap (λ x. (Ok x, c)) same;
+            left = sym (ap (λ x. rooted c x.1) same) ∙ end;
           }
-      second g c own_is (Err x) d is k = absurd (not_refused x (given, i) (ap (λ (q : Ending). q.0) k))
+      by (Err x) c is k = absurd (not_refused x (given, i) (ap (λ (q : Ending). q.0) k))
 
-      first : (o : Checked Given) (c : Builder) → own ≡ (o, c) → go_on o c (λ g. lower_part e >>= ended g) ≡ (Ok (given, i), b')
-          → Steps skipped f e b given i b'
-      first (Ok g) c own_is k = second g c own_is (lower_part e c).0 (lower_part e c).1 refl k
+  -- where they are refused so is the body
+  pub refused : (b' : Builder) (x : StoreFault) → behind body b ≡ (Err x, b') → (body (closed b)).0 ≡ Err x
+  unfolding behind close_labels enter_root record_root outside_root storing.record_root
+  refused b' x h = by (body (closed b)).0 (body (closed b)).1 h
+    where
+      by : (o : Checked (Given × ExprId)) (c : Builder) → go_on o c ended ≡ (Err x, b') → o ≡ Err x
+      by (Ok r) c k = absurd (not_refused x r (sym (ap (λ (q : Ending). q.0) k)))
+      by (Err y) c k = ap Err (err_same y x (ap (λ (q : Ending). q.0) k))
+
+-- ---- a body that is no coroutine, behind its parameters
+
+pub record PlainSteps (skipped : Bool) (f : Formals) (e : OptionExpr) (b : Builder) (given : Given) (i : ExprId) (b' : Builder)
+    : Type 0 where
+  pub received : Received
+  pub middle : Builder
+  pub formals : lower_formals skipped f b ≡ (Ok received, middle)
+  pub body : lower_part e middle ≡ (Ok i, b')
+  pub is : given ≡ (received, received)
+
+abbrev together : Received → ExprId → Lowering (Given × ExprId)
+together r i = pure ((r, r), i)
+
+module _ (skipped : Bool) (f : Formals) (e : OptionExpr) (b : Builder) where
+  pub plain_steps : (b' : Builder) (given : Given) (i : ExprId) → plain_body skipped f e b ≡ (Ok (given, i), b')
+      → PlainSteps skipped f e b given i b'
+  unfolding plain_body
+  plain_steps b' given i h = first (lower_formals skipped f b).0 (lower_formals skipped f b).1 refl h
+    where
+      second : (r : Received) (c : Builder) → lower_formals skipped f b ≡ (Ok r, c) → (o : Checked ExprId) (d : Builder)
+          → lower_part e c ≡ (o, d) → go_on o d (together r) ≡ (Ok (given, i), b') → PlainSteps skipped f e b given i b'
+      second r c own_is (Ok j) d is k =
+          let same : ((r, r), j) ≡ (given, i) = ok_same ((r, r), j) (given, i) (ap (λ (q : Ending). q.0) k) in
+          let end : d ≡ b' = ap (λ (q : Ending). q.1) k in record {
+            received = r;
+            middle = c;
+            formals = own_is;
+            body = is ∙ (λ x. (Ok (same x).1, end x));
+            is = sym (ap (λ (x : Given × ExprId). x.0) same);
+          }
+      second r c own_is (Err x) d is k = absurd (not_refused x (given, i) (ap (λ (q : Ending). q.0) k))
+
+      first : (o : Checked Received) (c : Builder) → lower_formals skipped f b ≡ (o, c)
+          → go_on o c (λ r. lower_part e >>= together r) ≡ (Ok (given, i), b') → PlainSteps skipped f e b given i b'
+      first (Ok r) c own_is k = second r c own_is (lower_part e c).0 (lower_part e c).1 refl k
       first (Err x) c own_is k = absurd (not_refused x (given, i) (ap (λ (q : Ending). q.0) k))
 
-  -- which are those of the body as it is lowered inside of the root
-  pub lowered : (b' : Builder) (given : Given) (i : ExprId) (s : Steps skipped f e b given i b')
-      → lower_body skipped f e (closed b) ≡ (Ok (given, i), s.inner)
-  unfolding lower_body
-  lowered b' given i s =
-      ap (λ (q : Checked Given × Builder). go_on q.0 q.1 (λ g. lower_part e >>= together g)) s.formals
-      ∙ ap (λ (q : Checked ExprId × Builder). go_on q.0 q.1 (together given)) s.body
+-- ---- the body of an item, from nothing
 
-  -- and where they are refused so is the body
-  pub refused : (b' : Builder) (x : StoreFault) → behind (lower_formals skipped f) e b ≡ (Err x, b')
-      → (lower_body skipped f e (closed b)).0 ≡ Err x
-  unfolding lower_body behind close_labels enter_root record_root outside_root storing.record_root
-  refused b' x h = first own.0 own.1 h
-    where
-      second : (g : Given) (o : Checked ExprId) (d : Builder) → go_on o d (ended g) ≡ (Err x, b')
-          → (go_on o d (together g)).0 ≡ Err x
-      second g (Ok j) d k = absurd (not_refused x (g, j) (sym (ap (λ (q : Ending). q.0) k)))
-      second g (Err y) d k = ap Err (err_same y x (ap (λ (q : Ending). q.0) k))
-
-      first : (o : Checked Given) (c : Builder) → go_on o c (λ g. lower_part e >>= ended g) ≡ (Err x, b')
-          → (go_on o c (λ g. lower_part e >>= together g)).0 ≡ Err x
-      first (Ok g) c k = second g (lower_part e c).0 (lower_part e c).1 k
-      first (Err y) c k = ap Err (err_same y x (ap (λ (q : Ending). q.0) k))
-
--- the body of an item, from nothing
-
-pub item_is : (skipped : Bool) (node : Pointer) (k : Option MissingBodyItemKind) (f : Formals) (e : OptionExpr) (limit : ℕ)
-    → body_of skipped node k f e (fresh limit)
-    ≡ behind (lower_formals skipped f) (unless_skipped skipped e) (fresh_owing limit (owed_faults skipped node k e))
+pub item_is : (kind : Option CoroutineKind) (skipped : Bool) (node : Pointer) (k : Option MissingBodyItemKind) (f : Formals)
+    (e : OptionExpr) (limit : ℕ) → body_of kind skipped node k f e (fresh limit)
+    ≡ behind (lower_body (kind_unless_skipped skipped kind) skipped f (unless_skipped skipped e))
+    (fresh_owing limit (owed_faults skipped node k e))
 unfolding body_of report_missing report storing.report
-item_is true node k f e limit = refl
-item_is false node k f e limit = by (body_fault k e)
+item_is kind true node k f e limit = refl
+item_is kind false node k f e limit = by (body_fault k e)
   where
     by : (fault : Option MissingBodyItemKind)
         → go_on (report_missing node fault (fresh limit)).0 (report_missing node fault (fresh limit)).1
-        (λ u. behind (lower_formals false f) e)
-        ≡ behind (lower_formals false f) e (fresh_owing limit (missing_fault node fault))
+        (λ u. behind (lower_body kind false f e))
+        ≡ behind (lower_body kind false f e) (fresh_owing limit (missing_fault node fault))
     by None = refl
     by (Some fault) = refl

@@ -1,6 +1,7 @@
 -- What is lowered as a root is what is written.
 use Rattle.std.proofs.Common.{◌≡◌, ◌≢◌, ◌∙◌, refl, sym, ap, subst, suc, true, length, [], ◌∷◌, ◌++◌, Ok, Err}
 use Rattle.std.specs.Prelude.{IfOk, IsErrOf}
+use Rattle.std.proofs.Math.Logic.{∥∥₁_map}
 use Rattle.hir_store.specs.Bindings.{binding_id}
 use Rattle.hir_store.specs.Stored.{Stored, store_of, map_of}
 use Rattle.hir_store.specs.Storing as storing
@@ -24,15 +25,19 @@ use Rattle.hir_steps.proofs.Keeping.{apart_by, keeping}
 use Rattle.hir_steps.proofs.Owning.{with_owned}
 use Rattle.hir_same_meaning.specs.Headline.{Lowered}
 use Rattle.hir_same_meaning.proofs.Whole.{headline}
+use Rattle.hir_steps.proofs.Formals.{apart_in, apart_now}
 use Rattle.hir_one_result.specs.Laws.{FitsUnless, Grown, MayBeOwned, Settled}
 use Rattle.hir_one_result.specs.Room.{TooLarge, size_part}
 use Rattle.hir_one_result.specs.Size.{owned}
 use Rattle.hir_one_result.specs.Diagnostics.{forget}
+use Rattle.hir_one_result.specs.Leads.{OwnedBy}
 use Rattle.hir_one_result.specs.Stands.{StandsPart}
 use Rattle.hir_one_result.proofs.Last.{EndsWith}
 use Rattle.hir_one_result.proofs.LastTree.{part_last}
 use Rattle.hir_one_result.proofs.Owners.{last_owns}
-use Rattle.hir_one_result.proofs.TreeStands.{all_stand}
+use Rattle.hir_one_result.proofs.AllStand.{all_stand, part_shown}
+use Rattle.hir_one_result.proofs.Leading.{Shown}
+use Rattle.hir_one_result.proofs.OwnedWays.{shown_owned}
 use Rattle.hir_one_result.proofs.TreeFaults.{diagnostics_are}
 use Rattle.hir_one_result.proofs.TreeBlocks.{blocks_are}
 use Rattle.hir_one_result.proofs.Fits.{all_fit}
@@ -130,17 +135,18 @@ may_be_owned_if e b b' (Err x) l m = tt
 
 -- where there is no room
 
-root_too_large : (e : OptionExpr) (b b' : Builder) (x : StoreFault) → root_of e b ≡ (Err x, b') → TooLarge b e
-root_too_large e b b' x h = by (lower_part e (closed b)).0 (lower_part e (closed b)).1 (all_fit e (closed b)) (sym (root_steps e b) ∙ h)
+root_too_large : (e : OptionExpr) (b b' : Builder) (x : StoreFault) → Paired b.stored → root_of e b ≡ (Err x, b') → TooLarge b e
+root_too_large e b b' x d h =
+    by (lower_part e (closed b)).0 (lower_part e (closed b)).1 (all_fit e (closed b) d) (sym (root_steps e b) ∙ h)
   where
     by : (o : Checked ExprId) (c : Builder) → FitsUnless e b o c → go_on o c (recorded (first b)) ≡ (Err x, b') → TooLarge b e
     by (Ok i) c f g = let no = ap (λ (q : Checked ExprId × Builder). q.0) g in cc
     by (Err y) c f g = f
 
-pub too_large_if : (e : OptionExpr) (b b' : Builder) (r : Checked ExprId) → Lowers HasExpr (root_of e) b r b'
+pub too_large_if : (e : OptionExpr) (b b' : Builder) (r : Checked ExprId) → Lowers HasExpr (root_of e) b r b' → Paired b.stored
     → IsErrOf r Full → TooLarge b e
-too_large_if e b b' (Ok i) l is = cc
-too_large_if e b b' (Err x) l is = let other : x ≢ Memory = λ m. cc in root_too_large e b b' x (l other).0
+too_large_if e b b' (Ok i) l d is = cc
+too_large_if e b b' (Err x) l d is = let other : x ≢ Memory = λ m. cc in root_too_large e b b' x d (l other).0
 
 -- a root
 
@@ -165,14 +171,35 @@ parts e b b' i h = by (lower_part e (closed b)).0 (lower_part e (closed b)).1 re
 -- what is so of an expression inside of a root, where no label is open
 module _ (e : OptionExpr) (b inner : Builder) (i : ExprId) (none_open : b.scopes ≡ []) (paired : Paired b.stored)
     (is : lower_part e b ≡ (Ok i, inner)) where
-  pub lives_inside : (later : Stored) → Extends inner.stored later → Settled inner.stored later → Lives b.stored inner.stored later i e
-  lives_inside later ext still =
+  -- what stands for it once it owns what is bound in it
+  owns_inside : (later : Stored) → Extends inner.stored later → Settled inner.stored later
+      → Shown (OwnedBy i (StandsPart (store_of later) (map_of later) [] e i)) b.stored (with_owned (first b) i inner.stored)
+  owns_inside later ext still =
+      let x = subst (λ rs. Shown (StandsPart (store_of later) (map_of later) rs e i) b.stored inner.stored) none_open
+      (part_shown e b i inner paired is later ext still) in
+      shown_owned (first b) i refl x refl
+
+  lives_inside : (later : Stored) → Extends inner.stored later → Settled inner.stored later → MayBeOwned b.stored
+      → Lives b.stored (with_owned (first b) i inner.stored) later i e
+  lives_inside later ext still may =
       let lowered : Lowered e b i inner = record { none_open = none_open; paired = paired; is = is } in
-      let standing = all_stand e b i inner paired is later ext still in record {
+      let owns = owns_inside later ext still in
+      let m = owns.moved in
+      record {
         same = headline e b inner i lowered later ext;
-        ways = standing.ways;
-        stands = subst (λ rs. StandsPart (store_of later) (map_of later) rs e i standing.ways) none_open standing.stands;
-        reaches = standing.reaches;
+        ways = owns.ways;
+        stands = owns.shown;
+        reaches = record {
+          covers = m.covers;
+          covers_labels = m.covers_labels;
+          covers_bindings = m.covers_bindings;
+          led = m.led;
+          labels = m.labels;
+          settled = (all_stand e b i inner paired is later ext still).reaches.settled;
+          defined = m.defined;
+          owner_ways = λ may. (m.owners may).are;
+        };
+        owner_ways = (m.owners may).are;
         reached_once = λ depth le. expr_inside e b inner i lowered later ext depth le;
         types_reached_once = expr_types_once e b inner i paired is later ext;
         pats_reached_once = expr_pats_once e b inner i paired is later ext;
@@ -186,7 +213,7 @@ module _ (e : OptionExpr) (b inner : Builder) (i : ExprId) (none_open : b.scopes
   owned_inside =
       let size = size_part e in
       let start = length b.stored.bindings.entries in
-      let fits : Grown size b.stored inner.stored = subst (λ r. FitsUnless e b r.0 r.1) is (all_fit e b) in
+      let fits : Grown size b.stored inner.stored = subst (λ r. FitsUnless e b r.0 r.1) is (all_fit e b paired) in
       let last : suc i.0 ≡ length inner.stored.exprs.entries =
       subst (λ (r : Checked ExprId × Builder). EndsWith (λ j. j) r.0 r.1) is ((part_last e).last b) in
       record {
@@ -200,6 +227,7 @@ module _ (e : OptionExpr) (b inner : Builder) (i : ExprId) (none_open : b.scopes
         types = fits.types;
         lifetimes = fits.lifetimes;
         pat_sources = fits.pat_sources;
+        pat_ways = fits.pat_ways;
         type_sources = fits.type_sources;
         lifetime_sources = fits.lifetime_sources;
       }
@@ -213,7 +241,7 @@ module _ (e : OptionExpr) (b inner : Builder) (i : ExprId) (none_open : b.scopes
       let after = kept.paired paired in
       record {
         lives = λ later x still.
-            let live = lives_inside later (extends_trans (recorded_extends (first b) inner i) x) still in record {
+            let live = lives_inside later (extends_trans (recorded_extends (first b) inner i) x) still may in record {
               same = live.same;
               ways = live.ways;
               stands = live.stands;
@@ -225,7 +253,9 @@ module _ (e : OptionExpr) (b inner : Builder) (i : ExprId) (none_open : b.scopes
                 labels = live.reaches.labels;
                 settled = live.reaches.settled;
                 defined = live.reaches.defined;
+                owner_ways = live.reaches.owner_ways;
               };
+              owner_ways = live.owner_ways;
               reached_once = live.reached_once;
               types_reached_once = live.types_reached_once;
               pats_reached_once = live.pats_reached_once;
@@ -240,6 +270,7 @@ module _ (e : OptionExpr) (b inner : Builder) (i : ExprId) (none_open : b.scopes
           types = fits.types;
           lifetimes = fits.lifetimes;
           pat_sources = fits.pat_sources;
+          pat_ways = fits.pat_ways;
           type_sources = fits.type_sources;
           lifetime_sources = fits.lifetime_sources;
         };
@@ -272,13 +303,18 @@ rooted_if e b b' (Ok i) l d m = root_rooted e b b' i d m l.0
 rooted_if e b b' (Err f) l d m = tt
 
 -- made names stay apart
-pub apart_if : (e : OptionExpr) (b b' : Builder) (r : Checked ExprId) → Lowers HasExpr (root_of e) b r b' → Paired b.stored
-    → MadeApart b.names b.stored → IfOk r (λ i. MadeApart b'.names b'.stored)
-apart_if e b b' (Ok i) l d m =
-    let p : Parts e b i b' = parts e b b' i l.0 in
+root_apart : (e : OptionExpr) (b b' : Builder) (i : ExprId) → root_of e b ≡ (Ok i, b') → Paired b.stored → MadeApart b.names b.stored
+    → MadeApart b'.names b'.stored
+root_apart e b b' i h d m =
+    let p : Parts e b i b' = parts e b b' i h in
     let kept : MadeApart p.inner.names p.inner.stored = apart_by (part_apart e) (closed b) p.inner i d p.is m in
+    let stands = apart_in (recorded_extends (first b) p.inner i) kept in
     let P : Builder → Type 0 = λ x. MadeApart x.names x.stored in
-    subst P p.left (record { once = kept.once; later = kept.later })
+    subst P p.left (apart_now (record { once = stands.once; later = stands.later }))
+
+pub apart_if : (e : OptionExpr) (b b' : Builder) (r : Checked ExprId) → Lowers HasExpr (root_of e) b r b' → Paired b.stored
+    → ∥ MadeApart b.names b.stored ∥₁ → IfOk r (λ i. ∥ MadeApart b'.names b'.stored ∥₁)
+apart_if e b b' (Ok i) l d m = ∥∥₁_map m (root_apart e b b' i l.0 d)
 apart_if e b b' (Err f) l d m = tt
 
 -- after a root all is closed again

@@ -8,7 +8,7 @@ use Rattle.hir_env.specs.Answered.{Formal, Formals, SelfFormal}
 use Rattle.hir_lower_form.specs.Builder.{Builder}
 use Rattle.hir_lower_form.specs.Forms.{some}
 use Rattle.hir_lower_form.specs.Lowering.{Lowering}
-use Rattle.hir_meaning.specs.Inner.{Bodies, all_of, pat_part_bodies}
+use Rattle.hir_meaning.specs.Inner.{Bodies, all_of, pat_part_bodies, tops_bodies}
 use Rattle.hir_read_back.proofs.Layers.{Pushed}
 use Rattle.hir_steps.specs.Keeps.{Paired}
 use Rattle.hir_steps.proofs.Frames.{Frame}
@@ -20,8 +20,8 @@ use Rattle.hir_same_meaning.proofs.HeldTree.{top_holds}
 use Rattle.hir_same_meaning.proofs.Holding.{Holds, SameIn, a_pat, each, holds_behind, holds_none, holds_one, inners_in, maybe, none_held}
 use Rattle.hir_same_meaning.proofs.Holding.{same_ids}
 use Rattle.hir_one_result.proofs.AfterLowering.{after_lowering}
-use Rattle.hir_lower.specs.Formals.{Given, each_formal, formals_read, lower_formal, lower_formals, lower_self}
-use Rattle.hir_lower.specs.Means.{pats_inner_bodies, tops_bodies}
+use Rattle.hir_lower.specs.Formals.{Received, each_formal, formals_read, lower_formal, lower_formals, lower_self}
+use Rattle.hir_lower.specs.Means.{pats_inner_bodies}
 
 abbrev pub read_bodies : Bool → List Formal → Bodies
 read_bodies skipped fs = tops_bodies (formals_read skipped fs)
@@ -51,7 +51,7 @@ bodies_apart true (tree.fault_formal at) fs = refl
 bodies_apart false (tree.formal p) fs = refl
 bodies_apart false (tree.fault_formal at) fs = refl
 
-each_hold : (skipped : Bool) (fs : List Formal) (done : List PatId)
+pub each_hold : (skipped : Bool) (fs : List Formal) (done : List PatId)
     → Correct (each_formal skipped done fs) (Pushed done (Holds (each a_pat) (read_bodies skipped fs)))
 each_hold skipped [] done = none_held a_pat done
 each_hold skipped (f ∷ fs) done =
@@ -63,14 +63,14 @@ self_any tree.no_self = pure_any None
 self_any (tree.disabled_self at by) = then_any (any (correct_report _)) (λ u. pure_any None)
 self_any (tree.self_formal at u _) = then_any (any (correct_alloc_binding _)) (λ i. pure_any (Some i))
 
-record GivenHolds (es : Bodies) (final : Stored) (ps : List Frame) (m m' : Mark) (given : Given) : Type 0 where
-  same : (d : ℕ) → m'.nodes + m'.entries ≤ d → SameIn final (all_of (inners_in final d).pat given.1) es
+record ReceivedHolds (es : Bodies) (final : Stored) (ps : List Frame) (m m' : Mark) (received : Received) : Type 0 where
+  same : (d : ℕ) → m'.nodes + m'.entries ≤ d → SameIn final (all_of (inners_in final d).pat received.1) es
 
-given_holds : (skipped : Bool) (f : Formals) → Correct (lower_formals skipped f) (GivenHolds (read_bodies skipped f.formals))
+received_holds : (skipped : Bool) (f : Formals) → Correct (lower_formals skipped f) (ReceivedHolds (read_bodies skipped f.formals))
 unfolding lower_formals
-given_holds skipped f =
+received_holds skipped f =
     correct_as (correct_bind (self_any f.receiver) (λ s. correct_bind (each_hold skipped f.formals []) (λ ids. correct_pure (s, ids))))
-    (λ final ps m m' given g row.
+    (λ final ps m m' received g row.
     let own = row.second in
     let made = own.first in
     rw (own.second.is, own.second.still) (record {
@@ -78,10 +78,13 @@ given_holds skipped f =
     }))
 
 -- looked into past all that there is
-pub bodies_inside : (skipped : Bool) (f : Formals) (b b' : Builder) (given : Given) → Paired b.stored
-    → lower_formals skipped f b ≡ (Ok given, b') → (final : Stored) → Extends b'.stored final
-    → SameIn final (pats_inner_bodies (store_of final) given.1) (read_bodies skipped f.formals)
+pub bodies_inside : (skipped : Bool) (f : Formals) (b b' : Builder) (received : Received) → Paired b.stored
+    → lower_formals skipped f b ≡ (Ok received, b') → (final : Stored) → Extends b'.stored final
+    → SameIn final (pats_inner_bodies (store_of final) received.1) (read_bodies skipped f.formals)
 unfolding pats_inner_bodies
-bodies_inside skipped f b b' given d is final stays =
-    let r = after_lowering (correct_in_store (given_holds skipped f)) b given b' d is final stays in
+bodies_inside skipped f b b' received d is final stays =
+    let r = after_lowering (correct_in_store (received_holds skipped f)) b received b' d is final stays in
     r.rel.same _ (omega (arith, r.nodes, r.entries))
+
+pub received_any : (skipped : Bool) (f : Formals) → Correct (lower_formals skipped f) Any
+received_any skipped f = any (received_holds skipped f)

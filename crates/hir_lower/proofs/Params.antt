@@ -1,265 +1,314 @@
--- The parameters of a body are read back as they are written.
-use Rattle.std.proofs.Common.{◌≡◌, ◌≤◌, ◌∙◌, refl, sym, ap, subst, ℕ, Bool, true, false, nat_lt, length, map, append-nil}
-use Rattle.std.proofs.Common.{append_assoc, List, [], ◌∷◌, ◌++◌, Option, Some, None, option_map, slice_get, Result, Ok, Err}
-use Rattle.std.proofs.lemmas.List.{map-append}
-use Rattle.std.specs.Prelude.{IfOk, option_and_then, option_to_list}
-use Rattle.hir_store.specs.Arenas.{Prefix}
+-- The parameters of a body are read back as they are written, and handed in as the body wants them.
+use Rattle.std.proofs.Common.{arith, ◌≡◌, ◌≤◌, ◌∙◌, refl, sym, ap, subst, ℕ, suc, Bool, true, false, length, map, List, []}
+use Rattle.std.proofs.Common.{◌∷◌, ◌++◌, Option, Some, None, option_map, slice_get, Result, Ok, Err, true≢false, is_some}
+use Rattle.std.proofs.lemmas.List.{length-map}
+use Rattle.std.specs.Prelude.{IfOk, option_and_then}
 use Rattle.hir_store.specs.Pointers.{Pointer}
 use Rattle.hir_store.specs.Stored.{Store, SourceMap, Stored, store_of, map_of}
 use Rattle.hir_store.specs.Storing as storing
 use Rattle.hir_store.specs.Storing.{Extends, root_at}
 use Rattle.hir_store.specs.declared.diagnostics.MissingBodyItemKind.{MissingBodyItemKind}
+use Rattle.hir_store.specs.declared.hir.CoroutineKind.{CoroutineKind}
+use Rattle.hir_store.specs.declared.hir.Statement.{Statement}
 use Rattle.hir_store.specs.declared.ids.BindingId.{BindingId}
 use Rattle.hir_store.specs.declared.ids.ExprId.{ExprId}
 use Rattle.hir_store.specs.declared.ids.PatId.{PatId}
 use Rattle.hir_store.specs.declared.pat.Binding.{Binding}
 use Rattle.hir_store.proofs.Extending.{extends_root, extends_trans}
-use Rattle.hir_store.proofs.Arenas.{prefix_trans}
 use Rattle.hir_env.specs.Answered as tree
-use Rattle.hir_env.specs.Answered.{Formal, Formals, OptionExpr, SelfFormal}
+use Rattle.hir_env.specs.Answered.{Formals, OptionExpr, SelfFormal}
 use Rattle.hir_data.specs.Data.{PatData}
 use Rattle.hir_data.specs.Patterns.{written_pat}
+use Rattle.hir_data.specs.Preludes.{formal_patterns}
 use Rattle.hir_data.specs.Reading.{stored_pat}
+use Rattle.hir_data.specs.Tops.{Tops}
 use Rattle.hir_lower_form.specs.Builder.{Builder}
-use Rattle.hir_lower_form.specs.Forms.{push_some, some}
-use Rattle.hir_lower_form.specs.Lowering.{Checked, Lowering, ◌>>=◌, go_on, pure, alloc_binding, report}
-use Rattle.hir_lower_form.specs.Pats.{new_binding}
+use Rattle.hir_lower_form.specs.Lowering.{Checked, Lowering}
+use Rattle.hir_read_back.proofs.Params.{pats_in}
 use Rattle.hir_steps.specs.Keeps.{Keeps, KeepsAll, Paired}
-use Rattle.hir_steps.proofs.Frames.{Frame, frames, ribs_frames}
+use Rattle.hir_steps.proofs.Frames.{Frame}
 use Rattle.hir_steps.proofs.Keeping.{keeping}
-use Rattle.hir_steps.proofs.Logic.{in_prefix}
-use Rattle.hir_steps.proofs.Steps.{Mark, mark, Rel, Holds, Correct, correct_as, correct_bind, correct_pure, correct_report}
-use Rattle.hir_read_back.proofs.PatTree.{PatNow, top_now}
+use Rattle.hir_steps.proofs.Steps.{Mark, Correct, correct_as, correct_bind, correct_in_store, correct_pure}
 use Rattle.hir_same_meaning.specs.Reached.{Spread}
 use Rattle.hir_same_meaning.proofs.Holding.{SameIn}
+use Rattle.hir_one_result.specs.Diagnostics.{Faults}
+use Rattle.hir_one_result.specs.Leads.{Way}
+use Rattle.hir_one_result.specs.Formals.{lower_body, lower_formals, plain_body}
+use Rattle.hir_one_result.specs.OneResult.{OneResult, StandsBody, StandsSelf, fresh_owing}
+use Rattle.hir_one_result.specs.Room.{formals_data}
+use Rattle.hir_one_result.specs.StandsPreludes.{StandsSelfLet}
+use Rattle.hir_one_result.proofs.AfterLowering.{after_lowering}
+use Rattle.hir_one_result.proofs.Formals.{each_now}
+use Rattle.hir_one_result.proofs.Whole.{one_results}
 use Rattle.hir_type_result.specs.Named.{of_exprs, of_pats_alone}
 use Rattle.hir_type_result.specs.Pats.{of_types, pats_reached}
 use Rattle.hir_type_result.specs.Reached.{of_each}
-use Rattle.hir_lower.specs.Formals.{Given, each_formal, formals_read, lower_formal, lower_formals, lower_self}
-use Rattle.hir_lower.specs.Means.{HasParams, owed_faults, pats_inner_bodies, receiver_read, unless_skipped}
-use Rattle.hir_one_result.specs.OneResult.{fresh_owing}
-use Rattle.hir_lower.specs.Roots.{GivenFromNothing, StoresFromNothing, as_written, behind, body_of, fresh}
+use Rattle.hir_lower.specs.Formals.{Given, Received, formals_read}
+use Rattle.hir_lower.specs.Means.{AreHandedIn, HasParams, IsSelfHandedIn, kind_unless_skipped, owed_faults, pats_inner_bodies}
+use Rattle.hir_lower.specs.Means.{receiver_read, unless_skipped}
+use Rattle.hir_lower.specs.Roots.{GivenFromNothing, StoresFromNothing, body_of, both, both_if_present, fresh, given_of}
 use Rattle.hir_lower.specs.declared.body.Body.{Body}
-use Rattle.hir_lower.proofs.Behind.{Steps, closed, item_is, lowered, rooted, steps}
+use Rattle.hir_lower.specs.declared.body.Param.{Param}
+use Rattle.hir_lower.proofs.Behind.{PlainSteps, Steps, answered, closed, item_is, plain_steps, rooted, steps}
 use Rattle.hir_lower.proofs.BodyTypes.{Bare, all_pats_once}
+use Rattle.hir_lower.proofs.FunctionParams.{function_reads}
 use Rattle.hir_lower.proofs.ParamBodies.{bodies_inside, read_bodies, self_any}
-use Rattle.hir_lower.proofs.TreeWays.{part_leads, top_leads}
-use Rattle.hir_lower.proofs.Ways.{Leading, Went, bound_if, any as whatever, then', went, leading_pure, leading_report}
 
--- patterns
+-- ---- patterns
 
-record FormalNow (xs : List PatData) (final : Stored) (ps : List Frame) (m m' : Mark) (o : Option PatId) : Type 0 where
-  is : map (stored_pat (store_of final) (map_of final)) (option_to_list o) ≡ xs
+record ReceivedNow (xs : List PatData) (final : Stored) (ps : List Frame) (m m' : Mark) (received : Received) : Type 0 where
+  reads : pats_in final received.1 ≡ xs
 
-some_now : {p : Lowering PatId} {x : PatData} → Correct p (PatNow x) → Correct (some p) (FormalNow (x ∷ []))
-some_now h = correct_as (correct_bind h (λ i. correct_pure (Some i)))
-    (λ final ps m m' o g row. rw row.second.is (record { is = ap (λ d. d ∷ []) row.first.is }))
-
-abbrev data_of : Bool → List Formal → List PatData
-data_of skipped fs = map written_pat (formals_read skipped fs)
-
-formal_now : (skipped : Bool) (f : Formal) → Correct (lower_formal skipped f) (FormalNow (data_of skipped (f ∷ [])))
-formal_now skipped (tree.disabled_formal at by) = correct_as (correct_bind (correct_report _) (λ u. correct_pure None))
-    (λ final ps m m' o g row. rw row.second.is (record { is = refl }))
-formal_now true (tree.formal p) = some_now (top_now tree.no_pat)
-formal_now true (tree.fault_formal at) = some_now (top_now tree.no_pat)
-formal_now false (tree.formal p) = some_now (top_now p)
-formal_now false (tree.fault_formal at) = correct_as (correct_bind (correct_report _) (λ u. some_now (top_now tree.no_pat)))
-    (λ final ps m m' o g row. record { is = row.second.is })
-
-read_apart : (skipped : Bool) (f : Formal) (fs : List Formal)
-    → data_of skipped (f ∷ fs) ≡ data_of skipped (f ∷ []) ++ data_of skipped fs
-read_apart skipped (tree.disabled_formal at by) fs = refl
-read_apart true (tree.formal p) fs = refl
-read_apart true (tree.fault_formal at) fs = refl
-read_apart false (tree.formal p) fs = refl
-read_apart false (tree.fault_formal at) fs = refl
-
-pushed : (done : List PatId) (o : Option PatId) → push_some done o ≡ done ++ option_to_list o
-pushed done None = sym (append-nil done)
-pushed done (Some i) = refl
-
--- behind those that are lowered
-record FormalsNow (done : List PatId) (xs : List PatData) (final : Stored) (ps : List Frame) (m m' : Mark) (ids : List PatId)
-    : Type 0 where
-  more : List PatId
-  is : ids ≡ done ++ more
-  reads : map (stored_pat (store_of final) (map_of final)) more ≡ xs
-
-each_now : (skipped : Bool) (done : List PatId) (fs : List Formal)
-    → Correct (each_formal skipped done fs) (FormalsNow done (data_of skipped fs))
-each_now skipped done [] = correct_as (correct_pure done)
-    (λ final ps m m' ids g row. record { more = []; is = row.is ∙ sym (append-nil done); reads = refl })
-each_now skipped done (f ∷ fs) =
-    correct_as (correct_bind (formal_now skipped f) (λ o. each_now skipped (push_some done o) fs)) (λ final ps m m' ids g row.
-    let own = option_to_list row.one in
-    let others = row.second in
-    let read = stored_pat (store_of final) (map_of final) in record {
-      more = own ++ others.more;
-      is = others.is ∙ (ap (λ ds. ds ++ others.more) (pushed done row.one) ∙ append_assoc done own others.more);
-      reads = map-append read own others.more ∙ (ap (λ ds. ds ++ map read others.more) row.first.is
-          ∙ (ap (λ ds. data_of skipped (f ∷ []) ++ ds) others.reads ∙ sym (read_apart skipped f fs)));
-    })
-
-pub record GivenNow (xs : List PatData) (final : Stored) (ps : List Frame) (m m' : Mark) (given : Given) : Type 0 where
-  pub reads : map (stored_pat (store_of final) (map_of final)) given.1 ≡ xs
-
-pub given_now : (skipped : Bool) (f : Formals) → Correct (lower_formals skipped f) (GivenNow (data_of skipped f.formals))
+received_now : (skipped : Bool) (f : Formals) → Correct (lower_formals skipped f) (ReceivedNow (formals_data skipped f.formals))
 unfolding lower_formals
-given_now skipped f =
+received_now skipped f =
     correct_as (correct_bind (self_any f.receiver) (λ s. correct_bind (each_now skipped [] f.formals) (λ ids. correct_pure (s, ids))))
-    (λ final ps m m' given g row.
+    (λ final ps m m' received g row.
     let own = row.second in
-    let read = stored_pat (store_of final) (map_of final) in
-    rw own.second.is (record { reads = ap (map read) own.first.is ∙ own.first.reads }))
+    rw own.second.is (record { reads = ap (pats_in final) own.first.is ∙ own.first.reads }))
 
--- `self`
+-- What the outside hands its arguments to: what was written, or the formal patterns of that.
+abbrev HandedTo : Option CoroutineKind → Stored → Given → List PatData → Type 0
+HandedTo None s given ds = given.0 ≡ given.1
+HandedTo (Some kind) s given ds = pats_in s given.0.1 ≡ formal_patterns ds
 
--- in each list that begins with what is stored by then
-abbrev SelfReads : SelfFormal → Checked (Option BindingId) × Builder → Type 0
-SelfReads s (Ok i, b) = (later : List Binding) → Prefix b.stored.bindings.entries later
-    → option_and_then (λ i. slice_get later i.0) i ≡ receiver_read s
-SelfReads s (Err e, b) = Unit {0}
+record Reads (kind : Option CoroutineKind) (skipped : Bool) (f : Formals) (given : Given) (s : Stored) : Type 0 where
+  patterns : pats_in s given.1.1 ≡ formals_data skipped f.formals
+  inner : SameIn s (pats_inner_bodies (store_of s) given.1.1) (read_bodies skipped f.formals)
+  handed : HandedTo kind s given (formals_data skipped f.formals)
 
-self_reads : (s : SelfFormal) (b : Builder) → SelfReads s (lower_self s b)
-unfolding report storing.report alloc_binding storing.alloc_binding
-self_reads tree.no_self b = λ later p. refl
-self_reads (tree.disabled_self at by) b = λ later p. refl
-self_reads (tree.self_formal at u w) b = by (nat_lt (length b.stored.bindings.entries) b.stored.bindings.limit)
-  where
-    by : (room : Bool) → let made = bound_if room (new_binding u) b.stored.bindings in
-        SelfReads (tree.self_formal at u w)
-        (go_on made.0 (record b { stored = record b.stored { bindings = made.1 } }) (λ i. pure (Some i)))
-    by true = λ later p. in_prefix b.stored.bindings.entries (new_binding u) (length b.stored.bindings.entries) refl p
-    by false = tt
+module _ (skipped : Bool) (f : Formals) (e : OptionExpr) (b b' : Builder) (given : Given) (i : ExprId) (paired : Paired b.stored)
+    (final : Stored) (stays : Extends b'.stored final) where
+  plain_reads : plain_body skipped f e b ≡ (Ok (given, i), b') → Reads None skipped f given final
+  plain_reads is =
+      let s : PlainSteps skipped f e b given i b' = plain_steps skipped f e b b' given i is in
+      let kept : KeepsAll s.middle b' = subst (λ r. Keeps s.middle r.0 r.1) s.body (keeping e s.middle) in
+      let later = extends_trans kept.stays stays in
+      let P : Given → Type 0 = λ g. Reads None skipped f g final in
+      subst P (sym s.is) (record {
+        patterns = (answered (received_now skipped f) b s.middle s.received paired s.formals final later).reads;
+        inner = bodies_inside skipped f b s.middle s.received paired s.formals final later;
+        handed = refl;
+      })
 
-formal_leads : (skipped : Bool) (f : Formal) → Leading whatever (lower_formal skipped f)
-formal_leads skipped (tree.disabled_formal at by) = then' (leading_report _) (λ u. leading_pure None)
-formal_leads true (tree.formal p) = then' (top_leads tree.no_pat) (λ i. leading_pure (Some i))
-formal_leads true (tree.fault_formal at) = then' (top_leads tree.no_pat) (λ i. leading_pure (Some i))
-formal_leads false (tree.formal p) = then' (top_leads p) (λ i. leading_pure (Some i))
-formal_leads false (tree.fault_formal at) =
-    then' (leading_report _) (λ u. then' (top_leads tree.no_pat) (λ i. leading_pure (Some i)))
+  coroutine_reads : (kind : CoroutineKind) → lower_body (Some kind) skipped f e b ≡ (Ok (given, i), b')
+      → Reads (Some kind) skipped f given final
+  unfolding pats_inner_bodies
+  coroutine_reads kind is =
+      let r = after_lowering (correct_in_store (function_reads kind skipped f e)) b (given, i) b' paired is final stays in record {
+        patterns = r.rel.patterns;
+        inner = r.rel.same _ (omega (arith, r.nodes, r.entries));
+        handed = r.rel.formals;
+      }
 
-each_leads : (skipped : Bool) (done : List PatId) (fs : List Formal) → Leading whatever (each_formal skipped done fs)
-each_leads skipped done [] = leading_pure done
-each_leads skipped done (f ∷ fs) = then' (formal_leads skipped f) (λ o. each_leads skipped (push_some done o) fs)
+  reads : (kind : Option CoroutineKind) → lower_body kind skipped f e b ≡ (Ok (given, i), b') → Reads kind skipped f given final
+  reads None is = plain_reads is
+  reads (Some kind) is = coroutine_reads kind is
 
--- of all that is given
-abbrev GivenSelf : SelfFormal → Checked Given × Builder → Type 0
-GivenSelf s (Ok given, b) = SelfReads s (Ok given.0, b)
-GivenSelf s (Err e, b) = Unit {0}
+-- ---- `self`
 
-given_self : (skipped : Bool) (f : Formals) (b : Builder) → GivenSelf f.receiver (lower_formals skipped f b)
-unfolding lower_formals
-given_self skipped f b = first (lower_self f.receiver b).0 (lower_self f.receiver b).1 (self_reads f.receiver b)
-  where
-    second : (i : Option BindingId) (c : Builder) → SelfReads f.receiver (Ok i, c) → (o : Checked (List PatId)) (d : Builder)
-        → Went c.stored d.stored → GivenSelf f.receiver (go_on o d (λ ids. pure (i, ids)))
-    second i c h (Ok ids) d w = λ later p. h later (prefix_trans w.bindings p)
-    second i c h (Err e) d w = tt
+-- the binding of this number, where there is one
+abbrev bound : List Binding → Option BindingId → Option Binding
+bound bs o = option_and_then (λ i. slice_get bs i.0) o
 
-    first : (o : Checked (Option BindingId)) (c : Builder) → SelfReads f.receiver (o, c)
-        → GivenSelf f.receiver (go_on o c (λ i. each_formal skipped [] f.formals >>= (λ ids. pure (i, ids))))
-    first (Ok i) c h =
-        let each = each_formal skipped [] f.formals c in
-        second i c h each.0 each.1 (went (each_leads skipped [] f.formals) c)
-    first (Err e) c h = tt
+-- The outside hands it to what was written, or to another binding that is the same.
+abbrev SelfTo : Option CoroutineKind → List Binding → Given → SelfFormal → Type 0
+SelfTo None bs given s = given.0 ≡ given.1
+SelfTo (Some kind) bs given s = bound bs given.0.0 ≡ receiver_read s
+
+record SelfReads (kind : Option CoroutineKind) (store : Store) (given : Given) (s : SelfFormal) : Type 0 where
+  written : bound store.bindings given.1.0 ≡ receiver_read s
+  handed : SelfTo kind store.bindings given s
+  alike : is_some given.0.0 ≡ is_some given.1.0
+
+record SelfStands (bs : List Binding) (s : SelfFormal) (o : Option BindingId) : Type 0 where
+  is : bound bs o ≡ receiver_read s
+  there : is_some o ≡ is_some (receiver_read s)
+
+absent_stands : (bs : List Binding) (s : SelfFormal) (o : Option BindingId) → receiver_read s ≡ None → o ≡ None → SelfStands bs s o
+absent_stands bs s o none h = record { is = ap (bound bs) h ∙ sym none; there = ap is_some h ∙ sym (ap is_some none) }
+
+present_stands : (bs : List Binding) (s : SelfFormal) (o : Option BindingId) (b : BindingId) (x : Binding) → receiver_read s ≡ Some x
+    → o ≡ Some b → slice_get bs b.0 ≡ Some x → SelfStands bs s o
+present_stands bs s o b x some h found =
+    record { is = ap (bound bs) h ∙ (found ∙ sym some); there = ap is_some h ∙ sym (ap is_some some) }
+
+self_stands : (store : Store) (s : SelfFormal) (o : Option BindingId) (ws : List Way) → StandsSelf store s o ws
+    → SelfStands store.bindings s o
+self_stands store tree.no_self o ws h = absent_stands store.bindings tree.no_self o refl h.0
+self_stands store (tree.disabled_self at by) o ws h = absent_stands store.bindings (tree.disabled_self at by) o refl h.0
+self_stands store (tree.self_formal at u w) o ws h = present_stands store.bindings (tree.self_formal at u w) o h.0 _ refl h.1 h.2
+
+let_stands : (store : Store) (source_map : SourceMap) (s : SelfFormal) (o : Option BindingId) (ss : List Statement) (ws : List Way)
+    → StandsSelfLet store source_map s o ss ws → SelfStands store.bindings s o
+let_stands store source_map tree.no_self o ss ws h = absent_stands store.bindings tree.no_self o refl h.0
+let_stands store source_map (tree.disabled_self at by) o ss ws h =
+    absent_stands store.bindings (tree.disabled_self at by) o refl h.0
+let_stands store source_map (tree.self_formal at u w) o ss ws h =
+    present_stands store.bindings (tree.self_formal at u w) o h.0 _ refl h.3 h.6
+
+self_reads : (kind : Option CoroutineKind) (store : Store) (source_map : SourceMap) (skipped : Bool) (f : Formals) (e : OptionExpr)
+    (given : Given) (root : ExprId) (ws : List Way) → StandsBody store source_map [] kind skipped f e given root ws
+    → SelfReads kind store given f.receiver
+self_reads None store source_map skipped f e given root ws h =
+    let s = self_stands store f.receiver given.0.0 h.1.first.left h.1.first.first in
+    let P : Received → Type 0 = λ r. bound store.bindings r.0 ≡ receiver_read f.receiver in record {
+      written = subst P (sym h.0) s.is;
+      handed = sym h.0;
+      alike = ap (λ (r : Received). is_some r.0) (sym h.0);
+    }
+self_reads (Some kind) store source_map skipped f e given root ws h =
+    let outer = self_stands store f.receiver given.0.0 h.6.left h.6.first in
+    let lets = h.6.second.first.2.second.second in
+    let inner = let_stands store source_map f.receiver given.1.0 h.1 lets.left lets.first in record {
+      written = inner.is;
+      handed = outer.is;
+      alike = outer.there ∙ sym inner.there;
+    }
+
+-- ---- the body of an item
 
 -- however deep one looks, each pattern is reached in one way
 abbrev PatsOnce : Stored → List PatId → Type 0
 PatsOnce s ps = (depth : ℕ) → length s.pats.entries ≤ depth → let l = of_pats_alone (pats_reached s.pats.entries depth) in
     Spread 0 (length s.pats.entries) (of_each l.pats ps ++ (of_exprs l s.exprs.entries ++ of_types l s.types.entries))
 
-record ReadAs (skipped : Bool) (f : Formals) (given : Given) (s : Stored) : Type 0 where
-  patterns : map (stored_pat (store_of s) (map_of s)) given.1 ≡ data_of skipped f.formals
-  inner : SameIn s (pats_inner_bodies (store_of s) given.1) (read_bodies skipped f.formals)
-  pats_once : PatsOnce s given.1
-  binding : option_and_then (λ i. slice_get s.bindings.entries i.0) given.0 ≡ receiver_read f.receiver
+record BodyReads (kind : Option CoroutineKind) (skipped : Bool) (f : Formals) (given : Given) (s : Stored) : Type 0 where
+  reads : Reads kind skipped f given s
+  self : SelfReads kind (store_of s) given f.receiver
+  pats_once : PatsOnce s given.0.1
 
--- what a step that is correct answers
-answered : {A : Type 0} {p : Lowering A} {R : Rel A} → Correct p R → (o o' : Builder) (a : A) → Paired o.stored → p o ≡ (Ok a, o')
-    → (final : Stored) → Extends o'.stored final → R final (frames o.scopes) (mark o) (mark o') a
-answered {R = R} h o o' a d e final x =
-    let ps = frames o.scopes in
-    let held : Holds R final ps o (Ok a) o' = subst (λ r. Holds R final ps o r.0 r.1) e (h.holds final ps o (ribs_frames o.scopes)) in
-    held.in_final d x
+module _ (kind : Option CoroutineKind) (skipped : Bool) (f : Formals) (e : OptionExpr) (limit : ℕ) (owed : Faults) where
+  abbrev start : Builder
+  start = fresh_owing limit owed
 
-behind_reads : (skipped : Bool) (f : Formals) (e : OptionExpr) (b b' : Builder) (given : Given) (i : ExprId) → Paired b.stored
-    → Bare b.stored → behind (lower_formals skipped f) e b ≡ (Ok (given, i), b') → ReadAs skipped f given b'.stored
-behind_reads skipped f e b b' given i d bare h =
-    let s : Steps skipped f e b given i b' = steps skipped f e b b' given i h in
-    let kept : KeepsAll s.middle s.inner = subst (λ r. Keeps s.middle r.0 r.1) s.body (keeping e s.middle) in
-    let root = extends_root s.inner.stored (root_at (store_of s.inner.stored) i) in
-    let later : Extends s.middle.stored b'.stored = subst (λ t. Extends s.middle.stored t.stored) s.left (extends_trans kept.stays root) in
-    let once = all_pats_once skipped f e (closed b) s.inner given i d (record { exprs = bare.exprs; pats = bare.pats; types = bare.types })
-    (lowered skipped f e b b' given i s) (rooted s.inner i).stored root in
-    let moved : Went s.middle.stored s.inner.stored = subst (λ r. Went s.middle.stored r.1.stored) s.body (went (part_leads e) s.middle) in
-    let bindings : Prefix s.middle.stored.bindings.entries b'.stored.bindings.entries =
-    subst (λ t. Prefix s.middle.stored.bindings.entries t.stored.bindings.entries) s.left moved.bindings in
-    let self : SelfReads f.receiver (Ok given.0, s.middle) = subst (GivenSelf f.receiver) s.formals (given_self skipped f (closed b)) in
-    record {
-      patterns = (answered (given_now skipped f) (closed b) s.middle given d s.formals b'.stored later).reads;
-      inner = bodies_inside skipped f (closed b) s.middle given d s.formals b'.stored later;
-      pats_once = subst (λ t. PatsOnce t.stored given.1) s.left (λ depth le. once depth le);
-      binding = self b'.stored.bindings.entries bindings;
-    }
+  abbrev body : Lowering (Given × ExprId)
+  body = lower_body kind skipped f e
 
--- the body of an item
+  root_reads : (b' : Builder) (given : Given) (i : ExprId) (s : Steps body start given i b') → BodyReads kind skipped f given b'.stored
+  unfolding storing.record_root
+  root_reads b' given i s =
+      let paired : Paired (closed start).stored =
+      record { exprs = refl; labels = refl; pats = refl; types = refl; lifetimes = refl } in
+      let root = extends_root s.inner.stored (root_at (store_of s.inner.stored) i) in
+      let end = (rooted s.inner i).stored in
+      let whole = one_results limit owed kind skipped f e given i s.inner s.lowered in
+      let P : Builder → Type 0 = λ x. BodyReads kind skipped f given x.stored in
+      subst P s.left (record {
+        reads = reads skipped f e (closed start) s.inner given i paired end root kind s.lowered;
+        self = self_reads kind (store_of end) (map_of end) skipped f e given whole.root whole.ways whole.stands;
+        pats_once = λ depth le. all_pats_once kind skipped f e (closed start) s.inner given i paired
+            (record { exprs = refl; pats = refl; types = refl }) s.lowered end root depth le;
+      })
 
-body_reads : (skipped : Bool) (node : Pointer) (k : Option MissingBodyItemKind) (f : Formals) (e : OptionExpr) (limit : ℕ) (b' : Builder)
-    (given : Given) (i : ExprId) → body_of skipped node k f e (fresh limit) ≡ (Ok (given, i), b') → ReadAs skipped f given b'.stored
-body_reads skipped node k f e limit b' given i h =
-    let b = fresh_owing limit (owed_faults skipped node k e) in
-    let paired : Paired b.stored = record { exprs = refl; labels = refl; pats = refl; types = refl; lifetimes = refl } in
-    let bare : Bare b.stored = record { exprs = refl; pats = refl; types = refl } in
-    behind_reads skipped f (unless_skipped skipped e) b b' given i paired bare (sym (item_is skipped node k f e limit) ∙ h)
+-- ---- what is written, and what it is handed in by
 
--- handed in as they are written
+module _ {A : Type 0} where
+  formals_back : (xs ys : List A) → length xs ≡ length ys → map (λ p. p.formal) (both xs ys) ≡ xs
+  formals_back [] [] h = refl
+  formals_back (x ∷ xs) (y ∷ ys) h = ap (λ zs. x ∷ zs) (formals_back xs ys (omega (arith, h)))
+  formals_back [] (y ∷ ys) h = absurd (omega (arith, h))
+  formals_back (x ∷ xs) [] h = absurd (omega (arith, h))
 
-written_of : {A D : Type 0} (read : A → D) (xs : List A) → map (λ p. read p.user_written) (map as_written xs) ≡ map read xs
-written_of read [] = refl
-written_of read (x ∷ xs) = ap (λ ys. read x ∷ ys) (written_of read xs)
+  written_back : (xs ys : List A) → length xs ≡ length ys → map (λ p. p.user_written) (both xs ys) ≡ ys
+  written_back [] [] h = refl
+  written_back (x ∷ xs) (y ∷ ys) h = ap (λ zs. y ∷ zs) (written_back xs ys (omega (arith, h)))
+  written_back [] (y ∷ ys) h = absurd (omega (arith, h))
+  written_back (x ∷ xs) [] h = absurd (omega (arith, h))
 
-written_back : {A : Type 0} (xs : List A) → map (λ p. p.user_written) (map as_written xs) ≡ xs
-written_back [] = refl
-written_back (x ∷ xs) = ap (λ ys. x ∷ ys) (written_back xs)
+  formal_back : (x y : Option A) → is_some x ≡ is_some y → option_map (λ p. p.formal) (both_if_present x y) ≡ x
+  formal_back None None h = refl
+  formal_back (Some x) (Some y) h = refl
+  formal_back None (Some y) h = absurd (true≢false (sym h))
+  formal_back (Some x) None h = absurd (true≢false h)
 
-formal_is_written : {A : Type 0} (xs : List A) → map (λ p. p.formal) (map as_written xs) ≡ map (λ p. p.user_written) (map as_written xs)
-formal_is_written [] = refl
-formal_is_written (x ∷ xs) = ap (λ ys. x ∷ ys) (formal_is_written xs)
+  one_back : (x y : Option A) → is_some x ≡ is_some y → option_map (λ p. p.user_written) (both_if_present x y) ≡ y
+  one_back None None h = refl
+  one_back (Some x) (Some y) h = refl
+  one_back None (Some y) h = absurd (true≢false (sym h))
+  one_back (Some x) None h = absurd (true≢false h)
 
-self_written : {A D : Type 0} (find : A → Option D) (o : Option A)
-    → option_and_then (λ p. find p.user_written) (option_map as_written o) ≡ option_and_then find o
-self_written find None = refl
-self_written find (Some a) = refl
+  -- what is done with a part of each
+  through : {B D : Type 0} (part : B → A) (read : A → D) (xs : List B) → map (λ x. read (part x)) xs ≡ map read (map part xs)
+  through part read [] = refl
+  through part read (x ∷ xs) = ap (λ ys. read (part x) ∷ ys) (through part read xs)
 
-self_handed_in : {A : Type 0} (o : Option A)
-    → option_map (λ p. p.formal) (option_map as_written o) ≡ option_map (λ p. p.user_written) (option_map as_written o)
-self_handed_in None = refl
-self_handed_in (Some a) = refl
+  self_through : {B D : Type 0} (part : B → A) (find : A → Option D) (o : Option B)
+      → option_and_then (λ x. find (part x)) o ≡ option_and_then find (option_map part o)
+  self_through part find None = refl
+  self_through part find (Some x) = refl
 
-module _ (skipped : Bool) (node : Pointer) (k : Option MissingBodyItemKind) (f : Formals) (e : OptionExpr) (limit : ℕ) where
-  params : (b : Body) (store : Store) (source_map : SourceMap) → StoresFromNothing (body_of skipped node k f e) limit store source_map
-      → GivenFromNothing (body_of skipped node k f e) limit b → HasParams store source_map b.params b.self_param skipped f
+handed_length : (ds : List PatData) → length (formal_patterns ds) ≡ length ds
+handed_length [] = refl
+handed_length (d ∷ ds) = ap suc (handed_length ds)
+
+as_many : (kind : Option CoroutineKind) (skipped : Bool) (f : Formals) (given : Given) (s : Stored) → Reads kind skipped f given s
+    → length given.0.1 ≡ length given.1.1
+as_many None skipped f given s r = ap (λ (x : Received). length x.1) r.handed
+as_many (Some kind) skipped f given s r =
+    let read : PatId → PatData = λ p. stored_pat (store_of s) (map_of s) p in
+    sym (length-map given.0.1 read) ∙ (ap length r.handed ∙ (handed_length _ ∙ (sym (ap length r.patterns) ∙ length-map given.1.1 read)))
+
+given_is : (b : Body) (given : Given) → length given.0.1 ≡ length given.1.1 → is_some given.0.0 ≡ is_some given.1.0
+    → b.self_param ≡ both_if_present given.0.0 given.1.0 → b.params ≡ both given.0.1 given.1.1 → given_of b ≡ given
+given_is b given many alike receiver params =
+    let one = ap (option_map (λ p. p.formal)) receiver ∙ formal_back given.0.0 given.1.0 alike in
+    let two = ap (map (λ p. p.formal)) params ∙ formals_back given.0.1 given.1.1 many in
+    let three = ap (option_map (λ p. p.user_written)) receiver ∙ one_back given.0.0 given.1.0 alike in
+    let four = ap (map (λ p. p.user_written)) params ∙ written_back given.0.1 given.1.1 many in
+    λ j. ((one j, two j), (three j, four j))
+
+module _ (kind : Option CoroutineKind) (skipped : Bool) (node : Pointer) (k : Option MissingBodyItemKind) (f : Formals) (e : OptionExpr)
+    (limit : ℕ) where
+  abbrev read_kind : Option CoroutineKind
+  read_kind = kind_unless_skipped skipped kind
+
+  item_reads : (b' : Builder) (given : Given) (i : ExprId) → body_of kind skipped node k f e (fresh limit) ≡ (Ok (given, i), b')
+      → BodyReads read_kind skipped f given b'.stored
+  item_reads b' given i h =
+      let read = unless_skipped skipped e in
+      let owed = owed_faults skipped node k e in
+      root_reads read_kind skipped f read limit owed b' given i
+      (steps (lower_body read_kind skipped f read) (fresh_owing limit owed) b' given i (sym (item_is kind skipped node k f e limit) ∙ h))
+
+  pub given_is_of : (b : Body) (g : GivenFromNothing (body_of kind skipped node k f e) limit b) → given_of b ≡ g.given
+  given_is_of b g =
+      let read = item_reads g.builder g.given g.root g.done in
+      given_is b g.given (as_many read_kind skipped f g.given g.builder.stored read.reads) read.self.alike g.receiver g.params
+
+  handed_in : (o : Option CoroutineKind) (s : Stored) (b : Body) (ps : Tops) → HandedTo o s (given_of b) (map written_pat ps)
+      → AreHandedIn o (store_of s) (map_of s) b.params ps
+  handed_in None s b ps h = ap (λ (r : Received). r.1) h
+  handed_in (Some c) s b ps h = through (λ p. p.formal) (λ p. stored_pat (store_of s) (map_of s) p) b.params ∙ h
+
+  handed_self : (o : Option CoroutineKind) (store : Store) (b : Body) (s : SelfFormal) → SelfTo o store.bindings (given_of b) s
+      → IsSelfHandedIn o store b.self_param s
+  handed_self None store b s h = ap (λ (r : Received). r.0) h
+  handed_self (Some c) store b s h = self_through (λ p. p.formal) (λ i. slice_get store.bindings i.0) b.self_param ∙ h
+
+  params : (b : Body) (store : Store) (source_map : SourceMap)
+      → StoresFromNothing (body_of kind skipped node k f e) limit store source_map
+      → GivenFromNothing (body_of kind skipped node k f e) limit b
+      → HasParams read_kind store source_map b.params b.self_param skipped f
   params b store source_map s g =
       let now = g.builder.stored in
-      let read = body_reads skipped node k f e limit g.builder g.given g.root g.done in
+      let R : Given → Type 0 = λ x. BodyReads read_kind skipped f x now in
+      let read = subst R (sym (given_is_of b g)) (item_reads g.builder g.given g.root g.done) in
       let same : s.builder.stored ≡ now = ap (λ (q : Checked (Given × ExprId) × Builder). q.1.stored) (sym s.done ∙ g.done) in
-      let P : Store → Type 0 = λ x. HasParams x source_map b.params b.self_param skipped f in
-      let Q : SourceMap → Type 0 = λ x. HasParams (store_of now) x b.params b.self_param skipped f in
-      subst P (sym (s.store_is ∙ ap store_of same)) (subst Q (sym (s.source_map_is ∙ ap map_of same)) (rw (g.params, g.receiver) (record {
-        patterns = written_of (stored_pat (store_of now) (map_of now)) g.given.1 ∙ read.patterns;
-        binding = self_written (λ i. slice_get now.bindings.entries i.0) g.given.0 ∙ read.binding;
-        inner = rw (written_back g.given.1) read.inner;
-        pats_reached_once = λ depth le. rw (written_back g.given.1) (read.pats_once depth le);
-        handed_in = formal_is_written g.given.1;
-        handed_self = self_handed_in g.given.0;
-      })))
+      let P : Store → Type 0 = λ x. HasParams read_kind x source_map b.params b.self_param skipped f in
+      let Q : SourceMap → Type 0 = λ x. HasParams read_kind (store_of now) x b.params b.self_param skipped f in
+      subst P (sym (s.store_is ∙ ap store_of same)) (subst Q (sym (s.source_map_is ∙ ap map_of same)) (record {
+        patterns = through (λ p. p.user_written) (λ p. stored_pat (store_of now) (map_of now) p) b.params ∙ read.reads.patterns;
+        binding = self_through (λ p. p.user_written) (λ i. slice_get now.bindings.entries i.0) b.self_param ∙ read.self.written;
+        inner = read.reads.inner;
+        pats_reached_once = λ depth le. read.pats_once depth le;
+        handed_in = handed_in read_kind now b (formals_read skipped f.formals) read.reads.handed;
+        handed_self = handed_self read_kind (store_of now) b f.receiver read.self.handed;
+      }))
 
   pub params_if : {A E : Type 0} (body : A → Body) (store : A → Store) (source_map : A → SourceMap) (r : Result A E)
-      → IfOk r (λ a. StoresFromNothing (body_of skipped node k f e) limit (store a) (source_map a))
-      → IfOk r (λ a. GivenFromNothing (body_of skipped node k f e) limit (body a))
-      → IfOk r (λ a. HasParams (store a) (source_map a) (body a).params (body a).self_param skipped f)
+      → IfOk r (λ a. StoresFromNothing (body_of kind skipped node k f e) limit (store a) (source_map a))
+      → IfOk r (λ a. GivenFromNothing (body_of kind skipped node k f e) limit (body a))
+      → IfOk r (λ a. HasParams read_kind (store a) (source_map a) (body a).params (body a).self_param skipped f)
   params_if body store source_map (Ok a) s g = params (body a) (store a) (source_map a) s g
   params_if body store source_map (Err x) s g = tt

@@ -2,6 +2,7 @@
 use Rattle.std.proofs.Common.{◌≡◌, ◌≢◌, ◌∙◌, refl, sym, ap, subst, Bool, false, [], Option, Some, None, Result, Ok, Err}
 use Rattle.std.specs.Prelude.{IfOk, IsErrAnd, IsErrOf}
 use Rattle.hir_syntax.specs.declared.ast.Path.{Path as AstPath}
+use Rattle.std.proofs.Math.Logic.{∥∥₁_map}
 use Rattle.hir_store.specs.Stored.{Stored, store_of, map_of}
 use Rattle.hir_store.specs.Storing.{Extends}
 use Rattle.hir_store.specs.declared.path.Path.{Path}
@@ -88,10 +89,10 @@ module _ (at : Spot) (x : AstPath) (b b' : Builder) where
         lifetimes = ways.lifetimes.ways;
       }
 
-  constants_live : (later : Stored) → b.scopes ≡ [] → Settled b.stored b'.stored
+  constants_live : (later : Stored) → b.scopes ≡ [] → MayBeOwned b.stored → Settled b.stored b'.stored
       → Shown (WholeWays (store_of later) (map_of later) b.scopes (whole_path at x)) b.stored b'.stored
       → ConstantsLive b.stored b'.stored later (whole_path at x)
-  constants_live later none settled w = record {
+  constants_live later none may settled w = record {
     ways = w.ways;
     stands = subst (λ rs. WholeWays (store_of later) (map_of later) rs (whole_path at x) w.ways) none w.shown;
     reaches = record {
@@ -102,7 +103,9 @@ module _ (at : Spot) (x : AstPath) (b b' : Builder) where
       labels = w.moved.labels;
       settled = settled;
       defined = w.moved.defined;
+      owner_ways = λ may. (w.moved.owners may).are;
     };
+    owner_ways = (w.moved.owners may).are;
   }
 
   abbrev RootsIn : Stored → Open → Bool → Type 0
@@ -121,10 +124,10 @@ module _ (at : Spot) (x : AstPath) (b b' : Builder) where
       let faults = faults_behind b b' y d l.0 (whole_reports p) [] (none_around none) in
       let kept : KeepsAll b b' = subst (λ q. Keeps b q.0 q.1) l.0 (paths_keep (whole_path at x) b) in
       let grown : Grown (whole_size (whole_path at x)) b.stored b'.stored =
-      subst (λ q. GrownUnless (whole_size (whole_path at x)) b q.0 q.1) l.0 (paths_fit (whole_path at x) b) in
+      subst (λ q. GrownUnless (whole_size (whole_path at x)) b q.0 q.1) l.0 (paths_fit (whole_path at x) b d) in
       record {
         inner = λ later ext. (path_roots p b b' y d l.0 later ext).1;
-        lives = λ later ext still. constants_live later none stays.bindings (ways_behind b b' y d l.0 (whole_left p) later ext still);
+        lives = λ later ext still. constants_live later none m stays.bindings (ways_behind b b' y d l.0 (whole_left p) later ext still);
         roots = λ later ext. roots_outside later out (path_roots p b b' y d l.0 later ext).0;
         more = faults.more;
         faults = faults.is;
@@ -152,21 +155,22 @@ module _ (at : Spot) (x : AstPath) (b b' : Builder) where
       record { scopes = kept.scopes ∙ o.scopes; in_root = kept.in_root ∙ o.in_root }
   outside_path_if (Err e) l o = tt
 
-  pub path_apart_if : (r : Checked (Option Path)) → Alone r → Paired b.stored → MadeApart b.names b.stored
-      → IfOk r (λ y. MadeApart b'.names b'.stored)
-  path_apart_if (Ok y) l d m = apart_by (lower_path_apart (whole_path at x)) b b' y d l.0 m
+  pub path_apart_if : (r : Checked (Option Path)) → Alone r → Paired b.stored → ∥ MadeApart b.names b.stored ∥₁
+      → IfOk r (λ y. ∥ MadeApart b'.names b'.stored ∥₁)
+  path_apart_if (Ok y) l d m = ∥∥₁_map m (apart_by (lower_path_apart (whole_path at x)) b b' y d l.0)
   path_apart_if (Err e) l d m = tt
 
   pub ends_if : (r : Checked (Option Path)) → Alone r → IsErrOf r Full → SomeEnd b'
   ends_if (Ok y) l is = cc
   ends_if (Err e) l is = let other : e ≢ Memory = λ m. cc in (l other).1
 
-  short_if : (e : StoreFault) → lower_path (whole_path at x) b ≡ (Err e, b') → Short (whole_size (whole_path at x)) b
-  short_if e is = subst (λ q. GrownUnless (whole_size (whole_path at x)) b q.0 q.1) is (paths_fit (whole_path at x) b)
+  short_if : (e : StoreFault) → Paired b.stored → lower_path (whole_path at x) b ≡ (Err e, b') → Short (whole_size (whole_path at x)) b
+  short_if e d is = subst (λ q. GrownUnless (whole_size (whole_path at x)) b q.0 q.1) is (paths_fit (whole_path at x) b d)
 
-  pub path_too_large_if : (r : Checked (Option Path)) → Alone r → IsErrOf r Full → Short (whole_size (whole_path at x)) b
-  path_too_large_if (Ok y) l is = cc
-  path_too_large_if (Err e) l is = let other : e ≢ Memory = λ m. cc in short_if e (l other).0
+  pub path_too_large_if : (r : Checked (Option Path)) → Alone r → Paired b.stored → IsErrOf r Full
+      → Short (whole_size (whole_path at x)) b
+  path_too_large_if (Ok y) l d is = cc
+  path_too_large_if (Err e) l d is = let other : e ≢ Memory = λ m. cc in short_if e d (l other).0
 
   pub path_stays_if : (r : Checked (Option Path)) → Alone r → MayBeOwned b.stored → r ≢ Err Memory → Stays b.stored b'.stored
   path_stays_if (Ok y) l m n = subst (λ q. Stays b.stored q.1.stored) l.0 (path_stays m)

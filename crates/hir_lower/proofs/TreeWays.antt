@@ -58,6 +58,7 @@ use Rattle.hir_lower.proofs.Ways.{leading_point_field, leading_alloc_type, leadi
 use Rattle.hir_lower.proofs.Ways.{leading_close_barrier, leading_note}
 use Rattle.hir_lower.proofs.Ways.{leading_leave, anyway}
 use Rattle.hir_lower.proofs.OwnedWays.{coroutine_block_leads, coroutine_leads, leading_owning}
+use Rattle.hir_lower.proofs.PreludeWays.{coroutine_closure_leads}
 use Rattle.hir_lower.proofs.PatWays.{alone_leads, arm_leads, array_target_leads, assign_leads, before_leads, bind_leads, call_target_leads}
 use Rattle.hir_lower.proofs.PatWays.{element_leads, inner_leads, item_leads, let_leads, let_stmt_leads, limits_leads, literal_limit_leads}
 use Rattle.hir_lower.proofs.PatWays.{literal_pat_leads, literal_side_leads, match_leads, missing_pat_leads, name_limit_leads}
@@ -350,6 +351,8 @@ mutual
   node_leads (tree.const_expr at c) = leading_owning (λ i. i) (const_leads at (rooted_leads c))
   node_leads (tree.closure_expr at moves is_static xs t e) = leading_owning (λ i. i)
       (closure_leads at moves is_static (params_lead no_closure_params xs) (present_type_leads t) (part_leads e))
+  node_leads (tree.coroutine_closure_expr at kind moves xs t e) = leading_owning (λ i. i)
+      (coroutine_closure_leads at kind moves (params_lead no_closure_params xs) (present_type_leads t) (part_leads e))
   node_leads (tree.method_call_expr at e name es as') =
       method_call_leads at name (part_leads e) (each_leads [] es) (args_part_leads as')
   node_leads (tree.leaving_expr at form e) = value_leads at _ (present_leads e)

@@ -2,6 +2,7 @@
 use Rattle.std.proofs.Common.{arith, ◌≡◌, ◌≢◌, ◌∙◌, refl, sym, ap, subst, ℕ, Bool, true, false, nat_lt, length}
 use Rattle.std.proofs.Common.{Option, Some, None, Ok, Err}
 use Rattle.std.proofs.lemmas.Bool.Decides.{nat_tests}
+use Rattle.std.proofs.Math.Logic.{∥∥₁_map}
 use Rattle.std.specs.Prelude.{IfOk, IsErrOf, Result}
 use Rattle.hir_store.specs.Pointers.{Pointer}
 use Rattle.hir_syntax.specs.declared.types.Type_.{Type_ as AstType_}
@@ -16,7 +17,9 @@ use Rattle.hir_env.specs.Spot.{Spot}
 use Rattle.hir_lower_form.specs.Builder.{Builder}
 use Rattle.hir_lower_form.specs.Lower.{type_part}
 use Rattle.hir_lower_form.specs.Lowering.{Checked, Lowers, SomeEnd, alloc_type}
-use Rattle.hir_steps.specs.Keeps.{MadeApart}
+use Rattle.hir_steps.specs.Keeps.{MadeApart, Paired}
+use Rattle.hir_steps.proofs.Apart.{stored_type_apart}
+use Rattle.hir_steps.proofs.Keeping.{apart_by}
 use Rattle.hir_one_result.specs.Laws.{MayBeOwned}
 use Rattle.hir_type_result.specs.TypeResult.{TypeResult, TypeTooLarge}
 use Rattle.hir_type_result.proofs.Whole.{refused_types, type_results}
@@ -109,15 +112,10 @@ module _ (b b' : Builder) (ty : TypeRef) (at : Pointer) where
       subst (λ (q : Checked TypeRefId × Builder). MayBeOwned q.1.stored) (sym (alloc_is b ty at) ∙ l.0) (owned_after t m)
   may_be_owned_type_if (Err e) l m = tt
 
-  apart_after : (t : Bool) → MadeApart b.names b.stored → MadeApart (after t b ty at).1.names (after t b ty at).1.stored
-  apart_after true m = record { once = m.once; later = m.later }
-  apart_after false m = record { once = m.once; later = m.later }
-
-  pub apart_type_if : (r : Checked TypeRefId) → Alone r → MadeApart b.names b.stored → IfOk r (λ i. MadeApart b'.names b'.stored)
-  apart_type_if (Ok i) l m =
-      let t = nat_lt (length b.stored.types.entries) b.stored.types.limit in
-      subst (λ (q : Checked TypeRefId × Builder). MadeApart q.1.names q.1.stored) (sym (alloc_is b ty at) ∙ l.0) (apart_after t m)
-  apart_type_if (Err e) l m = tt
+  pub apart_type_if : (r : Checked TypeRefId) → Alone r → Paired b.stored → ∥ MadeApart b.names b.stored ∥₁
+      → IfOk r (λ i. ∥ MadeApart b'.names b'.stored ∥₁)
+  apart_type_if (Ok i) l d m = ∥∥₁_map m (apart_by (stored_type_apart ty (Some at)) b b' i d l.0)
+  apart_type_if (Err e) l d m = tt
 
 -- a type that stands alone, lowered from nothing
 module _ (at : Spot) (x : Option AstType_) (limit : ℕ) where

@@ -89,7 +89,7 @@ pub record Onward {E I : Type 0} (place : I → ℕ) (a b : Sourced E I) : Type 
   pub ways : LeadsOn place (length a.entries) a.map b.map
 
 module _ {E I : Type 0} (place : I → ℕ) where
-  onward_refl : (a : Sourced E I) → Onward place a a
+  pub onward_refl : (a : Sourced E I) → Onward place a a
   onward_refl a = record { grown = omega arith; ways = on_refl place _ _ }
 
   onward_trans : (a b c : Sourced E I) → Onward place a b → Onward place b c → Onward place a c
@@ -106,7 +106,7 @@ module _ {E I : Type 0} (place : I → ℕ) where
       record { grown = omega arith; ways = on_pointed place _ a.map source (number (length a.entries)) (omega (arith, at)) }
 
   -- and one that was made up, to which no node leads
-  onward_made : (a : Sourced E I) (x : E) (source : Option Pointer) → Onward place a (with_made a x source)
+  pub onward_made : (a : Sourced E I) (x : E) (source : Option Pointer) → Onward place a (with_made a x source)
   onward_made a x source =
       let grown = length-append a.entries (x ∷ []) in record { grown = omega arith; ways = on_refl place _ _ }
 
@@ -114,24 +114,24 @@ module _ {E I : Type 0} (place : I → ℕ) where
 abbrev pub made : {E I : Type 0} → (ℕ → I) → Bool → E → Option Pointer → Sourced E I → Checked I × Sourced E I
 made number t x source a = if t then (Ok (number (length a.entries)), with_entry number a x source) else (Err Full, a)
 
-abbrev made_up : {E I : Type 0} → (ℕ → I) → Bool → E → Option Pointer → Sourced E I → Checked I × Sourced E I
+abbrev pub made_up : {E I : Type 0} → (ℕ → I) → Bool → E → Option Pointer → Sourced E I → Checked I × Sourced E I
 made_up number t x source a = if t then (Ok (number (length a.entries)), with_made a x source) else (Err Full, a)
 
 -- what is stored
 
-abbrev expr_place : ExprId → ℕ
+abbrev pub expr_place : ExprId → ℕ
 expr_place i = i.0
 
-abbrev label_place : LabelId → ℕ
+abbrev pub label_place : LabelId → ℕ
 label_place n = n.0
 
-abbrev pat_place : PatId → ℕ
+abbrev pub pat_place : PatId → ℕ
 pat_place p = p.0
 
-abbrev type_place : TypeRefId → ℕ
+abbrev pub type_place : TypeRefId → ℕ
 type_place i = i.0
 
-abbrev lifetime_place : LifetimeRefId → ℕ
+abbrev pub lifetime_place : LifetimeRefId → ℕ
 lifetime_place i = i.0
 
 -- what owns bindings stays, and it is stored of each that came too

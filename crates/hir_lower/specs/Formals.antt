@@ -1,16 +1,17 @@
 -- What the parameters of a body become.
-use Rattle.std.specs.Prelude.{◌≤◌, ℕ, suc, length, Bool, true, false, [], Option, Some, None}
+use Rattle.std.specs.Prelude.{Bool, true, false, List, [], Option, Some, None}
 use Rattle.hir_syntax.specs.declared.ast.ElseBranch.TheOpen.{PatKind-F}
 use Rattle.hir_syntax.specs.declared.ast.Name.{Name as AstName}
 use Rattle.hir_syntax.specs.declared.params.ParamList.{ParamList as AstParamList}
 use Rattle.hir_syntax.specs.declared.pats.Pat.{Pat as AstPat}
 use Rattle.hir_binding.specs.declared.binding.BindingAnnotation.TheVariants.{Unannotated}
 use Rattle.hir_store.specs.Pointers.{Pointer}
-use Rattle.hir_store.specs.Arenas.{past_option}
-use Rattle.hir_store.specs.Range.{HasPatOption, HasPats}
+use Rattle.hir_store.specs.Range.{HasExpr, HasPatOption, HasPats}
 use Rattle.hir_store.specs.Stored.{Stored}
+use Rattle.hir_store.specs.declared.hir.CoroutineKind.{CoroutineKind}
 use Rattle.hir_store.specs.declared.ids.BindingId.{BindingId}
 use Rattle.hir_store.specs.declared.ids.DefWithBodyId.{DefWithBodyId}
+use Rattle.hir_store.specs.declared.ids.ExprId.{ExprId}
 use Rattle.hir_store.specs.declared.ids.DefWithBodyId.TheVariants as owner
 use Rattle.hir_store.specs.declared.ids.PatId.{PatId}
 use Rattle.hir_store.specs.declared.diagnostics.AwaitLocation.TheVariants as location
@@ -20,22 +21,33 @@ use Rattle.hir_env.specs.declared.place.Place.{Place}
 use Rattle.hir_env.specs.Whole.{answered_pat, pointer_at, written}
 use Rattle.hir_env.specs.Formals.{answered_formals, are_bare}
 use Rattle.hir_env.specs.Answered as tree
-use Rattle.hir_env.specs.Answered.{Formal, Formals, SelfFormal}
+use Rattle.hir_env.specs.Answered.{Formal, Formals, OptionExpr, SelfFormal}
 use Rattle.hir_env.specs.Answering.{name_written}
 use Rattle.hir_lower_form.specs.Builder.{Builder}
-use Rattle.hir_lower_form.specs.Lowering.{Checked, Lowers}
+use Rattle.hir_lower_form.specs.Lowering.{Checked, Lowering, ◌>>=◌, Lowers, owning, pure}
+use Rattle.hir_lower_form.specs.Preludes.{lower_handed}
 use Rattle.hir_lower_pat.specs.Methods.{use_with}
-pub use Rattle.hir_one_result.specs.Formals.{Given, each_formal, formals_read, lower_formal, lower_self}
+use Rattle.hir_one_result.specs.Formals.{in_function}
+pub use Rattle.hir_one_result.specs.Formals.{Given, InFunction, Received, each_formal, formals_read, lower_formal, lower_self}
 unfoldable pub use Rattle.hir_one_result.specs.Formals.{lower_formals}
+pub use Rattle.hir_lower_form.specs.Methods.{HasSelf}
 
-abbrev past_binding_id : BindingId → ℕ
-past_binding_id b = suc b.0
-
-abbrev pub HasSelf : Stored → Option BindingId → Type 0
-HasSelf s o = past_option past_binding_id o ≤ length s.bindings.entries
+abbrev pub HasReceived : Stored → Received → Type 0
+HasReceived s r = HasSelf s r.0 × HasPats s r.1
 
 abbrev pub HasGiven : Stored → Given → Type 0
-HasGiven s g = HasSelf s g.0 × HasPats s g.1
+HasGiven s g = HasReceived s g.0 × HasReceived s g.1
+
+-- a function that is a coroutine, behind its `self`
+unfoldable pub behind_self : CoroutineKind → Bool → Option BindingId → List Formal → OptionExpr → Lowering (Given × ExprId)
+behind_self kind skipped self fs e = do
+  inside ← owning (λ x. x.1.1) (in_function kind skipped self fs e)
+  ps ← lower_handed [] inside.1.0
+  pure (((self, ps), inside.0), inside.1.1)
+
+-- what is in it
+abbrev pub HasInFunction : Stored → InFunction → Type 0
+HasInFunction s r = HasReceived s r.0 × HasExpr s r.1.1
 
 abbrev pub LowersFormal : Formal → Builder → Checked (Option PatId) → Builder → Type 0
 LowersFormal f old result new = Lowers HasPatOption (lower_formal false f) old result new

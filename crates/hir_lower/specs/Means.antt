@@ -1,5 +1,5 @@
 -- What a lowered constant and a lowered body are, in words of meaning.
-use Rattle.std.specs.Prelude.{◌≡◌, ◌≤◌, ◌+◌, ℕ, Bool, true, false, List, [], ◌∷◌, ◌++◌, length, map, option_map, Option}
+use Rattle.std.specs.Prelude.{◌≡◌, ◌≤◌, ◌⊎◌, ◌+◌, ℕ, Bool, true, false, List, [], ◌∷◌, ◌++◌, length, map, option_map, Option}
 use Rattle.std.specs.Prelude.{Some, None, IsPermutation, option_and_then, slice_get}
 use Rattle.hir_base.specs.declared.node.AstPtr.{AstPtr}
 use Rattle.hir_syntax.specs.declared.ast.Expr.{Expr as AstExpr}
@@ -10,6 +10,7 @@ use Rattle.hir_store.specs.Stored.{Store, SourceMap, Stored, store_of, map_of}
 use Rattle.hir_store.specs.Arenas.{with_entry}
 use Rattle.hir_store.specs.Storing.{Extends, root_at, type_id}
 use Rattle.hir_store.specs.declared.ids.TypeRefId.{TypeRefId}
+use Rattle.hir_store.specs.declared.hir.CoroutineKind.{CoroutineKind}
 use Rattle.hir_store.specs.declared.type_ref.TypeBound.{TypeBound}
 use Rattle.hir_store.specs.declared.type_ref.TypeRef.{TypeRef}
 use Rattle.hir_store.specs.declared.type_ref.TypeRef.TheVariants as ty
@@ -35,21 +36,22 @@ use Rattle.hir_env.specs.Answered.{Formals, OptionExpr, OptionPath, OptionType, 
 use Rattle.hir_env.specs.Whole.{answered_path, expr_part, type_part}
 use Rattle.hir_data.specs.Data.{path_names}
 use Rattle.hir_data.specs.Patterns.{written_pat}
+use Rattle.hir_data.specs.Preludes.{formal_patterns}
 use Rattle.hir_data.specs.Reading.{stored_pat, stored_path}
 use Rattle.hir_data.specs.Written.{written_path}
 use Rattle.hir_data.specs.Segments.{PlainTrait, Whole, first_trait, named_segments, segment_name}
 use Rattle.hir_data.specs.Tops.{Tops}
-use Rattle.hir_meaning.specs.Inner.{Bodies, all_inners, all_of, pat_part_bodies, path_bodies, path_inner_bodies}
+use Rattle.hir_meaning.specs.Inner.{Inside, all_inners, all_of, path_bodies, path_inner_bodies, tops_bodies}
 use Rattle.hir_meaning.specs.Inner.{of_present as of_some}
-use Rattle.hir_meaning.specs.Same.{SameBodies, SameMeaning}
+use Rattle.hir_meaning.specs.Same.{SameBodies, SameCoroutine, SameMeaning}
 use Rattle.hir_same_meaning.specs.Reached.{Spread, of_each, reached_to}
-use Rattle.hir_steps.specs.Keeps.{Mapped, Paired, times_bound, times_labelled}
+use Rattle.hir_steps.specs.Keeps.{IsHanded, IsOfTwo, IsOneOf, Mapped, Paired, times_bound, times_labelled}
 use Rattle.hir_one_result.specs.Blocks.{blocks_of_part, blocks_of_whole}
 use Rattle.hir_one_result.specs.Diagnostics.{Faults, part_diagnostics, whole_faults}
 use Rattle.hir_one_result.specs.Laws.{Grown, Reaches, Settled}
 use Rattle.hir_one_result.specs.Room.{size_part, whole_size}
 use Rattle.hir_one_result.specs.Size.{owned, placed}
-use Rattle.hir_one_result.specs.Leads.{Way}
+use Rattle.hir_one_result.specs.Leads.{OwnedBy, OwnersAre, Way}
 use Rattle.hir_one_result.specs.Stands.{StandsPart, WholeWays}
 use Rattle.hir_lower.specs.declared.body.Param.{Param}
 use Rattle.hir_lower.specs.Formals.{formals_read}
@@ -60,18 +62,20 @@ use Rattle.hir_type_result.specs.Roots.{RootsOf}
 use Rattle.hir_type_result.specs.Reached.{of_path, of_present, types_reached}
 use Rattle.hir_type_result.specs.Reached.{of_each as of_all}
 
--- What is so of a root in a later store. Its expression does what the tree does; it stands for the tree, and each expression
--- that came with it is what a written one became, or a missing one for an absent or disabled part or in front of a tuple with a
--- leading comma, or what is called for a range, or the block in a coroutine, or a further node of a `while`, a `for`, a `?` or a `try`;
--- where the source map led by then it leads still, or by the ways of the tree; each label and each binding more is what a written one
--- became, or of a made name, and there are as many; each number that it reaches, or that one does which it holds and doesn't run, is
--- reached once, and is one that lowering it gave out, and so is each type that the expressions and patterns reach that came with it,
+-- What is so of a root in a later store. Its expression does what the tree does; it stands for the tree, and owns each binding that
+-- nothing in it owns; each expression that came with it is what a written one became, or a missing one for an absent or disabled part or
+-- in front of a tuple with a leading comma, or what is called for a range, or the block in a coroutine, the coroutine of a closure or a
+-- name that is read in front of its body, or a further node of a `while`, a `for`, a `?` or a `try`; where the source map led by then it
+-- leads still, or by the ways of the tree; each label and each binding more is what a written one became, or of a made name, and there are
+-- as many, and what owns each binding is what its way says; each number that it reaches, or that one does which it holds and doesn't run,
+-- is reached once, and is one that lowering it gave out, and so is each type that the expressions and patterns reach that came with it,
 -- and each pattern that the expressions and types do.
 pub record Lives (old new later : Stored) (i : ExprId) (e : OptionExpr) : Type 0 where
   pub same : SameMeaning (store_of later) (map_of later) i e
   pub ways : List Way
-  pub stands : StandsPart (store_of later) (map_of later) [] e i ways
+  pub stands : OwnedBy i (StandsPart (store_of later) (map_of later) [] e i) ways
   pub reaches : Reaches old new ways
+  pub owner_ways : OwnersAre new.bindings.owners ways
   pub reached_once : (depth : ℕ) → length later.exprs.entries ≤ depth
       → Spread (length old.exprs.entries) (length new.exprs.entries)
       (of_each (reached_to (store_of later) depth) (i ∷ unrun_in (store_of later) i))
@@ -81,8 +85,8 @@ pub record Lives (old new later : Stored) (i : ExprId) (e : OptionExpr) : Type 0
 -- What lowering a root leaves. It is the last of the recorded roots, to which all belongs that was stored since the one before:
 -- as many expressions, labels and bindings as the tree becomes, and patterns, types and lifetimes from just those of its nodes that
 -- become one. The patterns that came make bindings that came, each owned by the innermost closure, coroutine, `const` block, length or
--- argument around it, or, in none of these, by the root. Behind the faults and the blocks that were noted before come those of the
--- tree.
+-- argument around it, or, in none of these, by the root, as `lives` says, and by its number, as `owners` does. Behind the faults and the
+-- blocks that were noted before come those of the tree.
 pub record Rooted (old new : Stored) (i : ExprId) (e : OptionExpr) : Type 0 where
   pub lives : (later : Stored) → Extends new later → Settled new later → Lives old new later i e
   pub grown : Grown (owned (size_part e)) old new
@@ -96,21 +100,35 @@ pub record Rooted (old new : Stored) (i : ExprId) (e : OptionExpr) : Type 0 wher
   pub paired : Paired new
   pub mapped : Mapped old → Mapped new
 
--- The one recorded root does what the written body does. It and what it and the patterns of its parameters hold and don't run reach
--- each expression in one way only. The expressions and patterns reach each type in one way only.
-pub record HasBody (store : Store) (source_map : SourceMap) (params : List PatId) (e : OptionExpr) : Type 0 where
+-- what a lowered body does that is the root: what the written one does, or, where that is one of a function with `async` or `gen`, it
+-- makes its coroutine
+abbrev pub DoesBody : Option CoroutineKind → Store → SourceMap → List PatId → ExprId → SelfFormal → Tops → OptionExpr → Type 0
+DoesBody None store source_map formals root self ps e = SameMeaning store source_map root e
+DoesBody (Some kind) store source_map formals root self ps e = SameCoroutine store source_map formals root kind self ps e
+
+-- The one recorded root does what the written body does. It and what it and the patterns that the outside hands its arguments to hold and
+-- don't run reach each expression in one way only. The expressions and patterns reach each type in one way only.
+pub record HasBody (kind : Option CoroutineKind) (store : Store) (source_map : SourceMap) (formals : List PatId) (self : SelfFormal)
+    (ps : Tops) (e : OptionExpr) : Type 0 where
   pub root : ExprRoot
   pub only : store.roots ≡ root ∷ []
-  pub same : SameMeaning store source_map root.root e
+  pub same : DoesBody kind store source_map formals root.root self ps e
   pub reached_once : (depth : ℕ) → length store.exprs ≤ depth
       → Spread 0 (length store.exprs)
-      (of_each (reached_to store depth) (unrun_in_pats store params ++ root.root ∷ unrun_in store root.root))
+      (of_each (reached_to store depth) (unrun_in_pats store formals ++ root.root ∷ unrun_in store root.root))
   pub types_reached_once : (depth : ℕ) → length store.types ≤ depth → let l = of_types_alone (types_reached store.types depth) in
       Spread 0 (length store.types) (of_exprs l store.exprs ++ of_pats l store.pats)
 
--- each name that lowering makes up is of one binding or label at most
-abbrev pub MadeOnce : Store → Type 0
-MadeOnce store = (k : ℕ) → times_bound k store.bindings + times_labelled k store.labels ≤ 1
+-- the made name of this number is of two bindings, of which the formal parameters are one
+pub record IsHandedTo (k : ℕ) (store : Store) (formals : List PatId) : Type 0 where
+  pub formal : IsOneOf k store formals
+  pub two : IsOfTwo k store.bindings store.labels
+
+-- Each name that lowering makes up is of one binding or label at most, or of two bindings, of which one is a formal parameter: of a
+-- closure with `async` or `gen`, or of the function.
+abbrev pub MadeOnce : Store → List PatId → Type 0
+MadeOnce store formals = (k : ℕ) → (times_bound k store.bindings + times_labelled k store.labels ≤ 1)
+    ⊎ (IsHanded k store ⊎ IsHandedTo k store formals)
 
 -- paths and types
 
@@ -150,12 +168,14 @@ pub record ConstantsLive (old new later : Stored) (p : OptionPath) : Type 0 wher
   pub ways : List Way
   pub stands : WholeWays (store_of later) (map_of later) [] p ways
   pub reaches : Reaches old new ways
+  pub owner_ways : OwnersAre new.bindings.owners ways
 
 -- What lowering a path to r leaves: types and lifetimes from just those of its nodes that become one, and its constants. Those are
 -- roots, also where r is none; behind the faults and the blocks that were noted before come theirs. In each later store each body
 -- inside r does what the written one does; r and the expressions and patterns that came reach each type in one way only, and none that
 -- was stored before; so do the expressions and types that came reach each pattern. The patterns that came make bindings that came,
--- each owned by the innermost closure, coroutine, `const` block, length or argument around it.
+-- each owned by the innermost closure, coroutine, `const` block, length or argument around it, as `lives` says, and by its number, as
+-- `owners` does.
 pub record PathRooted (old new : Stored) (r : Option Path) (p : OptionPath) : Type 0 where
   pub inner : (later : Stored) → Extends new later
       → SameBodies (store_of later) (map_of later) (of_some (path_inner_bodies (store_of later)) r) (path_bodies p)
@@ -169,7 +189,7 @@ pub record PathRooted (old new : Stored) (r : Option Path) (p : OptionPath) : Ty
   pub pats_reached_once : (later : Stored) → Extends new later → PatsSpread old new later []
   pub inside_reached_once : (later : Stored) → Extends new later → (depth : ℕ) → length later.exprs.entries ≤ depth
       → Spread (length old.exprs.entries) (length new.exprs.entries)
-      (of_each (reached_to (store_of later) depth) (of_some (unrun_in_path (store_of later)) r))
+      (of_each (reached_to (store_of later) depth) (unrun_in_path (store_of later) r))
   pub bindings_came : BindingsCame old new
   pub grown : Grown (whole_size p) old new
   pub owners : new.bindings.owners ≡ old.bindings.owners ++ placed (length old.exprs.entries) (whole_size p).owners
@@ -192,6 +212,11 @@ body_fault k (tree.some_expr e) = None
 abbrev pub unless_skipped : Bool → OptionExpr → OptionExpr
 unless_skipped true e = tree.no_expr
 unless_skipped false e = e
+
+-- a skipped body is no coroutine
+abbrev pub kind_unless_skipped : Bool → Option CoroutineKind → Option CoroutineKind
+kind_unless_skipped true kind = None
+kind_unless_skipped false kind = kind
 
 -- the body that an item has: of a skipped item it is absent
 abbrev pub body_read : Spot → DefWithBodyId → Option AstExpr → OptionExpr
@@ -219,25 +244,32 @@ receiver_read (tree.self_formal at u _) = Some (record { name = u.name; mode = u
 receiver_read _ = None
 
 -- the bodies inside stored patterns
-unfoldable pub pats_inner_bodies : Store → List PatId → List ExprId
+unfoldable pub pats_inner_bodies : Store → List PatId → List Inside
 pats_inner_bodies store ps = all_of (all_inners store).pat ps
 
--- the bodies inside written patterns
-abbrev pub tops_bodies : Tops → Bodies
-tops_bodies [] = []
-tops_bodies (p ∷ ps) = pat_part_bodies p ++ tops_bodies ps
+-- what the outside hands the arguments to: what was written, or, where the body is a coroutine, names, each at the node of its parameter
+abbrev pub AreHandedIn : Option CoroutineKind → Store → SourceMap → List (Param PatId) → Tops → Type 0
+AreHandedIn None store source_map params ps = map (λ p. p.formal) params ≡ map (λ p. p.user_written) params
+AreHandedIn (Some kind) store source_map params ps =
+    map (λ p. stored_pat store source_map p.formal) params ≡ formal_patterns (map written_pat ps)
+
+-- the same of `self`: where the body is a coroutine it is a binding of the same name in front of it
+abbrev pub IsSelfHandedIn : Option CoroutineKind → Store → Option (Param BindingId) → SelfFormal → Type 0
+IsSelfHandedIn None store receiver self = option_map (λ p. p.formal) receiver ≡ option_map (λ p. p.user_written) receiver
+IsSelfHandedIn (Some kind) store receiver self =
+    option_and_then (λ p. slice_get store.bindings p.formal.0) receiver ≡ receiver_read self
 
 -- Each parameter is read back as the written pattern, in order, and `self` is its binding. Each body inside these patterns, which
--- is a constant or an end of a range in one of their paths, does what the written one in its place does. Each parameter is handed in
--- as it was written. They and the expressions and types reach each pattern in one way only.
-pub record HasParams (store : Store) (source_map : SourceMap) (params : List (Param PatId)) (receiver : Option (Param BindingId))
-    (skipped : Bool) (formals : Formals) : Type 0 where
+-- is a constant or an end of a range in one of their paths, does what the written one in its place does. The patterns that the outside
+-- hands its arguments to and the expressions and types reach each pattern in one way only.
+pub record HasParams (kind : Option CoroutineKind) (store : Store) (source_map : SourceMap) (params : List (Param PatId))
+    (receiver : Option (Param BindingId)) (skipped : Bool) (formals : Formals) : Type 0 where
   pub patterns : map (λ p. stored_pat store source_map p.user_written) params ≡ map written_pat (formals_read skipped formals.formals)
   pub binding : option_and_then (λ p. slice_get store.bindings p.user_written.0) receiver ≡ receiver_read formals.receiver
   pub inner : SameBodies store source_map (pats_inner_bodies store (map (λ p. p.user_written) params))
       (tops_bodies (formals_read skipped formals.formals))
   pub pats_reached_once : (depth : ℕ) → length store.pats ≤ depth → let l = of_pats_alone (pats_reached store.pats depth) in
       Spread 0 (length store.pats)
-      (of_all l.pats (map (λ p. p.user_written) params) ++ (of_exprs l store.exprs ++ of_types l store.types))
-  pub handed_in : map (λ p. p.formal) params ≡ map (λ p. p.user_written) params
-  pub handed_self : option_map (λ p. p.formal) receiver ≡ option_map (λ p. p.user_written) receiver
+      (of_all l.pats (map (λ p. p.formal) params) ++ (of_exprs l store.exprs ++ of_types l store.types))
+  pub handed_in : AreHandedIn kind store source_map params (formals_read skipped formals.formals)
+  pub handed_self : IsSelfHandedIn kind store receiver formals.receiver

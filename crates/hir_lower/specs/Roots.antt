@@ -1,5 +1,5 @@
 -- What the entry functions make of a tree.
-use Rattle.std.specs.Prelude.{◌≡◌, ℕ, Bool, true, false, is_some, map, option_map, Option, Some, None, Ok, Err}
+use Rattle.std.specs.Prelude.{◌≡◌, ℕ, Bool, true, false, List, [], ◌∷◌, is_some, map, option_map, Option, Some, None, Ok, Err}
 use Rattle.hir_store.specs.Range.{HasExpr}
 use Rattle.hir_store.specs.Stored.{Store, SourceMap, Stored, store_of, map_of}
 use Rattle.hir_store.specs.declared.fault.StoreFault.TheVariants.{Full}
@@ -35,7 +35,9 @@ use Rattle.hir_lower_form.specs.Lower.{ExprSteps, lower_part}
 use Rattle.hir_lower_handlers.specs.Spots.{spot_at}
 use Rattle.hir_lower.specs.declared.body.Body.{Body}
 use Rattle.hir_lower.specs.declared.body.Param.{Param}
-use Rattle.hir_lower.specs.Formals.{Given, HasGiven, item_formals, lower_formals}
+use Rattle.hir_store.specs.declared.hir.CoroutineKind.{CoroutineKind}
+use Rattle.hir_one_result.specs.Formals.{lower_body}
+use Rattle.hir_lower.specs.Formals.{Given, HasGiven, Received, item_formals}
 use Rattle.hir_lower.specs.Means.{required_body, body_fault}
 
 -- the expression as a root, in which no label around it is open, and which owns its bindings
@@ -50,30 +52,31 @@ root_of e = do
   outside_root
   pure id
 
--- a body as a root, behind its parameters: nothing owns what is bound in it but not inside of it
-unfoldable pub behind : Lowering Given → OptionExpr → Lowering (Given × ExprId)
-behind formals e = do
+-- a body with its parameters as a root: nothing owns what is bound in it but not inside of it
+unfoldable pub behind : Lowering (Given × ExprId) → Lowering (Given × ExprId)
+behind body = do
   close_labels
   enter_root
-  given ← formals
-  root ← lower_part e
-  record_root root
+  lowered ← body
+  record_root lowered.1
   outside_root
-  pure (given, root)
+  pure lowered
 
-abbrev pub HasBehind : Stored → Given × ExprId → Type 0
-HasBehind s r = HasGiven s r.0 × HasExpr s r.1
+-- a body with its parameters
+abbrev pub HasGivenBody : Stored → Given × ExprId → Type 0
+HasGivenBody s r = HasGiven s r.0 × HasExpr s r.1
 
 unfoldable pub report_missing : Pointer → Option MissingBodyItemKind → Lowering (Unit {0})
 report_missing at None = pure tt
 report_missing at (Some k) = report (MissingBody at k)
 
--- a body with its parameters: a skipped one is a missing root
-unfoldable pub body_of : Bool → Pointer → Option MissingBodyItemKind → Formals → OptionExpr → Lowering (Given × ExprId)
-body_of true at k formals e = behind (lower_formals true formals) tree.no_expr
-body_of false at k formals e = do
+-- a body with its parameters: a skipped one is a missing root, and no coroutine
+unfoldable pub body_of : Option CoroutineKind → Bool → Pointer → Option MissingBodyItemKind → Formals → OptionExpr
+    → Lowering (Given × ExprId)
+body_of kind true at k formals e = behind (lower_body None true formals tree.no_expr)
+body_of kind false at k formals e = do
   report_missing at (body_fault k e)
-  behind (lower_formals false formals) e
+  behind (lower_body kind false formals e)
 
 -- what the steps store, from nothing
 pub record StoresFromNothing {A : Type 0} (p : Lowering A) (limit : ℕ) (store : Store) (source_map : SourceMap) : Type 0 where
@@ -83,13 +86,28 @@ pub record StoresFromNothing {A : Type 0} (p : Lowering A) (limit : ℕ) (store 
   pub store_is : store ≡ store_of builder.stored
   pub source_map_is : source_map ≡ map_of builder.stored
 
--- a parameter that is handed in as it is written
-abbrev pub as_written : {A : Type 0} → A → Param A
-as_written x = record { formal = x; user_written = x }
+-- what the outside hands its arguments to
+abbrev pub formals_of : Body → Received
+formals_of b = (option_map (λ p. p.formal) b.self_param, map (λ p. p.formal) b.params)
 
--- what a body is given, as it is written
+-- what was written
+abbrev pub written_of : Body → Received
+written_of b = (option_map (λ p. p.user_written) b.self_param, map (λ p. p.user_written) b.params)
+
 abbrev pub given_of : Body → Given
-given_of b = (option_map (λ p. p.user_written) b.self_param, map (λ p. p.user_written) b.params)
+given_of b = (formals_of b, written_of b)
+
+-- a parameter that is handed in as this one and was written as the other
+abbrev pub param_of : {A : Type 0} → A → A → Param A
+param_of formal written = record { formal = formal; user_written = written }
+
+abbrev pub both : {A : Type 0} → List A → List A → List (Param A)
+both (formal ∷ formals) (written ∷ others) = param_of formal written ∷ both formals others
+both _ _ = []
+
+abbrev pub both_if_present : {A : Type 0} → Option A → Option A → Option (Param A)
+both_if_present (Some formal) (Some written) = Some (param_of formal written)
+both_if_present _ _ = None
 
 -- the parameters of the body are what the steps answer, from nothing
 pub record GivenFromNothing (p : Lowering (Given × ExprId)) (limit : ℕ) (b : Body) : Type 0 where
@@ -97,8 +115,8 @@ pub record GivenFromNothing (p : Lowering (Given × ExprId)) (limit : ℕ) (b : 
   pub root : ExprId
   pub builder : Builder
   pub done : p (fresh limit) ≡ (Ok (given, root), builder)
-  pub receiver : b.self_param ≡ option_map as_written given.0
-  pub params : b.params ≡ map as_written given.1
+  pub receiver : b.self_param ≡ both_if_present given.0.0 given.1.0
+  pub params : b.params ≡ both given.0.1 given.1.1
 
 -- the steps find no room in an arena of this limit, or no number more in a counter
 pub record RefusedAtEnd {A : Type 0} (p : Lowering A) (limit : ℕ) : Type 0 where
@@ -106,24 +124,30 @@ pub record RefusedAtEnd {A : Type 0} (p : Lowering A) (limit : ℕ) : Type 0 whe
   pub refused : p (fresh limit) ≡ (Err Full, builder)
   pub at_end : SomeEnd builder
 
--- the body of an item
-abbrev pub item_of : Spot → DefWithBodyId → AstPtr → Option AstParamList → Option AstExpr → Lowering (Given × ExprId)
-item_of at owner node params body =
+-- the body of an item, which may be one of a function that is a coroutine
+abbrev pub item_of : Option CoroutineKind → Spot → DefWithBodyId → AstPtr → Option AstParamList → Option AstExpr
+    → Lowering (Given × ExprId)
+item_of kind at owner node params body =
     let required = required_body owner (at.answers.container owner) in
     let formals = item_formals at owner params (is_some body) in
-    body_of (at.answers.skip owner) (in_file at.place node) required formals (expr_part at body)
+    body_of kind (at.answers.skip owner) (in_file at.place node) required formals (expr_part at body)
 
--- what an `await` in the body of an item stands in: so far no body is async
-abbrev pub await_location : DefWithBodyId → AwaitLocation
-await_location (owner.FunctionId _) = location.NonAsyncFunction
-await_location (owner.StaticId _) = location.Static
-await_location (owner.ConstId _) = location.Constant
-await_location (owner.VariantId _) = location.EnumVariant
+-- what an `await` in the body of an item that isn't async stands in
+abbrev pub item_location : DefWithBodyId → AwaitLocation
+item_location (owner.FunctionId _) = location.NonAsyncFunction
+item_location (owner.StaticId _) = location.Static
+item_location (owner.ConstId _) = location.Constant
+item_location (owner.VariantId _) = location.EnumVariant
 
--- where the body of an item is read
-abbrev pub body_spot : Answers → DefWithBodyId → HirFileId → ModuleId → Spot
-body_spot env item file inside =
-    let awaits_in = Some (await_location item) in
+-- in one that is async it may stand
+abbrev pub await_location : Bool → DefWithBodyId → Option AwaitLocation
+await_location true item = None
+await_location false item = Some (item_location item)
+
+-- where the body of an item is read, which may be async
+abbrev pub body_spot : Answers → DefWithBodyId → HirFileId → ModuleId → Bool → Spot
+body_spot env item file inside is_async =
+    let awaits_in = await_location is_async item in
     spot_at env (record {
       file_id = file;
       module_id = inside;

@@ -1,25 +1,27 @@
 //! Bodies of items.
 
-ghost use Rattle.std.specs.Prelude.{◌≡◌, ◌≢◌, Bool, false, is_some, map, IfOk, IsErrOf, option_copied, option_map};
+ghost use Rattle.std.specs.Prelude.{◌≡◌, ◌≢◌, Bool, false, is_some, IfOk, IsErrOf, option_copied};
 ghost use Rattle.hir_store.specs.Range.{InRange};
 ghost use Rattle.hir_store.specs.Stored.{map_of, store_of};
 ghost use Rattle.hir_lower_form.specs.Builder.{fresh};
 ghost use Rattle.hir_env.specs.Answered as tree;
+ghost use Rattle.hir_env.specs.Answering.{coroutine_kind};
 ghost use Rattle.hir_env.specs.Formals.{answered_formals};
 ghost use Rattle.hir_env.specs.Whole.{expr_part};
 ghost use Rattle.hir_lower_form.specs.Lowering.{Lowers};
+ghost use Rattle.hir_one_result.specs.Formals.{lower_body, plain_body};
 ghost use Rattle.hir_one_result.specs.OneResult.{OneResult};
 ghost use Rattle.hir_one_result.specs.Room.{BodyTooLarge};
 ghost use Rattle.hir_lower_handlers.specs.Spots.{spot_at};
-ghost use Rattle.hir_lower.specs.Formals.{are_read, item_formals, lower_formals, outside_place, outside_the_body, self_source};
-ghost use Rattle.hir_lower.specs.Means.{HasBody, HasParams, MadeOnce, body_owes, body_read, required_body};
-ghost use Rattle.hir_lower.specs.Roots.{GivenFromNothing, HasBehind, RefusedAtEnd, StoresFromNothing, await_location, behind, body_of};
-ghost use Rattle.hir_lower.specs.Roots.{body_spot, given_of, item_of};
-ghost use Rattle.hir_lower.specs.Roots.{as_written as written};
+ghost use Rattle.hir_lower.specs.Formals.{are_read, formals_read, item_formals, outside_the_body, self_source};
+ghost use Rattle.hir_lower.specs.Means.{HasBody, HasParams, MadeOnce, body_owes, body_read, kind_unless_skipped, required_body};
+ghost use Rattle.hir_lower.specs.Roots.{GivenFromNothing, HasGivenBody, RefusedAtEnd, StoresFromNothing, await_location, behind, body_of};
+ghost use Rattle.hir_lower.specs.Roots.{body_spot, both, both_if_present, formals_of, given_of, item_location, item_of};
 
 use crate::collector::collect_expr_opt;
+use crate::coroutine_functions::{around, coroutine_form};
 use crate::error::LowerError;
-use crate::formals::{formals_form, must_be_bare, self_node};
+use crate::formals::{Given, formals_form, must_be_bare, self_node};
 use hir_base::Seq;
 use hir_base::node::{AstPtr, HirFileId, InFile};
 use hir_env::env::LowerEnv;
@@ -27,6 +29,7 @@ use hir_env::place::{ImplTrait, LoweringMode, Place};
 use hir_lower_form::builder::BodyBuilder;
 use hir_store::diagnostics::{AwaitLocation, ExpressionStoreDiagnostics, MissingBodyItemKind};
 use hir_store::fault::StoreFault;
+use hir_store::hir::CoroutineKind;
 use hir_store::ids::{BindingId, DefWithBodyId, ExprId, ItemContainerId, ModuleId, PatId};
 use hir_store::source_map::ExpressionStoreSourceMap;
 use hir_store::store::ExpressionStore;
@@ -95,15 +98,38 @@ fn required_body_kind(
     }
 }
 
-/// What an `await` in the body of the item stands in: so far no body is async.
-fn await_location_of(owner: DefWithBodyId) -> AwaitLocation
-    ensures { result ≡ await_location owner }
+/// What an `await` in the body of the item stands in, where it isn't async.
+fn item_location_of(owner: DefWithBodyId) -> AwaitLocation
+    ensures { result ≡ item_location owner }
 {
     match owner {
         DefWithBodyId::FunctionId(_) => AwaitLocation::NonAsyncFunction,
         DefWithBodyId::StaticId(_) => AwaitLocation::Static,
         DefWithBodyId::ConstId(_) => AwaitLocation::Constant,
         DefWithBodyId::VariantId(_) => AwaitLocation::EnumVariant,
+    }
+}
+
+/// What an `await` in the body of the item stands in, none where it may stand there.
+fn await_location_of(owner: DefWithBodyId, is_async: bool) -> Option<AwaitLocation>
+    ensures { result ≡ await_location is_async owner }
+{
+    if is_async {
+        None
+    } else {
+        Some(item_location_of(owner))
+    }
+}
+
+/// The kind of the coroutine that a body with these words is, where it is one.
+fn coroutine_kind_of(is_async: bool, is_gen: bool) -> Option<CoroutineKind>
+    ensures { result ≡ coroutine_kind is_async is_gen }
+{
+    match (is_async, is_gen) {
+        (false, false) => None,
+        (true, false) => Some(CoroutineKind::Async),
+        (false, true) => Some(CoroutineKind::Gen),
+        (true, true) => Some(CoroutineKind::AsyncGen),
     }
 }
 
@@ -119,19 +145,21 @@ fn is_function(owner: DefWithBodyId) -> bool
     }
 }
 
-/// The place around a body: there no `await` stands in what is async.
-fn around(place: Place) -> Place
-    ensures { result ≡ outside_place place }
+/// The same patterns again.
+fn copied(mut left: &[PatId], alloc: Global) -> Result<Seq<PatId>, AllocError>
+    ensures { IfOk result (λ ps. ps ≡ left.entry.now) }
 {
-    Place {
-        await_location: Some(AwaitLocation::Unknown),
-        ..place
+    let mut pats = Seq::new(alloc);
+    while let [one, rest @ ..] = left {
+        pats.push(*one)?;
+        left = rest;
     }
+    Ok(pats)
 }
 
-/// Lowers parameters, and behind them a body as a root.
-#[tactic(auto, unfolding(crate::specs::Roots::behind))]
-fn behind_formals<E: LowerEnv>(
+/// Lowers parameters, and behind them a body that is no coroutine.
+#[tactic(auto, unfolding(hir_one_result::specs::Formals::plain_body))]
+fn plain_form<E: LowerEnv>(
     alloc: Global,
     env: &E,
     place: Place,
@@ -140,18 +168,67 @@ fn behind_formals<E: LowerEnv>(
     bare: bool,
     params: Option<&ast::ParamList>,
     body: Option<&ast::Expr>,
-) -> Result<((Option<BindingId>, Seq<PatId>), ExprId), StoreFault>
+) -> Result<(Given, ExprId), StoreFault>
     ensures { let at = spot_at (E.answers env.now) place in
         let formals = answered_formals (outside_the_body at) bare (option_copied params.entry) in
-        Lowers HasBehind (behind (lower_formals skipped formals) (expr_part at (option_copied body.entry))) state.old result state.new }
+        let read = expr_part at (option_copied body.entry) in
+        Lowers HasGivenBody (plain_body skipped formals read) state.old result state.new }
+{
+    let (receiver, pats) = formals_form(alloc, env, around(place), state, skipped, bare, params)?;
+    let root = collect_expr_opt(alloc, env, place, state, body)?;
+    let copies = copied(pats.as_slice(), alloc)?;
+    Ok((((receiver, copies), (receiver, pats)), root))
+}
+
+/// The item's body, behind its parameters.
+fn body_form<E: LowerEnv>(
+    alloc: Global,
+    env: &E,
+    place: Place,
+    state: &mut BodyBuilder,
+    kind: Option<CoroutineKind>,
+    skipped: bool,
+    bare: bool,
+    params: Option<&ast::ParamList>,
+    body: Option<&ast::Expr>,
+) -> Result<(Given, ExprId), StoreFault>
+    ensures { let at = spot_at (E.answers env.now) place in
+        let formals = answered_formals (outside_the_body at) bare (option_copied params.entry) in
+        let read = expr_part at (option_copied body.entry) in
+        Lowers HasGivenBody (lower_body kind skipped formals read) state.old result state.new }
+{
+    match kind {
+        None => plain_form(alloc, env, place, state, skipped, bare, params, body),
+        Some(kind) => {
+            coroutine_form(alloc, env, place, state, kind, skipped, bare, params, body)
+        }
+    }
+}
+
+/// The same as a root, in which no label around it is open.
+#[tactic(auto, unfolding(crate::specs::Roots::behind))]
+fn behind_formals<E: LowerEnv>(
+    alloc: Global,
+    env: &E,
+    place: Place,
+    state: &mut BodyBuilder,
+    kind: Option<CoroutineKind>,
+    skipped: bool,
+    bare: bool,
+    params: Option<&ast::ParamList>,
+    body: Option<&ast::Expr>,
+) -> Result<(Given, ExprId), StoreFault>
+    ensures { let at = spot_at (E.answers env.now) place in
+        let formals = answered_formals (outside_the_body at) bare (option_copied params.entry) in
+        let read = expr_part at (option_copied body.entry) in
+        Lowers HasGivenBody (behind (lower_body kind skipped formals read)) state.old result state.new }
 {
     state.close_labels(alloc);
     let _ = state.enter_root();
-    let given = formals_form(alloc, env, around(place), state, skipped, bare, params)?;
-    let root = collect_expr_opt(alloc, env, place, state, body)?;
-    state.record_root(root)?;
+    let lowered = body_form(alloc, env, place, state, kind, skipped, bare, params, body)?;
+    state.record_root(lowered.1)?;
     state.outside_root();
-    Ok((given, root))
+    Ok(lowered)
 }
 
 /// Lowers the parameters of an item without a body, which is missing where it must be there.
@@ -161,19 +238,20 @@ fn missing_item<E: LowerEnv>(
     env: &E,
     place: Place,
     state: &mut BodyBuilder,
+    kind: Option<CoroutineKind>,
     bare: bool,
     node: InFile<AstPtr>,
     required: Option<MissingBodyItemKind>,
     params: Option<&ast::ParamList>,
-) -> Result<((Option<BindingId>, Seq<PatId>), ExprId), StoreFault>
+) -> Result<(Given, ExprId), StoreFault>
     ensures { let at = spot_at (E.answers env.now) place in
         let formals = answered_formals (outside_the_body at) bare (option_copied params.entry) in
-        Lowers HasBehind (body_of false node required formals tree.no_expr) state.old result state.new }
+        Lowers HasGivenBody (body_of kind false node required formals tree.no_expr) state.old result state.new }
 {
     if let Some(kind) = required {
         state.report(ExpressionStoreDiagnostics::MissingBody { node, kind })?;
     }
-    behind_formals(alloc, env, place, state, false, bare, params, None)
+    behind_formals(alloc, env, place, state, kind, false, bare, params, None)
 }
 
 /// Lowers the parameters and the body of an item that isn't skipped.
@@ -183,53 +261,56 @@ fn kept_item<E: LowerEnv>(
     env: &E,
     place: Place,
     state: &mut BodyBuilder,
+    kind: Option<CoroutineKind>,
     bare: bool,
     node: InFile<AstPtr>,
     required: Option<MissingBodyItemKind>,
     params: Option<&ast::ParamList>,
     body: Option<&ast::Expr>,
-) -> Result<((Option<BindingId>, Seq<PatId>), ExprId), StoreFault>
+) -> Result<(Given, ExprId), StoreFault>
     ensures { let at = spot_at (E.answers env.now) place in
         let formals = answered_formals (outside_the_body at) bare (option_copied params.entry) in
-        Lowers HasBehind (body_of false node required formals (expr_part at (option_copied body.entry))) state.old result state.new }
+        let read = expr_part at (option_copied body.entry) in
+        Lowers HasGivenBody (body_of kind false node required formals read) state.old result state.new }
 {
     match body {
-        None => missing_item(alloc, env, place, state, bare, node, required, params),
-        Some(_) => behind_formals(alloc, env, place, state, false, bare, params, body),
+        None => missing_item(alloc, env, place, state, kind, bare, node, required, params),
+        Some(_) => behind_formals(alloc, env, place, state, kind, false, bare, params, body),
     }
 }
 
-/// Lowers the parameters and the body of an item. Where the item is skipped, its body is absent and no pattern is read.
+/// Lowers the parameters and the body of an item. Where the item is skipped, its body is absent, it is no coroutine, and no pattern is
+/// read.
 #[tactic(auto, unfolding(crate::specs::Roots::body_of))]
 fn lower_item<E: LowerEnv>(
     alloc: Global,
     env: &E,
     place: Place,
     state: &mut BodyBuilder,
+    kind: Option<CoroutineKind>,
     owner: DefWithBodyId,
     node: AstPtr,
     params: Option<&ast::ParamList>,
     body: Option<&ast::Expr>,
-) -> Result<((Option<BindingId>, Seq<PatId>), ExprId), StoreFault>
+) -> Result<(Given, ExprId), StoreFault>
     ensures { let at = spot_at (E.answers env.now) place in
-        let item = item_of at owner node (option_copied params.entry) (option_copied body.entry) in
-        Lowers HasBehind item state.old result state.new }
+        let item = item_of kind at owner node (option_copied params.entry) (option_copied body.entry) in
+        Lowers HasGivenBody item state.old result state.new }
 {
     let container = env.container(owner);
     let bare = must_be_bare(container, body.is_some());
     if env.skip(owner) {
-        return behind_formals(alloc, env, place, state, true, bare, params, None);
+        return behind_formals(alloc, env, place, state, None, true, bare, params, None);
     }
     let required = required_body_kind(owner, container);
     let node = InFile {
         file_id: place.file_id,
         value: node,
     };
-    if is_function(owner) {
-        kept_item(alloc, env, place, state, bare, node, required, params, body)
-    } else {
-        kept_item(alloc, env, place, state, bare, node, required, None, body)
-    }
+    let params = if is_function(owner) { params } else { None };
+    kept_item(
+        alloc, env, place, state, kind, bare, node, required, params, body,
+    )
 }
 
 /// The node of the `self` that the item's body has.
@@ -249,30 +330,38 @@ fn item_self<E: LowerEnv>(
     }
 }
 
-/// The same as written and as handed in.
-fn as_written(mut left: &[PatId], alloc: Global) -> Result<Seq<Param<PatId>>, AllocError>
-    ensures { IfOk result (λ ps. ps ≡ map written left.entry.now) }
+/// Each parameter, by what the outside hands its argument to and by what was written.
+fn params_of(
+    mut formals: &[PatId],
+    mut written: &[PatId],
+    alloc: Global,
+) -> Result<Seq<Param<PatId>>, AllocError>
+    ensures { IfOk result (λ ps. ps ≡ both formals.entry.now written.entry.now) }
 {
     let mut params = Seq::new(alloc);
-    while let [one, rest @ ..] = left {
+    while let [formal, other_formals @ ..] = formals {
+        let [user_written, others @ ..] = written else {
+            return Ok(params);
+        };
         params.push(Param {
-            formal: *one,
-            user_written: *one,
+            formal: *formal,
+            user_written: *user_written,
         })?;
-        left = rest;
+        formals = other_formals;
+        written = others;
     }
     Ok(params)
 }
 
-fn self_as_written(receiver: Option<BindingId>) -> Option<Param<BindingId>>
-    ensures { result ≡ option_map written receiver }
+fn self_param_of(formal: Option<BindingId>, written: Option<BindingId>) -> Option<Param<BindingId>>
+    ensures { result ≡ both_if_present formal written }
 {
-    match receiver {
-        None => None,
-        Some(id) => Some(Param {
-            formal: id,
-            user_written: id,
+    match (formal, written) {
+        (Some(formal), Some(user_written)) => Some(Param {
+            formal,
+            user_written,
         }),
+        _ => None,
     }
 }
 
@@ -280,24 +369,24 @@ fn self_as_written(receiver: Option<BindingId>) -> Option<Param<BindingId>>
 fn finished(
     alloc: Global,
     state: BodyBuilder,
-    receiver: Option<BindingId>,
-    pats: Seq<PatId>,
+    given: Given,
     self_param: Option<InFile<AstPtr>>,
 ) -> Result<(Body, BodySourceMap), AllocError>
     ensures store { IfOk result (λ r. r.0.store ≡ store_of state.stored) }
     ensures source_map { IfOk result (λ r. r.1.store ≡ map_of state.stored) }
-    ensures params { IfOk result (λ r. r.0.params ≡ map written pats) }
-    ensures receiver { IfOk result (λ r. r.0.self_param ≡ option_map written receiver) }
+    ensures params { IfOk result (λ r. r.0.params ≡ both given.0.1 given.1.1) }
+    ensures receiver { IfOk result (λ r. r.0.self_param ≡ both_if_present given.0.0 given.1.0) }
     ensures self_param { IfOk result (λ r. r.1.self_param ≡ self_param) }
     ensures in_range { IfOk result (λ r. InRange r.0.store r.1.store) }
 {
-    match as_written(pats.as_slice(), alloc) {
+    let (formals, written) = given;
+    match params_of(formals.1.as_slice(), written.1.as_slice(), alloc) {
         Ok(params) => {
             let (store, source_map) = state.into_store().finish();
             let body = Body {
                 store,
                 params,
-                self_param: self_as_written(receiver),
+                self_param: self_param_of(formals.0, written.0),
             };
             let map = BodySourceMap {
                 self_param,
@@ -322,19 +411,24 @@ fn body_steps<E: LowerEnv>(
     inside: ModuleId,
     params: Option<&ast::ParamList>,
     body: Option<&ast::Expr>,
+    is_async_fn: bool,
+    is_gen_fn: bool,
 ) -> Result<(Body, BodySourceMap), LowerError>
-    ensures stores { let at = body_spot (E.answers db.now) owner current_file_id inside in
-        let item = item_of at owner syntax_node (option_copied params.entry) (option_copied body.entry) in
+    ensures stores { let at = body_spot (E.answers db.now) owner current_file_id inside is_async_fn in
+        let kind = coroutine_kind is_async_fn is_gen_fn in
+        let item = item_of kind at owner syntax_node (option_copied params.entry) (option_copied body.entry) in
         IfOk result (λ r. StoresFromNothing item 4294967295 r.0.store r.1.store) }
-    ensures given { let at = body_spot (E.answers db.now) owner current_file_id inside in
-        let item = item_of at owner syntax_node (option_copied params.entry) (option_copied body.entry) in
+    ensures given { let at = body_spot (E.answers db.now) owner current_file_id inside is_async_fn in
+        let kind = coroutine_kind is_async_fn is_gen_fn in
+        let item = item_of kind at owner syntax_node (option_copied params.entry) (option_copied body.entry) in
         IfOk result (λ r. GivenFromNothing item 4294967295 r.0) }
-    ensures self_source { let at = body_spot (E.answers db.now) owner current_file_id inside in
+    ensures self_source { let at = body_spot (E.answers db.now) owner current_file_id inside is_async_fn in
         let formals = item_formals at owner (option_copied params.entry) (is_some (option_copied body.entry)) in
         IfOk result (λ r. r.1.self_param ≡ self_source formals.receiver) }
     ensures in_range { IfOk result (λ r. InRange r.0.store r.1.store) }
-    ensures full { let at = body_spot (E.answers db.now) owner current_file_id inside in
-        let item = item_of at owner syntax_node (option_copied params.entry) (option_copied body.entry) in
+    ensures full { let at = body_spot (E.answers db.now) owner current_file_id inside is_async_fn in
+        let kind = coroutine_kind is_async_fn is_gen_fn in
+        let item = item_of kind at owner syntax_node (option_copied params.entry) (option_copied body.entry) in
         IsErrOf result LowerError.Full → RefusedAtEnd item 4294967295 }
     ensures own { result ≢ Err LowerError.Failed }
 {
@@ -342,24 +436,26 @@ fn body_steps<E: LowerEnv>(
         file_id: current_file_id,
         module_id: inside,
         mode: LoweringMode::Analysis,
-        await_location: Some(await_location_of(owner)),
+        await_location: await_location_of(owner, is_async_fn),
         impl_trait: ImplTrait::Error,
         in_impl: false,
     };
+    let kind = coroutine_kind_of(is_async_fn, is_gen_fn);
     let mut state = BodyBuilder::new(alloc, u32::MAX);
     match lower_item(
         alloc,
         db,
         place,
         &mut state,
+        kind,
         owner,
         syntax_node,
         params,
         body,
     ) {
-        Ok(((receiver, pats), _root)) => {
+        Ok((given, _root)) => {
             let self_param = item_self(db, place, owner, params);
-            match finished(alloc, state, receiver, pats, self_param) {
+            match finished(alloc, state, given, self_param) {
                 Ok(lowered) => Ok(lowered),
                 Err(_) => Err(LowerError::Memory),
             }
@@ -371,27 +467,31 @@ fn body_steps<E: LowerEnv>(
     }
 }
 
-/// Lowers the body of an item (upstream's function of this name).
+/// Lowers the body of an item (upstream's function of this name). With `is_async_fn` or `is_gen_fn` it is the body of such a function,
+/// and so a coroutine.
 ///
 /// The stored body does what the written one does, for every answerer and every number of turns that a loop may take,
-/// and so does each body inside it or inside the pattern of a parameter. Each expression that one of these reaches, or a literal or a
+/// and so does each body inside it or inside the pattern of a parameter. That of a function with one of the flags makes its coroutine, and
+/// is the first of these bodies inside: it begins with a `let` of each parameter, `self` first, and then does what the written body does.
+/// Each expression that one of these reaches, or a literal or a
 /// side of a range in a pattern is, is reached in one way only; so is each type that the expressions and patterns reach, and each
-/// pattern that the parameters, expressions and types do.
-/// Store, source map and diagnostics are one result of the parameters and the tree: what is stored stands for them and no more is
-/// stored, each expression and pattern with its source, all in the range of the one root; the source map leads from each written
+/// pattern that the parameters, as the outside hands them in, the expressions and types do.
+/// Store, source map and diagnostics are one result of the parameters, the flags and the tree: what is stored stands for them and no more
+/// is stored, each expression and pattern with its source, all in the range of the one root; the source map leads from each written
 /// expression and label to what it became, from the nodes of patterns, types and lifetimes to them, from the values and patterns
 /// of a record's kept fields to their fields, and from nothing else; each binding is owned by the innermost closure, coroutine,
 /// `const` block, length or argument around it, and where it stands in none of these, by nothing; the numbers of blocks come in
 /// the order of entering; the diagnostics are those that body, parameters and tree owe. Each name that is made up is of one binding
-/// or label at most. Each number in store and source map is in range. A skipped body is a missing expression and owes no fault.
+/// or label at most, or of a parameter as it is handed in and of what its coroutine begins with. Each number in store and source map is
+/// in range. A skipped body is a missing expression, no coroutine, and owes no fault.
 /// `Memory` where a growth was refused; `Full` only where parameters and tree become more expressions, labels, patterns, bindings,
 /// types or lifetimes than the arenas have room for, or a path in them has more `super`s, a pattern more parts in front of its two
 /// dots, or they more names that are made up, than 32 bits count; never `Failed`.
-/// Each parameter reads back as it is written, in order, and `self` is the binding of its name, of which nothing is wrong.
-/// Parameters are read of functions alone, and of each item that is skipped, `self` first and then those that no condition
+/// Each parameter reads back as it is written, in order, and `self` is the binding of its name, of which nothing is wrong. The outside
+/// hands its arguments to these, or, where the body is a coroutine, to a `mut` name for each at the parameter's node, and to a `self` of
+/// its own. Parameters are read of functions alone, and of each item that is skipped, `self` first and then those that no condition
 /// disables. In an extern block, and in a trait where the function has no body, a parameter is a plain name or `_`, and any other
-/// is missing and owes a fault. Of a skipped body each is missing. Until functions are made coroutines the caller hands in
-/// neither flag.
+/// is missing and owes a fault. Of a skipped body each is missing.
 pub fn lower_body<E: LowerEnv>(
     alloc: Global,
     db: &E,
@@ -404,30 +504,36 @@ pub fn lower_body<E: LowerEnv>(
     is_async_fn: bool,
     is_gen_fn: bool,
 ) -> Result<(Body, BodySourceMap), LowerError>
-    requires no_async { is_async_fn ≡ false }
-    requires no_gen { is_gen_fn ≡ false }
-    ensures same_meaning { let at = body_spot (E.answers db.now) owner current_file_id inside in
-        IfOk result (λ r. HasBody r.0.store r.1.store (given_of r.0).1 (body_read at owner (option_copied body.entry))) }
-    ensures one_result { let at = body_spot (E.answers db.now) owner current_file_id inside in
+    ensures same_meaning { let at = body_spot (E.answers db.now) owner current_file_id inside is_async_fn in
+        let formals = item_formals at owner (option_copied params.entry) (is_some (option_copied body.entry)) in
+        let skipped = at.answers.skip owner in
+        let kind = kind_unless_skipped skipped (coroutine_kind is_async_fn is_gen_fn) in
+        let written = formals_read skipped formals.formals in
+        let read = body_read at owner (option_copied body.entry) in
+        IfOk result (λ r. HasBody kind r.0.store r.1.store (formals_of r.0).1 formals.receiver written read) }
+    ensures one_result { let at = body_spot (E.answers db.now) owner current_file_id inside is_async_fn in
         let owed = body_owes at owner syntax_node (option_copied body.entry) in
         let formals = item_formals at owner (option_copied params.entry) (is_some (option_copied body.entry)) in
         let skipped = at.answers.skip owner in
+        let kind = kind_unless_skipped skipped (coroutine_kind is_async_fn is_gen_fn) in
         let read = body_read at owner (option_copied body.entry) in
-        IfOk result (λ r. OneResult r.0.store r.1.store owed skipped formals (given_of r.0) read) }
-    ensures params { let at = body_spot (E.answers db.now) owner current_file_id inside in
+        IfOk result (λ r. OneResult r.0.store r.1.store owed kind skipped formals (given_of r.0) read) }
+    ensures params { let at = body_spot (E.answers db.now) owner current_file_id inside is_async_fn in
         let formals = item_formals at owner (option_copied params.entry) (is_some (option_copied body.entry)) in
         let skipped = at.answers.skip owner in
-        IfOk result (λ r. HasParams r.0.store r.1.store r.0.params r.0.self_param skipped formals) }
-    ensures self_source { let at = body_spot (E.answers db.now) owner current_file_id inside in
+        let kind = kind_unless_skipped skipped (coroutine_kind is_async_fn is_gen_fn) in
+        IfOk result (λ r. HasParams kind r.0.store r.1.store r.0.params r.0.self_param skipped formals) }
+    ensures self_source { let at = body_spot (E.answers db.now) owner current_file_id inside is_async_fn in
         let formals = item_formals at owner (option_copied params.entry) (is_some (option_copied body.entry)) in
         IfOk result (λ r. r.1.self_param ≡ self_source formals.receiver) }
-    ensures made_once { IfOk result (λ r. MadeOnce r.0.store) }
+    ensures made_once { IfOk result (λ r. MadeOnce r.0.store (formals_of r.0).1) }
     ensures in_range { IfOk result (λ r. InRange r.0.store r.1.store) }
-    ensures too_large { let at = body_spot (E.answers db.now) owner current_file_id inside in
+    ensures too_large { let at = body_spot (E.answers db.now) owner current_file_id inside is_async_fn in
         let formals = item_formals at owner (option_copied params.entry) (is_some (option_copied body.entry)) in
         let skipped = at.answers.skip owner in
+        let kind = kind_unless_skipped skipped (coroutine_kind is_async_fn is_gen_fn) in
         let read = body_read at owner (option_copied body.entry) in
-        IsErrOf result LowerError.Full → BodyTooLarge (fresh 4294967295) skipped formals read }
+        IsErrOf result LowerError.Full → BodyTooLarge (fresh 4294967295) kind skipped formals read }
     ensures own { result ≢ Err LowerError.Failed }
 {
     body_steps(
@@ -439,5 +545,7 @@ pub fn lower_body<E: LowerEnv>(
         inside,
         params,
         body,
+        is_async_fn,
+        is_gen_fn,
     )
 }

@@ -1,6 +1,6 @@
 //! The collector, which lowers trees into one store and stops for good after its first error.
 
-ghost use Rattle.std.specs.Prelude.{◌≡◌, ◌≢◌, false, true, Err, IfOk, IsErrOf, IsOkAnd, option_copied};
+ghost use Rattle.std.specs.Prelude.{[], ◌≡◌, ◌≢◌, false, true, Err, IfOk, IsErrOf, IsOkAnd, option_copied};
 ghost use Rattle.hir_store.specs.Range.{HasExpr, HasTypeParts, InRange};
 ghost use Rattle.hir_store.specs.Stored.{map_of, store_of};
 ghost use Rattle.hir_env.specs.Spot.{in_file};
@@ -98,10 +98,10 @@ pub(crate) fn lower_root<E: LowerEnv>(
         Paired state.old.stored → MayBeOwned state.old.stored → IfOk result (λ i. Rooted state.old.stored state.new.stored i e) }
     ensures owners { MayBeOwned state.old.stored → IfOk result (λ i. MayBeOwned state.new.stored) }
     ensures outside { IfOk result (λ i. Outside state.new) }
-    ensures apart { Paired state.old.stored → MadeApart state.old.names state.old.stored
-        → IfOk result (λ i. MadeApart state.new.names state.new.stored) }
+    ensures apart { Paired state.old.stored → ∥ MadeApart state.old.names state.old.stored ∥₁
+        → IfOk result (λ i. ∥ MadeApart state.new.names state.new.stored ∥₁) }
     ensures too_large { let e = expr_part (spot_at (E.answers env.now) place) (option_copied expr.entry) in
-        IsErrOf result StoreFault.Full → TooLarge state.old e }
+        Paired state.old.stored → IsErrOf result StoreFault.Full → TooLarge state.old e }
     ensures stays { MayBeOwned state.old.stored → result ≢ Err StoreFault.Memory → Stays state.old.stored state.new.stored }
 {
     root_steps(alloc, env, place, state, expr)
@@ -123,11 +123,11 @@ fn lower_whole_path<E: LowerEnv>(
         → IfOk result (λ r. PathRooted state.old.stored state.new.stored r p) }
     ensures owners { MayBeOwned state.old.stored → IfOk result (λ r. MayBeOwned state.new.stored) }
     ensures outside { Outside state.old → IfOk result (λ r. Outside state.new) }
-    ensures apart { Paired state.old.stored → MadeApart state.old.names state.old.stored
-        → IfOk result (λ r. MadeApart state.new.names state.new.stored) }
+    ensures apart { Paired state.old.stored → ∥ MadeApart state.old.names state.old.stored ∥₁
+        → IfOk result (λ r. ∥ MadeApart state.new.names state.new.stored ∥₁) }
     ensures full { IsErrOf result StoreFault.Full → SomeEnd state.new }
     ensures too_large { let p = whole_path (spot_at (E.answers env.now) place) path.now in
-        IsErrOf result StoreFault.Full → Short (whole_size p) state.old }
+        Paired state.old.stored → IsErrOf result StoreFault.Full → Short (whole_size p) state.old }
     ensures stays { MayBeOwned state.old.stored → result ≢ Err StoreFault.Memory → Stays state.old.stored state.new.stored }
 {
     lower_path(alloc, env, place, state, path)
@@ -147,7 +147,8 @@ fn add_type(
     ensures scopes { result ≢ Err StoreFault.Memory → state.new.scopes ≡ state.old.scopes }
     ensures owners { MayBeOwned state.old.stored → IfOk result (λ i. MayBeOwned state.new.stored) }
     ensures outside { Outside state.old → IfOk result (λ i. Outside state.new) }
-    ensures apart { MadeApart state.old.names state.old.stored → IfOk result (λ i. MadeApart state.new.names state.new.stored) }
+    ensures apart { Paired state.old.stored → ∥ MadeApart state.old.names state.old.stored ∥₁
+        → IfOk result (λ i. ∥ MadeApart state.new.names state.new.stored ∥₁) }
 {
     state.alloc_type(ty, Some(source))
 }
@@ -165,7 +166,7 @@ pub struct ExprCollector<'db, E: LowerEnv> {
     ghost paired: { failed ≡ false → Paired state.stored },
     ghost owners: { failed ≡ false → MayBeOwned state.stored },
     ghost outside: { failed ≡ false → Outside state },
-    ghost apart: { failed ≡ false → MadeApart state.names state.stored },
+    ghost apart: { failed ≡ false → ∥ MadeApart state.names state.stored ∥₁ },
 }
 
 impl<'db, E: LowerEnv> Drop for ExprCollector<'db, E> {
@@ -198,7 +199,6 @@ impl<'db, E: LowerEnv> ExprCollector<'db, E> {
     }
 
     /// A collector whose arenas hold as many entries each as the limit says. It takes no memory.
-    #[tactic(auto, using(crate::proofs::MadeNames::fresh_apart))]
     pub fn with_limit(
         alloc: Global,
         db: &'db E,
@@ -343,13 +343,14 @@ impl<'db, E: LowerEnv> ExprCollector<'db, E> {
         store
     }
 
-    /// The store and its source map, in which each number is in range and no name is made up twice, or `Failed` after an error. It
-    /// takes no memory.
+    /// The store and its source map, in which each number is in range and no name is made up twice, but for those that the parameters
+    /// of a closure with `async` or `gen` are handed in by, or `Failed` after an error. It takes no memory.
+    #[tactic(auto, using(crate::proofs::MadeNames::once_of))]
     pub fn into_store(self) -> Result<(ExpressionStore, ExpressionStoreSourceMap), LowerError>
         ensures failed { self.entry.failed ≡ true → result ≡ Err LowerError.Failed }
         ensures works { self.entry.failed ≡ false
             → IsOkAnd result (λ r. (r.0 ≡ store_of self.entry.state.stored) × (r.1 ≡ map_of self.entry.state.stored)) }
-        ensures made_once { IfOk result (λ r. MadeOnce r.0) }
+        ensures made_once { IfOk result (λ r. ∥ MadeOnce r.0 [] ∥₁) }
         ensures in_range { IfOk result (λ r. InRange r.0 r.1) }
     {
         let ExprCollector {

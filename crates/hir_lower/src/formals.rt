@@ -13,7 +13,7 @@ ghost use Rattle.hir_env.specs.Whole.{pat_part};
 ghost use Rattle.hir_lower_form.specs.Lowering.{Lowers, alloc_binding};
 ghost use Rattle.hir_lower_form.specs.Pats.{new_binding};
 ghost use Rattle.hir_lower_handlers.specs.Spots.{spot_at};
-ghost use Rattle.hir_lower.specs.Formals.{HasGiven, HasSelf, LowersFormal, bare_kind, each_formal, formal_as};
+ghost use Rattle.hir_lower.specs.Formals.{HasReceived, HasSelf, LowersFormal, bare_kind, each_formal, formal_as};
 ghost use Rattle.hir_lower.specs.Formals.{is_bare_ident, lower_formal, lower_formals, lower_self, self_source};
 
 use hir_base::node::{AstPtr, InFile, NodeId, TextRange};
@@ -31,6 +31,12 @@ use hir_store::lists::push_pat;
 use hir_store::name::Name;
 use hir_syntax::ast;
 use std::alloc::Global;
+
+/// The binding of `self`, and the patterns of the other parameters.
+pub(crate) type Received = (Option<BindingId>, Seq<PatId>);
+
+/// What the outside hands its arguments to, and what was written.
+pub(crate) type Given = (Received, Received);
 
 /// The pointer to a node of the file.
 fn pointer(place: Place, node: NodeId, range: TextRange) -> InFile<AstPtr>
@@ -222,7 +228,7 @@ fn self_binding<E: LowerEnv>(
 }
 
 /// The binding of `self`, none where it is absent or a condition disables it.
-fn self_form<E: LowerEnv>(
+pub(crate) fn self_form<E: LowerEnv>(
     alloc: Global,
     env: &E,
     place: Place,
@@ -281,6 +287,36 @@ pub(crate) fn must_be_bare(container: ItemContainerId, has_body: bool) -> bool
     }
 }
 
+/// The patterns of the parameters behind `self` that are kept. Those of a skipped body are missing.
+pub(crate) fn pats_form<E: LowerEnv>(
+    alloc: Global,
+    env: &E,
+    place: Place,
+    state: &mut BodyBuilder,
+    skipped: bool,
+    bare: bool,
+    params: Option<&ast::ParamList>,
+) -> Result<Seq<PatId>, StoreFault>
+    ensures { let at = spot_at (E.answers env.now) place in
+        let formals = (answered_formals at bare (option_copied params.entry)).formals in
+        Lowers HasPats (each_formal skipped [] formals) state.old result state.new }
+{
+    match params {
+        None => Ok(Seq::new(alloc)),
+        Some(params) => {
+            each_form(
+                alloc,
+                env,
+                place,
+                state,
+                skipped,
+                bare,
+                params.params.as_slice(),
+            )
+        }
+    }
+}
+
 /// The binding of `self`, and then the patterns of the other parameters that are kept. Those of a skipped body are missing.
 #[tactic(auto, unfolding(hir_one_result::specs::Formals::lower_formals))]
 pub(crate) fn formals_form<E: LowerEnv>(
@@ -291,23 +327,16 @@ pub(crate) fn formals_form<E: LowerEnv>(
     skipped: bool,
     bare: bool,
     params: Option<&ast::ParamList>,
-) -> Result<(Option<BindingId>, Seq<PatId>), StoreFault>
+) -> Result<Received, StoreFault>
     ensures { let at = spot_at (E.answers env.now) place in
-        Lowers HasGiven (lower_formals skipped (answered_formals at bare (option_copied params.entry))) state.old result state.new }
+        Lowers HasReceived (lower_formals skipped (answered_formals at bare (option_copied params.entry))) state.old result state.new }
 {
     match params {
         None => Ok((None, Seq::new(alloc))),
-        Some(params) => {
-            let receiver = self_form(alloc, env, place, state, &params.self_)?;
-            let pats = each_form(
-                alloc,
-                env,
-                place,
-                state,
-                skipped,
-                bare,
-                params.params.as_slice(),
-            )?;
+        Some(list) => {
+            let receiver = self_form(alloc, env, place, state, &list.self_)?;
+            let params = list.params.as_slice();
+            let pats = each_form(alloc, env, place, state, skipped, bare, params)?;
             Ok((receiver, pats))
         }
     }

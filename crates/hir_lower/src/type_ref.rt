@@ -1,6 +1,6 @@
 //! Types that stand alone.
 
-ghost use Rattle.std.specs.Prelude.{◌≡◌, ◌≢◌, None, IfOk, IsErrOf, option_copied};
+ghost use Rattle.std.specs.Prelude.{[], ◌≡◌, ◌≢◌, None, IfOk, IsErrOf, option_copied};
 ghost use Rattle.hir_store.specs.Range.{HasType, InRange};
 ghost use Rattle.hir_lower_form.specs.Lower.{type_part};
 ghost use Rattle.hir_lower_form.specs.Lowering.{Lowers};
@@ -96,7 +96,7 @@ pub fn lower_type_ref<E: LowerEnv>(
 ) -> Result<(ExpressionStore, ExpressionStoreSourceMap, TypeRefId), LowerError>
     ensures type_result { let at = type_spot (E.answers db.now) type_ref.entry.file_id inside in
         IfOk result (λ r. TypeResult r.0 r.1 r.2 (whole_type at (option_copied type_ref.entry.value))) }
-    ensures made_once { IfOk result (λ r. MadeOnce r.0) }
+    ensures made_once { IfOk result (λ r. MadeOnce r.0 []) }
     ensures in_range { IfOk result (λ r. InRange r.0 r.1) }
     ensures too_large { let at = type_spot (E.answers db.now) type_ref.entry.file_id inside in
         IsErrOf result LowerError.Full → TypeTooLarge 4294967295 (whole_type at (option_copied type_ref.entry.value)) }

@@ -1,9 +1,10 @@
 //! Closures, whose bodies are bodies of their own.
 
-ghost use Rattle.std.specs.Prelude.{◌≡◌};
+ghost use Rattle.std.specs.Prelude.{◌≡◌, false};
 ghost use Rattle.hir_syntax.specs.declared.types.Param.{out-Param};
 ghost use Rattle.hir_store.specs.Range.{HasExpr};
 ghost use Rattle.hir_env.specs.Answered as tree;
+ghost use Rattle.hir_env.specs.Answering.{closure_of, coroutine_kind};
 ghost use Rattle.hir_env.specs.Paths as of;
 ghost use Rattle.hir_env.specs.Whole.{answer_part, answered_closure_param, closure_params_or_none_part, closure_params_part, expr_part};
 ghost use Rattle.hir_env.specs.Whole.{in_closure, param_level, pat_part, type_part};
@@ -14,6 +15,7 @@ ghost use Rattle.hir_lower_form.specs.Methods.{HasClosureParams, LowersExpr, Low
 ghost use Rattle.hir_lower_form.specs.Methods.{LowersTypeIfPresent};
 ghost use Rattle.hir_lower_form.specs.Nests.{IfPresent, KidsClosureParam, KidsClosureParams, KidsRet};
 
+use crate::coroutine_closures::coroutine_closure_form;
 use crate::here::type_here_if_present;
 use hir_base::node::{AstPtr, InFile};
 use hir_env::place::Place;
@@ -23,16 +25,21 @@ use hir_lower_form::parts::{LowerParts, Lowerer, site};
 use hir_lower_pat::top::top_pat;
 use hir_store::diagnostics::{AwaitLocation, ExpressionStoreDiagnostics};
 use hir_store::fault::StoreFault;
-use hir_store::hir::{CaptureBy, ClosureKind, Expr, Movability};
+use hir_store::hir::{CaptureBy, ClosureKind, CoroutineKind, Expr, Movability};
 use hir_store::ids::{ExprId, TypeRefId};
 use hir_syntax::{Boxed, Seq, ast};
 
 /// Where the body of a closure is read that is written at this place.
-fn inside_closure(place: Place) -> Place
-    ensures { result ≡ of.inside_closure place }
+fn inside_closure(is_async: bool, place: Place) -> Place
+    ensures { result ≡ of.inside_closure is_async place }
 {
+    let await_location = if is_async {
+        None
+    } else {
+        Some(AwaitLocation::NonAsyncClosure)
+    };
     Place {
-        await_location: Some(AwaitLocation::NonAsyncClosure),
+        await_location,
         ..place
     }
 }
@@ -132,7 +139,7 @@ fn params<P: LowerParts>(
     Ok(params)
 }
 
-fn params_if_present<P: LowerParts>(
+pub(crate) fn params_if_present<P: LowerParts>(
     lowerer: &Lowerer<P>,
     state: &mut BodyBuilder,
     all: &Option<Seq<ast::Param>>,
@@ -149,7 +156,7 @@ fn params_if_present<P: LowerParts>(
 }
 
 /// What it returns, none where no type is written.
-fn ret_if_present<P: LowerParts>(
+pub(crate) fn ret_if_present<P: LowerParts>(
     lowerer: &Lowerer<P>,
     state: &mut BodyBuilder,
     ret: &Option<ast::RetType>,
@@ -164,16 +171,17 @@ fn ret_if_present<P: LowerParts>(
 }
 
 /// The body, missing where it is absent or a condition disables it.
-fn body_opt<P: LowerParts>(
+pub(crate) fn body_opt<P: LowerParts>(
     lowerer: &Lowerer<P>,
     state: &mut BodyBuilder,
+    is_async: bool,
     body: &Option<Boxed<ast::Expr>>,
 ) -> Result<ExprId, StoreFault>
     requires { let place = (P.spot lowerer.now.parts).place in
-        IfPresent ((P.can lowerer.now.parts).inner (of.inside_closure place)) body.now }
-    ensures { LowersExprOpt (expr_part (in_closure (P.spot lowerer.now.parts)) body.now) state.old result state.new }
+        IfPresent ((P.can lowerer.now.parts).inner (of.inside_closure is_async place)) body.now }
+    ensures { LowersExprOpt (expr_part (in_closure is_async (P.spot lowerer.now.parts)) body.now) state.old result state.new }
 {
-    lowerer.collect_expr_opt_inside(state, inside_closure(lowerer.parts.place()), body)
+    lowerer.collect_expr_opt_inside(state, inside_closure(is_async, lowerer.parts.place()), body)
 }
 
 /// The parameters, what it returns, its body. No jump in it reaches what is open around it, and whether a `yield` stands in its body,
@@ -192,17 +200,17 @@ fn bordered_closure<P: LowerParts>(
     requires params { IfPresent (KidsClosureParams (P.can lowerer.now.parts) (P.spot lowerer.now.parts).place) params.now }
     requires ret { IfPresent (KidsRet (P.can lowerer.now.parts) (P.spot lowerer.now.parts).place) ret.now }
     requires body { let place = (P.spot lowerer.now.parts).place in
-        IfPresent ((P.can lowerer.now.parts).inner (of.inside_closure place)) body.now }
+        IfPresent ((P.can lowerer.now.parts).inner (of.inside_closure false place)) body.now }
     ensures { let spot = P.spot lowerer.now.parts in
         let lowered = lower_params spec.no_closure_params (closure_params_or_none_part spot params.now) in
         let returned = present_type (answer_part spot ret.now) in
-        let inner = lower_part (expr_part (in_closure spot) body.now) in
+        let inner = lower_part (expr_part (in_closure false spot) body.now) in
         Lowers HasExpr (spec.closure_form at moves is_static lowered returned inner) state.old result state.new }
 {
     let outside = state.open_barrier()?;
     let ClosureParams { args, arg_types } = params_if_present(lowerer, state, params)?;
     let ret_type = ret_if_present(lowerer, state, ret)?;
-    let body = body_opt(lowerer, state, body)?;
+    let body = body_opt(lowerer, state, false, body)?;
     let yields = state.close_barrier(outside);
     let closure_kind = closure_kind(yields, is_static);
     let capture_by = capture_by(moves);
@@ -217,9 +225,9 @@ fn bordered_closure<P: LowerParts>(
     state.alloc_expr(closure, Some(at))
 }
 
-/// A closure, which owns the bindings that are made in it.
+/// A closure without `async` and `gen`, which owns the bindings that are made in it.
 #[tactic(auto, unfolding(hir_lower_form::specs::Lowering::owning))]
-pub fn closure_form<P: LowerParts>(
+fn plain_closure<P: LowerParts>(
     lowerer: &Lowerer<P>,
     state: &mut BodyBuilder,
     at: InFile<AstPtr>,
@@ -232,17 +240,60 @@ pub fn closure_form<P: LowerParts>(
     requires params { IfPresent (KidsClosureParams (P.can lowerer.now.parts) (P.spot lowerer.now.parts).place) params.now }
     requires ret { IfPresent (KidsRet (P.can lowerer.now.parts) (P.spot lowerer.now.parts).place) ret.now }
     requires body { let place = (P.spot lowerer.now.parts).place in
-        IfPresent ((P.can lowerer.now.parts).inner (of.inside_closure place)) body.now }
+        IfPresent ((P.can lowerer.now.parts).inner (of.inside_closure false place)) body.now }
     ensures { let spot = P.spot lowerer.now.parts in
         LowersExpr (tree.closure_expr at
         moves
         is_static
         (closure_params_or_none_part spot params.now)
         (answer_part spot ret.now)
-        (expr_part (in_closure spot) body.now)) state.old result state.new }
+        (expr_part (in_closure false spot) body.now)) state.old result state.new }
 {
     let start = state.bindings_end();
     let id = bordered_closure(lowerer, state, at, params, ret, body, moves, is_static)?;
     state.own(start, id);
     Ok(id)
+}
+
+/// A closure with `async`, `gen` or both, whose body is a coroutine, or with neither.
+pub fn closure_form<P: LowerParts>(
+    lowerer: &Lowerer<P>,
+    state: &mut BodyBuilder,
+    at: InFile<AstPtr>,
+    params: &Option<Seq<ast::Param>>,
+    ret: &Option<ast::RetType>,
+    body: &Option<Boxed<ast::Expr>>,
+    is_async: bool,
+    is_gen: bool,
+    moves: bool,
+    is_static: bool,
+) -> Result<ExprId, StoreFault>
+    requires params { IfPresent (KidsClosureParams (P.can lowerer.now.parts) (P.spot lowerer.now.parts).place) params.now }
+    requires ret { IfPresent (KidsRet (P.can lowerer.now.parts) (P.spot lowerer.now.parts).place) ret.now }
+    requires body { let place = (P.spot lowerer.now.parts).place in
+        IfPresent ((P.can lowerer.now.parts).inner (of.inside_closure is_async place)) body.now }
+    ensures { let spot = P.spot lowerer.now.parts in
+        LowersExpr (closure_of (coroutine_kind is_async is_gen)
+        at
+        moves
+        is_static
+        (closure_params_or_none_part spot params.now)
+        (answer_part spot ret.now)
+        (expr_part (in_closure is_async spot) body.now)) state.old result state.new }
+{
+    match (is_async, is_gen) {
+        (false, false) => plain_closure(lowerer, state, at, params, ret, body, moves, is_static),
+        (true, false) => {
+            let kind = CoroutineKind::Async;
+            coroutine_closure_form(lowerer, state, at, params, ret, body, true, kind, moves)
+        }
+        (false, true) => {
+            let kind = CoroutineKind::Gen;
+            coroutine_closure_form(lowerer, state, at, params, ret, body, false, kind, moves)
+        }
+        (true, true) => {
+            let kind = CoroutineKind::AsyncGen;
+            coroutine_closure_form(lowerer, state, at, params, ret, body, true, kind, moves)
+        }
+    }
 }

@@ -8,6 +8,7 @@ pub mod calls;
 pub mod closures;
 mod consts;
 pub mod control;
+mod coroutine_closures;
 mod coroutines;
 pub mod fors;
 mod here;

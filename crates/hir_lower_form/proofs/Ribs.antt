@@ -6,7 +6,7 @@ use Rattle.hir_store.specs.Range.{HasLabel, HasLabelOption}
 use Rattle.hir_env.specs.Answered.{Jump}
 use Rattle.hir_env.specs.Answers.{Answers}
 use Rattle.hir_env.specs.Answering.{jump}
-use Rattle.hir_scope.specs.Ribs.{Rib, label_rib, try_rib, macro_rib, barrier_rib, Try, innermost_try_rib}
+use Rattle.hir_scope.specs.Ribs.{Rib, label_rib, try_rib, macro_rib, barrier_rib, innermost_try_rib}
 use Rattle.hir_scope.specs.Ribs.{Target, reachable, unreachable, undeclared, target, search, sought_first}
 use Rattle.hir_scope.proofs.Ribs.{InReach, IfFound, target_in_reach}
 use Rattle.hir_store.specs.Pointers.{Pointer}

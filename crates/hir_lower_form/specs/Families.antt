@@ -36,7 +36,7 @@ abbrev pub IsMatching : ExprKindLayer written → Type 0
 IsMatching (ExprKind-F.LetExpr p e) = Unit {0}
 IsMatching (ExprKind-F.MatchExpr e arms) = Unit {0}
 IsMatching (ExprKind-F.ForExpr l p h b) = Unit {0}
-IsMatching (ExprKind-F.ClosureExpr ps r e moves is_static) = Unit {0}
+IsMatching (ExprKind-F.ClosureExpr ps r e is_async is_gen moves is_static) = Unit {0}
 IsMatching _ = ⊥
 
 -- what works on the values of operands

@@ -68,6 +68,10 @@ alloc_made e source = stored (storing.alloc_made e source)
 unfoldable pub alloc_pat : Pat → Option Pointer → Lowering PatId
 alloc_pat p source = stored (storing.alloc_pat p source)
 
+-- of a pattern that lowering makes up: the node that it came from doesn't lead to it
+unfoldable pub alloc_made_pat : Pat → Option Pointer → Lowering PatId
+alloc_made_pat p source = stored (storing.alloc_made_pat p source)
+
 unfoldable pub alloc_binding : Binding → Lowering BindingId
 alloc_binding b = stored (storing.alloc_binding b)
 

@@ -1,6 +1,6 @@
 -- The forms that lowering makes up nodes for: `for`, `?` and `try` (rust-analyzer, `collect_for_loop`, `collect_try_operator` and
 -- `desugar_try_block`; Rust Reference, iterator loops and the question mark operator).
-use Rattle.std.specs.Prelude.{ℕ, Bool, true, false, if◌then◌else◌, List, [], ◌∷◌, Option, Some, None}
+use Rattle.std.specs.Prelude.{ℕ, Bool, false, if◌then◌else◌, [], ◌∷◌, Option, Some, None}
 use Rattle.hir_binding.specs.declared.binding.BindingAnnotation.{BindingAnnotation}
 use Rattle.hir_binding.specs.declared.binding.BindingAnnotation.TheVariants.{Mutable, Unannotated}
 use Rattle.hir_store.specs.Pointers.{Pointer}

@@ -1,12 +1,12 @@
 -- What each kind of method does: the steps of one part, and what it answers.
-use Rattle.std.specs.Prelude.{◌≤◌, length, Bool, true, false, List, [], Option, Some, None}
+use Rattle.std.specs.Prelude.{◌≤◌, suc, length, Bool, true, false, List, [], Option, Some, None}
 use Rattle.hir_syntax.specs.declared.ast.BlockExpr.{BlockExpr as AstBlockExpr, out-BlockExpr}
 use Rattle.hir_syntax.specs.declared.ast.BlockModifier.{BlockModifier}
 use Rattle.hir_syntax.specs.declared.ast.BlockModifier.TheVariants as modifier
 use Rattle.hir_syntax.specs.declared.ast.Expr.{Expr as AstExpr}
 use Rattle.hir_store.specs.Stored.{Stored}
 use Rattle.hir_store.specs.Range.{HasExpr, HasExprOption, HasExprs, HasLabelOption, HasStatements, HasStatementOption}
-use Rattle.hir_store.specs.Range.{HasFields, HasSpread, past_field, HasPat}
+use Rattle.hir_store.specs.Range.{HasBindingId, HasFields, HasSpread, past_field, HasPat}
 use Rattle.hir_store.specs.Arenas.{past_option}
 use Rattle.hir_store.specs.declared.hir.CoroutineKind.{CoroutineKind}
 use Rattle.hir_store.specs.declared.hir.CoroutineKind.TheVariants as coroutine
@@ -18,9 +18,11 @@ use Rattle.hir_store.specs.declared.path.GenericArgs.{GenericArgs}
 use Rattle.hir_store.specs.declared.type_ref.ConstRef.{ConstRef}
 use Rattle.hir_store.specs.declared.type_ref.TypeBound.{TypeBound}
 use Rattle.hir_store.specs.declared.type_ref.UseArgRef.{UseArgRef}
-use Rattle.hir_store.specs.Past.{Past, join, past_arm, past_pat_ids, past_present, past_type_options, past_use_arg}
+use Rattle.hir_store.specs.Past.{Past, join, past_arm, past_expr_id, past_pat_ids, past_present, past_type_id, past_type_options}
+use Rattle.hir_store.specs.Past.{past_use_arg}
 use Rattle.hir_store.specs.declared.hir.MatchArm.{MatchArm}
 use Rattle.hir_store.specs.declared.hir.Statement.{Statement}
+use Rattle.hir_store.specs.declared.ids.BindingId.{BindingId}
 use Rattle.hir_store.specs.declared.ids.ExprId.{ExprId}
 use Rattle.hir_store.specs.declared.ids.PatId.{PatId}
 use Rattle.hir_store.specs.declared.ids.BlockId.{BlockId}
@@ -44,6 +46,8 @@ use Rattle.hir_lower_form.specs.declared.args.ArgLists.{ArgLists}
 use Rattle.hir_lower_form.specs.declared.closures.ClosureParams.{ClosureParams}
 use Rattle.hir_lower_form.specs.declared.parts.BlockRole.{BlockRole}
 use Rattle.hir_lower_form.specs.declared.parts.BlockRole.TheVariants as role
+use Rattle.hir_lower_form.specs.declared.preludes.Prelude.{Prelude}
+use Rattle.hir_lower_form.specs.declared.preludes.Within.{Within}
 use Rattle.hir_lower_form.specs.declared.walk.PathWalk.{PathWalk}
 use Rattle.hir_lower_form.specs.declared.walk.Reading.{Reading}
 use Rattle.hir_lower_form.specs.Lowering.{Lowering, Checked, Lowers, ◌>>=◌, pure}
@@ -110,6 +114,31 @@ LowersParams l ps old result new = Lowers HasClosureParams (spec.lower_params l 
 
 abbrev pub LowersParam : ClosureParams → Param → Builder → Checked ClosureParams → Builder → Type 0
 LowersParam l x old result new = Lowers HasClosureParams (spec.lower_param l x) old result new
+
+-- what is read of what is stored already
+abbrev pub HasRead : {A : Type 0} → Stored → A → Type 0
+HasRead s a = Unit {0}
+
+-- the `let`s in front of the body of a coroutine
+abbrev pub HasPrelude : Stored → Prelude → Type 0
+HasPrelude s l = HasStatements s l.lets
+
+abbrev pub HasRebound : Stored → BindingId × List Statement → Type 0
+HasRebound s r = HasBindingId s r.0 × HasStatements s r.1
+
+-- `self`, where there is one
+abbrev pub HasSelf : Stored → Option BindingId → Type 0
+HasSelf s o = past_option (λ i. suc i.0) o ≤ length s.bindings.entries
+
+abbrev pub HasSelfPrelude : Stored → Option BindingId × Prelude → Type 0
+HasSelfPrelude s r = HasSelf s r.0 × HasPrelude s r.1
+
+-- what is in a closure whose body is a coroutine
+abbrev pub past_within : Within → Past
+past_within w = join (past_type_options w.arg_types) (join (past_present past_type_id w.ret) (past_expr_id w.coroutine))
+
+abbrev pub HasWithin : Stored → Within → Type 0
+HasWithin s w = Has s (past_within w)
 
 abbrev pub HasArm : Stored → MatchArm → Type 0
 HasArm s a = Has s (past_arm a)

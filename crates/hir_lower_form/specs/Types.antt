@@ -27,7 +27,7 @@ use Rattle.hir_env.specs.declared.place.ImplTrait.TheVariants as becomes
 use Rattle.hir_env.specs.Answered as tree
 use Rattle.hir_env.specs.Answered.{Binder, FnHead, Lifetime, TypeLeaf, TypeUnary, UseRead}
 use Rattle.hir_lower_form.specs.declared.args.ArgLists.{ArgLists}
-use Rattle.hir_lower_form.specs.Lowering.{Lowering, ◌>>=◌, ◌>>◌, pure, alloc_type, alloc_lifetime}
+use Rattle.hir_lower_form.specs.Lowering.{Lowering, ◌>>=◌, pure, alloc_type, alloc_lifetime}
 use Rattle.hir_lower_form.specs.Paths.{or_notation}
 
 -- steps that make a type

@@ -149,6 +149,19 @@ impl BodyBuilder {
         self.store.alloc_pat(pat, source)
     }
 
+    /// Stores a pattern that lowering makes up, with the node that it came from, which doesn't lead to it.
+    #[tactic(auto, unfolding(crate::specs::Lowering::alloc_made_pat))]
+    pub fn alloc_made_pat(
+        &mut self,
+        pat: Pat,
+        source: Option<InFile<AstPtr>>,
+    ) -> Result<PatId, StoreFault>
+        requires { HasPatParts self.old.stored pat }
+        ensures { Lowers HasPat (spec.alloc_made_pat pat source) self.old result self.new }
+    {
+        self.store.alloc_made_pat(pat, source)
+    }
+
     /// Stores a pattern that is not there, which comes from no node.
     #[tactic(auto, unfolding(crate::specs::Pats::missing_pat))]
     pub fn missing_pat(&mut self) -> Result<PatId, StoreFault>

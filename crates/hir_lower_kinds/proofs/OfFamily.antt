@@ -56,16 +56,16 @@ pub only_matching : (k : AstExprKind) → IsMatching (out-ExprKind k)
     → ((p : Option AstPat) (e : Option AstExpr) → k ≡ kind.LetExpr p e → ⊥)
     → ((e : Option AstExpr) (as' : Option (List AstMatchArm)) → k ≡ kind.MatchExpr e as' → ⊥)
     → ((l : Option AstLabel) (p : Option AstPat) (e : Option AstExpr) (b : Option AstBlockExpr) → k ≡ kind.ForExpr l p e b → ⊥)
-    → ((ps : Option (List AstParam)) (r : Option AstRetType) (e : Option AstExpr) (moves is_static : Bool)
-    → k ≡ kind.ClosureExpr ps r e moves is_static → ⊥) → ⊥
+    → ((ps : Option (List AstParam)) (r : Option AstRetType) (e : Option AstExpr) (is_async is_gen moves is_static : Bool)
+    → k ≡ kind.ClosureExpr ps r e is_async is_gen moves is_static → ⊥) → ⊥
 only_matching k is no_let no_match no_for no_closure = by (out-ExprKind k) refl is
   where
     by : (l : ExprKindLayer written) → out-ExprKind k ≡ l → IsMatching l → ⊥
     by (ExprKind-F.LetExpr p e) h is = no_let p e (made k _ h ∙ kind.rolls-LetExpr p e)
     by (ExprKind-F.MatchExpr e as') h is = no_match e as' (made k _ h ∙ kind.rolls-MatchExpr e as')
     by (ExprKind-F.ForExpr l p e b) h is = no_for l p e b (made k _ h ∙ kind.rolls-ForExpr l p e b)
-    by (ExprKind-F.ClosureExpr ps r e moves is_static) h is =
-        no_closure ps r e moves is_static (made k _ h ∙ kind.rolls-ClosureExpr ps r e moves is_static)
+    by (ExprKind-F.ClosureExpr ps r e is_async is_gen moves is_static) h is =
+        no_closure ps r e is_async is_gen moves is_static (made k _ h ∙ kind.rolls-ClosureExpr ps r e is_async is_gen moves is_static)
     by _ h is = is
 
 pub only_listing : (k : AstExprKind) → IsListing (out-ExprKind k)

@@ -91,9 +91,13 @@ pub(crate) fn matching_kind<P: LowerParts>(
             params,
             ret,
             body,
+            async_,
+            gen_,
             move_,
             static_,
-        } => closure_form(lowerer, state, at, params, ret, body, *move_, *static_),
+        } => closure_form(
+            lowerer, state, at, params, ret, body, *async_, *gen_, *move_, *static_,
+        ),
         _ => unreachable!(),
     }
 }

@@ -20,7 +20,7 @@ use Rattle.hir_store.specs.declared.path.Path.{Path as HirPath}
 use Rattle.hir_env.specs.Spot.{Spot, site_of}
 use Rattle.hir_env.specs.Answered as tree
 use Rattle.hir_env.specs.Answered.{Expr, Exprs, OptionPath, Path, Target, Targets}
-use Rattle.hir_env.specs.Answering.{asked, expr_at, for_items, question_items}
+use Rattle.hir_env.specs.Answering.{asked, coroutine_kind, expr_at, for_items, question_items}
 use Rattle.hir_env.specs.Count.{count_expr}
 use Rattle.hir_env.specs.Layers.{ExprKindLayer}
 use Rattle.hir_env.specs.PathNames.{mod_path_of}
@@ -39,7 +39,7 @@ use Rattle.hir_lower_pat.specs.Aims.{ArrayParts, IsPlace, aim_of, aimed, array_r
 use Rattle.hir_lower_pat.specs.Aims.{array_of, dots_kind, path_of_callee, placed, through}
 use Rattle.hir_lower_pat.specs.declared.aims.Aim.{Aim}
 use Rattle.hir_lower_pat.specs.declared.aims.Aim.TheVariants as aim
-use Rattle.hir_lower_pat.proofs.OfKinds.{of_for, of_own, of_question, through_asked}
+use Rattle.hir_lower_pat.proofs.OfKinds.{of_closure, of_for, of_own, of_question, through_asked}
 use Rattle.hir_lower_pat.proofs.PathNames.{lowered_names}
 
 abbrev level : Spot → ExprKindLayer written → Pointer → Expr
@@ -95,7 +95,8 @@ dots_at at (ExprKind-F.RefExpr r m e) s = refl
 dots_at at (ExprKind-F.TupleExpr comma es) s = refl
 dots_at at (ExprKind-F.ArrayExpr es) s = refl
 dots_at at (ExprKind-F.RepeatExpr e n) s = refl
-dots_at at (ExprKind-F.ClosureExpr ps r e moves is_static) s = refl
+dots_at at (ExprKind-F.ClosureExpr ps r e is_async is_gen moves is_static) s =
+    of_closure is_dots false (λ t m st xs y b. refl) (λ t way m xs y b. refl) (coroutine_kind is_async is_gen) s moves is_static _ _ _
 dots_at at (ExprKind-F.ReturnExpr e) s = refl
 dots_at at (ExprKind-F.BecomeExpr e) s = refl
 dots_at at (ExprKind-F.YieldExpr e) s = refl
@@ -152,7 +153,8 @@ callee_at at (ExprKind-F.RefExpr r m e) s = refl
 callee_at at (ExprKind-F.TupleExpr comma es) s = refl
 callee_at at (ExprKind-F.ArrayExpr es) s = refl
 callee_at at (ExprKind-F.RepeatExpr e n) s = refl
-callee_at at (ExprKind-F.ClosureExpr ps r e moves is_static) s = refl
+callee_at at (ExprKind-F.ClosureExpr ps r e is_async is_gen moves is_static) s =
+    of_closure callee_path None (λ t m st xs y b. refl) (λ t way m xs y b. refl) (coroutine_kind is_async is_gen) s moves is_static _ _ _
 callee_at at (ExprKind-F.ReturnExpr e) s = refl
 callee_at at (ExprKind-F.BecomeExpr e) s = refl
 callee_at at (ExprKind-F.YieldExpr e) s = refl
@@ -210,7 +212,9 @@ other_at f at (ExprKind-F.BinExpr (Some op.Assign) a b) s h = refl
 other_at f at (ExprKind-F.IndexExpr a b) s h = refl
 other_at f at (ExprKind-F.RefExpr r m e) s h = refl
 other_at f at (ExprKind-F.RepeatExpr e n) s h = refl
-other_at f at (ExprKind-F.ClosureExpr ps r e moves is_static) s h = refl
+other_at f at (ExprKind-F.ClosureExpr ps r e is_async is_gen moves is_static) s h =
+    of_closure (target_or f tree.absent_target) tree.absent_target (λ t m st xs y b. refl) (λ t way m xs y b. refl)
+    (coroutine_kind is_async is_gen) s moves is_static _ _ _
 other_at f at (ExprKind-F.ReturnExpr e) s h = refl
 other_at f at (ExprKind-F.BecomeExpr e) s h = refl
 other_at f at (ExprKind-F.YieldExpr e) s h = refl
@@ -338,6 +342,7 @@ module _ (f : Path → Bool) where
   put_is place (tree.repeat_expr at e c) = refl
   put_is place (tree.const_expr at c) = refl
   put_is place (tree.closure_expr at moves is_static ps r e) = refl
+  put_is place (tree.coroutine_closure_expr at way moves ps r e) = refl
   put_is place (tree.method_call_expr at e name es as') = refl
   put_is place (tree.leaving_expr at form e) = refl
   put_is place (tree.become_expr at e) = refl

@@ -228,7 +228,7 @@ module _ (C : Claims) (env : Answers) (P : Place → AstExpr → Type 0) (Q : Pl
   in_callee s (ExprKind-F.TupleExpr comma es) h = tt
   in_callee s (ExprKind-F.ArrayExpr es) h = tt
   in_callee s (ExprKind-F.RepeatExpr e m) h = tt
-  in_callee s (ExprKind-F.ClosureExpr ps r e moves is_static) h = tt
+  in_callee s (ExprKind-F.ClosureExpr ps r e is_async is_gen moves is_static) h = tt
   in_callee s (ExprKind-F.ReturnExpr e) h = tt
   in_callee s (ExprKind-F.BecomeExpr e) h = tt
   in_callee s (ExprKind-F.YieldExpr e) h = tt
@@ -278,7 +278,7 @@ module _ (C : Claims) (env : Answers) (P : Place → AstExpr → Type 0) (Q : Pl
   target_kids s (ExprKind-F.TupleExpr comma es) h = targets es (omega (arith, h))
   target_kids s (ExprKind-F.ArrayExpr es) h = targets es (omega (arith, h))
   target_kids s (ExprKind-F.RepeatExpr e m) h = tt
-  target_kids s (ExprKind-F.ClosureExpr ps r e moves is_static) h = tt
+  target_kids s (ExprKind-F.ClosureExpr ps r e is_async is_gen moves is_static) h = tt
   target_kids s (ExprKind-F.ReturnExpr e) h = tt
   target_kids s (ExprKind-F.BecomeExpr e) h = tt
   target_kids s (ExprKind-F.YieldExpr e) h = tt

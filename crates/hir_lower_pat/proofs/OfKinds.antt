@@ -11,8 +11,8 @@ use Rattle.hir_store.specs.declared.ids.LangItemId.{LangItemId}
 use Rattle.hir_env.specs.Spot.{Spot}
 use Rattle.hir_env.specs.Answered as tree
 use Rattle.hir_env.specs.Answered.{Block, Constant, Expr, ForItems, IsWrittenLabel, Label, OptionExpr, OptionPat, OptionType}
-use Rattle.hir_env.specs.Answered.{QuestionItems, Stmts}
-use Rattle.hir_env.specs.Answering.{asked, for_of, question_of}
+use Rattle.hir_env.specs.Answered.{Params, QuestionItems, Stmts}
+use Rattle.hir_env.specs.Answering.{asked, closure_of, for_of, question_of}
 use Rattle.hir_env.specs.Whole.{own_level}
 
 pub through_asked : {A : Type 0} (f : Expr → A) → ((s : Pointer) (by : CfgId) (e : Expr) → f (tree.disabled_expr s by e) ≡ f e)
@@ -52,3 +52,14 @@ of_own f a h k j l at (Some modifier.Const) b = j _ _
 of_own f a h k j l at (Some modifier.Async) b = l _ _ _ _ _ _
 of_own f a h k j l at (Some modifier.Gen) b = l _ _ _ _ _ _
 of_own f a h k j l at (Some modifier.AsyncGen) b = l _ _ _ _ _ _
+
+-- what is so of a closure, be there `async` or `gen` in front of it or not
+pub of_closure : {A : Type 0} (f : Expr → A) (a : A)
+    → ((s : Pointer) (moves is_static : Bool) (ps : Params) (r : OptionType) (e : OptionExpr)
+    → f (tree.closure_expr s moves is_static ps r e) ≡ a)
+    → ((s : Pointer) (kind : CoroutineKind) (moves : Bool) (ps : Params) (r : OptionType) (e : OptionExpr)
+    → f (tree.coroutine_closure_expr s kind moves ps r e) ≡ a)
+    → (o : Option CoroutineKind) (s : Pointer) (moves is_static : Bool) (ps : Params) (r : OptionType) (e : OptionExpr)
+    → f (closure_of o s moves is_static ps r e) ≡ a
+of_closure f a h k None s moves is_static ps r e = h s moves is_static ps r e
+of_closure f a h k (Some kind) s moves is_static ps r e = k s kind moves ps r e

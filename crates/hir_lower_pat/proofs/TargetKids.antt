@@ -88,7 +88,7 @@ module _ (at : Spot) (C : Claims) (inside : AstExpr → Type 0) (n : ℕ)
   in_callee (ExprKind-F.TupleExpr comma es) c = tt
   in_callee (ExprKind-F.ArrayExpr es) c = tt
   in_callee (ExprKind-F.RepeatExpr e m) c = tt
-  in_callee (ExprKind-F.ClosureExpr ps r e moves is_static) c = tt
+  in_callee (ExprKind-F.ClosureExpr ps r e is_async is_gen moves is_static) c = tt
   in_callee (ExprKind-F.ReturnExpr e) c = tt
   in_callee (ExprKind-F.BecomeExpr e) c = tt
   in_callee (ExprKind-F.YieldExpr e) c = tt
@@ -135,7 +135,7 @@ module _ (at : Spot) (C : Claims) (inside : AstExpr → Type 0) (n : ℕ)
   kids s (ExprKind-F.TupleExpr comma es) c h = each es c (omega (arith, h))
   kids s (ExprKind-F.ArrayExpr es) c h = each es c (omega (arith, h))
   kids s (ExprKind-F.RepeatExpr e m) c h = tt
-  kids s (ExprKind-F.ClosureExpr ps r e moves is_static) c h = tt
+  kids s (ExprKind-F.ClosureExpr ps r e is_async is_gen moves is_static) c h = tt
   kids s (ExprKind-F.ReturnExpr e) c h = tt
   kids s (ExprKind-F.BecomeExpr e) c h = tt
   kids s (ExprKind-F.YieldExpr e) c h = tt

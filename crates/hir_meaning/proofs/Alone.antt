@@ -68,6 +68,7 @@ module _ (turns : ℕ) (outer : List Scope) where
     expr_alone (tree.const_expr at c) inner = refl
     expr_alone (tree.closure_expr at by_move is_static ps t e) inner = refl
     expr_alone (tree.coroutine_expr at k by_move number ss e) inner = refl
+    expr_alone (tree.coroutine_closure_expr at k by_move ps t e) inner = refl
     expr_alone (tree.method_call_expr at e name es generics) inner = λ i.
         part_alone e inner i >>= (λ v. each_alone es inner i
         >>= (λ vs. ask (method_call name (written_args generics)) (v ∷ vs) (Some (site_of at))))

@@ -6,7 +6,7 @@ use Rattle.hir_store.specs.declared.path.GenericArg.TheVariants as arg
 use Rattle.hir_store.specs.declared.path.GenericArgsParentheses.TheVariants.{No}
 use Rattle.hir_store.specs.declared.path.AssociatedTypeBinding.TheFolds.{fold-roll-GenericArgs}
 use Rattle.std.specs.Prelude.{List}
-use Rattle.hir_meaning.specs.Inner.{Inners, of_args, binding_step, args_step, inners, inner_bodies}
+use Rattle.hir_meaning.specs.Inner.{Inners, Inside, by_itself, of_args, binding_step, args_step, inners, inner_bodies}
 use Rattle.hir_meaning.specs.InnerRows.{TypesInOrder, PathsInOrder, ExprsInOrder, PatternsInOrder, StoredInOrder}
 use Rattle.hir_meaning.specs.InnerRows.{constant_of_method}
 use Rattle.hir_meaning.specs.Small.{id}
@@ -26,9 +26,9 @@ patterns_in_order at a b c d l i = (refl, refl, refl, refl, refl, refl)
 
 -- in the list of one constant, by one step
 one_constant : (r : Inners) (i : ExprId)
-    → of_args r (args_of (arg.Const (record { expr = i }) ∷ []) false [] No) ≡ ((i ∷ r.expr i) ++ []) ++ []
+    → of_args r (args_of (arg.Const (record { expr = i }) ∷ []) false [] No) ≡ ((by_itself i ∷ r.expr i) ++ []) ++ []
 unfolding of_args
-one_constant r i = fold-roll-GenericArgs (List ExprId) (List ExprId) (binding_step r) (args_step r)
+one_constant r i = fold-roll-GenericArgs (List Inside) (List Inside) (binding_step r) (args_step r)
     (record { args = arg.Const (record { expr = i }) ∷ []; has_self_type = false; bindings = []; parenthesized = No })
 
 pub stored_in_order : StoredInOrder
@@ -37,6 +37,6 @@ stored_in_order = (
   record { written = refl; stored = refl },
   record {
     written = refl;
-    stored = ap (λ is. is ++ (id 2 ∷ [])) (one_constant (inners (store_with constant_of_method) 7) (id 4));
+    stored = ap (λ is. is ++ (by_itself (id 2) ∷ [])) (one_constant (inners (store_with constant_of_method) 7) (id 4));
   },
 )

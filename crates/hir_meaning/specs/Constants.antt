@@ -1,6 +1,6 @@
 -- Small bodies with repeat arrays and const blocks, and what they do: what is in a length or a const block is a body inside, and
 -- doesn't run with what is around it.
-use Rattle.std.specs.Prelude.{◌≡◌, ℕ, List, [], ◌∷◌, ◌++◌, Some, None}
+use Rattle.std.specs.Prelude.{◌≡◌, ℕ, List, [], ◌∷◌, ◌++◌, map, Some, None}
 use Rattle.hir_store.specs.Stored.{Store}
 use Rattle.hir_store.specs.declared.hir.Array.TheVariants as array
 use Rattle.hir_store.specs.declared.hir.Expr.{Expr as Stored}
@@ -8,7 +8,7 @@ use Rattle.hir_store.specs.declared.hir.Expr.TheVariants as hir
 use Rattle.hir_store.specs.declared.ids.ExprId.{ExprId}
 use Rattle.hir_env.specs.Answered as tree
 use Rattle.hir_env.specs.Answered.{Expr, OptionExpr}
-use Rattle.hir_meaning.specs.Inner.{Bodies, bodies_in, inner_bodies}
+use Rattle.hir_meaning.specs.Inner.{Bodies, Inside, bodies_in, by_itself, inner_bodies}
 use Rattle.hir_meaning.specs.InnerRows.{constants}
 use Rattle.hir_meaning.specs.Run.{answered, unit, repeated, const_block, returned, cut}
 use Rattle.hir_meaning.specs.Same.{ended, left, stray_break}
@@ -31,13 +31,13 @@ abbrev pub stored_repeat : ℕ → ℕ → Stored
 stored_repeat e l = hir.Array (array.Repeat (id e) (record { expr = id l }))
 
 -- The bodies inside it, as it is written and as it is stored, are these.
-pub record HasBodies (written : OptionExpr) (store : Store) (number : ℕ) (bs : Bodies) (is : List ExprId) : Type 0 where
+pub record HasBodies (written : OptionExpr) (store : Store) (number : ℕ) (bs : Bodies) (xs : List Inside) : Type 0 where
   pub listed : bodies_in written ≡ bs
-  pub stored : inner_bodies store (id number) ≡ is
+  pub stored : inner_bodies store (id number) ≡ xs
 
 -- each of them an expression
 abbrev pub HasInside : OptionExpr → Store → ℕ → List OptionExpr → List ExprId → Type 0
-HasInside written store number es is = HasBodies written store number (constants es) is
+HasInside written store number es is = HasBodies written store number (constants es) (map by_itself is)
 
 -- `[1; 2]`
 

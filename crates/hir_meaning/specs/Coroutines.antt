@@ -14,7 +14,7 @@ use Rattle.hir_store.specs.declared.ids.LabelId.{LabelId}
 use Rattle.hir_env.specs.Answered as tree
 use Rattle.hir_env.specs.Answered.{Expr}
 use Rattle.hir_data.specs.Data as datum
-use Rattle.hir_meaning.specs.Inner.{InnerBody, constant_body, coroutine_body}
+use Rattle.hir_meaning.specs.Inner.{InnerBody, by_itself, constant_body, coroutine_body}
 use Rattle.hir_meaning.specs.Limits.{written_inner}
 use Rattle.hir_meaning.specs.Run.{Event, Answerer, answered, closure, cut, enter, event_at, returned, unit, yielding}
 use Rattle.hir_meaning.specs.Same.{Ending, ended, left, stray_break, stray_continue}
@@ -77,7 +77,8 @@ abbrev pub MakesACoroutine : Type 0
 MakesACoroutine = (k : CoroutineKind)
     → BothDo (without_number k) 0 (no 11 ∷ []) (coroutine_event k capture.Ref 0 ∷ []) (ended (answered 11))
     × BothDo (coroutine_of_one k true capture.Value None) 0 (no 11 ∷ []) (coroutine_event k capture.Value 0 ∷ []) (ended (answered 11))
-    × HasBodies (without_number k).written (only (without_number k).nodes) 2 (inside None (literal_at 1 one) ∷ []) (id 1 ∷ [])
+    × HasBodies (without_number k).written (only (without_number k).nodes) 2 (inside None (literal_at 1 one) ∷ [])
+    (by_itself (id 1) ∷ [])
     × BothDoInside (inside None (literal_at 1 one)) (stored_in (without_number k) 1) 0 (no 11 ∷ []) (literal_event one 1 ∷ [])
     (ended (answered 11))
 
@@ -91,7 +92,8 @@ with_number k = coroutine_of_one k false capture.Ref seven
 abbrev pub EntersAtNoNode : Type 0
 EntersAtNoNode = (k : CoroutineKind)
     → BothDo (with_number k) 0 (no 11 ∷ []) (coroutine_event k capture.Ref 0 ∷ []) (ended (answered 11))
-    × HasBodies (with_number k).written (only (with_number k).nodes) 2 (inside seven (literal_at 1 one) ∷ []) (id 1 ∷ [])
+    × HasBodies (with_number k).written (only (with_number k).nodes) 2 (inside seven (literal_at 1 one) ∷ [])
+    (by_itself (id 1) ∷ [])
     × BothDoInside (inside seven (literal_at 1 one)) (stored_in (with_number k) 1) 0 (no 11 ∷ no 12 ∷ [])
     (event_at (enter seven false) [] None ∷ literal_event one 1 ∷ []) (ended (answered 12))
 
@@ -120,7 +122,7 @@ abbrev pub KeepsItsYield : Type 0
 KeepsItsYield =
     BothDo yield_in_gen 0 (no 11 ∷ []) (plain_event kind.Closure 0 ∷ []) (ended (answered 11))
     × HasBodies yield_in_gen.written (only yield_in_gen.nodes) 4 (constant_body (tree.some_expr gen_of_yield) ∷ inside None yield_a ∷ [])
-    (id 3 ∷ id 2 ∷ [])
+    (by_itself (id 3) ∷ by_itself (id 2) ∷ [])
     × BothDo (record yield_in_gen { written = tree.some_expr gen_of_yield; root = 3 }) 0 (no 11 ∷ [])
     (coroutine_event coroutine.Gen capture.Ref 2 ∷ []) (ended (answered 11))
     × BothDoInside (inside None yield_a) (stored_in yield_in_gen 2) 0 (no 11 ∷ no 12 ∷ [])
@@ -160,10 +162,12 @@ made_twice k = coroutine_event k capture.Ref 3 ∷ coroutine_event k capture.Ref
 abbrev pub StraysFromItsCoroutine : Type 0
 StraysFromItsCoroutine =
     BothDo break_in_async 2 (no 11 ∷ no 12 ∷ []) (made_twice coroutine.Async) (left cut)
-    × HasBodies break_in_async.written (only break_in_async.nodes) 4 (inside None plain_break ∷ []) (id 1 ∷ [])
+    × HasBodies break_in_async.written (only break_in_async.nodes) 4 (inside None plain_break ∷ [])
+    (by_itself (id 1) ∷ [])
     × BothDoInside (inside None plain_break) (stored_in break_in_async 1) 2 [] [] (stray_break unit)
     × BothDo continue_in_gen 2 (no 11 ∷ no 12 ∷ []) (made_twice coroutine.Gen) (left cut)
-    × HasBodies continue_in_gen.written (only continue_in_gen.nodes) 4 (inside None continue_a ∷ []) (id 1 ∷ [])
+    × HasBodies continue_in_gen.written (only continue_in_gen.nodes) 4 (inside None continue_a ∷ [])
+    (by_itself (id 1) ∷ [])
     × BothDoInside (inside None continue_a) (stored_in continue_in_gen 1) 2 [] [] stray_continue
 
 -- `try { async { a? } }`, and `try { async move { a? } }`
@@ -194,6 +198,6 @@ abbrev pub ReturnsFromItsCoroutine : Type 0
 ReturnsFromItsCoroutine =
     OutputOfCoroutine false capture.Ref × OutputOfCoroutine true capture.Value
     × HasBodies (question_in_coroutine false capture.Ref).written (patterns_in (question_in_coroutine false capture.Ref)) 13
-    (inside None question_a ∷ []) (id 9 ∷ [])
+    (inside None question_a ∷ []) (by_itself (id 9) ∷ [])
     × BothDoInside (inside None question_a) (stored_in_patterned (question_in_coroutine false capture.Ref) 9) 0
     (no 11 ∷ no 12 ∷ no 13 ∷ yes 14 ∷ no 15 ∷ []) (told_no 3 (calls_item 5 (answered 14) 3 ∷ [])) (left (returned (answered 15)))

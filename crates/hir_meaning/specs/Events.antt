@@ -14,14 +14,15 @@ use Rattle.hir_env.specs.NodeMap.{Site}
 use Rattle.hir_data.specs.Data.{TypeData, OptionTypeData, PathData, PatData, OptionArgsData}
 use Rattle.hir_data.specs.Literals.{LiteralData}
 
--- a value: what an event was answered, `()`, `true` or `false`, what the language itself names, or a mutable reference to one that
--- nobody wrote a name for
+-- a value: what an event was answered, `()`, `true` or `false`, what the language itself names, a mutable reference to one that
+-- nobody wrote a name for, or what a coroutine is handed for its parameter of this number, of those that no condition disables
 pub data Value : Type 0 where
   answered : ℕ → Value
   unit : Value
   truth : Bool → Value
   item : LangItemId → Value
   mutable_to : Value → Value
+  argument : ℕ → Value
 
 -- what is asked of a value (Rust Reference, `if` expressions and patterns)
 pub data Test : Type 0 where
@@ -56,7 +57,7 @@ pub data Operation : Type 0 where
   -- what is in it is a body inside
   const_block : Operation
   -- what it is, how it takes what its body uses of the outside, its parameters, a type for each where one is written, and what it
-  -- returns; its body is a body inside. A coroutine block is one with the first two alone.
+  -- returns; its body is a body inside. A coroutine is one with the first two alone.
   closure : ClosureKind → CaptureBy → List PatData → List OptionTypeData → OptionTypeData → Operation
   method_call : Name → OptionArgsData → Operation
   cast : TypeData → Operation

@@ -1,10 +1,12 @@
 -- The bodies inside a body, written and stored: the constants of its expressions, types, paths and arguments, the bodies of its closures
--- and of its coroutine blocks, and the ends of ranges in its types, each before those that are inside it, in the order of parts.
+-- and of its coroutines, and the ends of ranges in its types, each before those that are inside it, in the order of parts.
 use Rattle.std.specs.Prelude.{ℕ, zero, suc, ◌+◌, List, [], ◌∷◌, ◌++◌, length, slice_get}
 use Rattle.std.specs.Prelude.{Option, Some, None}
 use Rattle.hir_store.specs.Stored.{Store}
 use Rattle.hir_store.specs.declared.hir.Expr.{Expr as HirExpr}
 use Rattle.hir_store.specs.declared.hir.Array.TheVariants as array
+use Rattle.hir_store.specs.declared.hir.ClosureKind.{ClosureKind}
+use Rattle.hir_store.specs.declared.hir.ClosureKind.TheVariants as kind
 use Rattle.hir_store.specs.declared.hir.Expr.TheVariants as hir
 use Rattle.hir_store.specs.declared.hir.MatchArm.{MatchArm}
 use Rattle.hir_store.specs.declared.hir.RecordLitField.{RecordLitField}
@@ -43,35 +45,49 @@ pub use Rattle.hir_meaning.specs.InnerWritten.{fields_bodies}
 pub use Rattle.hir_meaning.specs.InnerWritten.{field_bodies, spread_bodies, arms_bodies, arm_bodies, guard_bodies, block_bodies}
 pub use Rattle.hir_meaning.specs.InnerWritten.{block_part_bodies, stmts_bodies, stmt_bodies, pat_bodies, pat_part_bodies}
 pub use Rattle.hir_meaning.specs.InnerWritten.{pats_bodies, pat_fields_bodies, target_bodies, targets_bodies}
-pub use Rattle.hir_meaning.specs.InnerWritten.{target_fields_bodies, constant_body, coroutine_body, limit_body}
+pub use Rattle.hir_meaning.specs.InnerWritten.{target_fields_bodies, constant_body, coroutine_body, limit_body, making_body, prelude_body}
+pub use Rattle.hir_meaning.specs.InnerWritten.{param_types_bodies, param_pats_bodies, tops_bodies, function_bodies}
+
+-- A body inside: its expression, and the parameters whose arguments it begins with, which the coroutine of a closure or a function has.
+pub record Inside : Type 0 where
+  pub expr : ExprId
+  pub formals : List PatId
+
+abbrev pub by_itself : ExprId → Inside
+by_itself i = record { expr = i; formals = [] }
+
+-- the first of these is handed the arguments of these parameters
+abbrev pub handed_to : List PatId → List Inside → List Inside
+handed_to ps [] = []
+handed_to ps (x ∷ xs) = record x { formals = ps } ∷ xs
 
 -- the bodies inside the parts of an entry
 pub record Inners : Type 0 where
-  pub expr : ExprId → List ExprId
-  pub type : TypeRefId → List ExprId
-  pub pat : PatId → List ExprId
+  pub expr : ExprId → List Inside
+  pub type : TypeRefId → List Inside
+  pub pat : PatId → List Inside
   -- of a pattern in a type, in which the ends of a range are bodies themselves
-  pub type_pat : PatId → List ExprId
+  pub type_pat : PatId → List Inside
 
 -- of each, in order
-abbrev pub all_of : {A : Type 0} → (A → List ExprId) → List A → List ExprId
+abbrev pub all_of : {A : Type 0} → (A → List Inside) → List A → List Inside
 all_of f [] = []
 all_of f (a ∷ as') = f a ++ all_of f as'
 
-abbrev pub of_present : {A : Type 0} → (A → List ExprId) → Option A → List ExprId
+abbrev pub of_present : {A : Type 0} → (A → List Inside) → Option A → List Inside
 of_present f None = []
 of_present f (Some a) = f a
 
 module _ (r : Inners) where
-  abbrev pub of_constant : ConstRef → List ExprId
-  of_constant c = c.expr ∷ r.expr c.expr
+  abbrev pub of_constant : ConstRef → List Inside
+  of_constant c = by_itself c.expr ∷ r.expr c.expr
 
-  abbrev pub of_arg : GenericArg → List ExprId
+  abbrev pub of_arg : GenericArg → List Inside
   of_arg (arg.Type_ t) = r.type t
   of_arg (arg.Lifetime l) = []
   of_arg (arg.Const c) = of_constant c
 
-  abbrev pub of_bound : TypeBound → List ExprId
+  abbrev pub of_bound : TypeBound → List Inside
   of_bound (bound.Path t modifier) = r.type t
   of_bound (bound.ForLifetime ns t) = r.type t
   of_bound (bound.Lifetime l) = []
@@ -80,24 +96,24 @@ module _ (r : Inners) where
 
   -- arguments hold bindings, which hold arguments
 
-  abbrev pub binding_step : AssociatedTypeBinding-F (List ExprId) (List ExprId) → List ExprId
+  abbrev pub binding_step : AssociatedTypeBinding-F (List Inside) (List Inside) → List Inside
   binding_step b = of_present (λ is. is) b.args ++ (of_present r.type b.type_ref ++ all_of of_bound b.bounds)
 
-  abbrev pub args_step : GenericArgs-F (List ExprId) (List ExprId) → List ExprId
+  abbrev pub args_step : GenericArgs-F (List Inside) (List Inside) → List Inside
   args_step a = all_of of_arg a.args ++ all_of (λ is. is) a.bindings
 
-  unfoldable pub of_args : GenericArgs → List ExprId
-  of_args = fold-GenericArgs (List ExprId) (List ExprId) binding_step args_step
+  unfoldable pub of_args : GenericArgs → List Inside
+  of_args = fold-GenericArgs (List Inside) (List Inside) binding_step args_step
 
-  abbrev pub of_list : Option GenericArgs → List ExprId
+  abbrev pub of_list : Option GenericArgs → List Inside
   of_list a = of_present of_args a
 
-  abbrev pub of_path : HirPath → List ExprId
+  abbrev pub of_path : HirPath → List Inside
   of_path (BarePath p) = []
   of_path (Normal p) = of_present r.type p.type_anchor ++ all_of of_list p.generic_args
   of_path (LangItem i) = []
 
-  abbrev pub of_type : TypeRef → List ExprId
+  abbrev pub of_type : TypeRef → List Inside
   of_type ty.Never = []
   of_type ty.Placeholder = []
   of_type ty.Error = []
@@ -112,18 +128,18 @@ module _ (r : Inners) where
   of_type (ty.DynTrait bs) = all_of of_bound bs
   of_type (ty.Pattern t p) = r.type t ++ r.type_pat p
 
-  abbrev pub of_limit : ExprId → List ExprId
-  of_limit e = e ∷ r.expr e
+  abbrev pub of_limit : ExprId → List Inside
+  of_limit e = by_itself e ∷ r.expr e
 
-  abbrev pub of_type_pat : HirPat → List ExprId
+  abbrev pub of_type_pat : HirPat → List Inside
   of_type_pat (pat.Or ps) = all_of r.type_pat ps
   of_type_pat (pat.Range op start end) = of_present of_limit start ++ of_present of_limit end
   of_type_pat p = []
 
-  abbrev pub of_pat_field : RecordFieldPat → List ExprId
+  abbrev pub of_pat_field : RecordFieldPat → List Inside
   of_pat_field f = r.pat f.pat
 
-  abbrev pub of_pat : HirPat → List ExprId
+  abbrev pub of_pat : HirPat → List Inside
   of_pat pat.Missing = []
   of_pat pat.Wild = []
   of_pat pat.Rest = []
@@ -142,29 +158,36 @@ module _ (r : Inners) where
   of_pat (pat.Range op start end) = of_present r.expr start ++ of_present r.expr end
   of_pat (pat.Expr e) = r.expr e
 
-  abbrev pub of_field : RecordLitField → List ExprId
+  abbrev pub of_field : RecordLitField → List Inside
   of_field f = r.expr f.expr
 
-  abbrev pub of_others : RecordSpread → List ExprId
+  abbrev pub of_others : RecordSpread → List Inside
   of_others spread.None = []
   of_others spread.FieldDefaults = []
   of_others (spread.Expr i) = r.expr i
 
-  abbrev pub of_statement : Statement → List ExprId
+  abbrev pub of_statement : Statement → List Inside
   of_statement statement.Item = []
   of_statement (statement.Expr i semi) = r.expr i
   of_statement (statement.Let p t e b) = r.pat p ++ (of_present r.type t ++ (of_present r.expr e ++ of_present r.expr b))
 
-  abbrev pub of_arm : MatchArm → List ExprId
+  abbrev pub of_arm : MatchArm → List Inside
   of_arm a = r.pat a.pat ++ (of_present r.expr a.guard ++ r.expr a.expr)
 
   -- the parameters of a closure: the pattern of each before its type
-  abbrev pub of_params : List PatId → List (Option TypeRefId) → List ExprId
+  abbrev pub of_params : List PatId → List (Option TypeRefId) → List Inside
   of_params [] ts = all_of (of_present r.type) ts
   of_params (p ∷ ps) [] = r.pat p ++ of_params ps []
   of_params (p ∷ ps) (t ∷ ts) = (r.pat p ++ of_present r.type t) ++ of_params ps ts
 
-  abbrev pub of_expr : HirExpr → List ExprId
+  -- Its body stands behind what is in its parameters and in what it returns. One that makes a coroutine stands in front of them, and what
+  -- is inside of it behind them: first the coroutine, which is handed the parameters.
+  abbrev pub of_closure : List PatId → List (Option TypeRefId) → Option TypeRefId → ExprId → ClosureKind → List Inside
+  of_closure args types ret body (kind.CoroutineClosure k) =
+      by_itself body ∷ (of_params args types ++ (of_present r.type ret ++ handed_to args (r.expr body)))
+  of_closure args types ret body which = of_params args types ++ (of_present r.type ret ++ (by_itself body ∷ r.expr body))
+
+  abbrev pub of_expr : HirExpr → List Inside
   of_expr hir.Missing = []
   of_expr (hir.Literal l) = []
   of_expr (hir.Path p h) = of_path p
@@ -187,7 +210,7 @@ module _ (r : Inners) where
   of_expr (hir.Array (array.ElementList es)) = all_of r.expr es
   of_expr (hir.Array (array.Repeat e c)) = r.expr e ++ of_constant c
   of_expr (hir.Const c) = of_constant c
-  of_expr (hir.Closure args types ret body kind capture) = of_params args types ++ (of_present r.type ret ++ (body ∷ r.expr body))
+  of_expr (hir.Closure args types ret body which capture) = of_closure args types ret body which
   of_expr (hir.MethodCall e name generics es) = r.expr e ++ (of_list generics ++ all_of r.expr es)
   of_expr (hir.Cast e t) = r.expr e ++ r.type t
   of_expr (hir.RecordLit p fields others) = of_path p ++ (all_of of_field fields ++ of_others others)
@@ -214,12 +237,12 @@ module _ (store : Store) where
   abbrev pub all_inners : Inners
   all_inners = inners (length store.exprs + (length store.types + length store.pats))
 
-  unfoldable pub inner_bodies : ExprId → List ExprId
+  unfoldable pub inner_bodies : ExprId → List Inside
   inner_bodies i = all_inners.expr i
 
   -- inside a type, and inside a path
-  unfoldable pub type_inner_bodies : TypeRefId → List ExprId
+  unfoldable pub type_inner_bodies : TypeRefId → List Inside
   type_inner_bodies i = all_inners.type i
 
-  unfoldable pub path_inner_bodies : HirPath → List ExprId
+  unfoldable pub path_inner_bodies : HirPath → List Inside
   path_inner_bodies p = of_path all_inners p

@@ -16,7 +16,7 @@ use Rattle.hir_store.specs.declared.type_ref.TypeRef.TheVariants as ty
 use Rattle.hir_env.specs.Answered as tree
 use Rattle.hir_env.specs.Answered.{Type_, OptionType, OptionExpr, OptionPat, OptionPath, OptionArgs, Arg, FnHead, SegmentArgs, Segment}
 use Rattle.hir_env.specs.Answered.{Signed, QuestionItems, Stmts}
-use Rattle.hir_meaning.specs.Inner.{Bodies, InnerBody, constant_body, coroutine_body, limit_body, bodies_in, inner_bodies}
+use Rattle.hir_meaning.specs.Inner.{Bodies, InnerBody, constant_body, coroutine_body, limit_body, bodies_in, by_itself, inner_bodies}
 use Rattle.hir_meaning.specs.Inner.{path_bodies, pat_part_bodies, type_bodies}
 use Rattle.hir_meaning.specs.Small.{id, literal_at, name_at, one, two, stored_one, stored_two}
 use Rattle.hir_meaning.specs.Small.{at as node}
@@ -217,7 +217,7 @@ PatternsInOrder = (at : Pointer) (a b c d l : Literal) (i : LangItemId)
 -- as they are written and as they are stored
 pub record BothList (x : TypedExample) (es : List OptionExpr) (is : List ExprId) : Type 0 where
   pub written : bodies_in x.written ≡ constants es
-  pub stored : inner_bodies (store_with x) (id x.root) ≡ is
+  pub stored : inner_bodies (store_with x) (id x.root) ≡ map by_itself is
 
 -- `1 as [!; 2]`, whose length is stored before what the array is of
 

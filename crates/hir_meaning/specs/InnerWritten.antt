@@ -1,9 +1,12 @@
 -- The bodies inside a written body: the constants of its expressions, types, paths and arguments, the bodies of its closures and of its
--- coroutine blocks, and the ends of ranges in its types, each before those that are inside it, in the order of parts. What nothing reads
+-- coroutines, and the ends of ranges in its types, each before those that are inside it, in the order of parts. What nothing reads
 -- isn't among them: what a refused path or an `impl` that is an error held, what stands left of where a path begins, and arguments that
 -- go again.
 use Rattle.std.specs.Prelude.{if◌then◌else◌, Bool, true, false, List, [], ◌∷◌, ◌++◌, reverse, map}
 use Rattle.std.specs.Prelude.{Option, Some, None}
+use Rattle.hir_store.specs.declared.hir.CoroutineKind.{CoroutineKind}
+use Rattle.hir_store.specs.declared.hir.CoroutineSource.{CoroutineSource}
+use Rattle.hir_store.specs.declared.hir.CoroutineSource.TheVariants as source
 use Rattle.hir_store.specs.declared.ids.BlockId.{BlockId}
 use Rattle.hir_env.specs.declared.place.ImplTrait.{ImplTrait}
 use Rattle.hir_env.specs.declared.place.ImplTrait.TheVariants.{Error, Opaque}
@@ -12,9 +15,10 @@ use Rattle.hir_env.specs.Answered.{Type_, OptionType, Parts, Path, OptionPath, S
 use Rattle.hir_env.specs.Answered.{OptionArgs, Args, Arg, Bounds, Bound, Constant}
 use Rattle.hir_env.specs.Answered.{Expr, OptionExpr, Exprs, Fields, Field, Spread, Block, OptionBlock, Stmts, Stmt}
 use Rattle.hir_env.specs.Answered.{Arms, Arm, Guard, RangeForm, Pat, OptionPat, Pats, PatFields, Side, TypePat, OptionTypePat, TypePats}
-use Rattle.hir_env.specs.Answered.{Limit, Target, Targets, TargetFields, Params}
+use Rattle.hir_env.specs.Answered.{Limit, Target, Targets, TargetFields, Params, SelfFormal}
 use Rattle.hir_data.specs.Data.{OptionArgsData, no_args, some_args}
 use Rattle.hir_data.specs.Rule.{Item, Named, PathRead, ended, has_self, is_list, names}
+use Rattle.hir_data.specs.Tops.{Tops, params_tops}
 use Rattle.hir_data.specs.Written.{list_data, path_of, what}
 
 pub data InnerBody : Type 0 where
@@ -22,6 +26,10 @@ pub data InnerBody : Type 0 where
   constant_body : OptionExpr → InnerBody
   -- what is in a coroutine block: its number, its statements and its written tail
   coroutine_body : Option BlockId → Stmts → OptionExpr → InnerBody
+  -- the body that a closure or a function with `async` or `gen` has: it makes its coroutine
+  making_body : CoroutineKind → CoroutineSource → InnerBody
+  -- that coroutine: `self`, the other parameters, and what was written as the body
+  prelude_body : SelfFormal → Tops → OptionExpr → InnerBody
   limit_body : Limit → InnerBody
 
 abbrev pub Bodies : Type 0
@@ -300,6 +308,10 @@ abbrev mutual
   expr_bodies (tree.const_expr at c) = constant_bodies c
   -- its body stands behind what is in its parameters and in what it returns
   expr_bodies (tree.closure_expr at by_move is_static ps t e) = params_bodies ps ++ (part_bodies t ++ (constant_body e ∷ bodies_in e))
+  -- Its parameters' types stand with it, their patterns in its coroutine, where they are bound.
+  expr_bodies (tree.coroutine_closure_expr at k by_move ps t e) =
+      making_body k source.Closure ∷ (param_types_bodies ps ++ (part_bodies t ++ (prelude_body tree.no_self (params_tops ps) e
+      ∷ (param_pats_bodies ps ++ bodies_in e))))
   expr_bodies (tree.method_call_expr at e name es generics) = bodies_in e ++ (list_bodies generics ++ each_bodies es)
   expr_bodies (tree.cast_expr at e t) = bodies_in e ++ part_bodies t
   -- a record whose path is absent or refused isn't read
@@ -321,6 +333,16 @@ abbrev mutual
   params_bodies tree.no_params = []
   params_bodies (tree.more_params (tree.disabled_param at by x) ps) = params_bodies ps
   params_bodies (tree.more_params (tree.param p t) ps) = (pat_part_bodies p ++ part_bodies t) ++ params_bodies ps
+
+  pub param_types_bodies : Params → Bodies
+  param_types_bodies tree.no_params = []
+  param_types_bodies (tree.more_params (tree.disabled_param at by x) ps) = param_types_bodies ps
+  param_types_bodies (tree.more_params (tree.param p t) ps) = part_bodies t ++ param_types_bodies ps
+
+  pub param_pats_bodies : Params → Bodies
+  param_pats_bodies tree.no_params = []
+  param_pats_bodies (tree.more_params (tree.disabled_param at by x) ps) = param_pats_bodies ps
+  param_pats_bodies (tree.more_params (tree.param p t) ps) = pat_part_bodies p ++ param_pats_bodies ps
 
   pub bodies_in : OptionExpr → Bodies
   bodies_in tree.no_expr = []
@@ -425,3 +447,12 @@ abbrev mutual
   target_fields_bodies tree.no_target_fields = []
   target_fields_bodies (tree.more_target_fields (tree.target_field at (Some n) t) fs) = target_bodies t ++ target_fields_bodies fs
   target_fields_bodies (tree.more_target_fields f fs) = target_fields_bodies fs
+
+-- those of parameters
+abbrev pub tops_bodies : Tops → Bodies
+tops_bodies [] = []
+tops_bodies (p ∷ ps) = pat_part_bodies p ++ tops_bodies ps
+
+-- What is inside a function with `async` or `gen`, whose own run makes its coroutine: that, and what is inside it.
+abbrev pub function_bodies : SelfFormal → Tops → OptionExpr → Bodies
+function_bodies self ps e = prelude_body self ps e ∷ (tops_bodies ps ++ bodies_in e)

@@ -8,6 +8,7 @@ pub mod Syntax
 pub mod Places
 pub mod Store
 pub mod Jumps
+pub mod Prelude
 pub mod InnerWritten
 pub mod Inner
 pub mod Limits
@@ -28,3 +29,5 @@ pub mod Fors
 pub mod Constants
 pub mod Closures
 pub mod Coroutines
+pub mod CoroutineClosures
+pub mod CoroutineFunctions

@@ -1,14 +1,17 @@
--- How the bodies inside run. An end of a range in a type is a literal, a path or a call.
+-- How the bodies inside run, as they are written and as they are stored. An end of a range in a type is a literal, a path or a call.
 use Rattle.std.specs.Prelude.{[], ◌∷◌, Option, Some, None}
+use Rattle.hir_store.specs.Stored.{Store, SourceMap}
 use Rattle.hir_env.specs.NodeMap.{Site}
 use Rattle.hir_env.specs.Answering.{site_of}
 use Rattle.hir_env.specs.Answered as tree
 use Rattle.hir_env.specs.Answered.{Side, Limit}
 use Rattle.hir_data.specs.Data.{PathData, bare_path}
 use Rattle.hir_data.specs.Written.{root_hygiene, signed_data, written_path}
-use Rattle.hir_meaning.specs.Inner.{InnerBody, constant_body, coroutine_body, limit_body}
+use Rattle.hir_meaning.specs.Inner.{InnerBody, Inside, constant_body, coroutine_body, limit_body, making_body, prelude_body}
+use Rattle.hir_meaning.specs.Prelude.{written_making, written_prelude}
 use Rattle.hir_meaning.specs.Run.{Value, literal, call, leave, missing, ends, ◌>>=◌, ask, read_path}
 pub use Rattle.hir_meaning.specs.Syntax.{run_item}
+use Rattle.hir_meaning.specs.Store.{StoreBody, arguments, run_store}
 use Rattle.hir_meaning.specs.Syntax.{SyntaxRun, SyntaxBody, written_body, written_coroutine}
 
 abbrev pub run_side_path : Option PathData → Option Site → SyntaxRun Value
@@ -35,4 +38,9 @@ run_limit (tree.before_limit i s) = do
 abbrev pub written_inner : InnerBody → SyntaxBody
 written_inner (constant_body e) = written_body e
 written_inner (coroutine_body number ss e) = written_coroutine number ss e
+written_inner (making_body k from) = written_making k from
+written_inner (prelude_body self ps e) = written_prelude self ps e
 written_inner (limit_body l) = record { table = tt; run = λ turns. run_limit l }
+
+abbrev pub stored_inside : Store → SourceMap → Inside → StoreBody
+stored_inside store source_map x = record { table = arguments store source_map 0 x.formals; run = run_store store source_map x.expr }

@@ -7,8 +7,8 @@ use Rattle.hir_base.specs.declared.op.LogicOp.{LogicOp}
 use Rattle.hir_base.specs.declared.op.LogicOp.TheVariants as logic
 use Rattle.hir_env.specs.NodeMap.{Site}
 use Rattle.hir_data.specs.Data.{PathData, path_data, item_path, OptionTypeData, PatData, pattern_site}
-pub use Rattle.hir_meaning.specs.Events.{Value, answered, unit, truth, item, mutable_to, Test, is_true, matches, Operation, literal, read}
-pub use Rattle.hir_meaning.specs.Events.{call, enter, test, bound, assigned, Event}
+pub use Rattle.hir_meaning.specs.Events.{Value, answered, unit, truth, item, mutable_to, argument, Test, is_true, matches, Operation}
+pub use Rattle.hir_meaning.specs.Events.{literal, read, call, enter, test, bound, assigned, Event}
 pub use Rattle.hir_meaning.specs.Events.{underscore, include_bytes, field, prefix, reference, operator, index, tuple, array, repeated}
 pub use Rattle.hir_meaning.specs.Events.{method_call, cast, SpreadForm, no_spread, field_defaults, rest_of, made_record, offset_of}
 pub use Rattle.hir_meaning.specs.Events.{const_block, closure, yielding}

@@ -1,14 +1,18 @@
 -- A stored body does what the written one does.
 use Rattle.std.specs.Prelude.{ℕ, ◌≡◌, List, [], ◌∷◌}
 use Rattle.hir_store.specs.Stored.{Store, SourceMap}
+use Rattle.hir_store.specs.declared.hir.CoroutineKind.{CoroutineKind}
+use Rattle.hir_store.specs.declared.hir.CoroutineSource.TheVariants as source
 use Rattle.hir_store.specs.declared.ids.ExprId.{ExprId}
-use Rattle.hir_env.specs.Answered.{OptionExpr}
+use Rattle.hir_store.specs.declared.ids.PatId.{PatId}
+use Rattle.hir_env.specs.Answered.{OptionExpr, SelfFormal}
+use Rattle.hir_data.specs.Tops.{Tops}
 use Rattle.hir_meaning.specs.Run.{Value, Answerer, Leave, Outcome, value, break, continue, leave, World, Body}
 use Rattle.hir_meaning.specs.Syntax.{SyntaxBody, written_body}
 use Rattle.hir_meaning.specs.Store.{StoreBody, stored_body}
 use Rattle.hir_meaning.specs.Jumps.{Enclosed}
-use Rattle.hir_meaning.specs.Inner.{Bodies, bodies_in, inner_bodies}
-use Rattle.hir_meaning.specs.Limits.{written_inner}
+use Rattle.hir_meaning.specs.Inner.{Bodies, Inside, bodies_in, function_bodies, handed_to, inner_bodies, making_body}
+use Rattle.hir_meaning.specs.Limits.{stored_inside, written_inner}
 
 -- the same run
 
@@ -53,14 +57,21 @@ abbrev pub SameAlone : Store → SourceMap → ExprId → OptionExpr → Type 0
 SameAlone store source_map i e = SameBody store (stored_body store source_map i) i (written_body e)
 
 -- each like the written one in the same place of the list
-abbrev pub SameBodies : Store → SourceMap → List ExprId → Bodies → Type 0
+abbrev pub SameBodies : Store → SourceMap → List Inside → Bodies → Type 0
 SameBodies store source_map [] [] = Unit {0}
-SameBodies store source_map (i ∷ is) (b ∷ bs) =
-    SameBody store (stored_body store source_map i) i (written_inner b) × SameBodies store source_map is bs
+SameBodies store source_map (x ∷ xs) (b ∷ bs) =
+    SameBody store (stored_inside store source_map x) x.expr (written_inner b) × SameBodies store source_map xs bs
 SameBodies store source_map [] (b ∷ bs) = ⊥
-SameBodies store source_map (i ∷ is) [] = ⊥
+SameBodies store source_map (x ∷ xs) [] = ⊥
 
 -- the stored expression does what the written one does, and so does each body inside it
 pub record SameMeaning (store : Store) (source_map : SourceMap) (root : ExprId) (e : OptionExpr) : Type 0 where
   pub body : SameAlone store source_map root e
   pub inner : SameBodies store source_map (inner_bodies store root) (bodies_in e)
+
+-- Of a function with `async` or `gen` the stored expression makes the coroutine, which is handed these parameters. That does what is
+-- written, of the same parameters and this body, and so does each body inside it.
+pub record SameCoroutine (store : Store) (source_map : SourceMap) (formals : List PatId) (root : ExprId) (k : CoroutineKind)
+    (self : SelfFormal) (ps : Tops) (e : OptionExpr) : Type 0 where
+  pub body : SameBody store (stored_body store source_map root) root (written_inner (making_body k source.Fn))
+  pub inner : SameBodies store source_map (handed_to formals (inner_bodies store root)) (function_bodies self ps e)

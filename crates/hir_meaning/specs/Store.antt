@@ -33,7 +33,8 @@ use Rattle.hir_data.specs.Data.{PathData, PatData, OptionTypeData, no_type, some
 use Rattle.hir_data.specs.MadeNames.{made_name}
 use Rattle.hir_data.specs.Reading.{binding_found, stored_path, stored_type, stored_option_type, stored_args, stored_pat}
 use Rattle.hir_meaning.specs.Places.{places}
-use Rattle.hir_meaning.specs.Run.{Value, answered, unit, truth, mutable_to, is_true, matches, test, bound, Operation, literal, call, Answer}
+use Rattle.hir_meaning.specs.Run.{Value, answered, unit, truth, mutable_to, argument, is_true, matches, test, bound, Operation, literal}
+use Rattle.hir_meaning.specs.Run.{call, Answer}
 use Rattle.hir_meaning.specs.Run.{Outcome, value, break, continue, leave, missing, Body, Run}
 use Rattle.hir_meaning.specs.Run.{underscore, include_bytes, field, prefix, reference, operator, index, array, method_call}
 use Rattle.hir_meaning.specs.Run.{repeated, const_block, closure}
@@ -56,6 +57,10 @@ new_table = λ n. None
 
 abbrev pub with_name : ℕ → Value → RunTable → RunTable
 with_name n v table = λ k. if nat_eq k n then Some v else table k
+
+abbrev pub with_argument : Option ℕ → ℕ → RunTable → RunTable
+with_argument None i table = table
+with_argument (Some n) i table = with_name n (argument i) table
 
 abbrev pub StoreRun : Type 0 → Type 0
 StoreRun A = Run RunTable JumpLabel A
@@ -362,3 +367,8 @@ module _ (store : Store) (source_map : SourceMap) where
   -- an expression as a body by itself
   abbrev pub stored_body : ExprId → StoreBody
   stored_body i = record { table = new_table; run = run_store i }
+
+  -- a made name that a parameter is stands for the argument of its number, and the first of these has this number
+  abbrev pub arguments : ℕ → List PatId → RunTable
+  arguments i [] = new_table
+  arguments i (p ∷ ps) = with_argument (whole_made p) i (arguments (suc i) ps)

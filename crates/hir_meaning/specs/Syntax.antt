@@ -1,8 +1,10 @@
 -- How a written body runs: over the answered tree, by the rules of the Rust Reference for each form. It knows no store, no
 -- numbers and no stack of labels.
 use Rattle.std.specs.Prelude.{ℕ, Bool, true, false, codes, List, [], ◌∷◌, ◌++◌, map, Option, Some, None, if◌then◌else◌}
+use Rattle.hir_store.specs.declared.hir.CaptureBy.{CaptureBy}
 use Rattle.hir_store.specs.declared.hir.ClosureKind.TheVariants as kind
 use Rattle.hir_store.specs.declared.hir.CoroutineKind.{CoroutineKind}
+use Rattle.hir_store.specs.declared.hir.CoroutineSource.{CoroutineSource}
 use Rattle.hir_store.specs.declared.hir.CoroutineSource.TheVariants as source
 use Rattle.hir_store.specs.declared.name.Name.{Name}
 use Rattle.hir_store.specs.declared.name.Name.TheVariants as name
@@ -35,6 +37,7 @@ use Rattle.hir_data.specs.Data.{path_pattern, tuple_struct_pattern, no_patterns,
 use Rattle.hir_data.specs.Literals.{literal_data}
 use Rattle.hir_data.specs.Lookup.{lookup_hygiene}
 use Rattle.hir_data.specs.Patterns.{written_pat}
+use Rattle.hir_data.specs.Preludes.{formal_patterns}
 use Rattle.hir_data.specs.Rule.{PathRead}
 use Rattle.hir_data.specs.Targets.{target_data}
 use Rattle.hir_data.specs.Tops.{params_tops}
@@ -213,9 +216,19 @@ closure_of by_move is_static ps t e =
     closure (kind_of is_static e) (capture_of by_move) (map written_pat (params_tops ps)) (map written_option_type (params_types ps))
     (written_option_type t)
 
--- A coroutine block is made as a closure that is a coroutine, and has neither parameters nor types.
+-- A coroutine is made as a closure that has neither parameters nor types.
+abbrev pub made_coroutine : CoroutineKind → CoroutineSource → CaptureBy → Operation
+made_coroutine k from by = closure (kind.Coroutine k from) by [] [] no_type
+
+-- that of a block
 abbrev pub coroutine_of : CoroutineKind → Bool → Operation
-coroutine_of k by_move = closure (kind.Coroutine k source.Block) (capture_of by_move) [] [] no_type
+coroutine_of k by_move = made_coroutine k source.Block (capture_of by_move)
+
+-- An `async` or `gen` closure is made with what the outside hands its parameters to.
+abbrev pub coroutine_closure_of : CoroutineKind → Bool → Params → OptionType → Operation
+coroutine_closure_of k by_move ps t =
+    closure (kind.CoroutineClosure k) (capture_of by_move) (formal_patterns (map written_pat (params_tops ps)))
+    (map written_option_type (params_types ps)) (written_option_type t)
 
 -- parts beside a path that is absent or refused don't run
 abbrev pub if_read : {A : Type 0} → Option PathRead → A → A → A
@@ -309,6 +322,8 @@ module _ (turns : ℕ) where
     run_expr (tree.closure_expr at by_move is_static ps t e) ss = ask (closure_of by_move is_static ps t e) [] (Some (site_of at))
     -- and so is what is in it
     run_expr (tree.coroutine_expr at k by_move number stmts tail) ss = ask (coroutine_of k by_move) [] (Some (site_of at))
+    -- what makes its coroutine is a body inside, and so is the coroutine
+    run_expr (tree.coroutine_closure_expr at k by_move ps t e) ss = ask (coroutine_closure_of k by_move ps t) [] (Some (site_of at))
     run_expr (tree.method_call_expr at e name es generics) ss = do
       v ← run_part e ss
       vs ← run_each es ss

@@ -26,6 +26,9 @@ ghost use Rattle.hir_meaning.specs.Closures.{CountsNoYieldInside, IsAnOldCorouti
 ghost use Rattle.hir_meaning.specs.Constants.{RepeatsItsOperand, HasItsBlockInside, StraysFromItsLength, ReturnsFromItsLength};
 ghost use Rattle.hir_meaning.specs.Coroutines.{MakesACoroutine, EntersAtNoNode, KeepsItsYield, StraysFromItsCoroutine};
 ghost use Rattle.hir_meaning.specs.Coroutines.{ReturnsFromItsCoroutine};
+ghost use Rattle.hir_meaning.specs.CoroutineClosures.{HandsInByName, HandsInByItsName, HandsInByMadeNames, MissesItsBody};
+ghost use Rattle.hir_meaning.specs.CoroutineClosures.{StraysFromItsCoroutineClosure};
+ghost use Rattle.hir_meaning.specs.CoroutineFunctions.{HandsInInOrder, KeepsConstantsInItsCoroutine};
 ghost use Rattle.hir_meaning.specs.InnerRows.{TypesInOrder, PathsInOrder, ExprsInOrder, PatternsInOrder, StoredInOrder};
 
 /// `'a: { loop { break 'a 1 } }` with one turn is the literal and its value.
@@ -524,4 +527,41 @@ pub fn strays_from_its_coroutine()
 /// `try { async { a? } }` has the coroutine's value, and by itself what is in it returns what is made of the residual as for a body.
 pub fn returns_from_its_coroutine()
     ensures { ReturnsFromItsCoroutine }
+{}
+
+/// `async |x| x`, also with `mut x` and with `move`, is made with a `mut x`. Inside it are what makes its coroutine, one event, and the
+/// coroutine, which reads x at no node and binds it.
+pub fn hands_in_by_name()
+    ensures { HandsInByName }
+{}
+
+/// In `async |ref x| x` and `async |x @ _| x` the coroutine binds x to `mut x` first.
+pub fn hands_in_by_its_name()
+    ensures { HandsInByItsName }
+{}
+
+/// In `async |(y, z), #[cfg(..)] x, _: !| y` the coroutine reads no name: the pair is bound to argument 0, and `_` to argument 1.
+pub fn hands_in_by_made_names()
+    ensures { HandsInByMadeNames }
+{}
+
+/// Without a body the coroutine of `async |x|` ends as missing, behind its prelude.
+pub fn misses_its_body()
+    ensures { MissesItsBody }
+{}
+
+/// `loop { async || break }` makes the closure turn after turn, and by itself the coroutine is a stray break.
+pub fn strays_from_its_coroutine_closure()
+    ensures { StraysFromItsCoroutineClosure }
+{}
+
+/// The body of `async fn f(self, x: A, (y, z): B) {}` makes a coroutine, which binds `self`, then x, and then the pair to argument 1.
+pub fn hands_in_in_order()
+    ensures { HandsInInOrder }
+{}
+
+/// Of `async |<[!; 1]>::A: [!; 2]| ..` the length in the type is inside of the closure, and that in the pattern inside of its coroutine. So
+/// it is in a function with that parameter.
+pub fn keeps_constants_in_its_coroutine()
+    ensures { KeepsConstantsInItsCoroutine }
 {}

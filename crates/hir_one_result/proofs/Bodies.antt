@@ -5,6 +5,7 @@ use Rattle.hir_store.specs.Arenas.{Prefix}
 use Rattle.hir_store.specs.Stored.{Stored, store_of, map_of}
 use Rattle.hir_store.specs.declared.diagnostics.ExpressionStoreDiagnostics.{ExpressionStoreDiagnostics}
 use Rattle.hir_store.specs.declared.diagnostics.ExpressionStoreDiagnostics.TheVariants.{InactiveCode, PatternArgInExternFn}
+use Rattle.hir_store.specs.declared.hir.CoroutineKind.{CoroutineKind}
 use Rattle.hir_store.specs.declared.ids.BindingId.{BindingId}
 use Rattle.hir_store.specs.declared.ids.PatId.{PatId}
 use Rattle.hir_store.proofs.Arenas.{prefix_refl, prefix_push}
@@ -19,11 +20,12 @@ use Rattle.hir_steps.proofs.Logic as logic
 use Rattle.hir_steps.proofs.PatSteps as pats
 use Rattle.hir_steps.proofs.PatSteps.{with_new_binding}
 use Rattle.hir_steps.proofs.Steps as steps
-use Rattle.hir_one_result.specs.Formals.{lower_self, each_formal, lower_formals, lower_body, formals_read}
-use Rattle.hir_one_result.specs.Leads.{Ways, OneBindingWay, ◌&◌}
-use Rattle.hir_one_result.specs.OneResult.{StandsSelf, StandsTops, StandsGiven}
-use Rattle.hir_one_result.specs.Stands.{Open, StandsPart}
+use Rattle.hir_one_result.specs.Formals.{lower_self, each_formal, lower_formals, lower_body, formals_read, plain_body}
+use Rattle.hir_one_result.specs.Leads.{Ways, OneBindingWay}
+use Rattle.hir_one_result.specs.OneResult.{StandsBody, StandsSelf, StandsTops, StandsGiven}
+use Rattle.hir_one_result.specs.Stands.{Open}
 use Rattle.hir_one_result.specs.StandsWhole.{StandsTop}
+use Rattle.hir_one_result.proofs.FunctionStanding.{coroutine_body_stands}
 use Rattle.hir_one_result.proofs.Lasting.{Correct, correct_as, correct_bind, correct_pure, correct_report}
 use Rattle.hir_one_result.proofs.Leading.{shown_as, shown_after, shown_before, shown_both, shown_binding, shown_none, moved_then}
 use Rattle.hir_one_result.proofs.PatStanding.{Behind}
@@ -128,16 +130,17 @@ given_stands skipped f = correct_as
           (λ ws y. subst (λ k. StandsGiven (store_of final) (map_of final) (ribs ps) skipped f k ws) (sym s.second.is) y);
     })
 
-pub body_stands : (skipped : Bool) (f : Formals) (e : OptionExpr)
-    → Correct (lower_body skipped f e) (Shows (λ final rs r. StandsGiven (store_of final) (map_of final) rs skipped f r.0
-    & StandsPart (store_of final) (map_of final) rs e r.1))
-unfolding lower_body
-body_stands skipped f e = correct_as
-    (correct_bind (given_stands skipped f) (λ given. correct_bind (part_stands e) (λ root. correct_pure (given, root))))
+pub body_stands : (kind : Option CoroutineKind) (skipped : Bool) (f : Formals) (e : OptionExpr) → Correct (lower_body kind skipped f e)
+    (Shows (λ final rs r. StandsBody (store_of final) (map_of final) rs kind skipped f e r.0 r.1))
+unfolding plain_body
+body_stands None skipped f e = correct_as
+    (correct_bind (given_stands skipped f) (λ given. correct_bind (part_stands e) (λ root. correct_pure ((given, given), root))))
     (λ final ps m m' r g row.
     let s = row.second in
     let both = shown_before (shown_both row.first.shown s.first.shown) (moved_pure s.second.still) in
     record {
-      shown = shown_as both (λ ws y. subst (λ k. (StandsGiven (store_of final) (map_of final) (ribs ps) skipped f k.0
-          & StandsPart (store_of final) (map_of final) (ribs ps) e k.1) ws) (sym s.second.is) y);
+      shown = shown_as both (λ ws y. subst (λ k. StandsBody (store_of final) (map_of final) (ribs ps) None skipped f e k.0 k.1 ws)
+          (sym s.second.is) (refl, y));
     })
+body_stands (Some kind) skipped f e =
+    coroutine_body_stands kind skipped f e (self_stands f.receiver) (formals_stand skipped f.formals []) (part_stands e)

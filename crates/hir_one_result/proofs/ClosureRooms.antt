@@ -18,6 +18,7 @@ use Rattle.hir_lower_form.specs.Lowering.{Checked, go_on, Lowering, bindings_end
 use Rattle.hir_meaning.specs.InnerWritten.{InnerBody}
 use Rattle.hir_one_result.specs.Size.{Size, a_body, an_expr, owned, ◌∪◌}
 use Rattle.hir_one_result.proofs.ExprRooms.{const_takes}
+use Rattle.hir_one_result.proofs.Knowing.{Known, TakesIf, takes_always, takes_any}
 use Rattle.hir_one_result.proofs.Last.{EndsWith, IsLast, Last, constant_last, coroutine_last}
 use Rattle.hir_one_result.proofs.LastTree.{closure_last, const_last, coroutine_block_last}
 use Rattle.hir_one_result.proofs.Owners.{as_many_owned, last_owns}
@@ -32,11 +33,12 @@ abbrev owned_from : {A : Type 0} → (A → ExprId) → BindingId → A → Lowe
 owned_from owner start a = λ c.
     (Ok a, record c { stored = record c.stored { bindings = with_owner c.stored.bindings start (owner a) } })
 
-pub takes_owning : {A : Type 0} {owner : A → ExprId} {n : Size} {p : Lowering A} → Last owner p → Takes n p
-    → Takes (owned n) (owning owner p)
+-- also where something is known of what is stored
+pub owning_takes : {A : Type 0} {owner : A → ExprId} {P : Known} {n : Size} {p : Lowering A} → Last owner p → TakesIf P n p
+    → TakesIf P (owned n) (owning owner p)
 unfolding owning bindings_end own storing.own
-takes_owning {A = A} {owner = owner} {n = n} {p = p} h k =
-    record { takes = λ b. by b (p b).0 (p b).1 (h.last b) (k.takes b) }
+owning_takes {A = A} {owner = owner} {n = n} {p = p} h k =
+    record { takes = λ b d x. by b (p b).0 (p b).1 (h.last b) (k.takes b d x) }
   where
     by : (b : Builder) (o : Checked A) (c : Builder) → EndsWith owner o c → Room n b o c
         → let start = binding_id (length b.stored.bindings.entries) in
@@ -48,7 +50,15 @@ takes_owning {A = A} {owner = owner} {n = n} {p = p} h k =
       pats = took.pats;
       types = took.types;
       lifetimes = took.lifetimes;
+      paired = λ d. let now = took.paired d in record {
+        exprs = now.exprs;
+        labels = now.labels;
+        pats = now.pats;
+        types = now.types;
+        lifetimes = now.lifetimes;
+      };
       pat_sources = took.pat_sources;
+      pat_ways = took.pat_ways;
       type_sources = took.type_sources;
       lifetime_sources = took.lifetime_sources;
       names = took.names;
@@ -57,6 +67,10 @@ takes_owning {A = A} {owner = owner} {n = n} {p = p} h k =
           (length b.stored.bindings.entries) m (last ∙ took.exprs.more) (took.owners m);
     }
     by b (Err e) c last short = short
+
+pub takes_owning : {A : Type 0} {owner : A → ExprId} {n : Size} {p : Lowering A} → Last owner p → Takes n p
+    → Takes (owned n) (owning owner p)
+takes_owning h k = takes_always {P = λ s. Unit {0}} (λ s. tt) (owning_takes h (takes_any k))
 
 -- a length or an argument
 pub takes_owned : (x : InnerBody) {n : Size} {p : ExprSteps} → IsLast p → Takes n p

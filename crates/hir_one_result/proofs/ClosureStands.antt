@@ -29,7 +29,7 @@ use Rattle.hir_read_back.proofs.ClosureKinds.{captures_as, kind_as}
 use Rattle.hir_read_back.proofs.YieldTree.{part_raises}
 use Rattle.hir_steps.proofs.Frames.{ribs}
 use Rattle.hir_steps.proofs.StillTree.{params_still, present_type_still}
-use Rattle.hir_one_result.specs.Leads.{OneUnled, OneWay, Ways, ◌&◌}
+use Rattle.hir_one_result.specs.Leads.{OneUnled, OneWay, OwnedBy, Ways, ◌&◌}
 use Rattle.hir_one_result.specs.Stands.{Open, StandsParams}
 use Rattle.hir_one_result.specs.StandsMade.{StandsClosure, StandsCoroutine, StandsParam, StoredParams}
 use Rattle.hir_one_result.proofs.Contents.{has_contents}
@@ -131,8 +131,8 @@ pub closure_stands : (P : Stored → Open → StoredParams → Ways) {T : Of (Op
     → Correct (lower_params no_closure_params xs) (Shows (λ final rs l. ParamsBehind no_closure_params (P final rs) l))
     → Correct (present_type t) (Shows T) → Correct (lower_part e) (Shows S)
     → Correct (owning (λ i. i) (closure_form at moves is_static (lower_params no_closure_params xs) (present_type t) (lower_part e)))
-    (Shows (λ final rs i. StandsClosure (store_of final) (map_of final) at (kind_of is_static e) (capture_of moves)
-    (λ l. P final (barrier_rib ∷ rs) l) (λ y. T final (barrier_rib ∷ rs) y) (λ x. S final (barrier_rib ∷ rs) x) i))
+    (Shows (λ final rs i. OwnedBy i (StandsClosure (store_of final) (map_of final) at (kind_of is_static e) (capture_of moves)
+    (λ l. P final (barrier_rib ∷ rs) l) (λ y. T final (barrier_rib ∷ rs) y) (λ x. S final (barrier_rib ∷ rs) x) i)))
 closure_stands P at moves is_static xs t e hp ht he = owning_shows (λ i. i)
     (correct_as (correct_closure at moves is_static hp ht he) (λ final ps m m' i g row.
     let noted = row.raised (params_still no_closure_params xs) (present_type_still t) (yields_in e) (part_raises e) in record {
@@ -174,8 +174,8 @@ coroutine_block_stands at kind moves number h = correct_as
 pub coroutine_stands : (at : Pointer) (kind : CoroutineKind) (moves : Bool) (number : Option BlockId) (ss : Stmts) (e : OptionExpr)
     → Correct (lower_stmts [] ss (kept_part e)) (Shows (λ final rs r. Behind [] (λ is. contents final rs ss e is r.1) r.0))
     → Correct (owning (λ i. i) (coroutine_form (coroutine_block_form at kind moves number (lower_stmts [] ss (kept_part e)))))
-    (Shows (λ final rs i. StandsCoroutine (store_of final) (map_of final) at kind (capture_of moves) number (gives_value ss (is_left e))
-    (λ is o. contents final (barrier_rib ∷ rs) ss e is o) i))
+    (Shows (λ final rs i. OwnedBy i (StandsCoroutine (store_of final) (map_of final) at kind (capture_of moves) number
+    (gives_value ss (is_left e)) (λ is o. contents final (barrier_rib ∷ rs) ss e is o) i)))
 coroutine_stands at kind moves number ss e h = owning_shows (λ i. i) (correct_as
     (correct_coroutine (coroutine_block_stands at kind moves number {C = λ final rs r. contents final rs ss e r.0 r.1}
     (correct_as h (λ final ps m m' r g row. record { shown = behind_none (λ is. contents final (ribs ps) ss e is r.1) row.shown }))))

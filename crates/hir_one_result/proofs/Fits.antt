@@ -2,6 +2,7 @@
 use Rattle.std.proofs.Common.{Ok, Err}
 use Rattle.hir_lower_form.specs.Builder.{Builder}
 use Rattle.hir_lower_form.specs.Lowering.{Checked, Lowering}
+use Rattle.hir_steps.specs.Keeps.{Paired}
 use Rattle.hir_one_result.specs.Size.{Size}
 use Rattle.hir_one_result.specs.Laws.{GrownUnless, AllFit, TypesFit, PathsFit, BodiesFit}
 use Rattle.hir_one_result.proofs.Rooms.{Takes}
@@ -9,8 +10,9 @@ use Rattle.hir_one_result.proofs.Took.{Room, may_be_owned}
 use Rattle.hir_one_result.proofs.Tellings.{takes_of}
 use Rattle.hir_one_result.proofs.TreeRooms.{body_takes, part_takes, path_tells, type_part_takes}
 
-fits : {A : Type 0} {n : Size} {p : Lowering A} → Takes n p → (old : Builder) → GrownUnless n old (p old).0 (p old).1
-fits {A = A} {n = n} {p = p} h old = by (p old).0 (p old).1 (h.takes old)
+fits : {A : Type 0} {n : Size} {p : Lowering A} → Takes n p → (old : Builder) → Paired old.stored
+    → GrownUnless n old (p old).0 (p old).1
+fits {A = A} {n = n} {p = p} h old d = by (p old).0 (p old).1 (h.takes old d)
   where
     by : (o : Checked A) (new : Builder) → Room n old o new → GrownUnless n old o new
     by (Ok a) new h = record {
@@ -23,19 +25,20 @@ fits {A = A} {n = n} {p = p} h old = by (p old).0 (p old).1 (h.takes old)
       types = h.types.more;
       lifetimes = h.lifetimes.more;
       pat_sources = h.pat_sources;
+      pat_ways = h.pat_ways;
       type_sources = h.type_sources;
       lifetime_sources = h.lifetime_sources;
     }
     by (Err f) new h = h
 
 pub all_fit : AllFit
-all_fit e old = fits (part_takes e) old
+all_fit e old d = fits (part_takes e) old d
 
 pub types_fit : TypesFit
-types_fit binder t old = fits (type_part_takes binder t) old
+types_fit binder t old d = fits (type_part_takes binder t) old d
 
 pub paths_fit : PathsFit
-paths_fit p old = fits (takes_of (path_tells p)) old
+paths_fit p old d = fits (takes_of (path_tells p)) old d
 
 pub bodies_fit : BodiesFit
-bodies_fit skipped f e old = fits (body_takes skipped f e) old
+bodies_fit kind skipped f e old d = fits (body_takes kind skipped f e) old d

@@ -4,6 +4,7 @@ use Rattle.hir_store.specs.Stored.{Stored}
 use Rattle.hir_lower_form.specs.Builder.{Builder}
 use Rattle.hir_lower_form.specs.Lowering.{Checked, Lowering}
 use Rattle.hir_one_result.specs.Size.{Size}
+use Rattle.hir_steps.specs.Keeps.{Paired}
 use Rattle.hir_steps.proofs.Frames.{Frame}
 use Rattle.hir_steps.proofs.Steps as steps
 use Rattle.hir_steps.proofs.Steps.{Mark, Rel, Holds, Both}
@@ -16,14 +17,14 @@ pub record Given {A : Type 0} (G : A → Type 0) (final : Stored) (ps : List Fra
 pub given_by : {A : Type 0} {n : Size} {G : A → Type 0} {R : Rel A} {p : Lowering A} → steps.Correct p R → Tells n G p
     → steps.Correct p (Both R (Given G))
 given_by {A = A} {n = n} {G = G} {R = R} {p = p} h t =
-    record { holds = λ final ps b r. go final ps b (p b).0 (p b).1 (h.holds final ps b r) (t.tells b) }
+    record { holds = λ final ps b r. go final ps b (p b).0 (p b).1 (h.holds final ps b r) (λ d. t.tells b d) }
   where
-    go : (final : Stored) (ps : List Frame) (b : Builder) (o : Checked A) (c : Builder) → Holds R final ps b o c → Told n G b o c
-        → Holds (Both R (Given G)) final ps b o c
+    go : (final : Stored) (ps : List Frame) (b : Builder) (o : Checked A) (c : Builder) → Holds R final ps b o c
+        → (Paired b.stored → Told n G b o c) → Holds (Both R (Given G)) final ps b o c
     go final ps b (Ok a) c y z = record {
       kept = y.kept;
       grows = y.grows;
-      in_final = λ d pre. record { one = y.in_final d pre; other = record { given = z.1 } };
+      in_final = λ d pre. record { one = y.in_final d pre; other = record { given = (z d).1 } };
     }
     go final ps b (Err e) c y z = y
 

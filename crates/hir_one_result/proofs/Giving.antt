@@ -56,7 +56,7 @@ gives_any {A = A} p = record { gives = λ b. by (p b).0 }
 
 -- with how much is stored
 pub tells_given : {A : Type 0} {n : Size} {P : A → Type 0} {p : Lowering A} → Takes n p → Gives P p → Tells n P p
-tells_given {A = A} {n = n} {P = P} {p = p} h k = record { tells = λ b. by b (p b).0 (p b).1 (h.takes b) (k.gives b) }
+tells_given {A = A} {n = n} {P = P} {p = p} h k = record { tells = λ b d. by b (p b).0 (p b).1 (h.takes b d) (k.gives b) }
   where
     by : (b : Builder) (o : Checked A) (c : Builder) → Room n b o c → OfAnswer P o → Told n P b o c
     by b (Ok a) c x y = (x, y)

@@ -1,15 +1,22 @@
 -- Steps whose answer is the last expression that is stored.
-use Rattle.std.proofs.Common.{arith, ◌≡◌, ◌∙◌, refl, sym, ap, suc, Bool, true, false, nat_lt, length, length-append, [], ◌∷◌, Option}
-use Rattle.std.proofs.Common.{None, Ok, Err}
+use Rattle.std.proofs.Common.{arith, ◌≡◌, ◌∙◌, refl, sym, ap, suc, Bool, true, false, nat_lt, length, length-append, List, [], ◌∷◌}
+use Rattle.std.proofs.Common.{Option, None, Ok, Err}
 use Rattle.hir_store.specs.Pointers.{Pointer}
 use Rattle.hir_store.specs.Storing as storing
+use Rattle.hir_store.specs.declared.hir.CoroutineKind.{CoroutineKind}
+use Rattle.hir_store.specs.declared.hir.CoroutineSource.{CoroutineSource}
+use Rattle.hir_store.specs.declared.hir.CoroutineSource.TheVariants as source
 use Rattle.hir_store.specs.declared.hir.Expr.{Expr}
+use Rattle.hir_store.specs.declared.hir.Statement.{Statement}
 use Rattle.hir_store.specs.declared.ids.BindingId.{BindingId}
 use Rattle.hir_store.specs.declared.ids.ExprId.{ExprId}
+use Rattle.hir_store.specs.declared.ids.TypeRefId.{TypeRefId}
 use Rattle.hir_lower_form.specs.Builder.{Builder}
+use Rattle.hir_lower_form.specs.declared.closures.ClosureParams.{ClosureParams}
 use Rattle.hir_lower_form.specs.Forms.{ExprSteps, constant_form, coroutine_form, missing, paren_form}
 use Rattle.hir_lower_form.specs.Lowering.{Checked, go_on, Lowering, ◌>>=◌, pure, alloc_expr, alloc_made, bindings_end, close, close_barrier}
 use Rattle.hir_lower_form.specs.Lowering.{enter_root, leave_root, open_barrier, outside_root, own, owning, point, record_root}
+use Rattle.hir_lower_form.specs.Preludes.{let_params, made_coroutine_form, no_prelude, within_form}
 use Rattle.hir_one_result.proofs.MadeRooms.{hidden_expr}
 use Rattle.hir_one_result.proofs.Rooms.{made_expr}
 
@@ -142,6 +149,18 @@ pub constant_last : {p : ExprSteps} → IsLast p → Last (λ c. c.expr) (consta
 unfolding constant_form
 constant_last h = last_then open_barrier (λ outside. last_then enter_root (λ outer. last_hands h
     (λ id. hands_then (quiet_close_barrier outside) (λ y. hands_then (quiet_leave outer id) (λ u. hands_pure _ refl)))))
+
+pub made_coroutine_last : (kind : CoroutineKind) (from : CoroutineSource) (lets : List Statement) (body : ExprId)
+    → IsLast (made_coroutine_form kind from lets body)
+unfolding made_coroutine_form
+made_coroutine_last kind from lets body = last_then (alloc_expr _ None) (λ b. last_alloc _ None)
+
+-- the coroutine of a closure
+pub within_last : (kind : CoroutineKind) (p : Lowering ClosureParams) (t : Lowering (Option TypeRefId)) (e : ExprSteps)
+    → Last (λ w. w.coroutine) (within_form kind p t e)
+unfolding within_form
+within_last kind p t e = last_then p (λ l. last_then t (λ r. last_then e (λ i. last_then (let_params no_prelude l.args)
+    (λ k. last_hands (made_coroutine_last kind source.Closure k.lets i) (λ c. hands_pure _ refl)))))
 
 pub coroutine_last : {p : ExprSteps} → IsLast p → IsLast (coroutine_form p)
 unfolding coroutine_form

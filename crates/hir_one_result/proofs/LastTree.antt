@@ -1,5 +1,5 @@
 -- What lowering an expression answers is the last expression that is stored: a line for each form, of which only the last step counts.
-use Rattle.std.proofs.Common.{refl, Bool, true, false, List, Option, Some, None}
+use Rattle.std.proofs.Common.{refl, Bool, true, false, List, [], Option, Some, None}
 use Rattle.hir_store.specs.Pointers.{Pointer}
 use Rattle.hir_store.specs.declared.diagnostics.AwaitLocation.{AwaitLocation}
 use Rattle.hir_store.specs.declared.hir.CoroutineKind.{CoroutineKind}
@@ -26,7 +26,8 @@ use Rattle.hir_lower_form.specs.Forms.{method_call_form, await_form, cast_form, 
 use Rattle.hir_lower_form.specs.Forms.{match_form, assign_form, block_form, labelled, closure_form, coroutine_block_form, missing}
 use Rattle.hir_lower_form.specs.Lower.{lower, lower_block, lower_part}
 use Rattle.hir_lower_form.specs.Lowering.{Lowering, alloc_expr, close, close_barrier, enter_block, jump_target, made_number, note_yield}
-use Rattle.hir_lower_form.specs.Lowering.{open_barrier, open_label, open_try, report, report_await}
+use Rattle.hir_lower_form.specs.Lowering.{open_barrier, open_label, open_try, owning, report, report_await}
+use Rattle.hir_lower_form.specs.Preludes.{coroutine_closure_form, lower_handed, within_form}
 use Rattle.hir_lower_form.specs.Made.{flow_arm_form, for_form, for_turn_form, item_call_form, made_bind_form, made_loop_form}
 use Rattle.hir_lower_form.specs.Made.{made_path_form, question_form, residual_form, try_block_form, typed_try_form, wrapped_form}
 use Rattle.hir_lower_form.specs.Ranges.{made_range, range_form}
@@ -98,6 +99,13 @@ module _ (at : Pointer) where
   unfolding closure_form
   closure_last moves is_static p t e = last_then open_barrier (λ outside. last_then p (λ l. last_then t (λ r. last_then e
       (λ i. last_then (close_barrier outside) (λ y. stored_last _)))))
+
+  pub coroutine_closure_last : (kind : CoroutineKind) (moves : Bool) (p : Lowering ClosureParams) (t : Lowering (Option TypeRefId))
+      (e : ExprSteps) → IsLast (coroutine_closure_form at kind moves p t e)
+  unfolding coroutine_closure_form
+  coroutine_closure_last kind moves p t e = last_then open_barrier (λ outside.
+      last_then (owning (λ w. w.coroutine) (within_form kind p t e)) (λ w. last_then (lower_handed [] w.handed)
+      (λ ps. last_then (close_barrier outside) (λ y. stored_last _))))
 
   pub coroutine_block_last : (kind : CoroutineKind) (moves : Bool) (number : Option BlockId) (c : Lowering StoredContents)
       → IsLast (coroutine_block_form at kind moves number c)
@@ -218,6 +226,7 @@ mutual
   node_last (tree.repeat_expr at e c) = repeat_last at _ _
   node_last (tree.const_expr at c) = owning_last (const_last at _)
   node_last (tree.closure_expr at moves is_static xs t e) = owning_last (closure_last at moves is_static _ _ _)
+  node_last (tree.coroutine_closure_expr at kind moves xs t e) = owning_last (coroutine_closure_last at kind moves _ _ _)
   node_last (tree.method_call_expr at e name es generics) = method_call_last at _ name _ _
   node_last (tree.cast_expr at e t) = cast_last at _ _
   node_last (tree.record_expr at p head fs s) = record_last at _ _

@@ -1,6 +1,6 @@
 -- Steps by what they bring about in a final store in which the bindings that they make stay as they are by then.
 use Rattle.std.proofs.Common.{arith, ◌≡◌, ◌∙◌, ◌⊎◌, inl, inr, refl, sym, ap, subst, ℕ, zero, suc, ◌≤◌, List, [], ◌∷◌, ◌++◌, length}
-use Rattle.std.proofs.Common.{slice_get, Bool, Option, Some, None, is_some, true≢false}
+use Rattle.std.proofs.Common.{slice_get, Bool, Option, Some, None, Ok, Err, is_some, true≢false}
 use Rattle.hir_store.specs.Arenas.{Prefix}
 use Rattle.hir_store.specs.Pointers.{Pointer}
 use Rattle.hir_store.specs.Stored.{Stored}
@@ -19,16 +19,23 @@ use Rattle.hir_store.specs.declared.type_ref.TypeRef.{TypeRef}
 use Rattle.hir_store.proofs.Arenas.{prefix_refl, prefix_push, prefix_trans}
 use Rattle.hir_env.specs.Answered.{Jump, Label}
 use Rattle.hir_scope.specs.Ribs.{Rib, Target, reachable, unreachable, undeclared, target}
+use Rattle.hir_store.specs.declared.hir.CoroutineKind.{CoroutineKind}
+use Rattle.hir_lower_form.specs.Builder.{Builder}
 use Rattle.hir_lower_form.specs.declared.closures.ClosureParams.{ClosureParams}
+use Rattle.hir_lower_form.specs.declared.preludes.Handed.{Handed}
+use Rattle.hir_lower_form.specs.declared.preludes.Within.{Within}
+use Rattle.hir_lower_form.specs.Preludes.{coroutine_closure_form, lower_handed, within_form}
 use Rattle.hir_lower_form.specs.Lower.{ExprSteps, closure_form, constant_form, coroutine_form}
-use Rattle.hir_lower_form.specs.Lowering.{Lowering, ◌>>=◌, pure, alloc_binding, alloc_expr, alloc_lifetime, alloc_pat, alloc_type, close}
-use Rattle.hir_lower_form.specs.Lowering.{count_out, enter_block, jump_target, open_label, point, point_field, point_pat_field}
+use Rattle.hir_lower_form.specs.Lowering.{Checked, Lowering, ◌>>=◌, pure, alloc_binding, alloc_expr, alloc_lifetime, alloc_pat, alloc_type}
+use Rattle.hir_lower_form.specs.Lowering.{close, count_out, enter_block, jump_target, open_label, point, point_field, point_pat_field}
 use Rattle.hir_lower_form.specs.Lowering.{report, report_await, alloc_made, made_number, open_try, owning, try_target}
 use Rattle.hir_lower_form.specs.Ranges.{inner_form}
 use Rattle.hir_steps.proofs.Barriers as barriers
 use Rattle.hir_steps.proofs.Barriers.{ClosureRow, CoroutineRow}
 use Rattle.hir_steps.proofs.Constants as constants
 use Rattle.hir_steps.proofs.Constants.{Constant, Inner}
+use Rattle.hir_steps.proofs.CoroutineClosures as closures
+use Rattle.hir_steps.proofs.CoroutineClosures.{CoroutineClosureRow}
 use Rattle.hir_steps.proofs.Frames.{Frame, rib, ribs}
 use Rattle.hir_steps.proofs.Logic.{longer}
 use Rattle.hir_steps.proofs.MadeSteps as made
@@ -38,7 +45,7 @@ use Rattle.hir_steps.proofs.Owning.{Owning}
 use Rattle.hir_steps.proofs.PatSteps as pats
 use Rattle.hir_steps.proofs.PatSteps.{AllocatedBinding, AllocatedPat, PatWrites, with_field_pat}
 use Rattle.hir_steps.proofs.Steps as steps
-use Rattle.hir_steps.proofs.Steps.{Allocated, AllocatedLifetime, AllocatedType, Both, IsPure, Mark, Opened, OpenedBy, Rel, Seq}
+use Rattle.hir_steps.proofs.Steps.{Allocated, AllocatedLifetime, AllocatedType, Both, Holds, IsPure, Mark, Opened, OpenedBy, Rel, Seq}
 use Rattle.hir_steps.proofs.Steps.{Targeted}
 use Rattle.hir_steps.proofs.Steps.{Writes, Grows}
 use Rattle.hir_steps.proofs.Steps.{pointing, with_await, with_block, with_fault, with_field, with_jump, with_target}
@@ -74,7 +81,7 @@ unchanged_settled from s = record { at = λ n x le h. in_prefix s n x h }
 pub unchanged_first : {a b c : Stored} {from : ℕ} → Settled a b → Unchanged from b c → Unchanged from a c
 unchanged_first s u = record { at = λ n x le h. u.at n x le (in_prefix s n x h) }
 
-unchanged_behind : {xs ys : List Binding} {a b : Stored} → Prefix xs ys → Unchanged (length xs) a b → Unchanged (length ys) a b
+pub unchanged_behind : {xs ys : List Binding} {a b : Stored} → Prefix xs ys → Unchanged (length xs) a b → Unchanged (length ys) a b
 unchanged_behind s u = let more = longer s in record { at = λ n x le h. u.at n x (omega (arith, le, more)) h }
 
 -- the bindings are what they were
@@ -90,6 +97,25 @@ pub correct_as : {A : Type 0} {p : Lowering A} {R Q : Rel A} → Correct p R
     → ((final : Stored) (ps : List Frame) (m m' : Mark) (a : A) → Grows m m' → R final ps m m' a → Q final ps m m' a) → Correct p Q
 correct_as h less = steps.correct_as h (λ final ps m m' a g row.
     record { settled = row.settled; rel = λ s. less final ps m m' a g (row.rel s) })
+
+-- where they begin, as many bindings are counted as are stored
+pub record Counted {A : Type 0} (R : Rel A) (final : Stored) (ps : List Frame) (m m' : Mark) (a : A) : Type 0 where
+  pub counted : m.bindings ≡ bound m.stored
+  pub row : R final ps m m' a
+
+with_count : {A : Type 0} {p : Lowering A} {R : Rel A} → steps.Correct p R → steps.Correct p (Counted R)
+with_count {A = A} {p = p} {R = R} h =
+    record { holds = λ final ps b r. by final ps b (p b).0 (p b).1 (h.holds final ps b r) }
+  where
+    by : (final : Stored) (ps : List Frame) (b : Builder) (o : Checked A) (c : Builder) → Holds R final ps b o c
+        → Holds (Counted R) final ps b o c
+    by final ps b (Ok a) c y =
+        record { kept = y.kept; grows = y.grows; in_final = λ d pre. record { counted = refl; row = y.in_final d pre } }
+    by final ps b (Err e) c y = y
+
+pub correct_counted : {A : Type 0} {p : Lowering A} {R : Rel A} → Correct p R → Correct p (Counted R)
+correct_counted h = steps.correct_as (with_count h) (λ final ps m m' a g x.
+    record { settled = x.row.settled; rel = λ s. record { counted = x.counted; row = x.row.rel s } })
 
 seq_lasts : {A B : Type 0} {R : Rel A} {Q : A → Rel B} {final : Stored} {ps : List Frame} {m m' : Mark} {b : B}
     → Seq (Lasts R) (λ a. Lasts (Q a)) final ps m m' b → Lasts (Seq R Q) final ps m m' b
@@ -328,6 +354,29 @@ correct_closure at moves is_static hp ht he = steps.correct_as (barriers.correct
 pub correct_coroutine : {p : ExprSteps} {R : Rel ExprId} → Correct p R → Correct (coroutine_form p) (CoroutineRow R)
 correct_coroutine h = steps.correct_as (barriers.correct_coroutine h)
     (λ final ps m m' i g row. record { settled = row.inside.settled; rel = λ s. record { inside = row.inside.rel s } })
+
+pub correct_coroutine_closure : (at : Pointer) (which : CoroutineKind) (moves : Bool) (p : Lowering ClosureParams)
+    (t : Lowering (Option TypeRefId)) (e : ExprSteps) {W : Rel Within} {H : List Handed → Rel (List PatId)}
+    → Correct (within_form which p t e) W → ((xs : List Handed) → Correct (lower_handed [] xs) (H xs))
+    → Correct (coroutine_closure_form at which moves p t e) (CoroutineClosureRow at which moves W H)
+correct_coroutine_closure at which moves p t e hw hh =
+    steps.correct_as (closures.correct_coroutine_closure at which moves p t e hw hh) (λ final ps m m' i g row.
+    let made : Settled row.handed.stored m'.stored = settled_as row.handed.stored m'.stored (ap (λ s. s.bindings) row.made.stored) in
+    let behind = prefix_trans row.in_formals.settled made in record {
+      settled = prefix_trans row.in_within.settled behind;
+      rel = λ s. record {
+        within = row.within;
+        formals = row.formals;
+        left = row.left;
+        handed = row.handed;
+        to_left = row.to_left;
+        to_handed = row.to_handed;
+        to_end = row.to_end;
+        in_within = row.in_within.rel (unchanged_first behind s);
+        in_formals = row.in_formals.rel (unchanged_first made (unchanged_behind row.in_within.settled s));
+        made = row.made;
+      };
+    })
 
 -- what owns them is no part of what stays
 pub correct_owning : {A : Type 0} (owner : A → ExprId) {p : Lowering A} {R : Rel A} → Correct p R

@@ -196,12 +196,12 @@ module _ (d e : Expr) (p : Pointer) (a : Stored) where
   }
 
 pub led_binding : (x : Binding) (a : Stored)
-    → Led (map_of a) (map_of (with_new_binding x a)) (binding_way (binding_id (length a.bindings.entries)) ∷ [])
+    → Led (map_of a) (map_of (with_new_binding x a)) (binding_way (binding_id (length a.bindings.entries)) None ∷ [])
 led_binding x a = λ before h. record {
-  exprs = beside_exprs (map_of a) before h (binding_way (binding_id (length a.bindings.entries))) (λ q u w. cc);
-  labels = beside_labels (map_of a) before h (binding_way (binding_id (length a.bindings.entries))) (λ q u w. cc);
-  fields = beside_fields (map_of a) before h (binding_way (binding_id (length a.bindings.entries))) (λ q u w. cc);
-  pat_fields = beside_pat_fields (map_of a) before h (binding_way (binding_id (length a.bindings.entries))) (λ q u w. cc);
+  exprs = beside_exprs (map_of a) before h (binding_way (binding_id (length a.bindings.entries)) None) (λ q u w. cc);
+  labels = beside_labels (map_of a) before h (binding_way (binding_id (length a.bindings.entries)) None) (λ q u w. cc);
+  fields = beside_fields (map_of a) before h (binding_way (binding_id (length a.bindings.entries)) None) (λ q u w. cc);
+  pat_fields = beside_pat_fields (map_of a) before h (binding_way (binding_id (length a.bindings.entries)) None) (λ q u w. cc);
 }
 
 pub led_label : (l : Label) (a : Stored)

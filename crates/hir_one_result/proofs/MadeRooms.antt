@@ -25,6 +25,7 @@ use Rattle.hir_lower_form.specs.Lowering.{open_try_as, open_try_named}
 use Rattle.hir_lower_form.specs.Made.{made_path_form, made_bind_form, item_call_form, flow_arm_form, residual_form, question_form}
 use Rattle.hir_lower_form.specs.Made.{value_or_unit, wrapped_form, try_block_form, typed_try_form, made_reference_form, next_form}
 use Rattle.hir_lower_form.specs.Made.{done_arm_form, gives_arm_form, for_turn_form, made_loop_form, for_form}
+use Rattle.hir_steps.proofs.Logic.{one_more}
 use Rattle.hir_one_result.specs.Room.{label_size}
 use Rattle.hir_one_result.specs.Size.{Size, nothing, an_expr, a_label, a_pat, a_made_name, a_made_bind, a_flow_arm, a_for_turn}
 use Rattle.hir_one_result.specs.Size.{an_item_call, ◌∪◌, if_so}
@@ -42,7 +43,7 @@ hidden_expr t e source a = if t then (Ok (expr_id (length a.entries)), with_made
 -- one that its node doesn't lead to
 pub takes_made : (e : Expr) (source : Option Pointer) → Takes an_expr (alloc_made e source)
 unfolding alloc_made storing.alloc_made
-takes_made e source = record { takes = λ b. by b (nat_lt (length b.stored.exprs.entries) b.stored.exprs.limit) refl }
+takes_made e source = record { takes = λ b d. by b (nat_lt (length b.stored.exprs.entries) b.stored.exprs.limit) refl }
   where
     by : (b : Builder) (t : Bool) → nat_lt (length b.stored.exprs.entries) b.stored.exprs.limit ≡ t
         → Room an_expr b (hidden_expr t e source b.stored.exprs).0
@@ -54,7 +55,15 @@ takes_made e source = record { takes = λ b. by b (nat_lt (length b.stored.exprs
       pats = still b.stored.pats refl;
       types = still b.stored.types refl;
       lifetimes = still b.stored.lifetimes refl;
+      paired = λ d. record {
+        exprs = one_more b.stored.exprs.entries e b.stored.exprs.sources source d.exprs;
+        labels = d.labels;
+        pats = d.pats;
+        types = d.types;
+        lifetimes = d.lifetimes;
+      };
       pat_sources = no_sources b.stored.pats refl;
+      pat_ways = refl;
       type_sources = no_sources b.stored.types refl;
       lifetime_sources = no_sources b.stored.lifetimes refl;
       names = unnamed refl;
@@ -69,7 +78,7 @@ numbered room b = if room then (Ok b.names, record b { names = suc b.names }) el
 -- a name is made up
 pub takes_number : Takes a_made_name made_number
 unfolding made_number count_out
-takes_number = record { takes = λ b. by b (nat_lt (suc b.names) (2 ^ 32)) refl }
+takes_number = record { takes = λ b d. by b (nat_lt (suc b.names) (2 ^ 32)) refl }
   where
     by : (b : Builder) (t : Bool) → nat_lt (suc b.names) (2 ^ 32) ≡ t → Room a_made_name b (numbered t b).0 (numbered t b).1
     by b true is = record {
@@ -79,7 +88,15 @@ takes_number = record { takes = λ b. by b (nat_lt (suc b.names) (2 ^ 32)) refl 
       pats = still b.stored.pats refl;
       types = still b.stored.types refl;
       lifetimes = still b.stored.lifetimes refl;
+      paired = λ d. record {
+        exprs = d.exprs;
+        labels = d.labels;
+        pats = d.pats;
+        types = d.types;
+        lifetimes = d.lifetimes;
+      };
       pat_sources = no_sources b.stored.pats refl;
+      pat_ways = refl;
       type_sources = no_sources b.stored.types refl;
       lifetime_sources = no_sources b.stored.lifetimes refl;
       names = sym (add-one b.names);
@@ -91,7 +108,7 @@ takes_number = record { takes = λ b. by b (nat_lt (suc b.names) (2 ^ 32)) refl 
 
 pub takes_target : Takes nothing try_target
 unfolding try_target
-takes_target = record { takes = λ b. took_none b }
+takes_target = record { takes = λ b d. took_none b }
 
 -- the same as a `try`, with this name
 abbrev trying : LabelId → Bool → Lowering LabelId
@@ -104,7 +121,7 @@ opening_try at typed k t b =
 
 takes_named : (at : Pointer) (typed : Bool) (k : ℕ) → Takes a_label (open_try_named at typed k)
 unfolding storing.alloc_label
-takes_named at typed k = record { takes = λ b. by b (nat_lt (length b.stored.labels.entries) b.stored.labels.limit) refl }
+takes_named at typed k = record { takes = λ b d. by b (nat_lt (length b.stored.labels.entries) b.stored.labels.limit) refl }
   where
     by : (b : Builder) (t : Bool) → nat_lt (length b.stored.labels.entries) b.stored.labels.limit ≡ t
         → Room a_label b (opening_try at typed k t b).0 (opening_try at typed k t b).1
@@ -115,7 +132,15 @@ takes_named at typed k = record { takes = λ b. by b (nat_lt (length b.stored.la
       pats = still b.stored.pats refl;
       types = still b.stored.types refl;
       lifetimes = still b.stored.lifetimes refl;
+      paired = λ d. record {
+        exprs = d.exprs;
+        labels = one_more b.stored.labels.entries (record { name = Generated k }) b.stored.labels.sources (Some at) d.labels;
+        pats = d.pats;
+        types = d.types;
+        lifetimes = d.lifetimes;
+      };
       pat_sources = no_sources b.stored.pats refl;
+      pat_ways = refl;
       type_sources = no_sources b.stored.types refl;
       lifetime_sources = no_sources b.stored.lifetimes refl;
       names = unnamed refl;

@@ -1,5 +1,5 @@
 -- Where the source map leads once something more comes from the node of what was stored before it: to that, and no more to those.
-use Rattle.std.proofs.Common.{arith, ◌≡◌, ◌∙◌, refl, sym, ap, subst, ◌<◌, length, map, Bool, true, false, if◌then◌else◌, true≢false}
+use Rattle.std.proofs.Common.{arith, ◌≡◌, ◌∙◌, refl, sym, ap, subst, length, map, Bool, true, false, if◌then◌else◌, true≢false}
 use Rattle.std.proofs.Common.{List, [], ◌∷◌, ◌++◌, suc, Some, Contains, ◌⊎◌, inl, inr, ⊎_elim}
 use Rattle.std.proofs.lemmas.List.Elements.{Contains-append_left, Contains-append_right, Contains-append_cases, Contains-push}
 use Rattle.std.proofs.lemmas.List.Elements.{Contains-push_cases}
@@ -14,31 +14,8 @@ use Rattle.hir_steps.proofs.Steps.{with_expr}
 use Rattle.hir_one_result.specs.Leads.{Way, expr_way, label_way, unled_way, field_way, pat_field_way, binding_way, label_ways, overtaken}
 use Rattle.hir_one_result.specs.Leads.{Leads, Led, OneWay, Overtaken, Ways, ◌&◌}
 use Rattle.hir_one_result.proofs.Leading.{Moved, Shown, moved_then, same_number, shown_new, shown_to}
-
--- ---- lists
-
-none_in : {X C : Type 0} (x : X) → Contains [] x → C
-none_in x c = let below : c.0 < 0 = c.1 in absurd (omega arith)
-
-only_one : {X : Type 0} (y x : X) → Contains (y ∷ []) x → y ≡ x
-only_one y x c = ⊎_elim (λ n. none_in x n) (λ e. e) (Contains-push_cases [] y x c)
-
-module _ (f : Way → Way) where
-  contains_map : (ws : List Way) (w : Way) → Contains ws w → Contains (map f ws) (f w)
-  contains_map [] w c = none_in w c
-  contains_map (v ∷ ws) w c = ⊎_elim
-      (λ x. Contains-append_left (f v ∷ []) (map f ws) (f w)
-      (subst (λ y. Contains (f v ∷ []) (f y)) (only_one v w x) (Contains-push [] (f v))))
-      (λ x. Contains-append_right (f v ∷ []) (map f ws) (f w) (contains_map ws w x))
-      (Contains-append_cases (v ∷ []) ws w c)
-
-  -- what is in the list, and became this
-  map_contains : (ws : List Way) (w : Way) → Contains (map f ws) w → (v : Way) × Contains ws v × (f v ≡ w)
-  map_contains [] w c = none_in w c
-  map_contains (v ∷ ws) w c = ⊎_elim
-      (λ x. (v, Contains-append_left (v ∷ []) ws v (Contains-push [] v), only_one (f v) w x))
-      (λ x. let r = map_contains ws w x in (r.0, Contains-append_right (v ∷ []) ws r.0 r.1, r.2))
-      (Contains-append_cases (f v ∷ []) (map f ws) w c)
+use Rattle.hir_one_result.proofs.Members.{contains_map, map_contains}
+use Rattle.hir_one_result.proofs.OwnersMoved.{owners_as}
 
 -- ---- ways that are overtaken at a node
 
@@ -61,7 +38,7 @@ module _ (p : Pointer) where
   was (unled_way i) w none e = e
   was (field_way i q) w none e = e
   was (pat_field_way i q) w none e = e
-  was (binding_way b) w none e = e
+  was (binding_way b o) w none e = e
 
   -- what an expression was the end of, it is the end of
   end_stays : (ws : List Way) (q : Pointer) (i : ExprId) → Contains ws (overtaken p (expr_way q i))
@@ -85,7 +62,7 @@ module _ (p : Pointer) where
   labels_stay (unled_way i ∷ vs) ws = labels_stay vs ws
   labels_stay (field_way i q ∷ vs) ws = labels_stay vs ws
   labels_stay (pat_field_way i q ∷ vs) ws = labels_stay vs ws
-  labels_stay (binding_way b ∷ vs) ws = labels_stay vs ws
+  labels_stay (binding_way b o ∷ vs) ws = labels_stay vs ws
 
   module _ (vs : List Way) (k : ExprId) where
     -- those, and the one to what came later
@@ -190,10 +167,12 @@ module _ (e : Expr) (p : Pointer) (a b : Stored) (vs : List Way) (g : Moved a b 
       let s = labels_stay p vs (expr_way p last ∷ []) in record {
         covers = λ i from to. ends_stay i (m.covers i from to);
         covers_labels = λ n from to. let x = m.covers_labels n from to in (x.0, other_ends (label_way x.0 n) refl x.1);
-        covers_bindings = λ x from to. other_ends (binding_way x) refl (m.covers_bindings x from to);
+        covers_bindings = λ x from to. let y = m.covers_bindings x from to in (y.0, other_ends (binding_way x y.0) refl y.1);
         led = led_later;
         labels = omega (arith, l, s);
         defined = m.defined;
+        owners = λ may. owners_as (λ x o c. Contains-append_left vs (expr_way p last ∷ []) (binding_way x o)
+            (back p vs last (binding_way x o) (λ i e. cc) (λ e. cc) c)) (m.owners may);
       }
 
 pub shown_later : {P : Ways} {a b c : Stored} (e : Expr) (p : Pointer) (i : ExprId) → Shown P a b → i.0 ≡ length b.exprs.entries

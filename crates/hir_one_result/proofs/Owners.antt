@@ -75,7 +75,7 @@ as_many_owned n os e = length-map os (owned_else_last n) ∙ e
 same_id : (i j : ExprId) → i.0 ≡ j.0 → i ≡ j
 same_id i j e = λ k. record { 0 = e k }
 
-past_start : (id : ExprId) (xs ys : List (Option ExprId)) → own_from (length xs) id (xs ++ ys) ≡ xs ++ own_from 0 id ys
+pub past_start : (id : ExprId) (xs ys : List (Option ExprId)) → own_from (length xs) id (xs ++ ys) ≡ xs ++ own_from 0 id ys
 past_start id [] ys = refl
 past_start id (x ∷ xs) ys = ap (λ zs. x ∷ zs) (past_start id xs ys)
 

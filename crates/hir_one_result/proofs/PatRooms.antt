@@ -150,7 +150,7 @@ place_takes comma n k e = subst (λ j. Takes (dots_behind (Some j)) (forms.count
         (forms.counted_place (if b then Some (forms.moved_dots comma n) else None))
     by true is = takes_as (counts (Some (forms.moved_dots comma n))) (takes_pure _)
     by false is = record {
-      takes = λ b. counts_out (dots_behind (Some (forms.moved_dots comma n))) b (ltb-false (forms.moved_dots comma n) (2 ^ 32) is);
+      takes = λ b d. counts_out (dots_behind (Some (forms.moved_dots comma n))) b (ltb-false (forms.moved_dots comma n) (2 ^ 32) is);
     }
 
 dots_take : (comma : Bool) (d : Option ℕ) → Takes (dots_behind (moved_by comma d)) (forms.counted_dots comma d)

@@ -79,7 +79,7 @@ binds_twice store source_map q ws h =
           let left = one.3.is ∙ (ap (λ l. l ++ one.3.right) one.3.first.1 ∙ one.3.second.1) in
           let middle = other.3.is ∙ (ap (λ l. l ++ other.3.right) other.3.first.1 ∙ other.3.second.1) in
           let right = second.3.is ∙ (ap (λ l. l ++ second.3.right) middle ∙ none.1) in
-          first.3.is ∙ (ap (λ l. l ++ first.3.right) left ∙ ap (λ r. binding_way one.0 ∷ r) right);
+          first.3.is ∙ (ap (λ l. l ++ first.3.right) left ∙ ap (λ r. binding_way one.0 None ∷ r) right);
     }
 
 assigns : (store : Store) (source_map : SourceMap) (i : ExprId) (ws : List Way) → Stands store source_map [] assign_one i ws

@@ -192,7 +192,7 @@ counted_tells w = by (nat_lt (supers w.kind + 1) (2 ^ 32)) refl
         → Tells (a_super (supers w.kind)) (Gives (goes_on (one_more (seen w))))
         (counted (option_map (λ k. Open (record w { kind = k })) (if b then Some (kind.Super (supers w.kind + 1)) else None)))
     by true is = tells_as (super_counts (supers w.kind)) (tells_pure _ (Open (record w { kind = kind.Super (supers w.kind + 1) })) refl)
-    by false is = record { tells = λ b. counts_out (a_super (supers w.kind)) b (ltb-false (supers w.kind + 1) (2 ^ 32) is) }
+    by false is = record { tells = λ b d. counts_out (a_super (supers w.kind)) b (ltb-false (supers w.kind + 1) (2 ^ 32) is) }
 
 pub trait_tells : {n : Size} {x : Option Seen} {p : Lowering (Option HirPath)} → Tells n (GivesPath x) p → (t : TypeRefId) (at : Pointer)
     (w : PathWalk) → Tells (n ∪ if_so (is_some x) (a_type (Some at))) (Gives (projected x)) (with_trait p t at w)

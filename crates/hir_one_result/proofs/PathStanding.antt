@@ -51,7 +51,7 @@ use Rattle.hir_read_back.proofs.Now.{path_now}
 use Rattle.hir_steps.proofs.Constants.{with_root}
 use Rattle.hir_steps.proofs.Frames.{ribs}
 use Rattle.hir_steps.proofs.Steps.{with_lifetime, with_type}
-use Rattle.hir_one_result.specs.Leads.{Way, Ways, No, OneUnled, ◌&◌}
+use Rattle.hir_one_result.specs.Leads.{Way, Ways, No, OneUnled, OwnedBy, ◌&◌}
 use Rattle.hir_one_result.specs.Stands.{Open, WhereOn, WherePath, Unless, StandsAlone, StandsItem, StandsOneName}
 use Rattle.hir_one_result.specs.Stands.{StandsSidePath, StandsSigned}
 use Rattle.hir_one_result.proofs.Defining.{MakesNone}
@@ -269,11 +269,12 @@ rooted_shows h = correct_as (correct_constant h)
     (λ final ps m m' c g row. record { shown = shown_before row.first.shown (root_moved c.expr row.stored) })
 
 pub constant_shows : {S : Of ExprId} {p : ExprSteps} → Correct p (Shows S)
-    → Correct (owning (λ c. c.expr) (constant_form p)) (Shows (λ final rs n. S final (barrier_rib ∷ rs) n.expr))
+    → Correct (owning (λ c. c.expr) (constant_form p)) (Shows (λ final rs n. OwnedBy n.expr (S final (barrier_rib ∷ rs) n.expr)))
 constant_shows h = owning_shows (λ c. c.expr) (rooted_shows h)
 
 pub constant_leaves : {S : Of ExprId} {p : ExprSteps} → Correct p (Shows S)
-    → Correct (owning (λ c. c.expr) (constant_form p)) (Leaves (λ final rs ws. (n : ConstRef) × S final (barrier_rib ∷ rs) n.expr ws))
+    → Correct (owning (λ c. c.expr) (constant_form p))
+    (Leaves (λ final rs ws. (n : ConstRef) × OwnedBy n.expr (S final (barrier_rib ∷ rs) n.expr) ws))
 constant_leaves h = correct_as (constant_shows h) (λ final ps m m' c g row. record { shown = shown_as row.shown (λ ws y. (c, y)) })
 
 -- patterns in types

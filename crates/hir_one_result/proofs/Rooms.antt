@@ -2,7 +2,7 @@
 use Rattle.std.proofs.Common.{arith, ◌≡◌, refl, Bool, true, false, nat_lt, if◌then◌else◌, length, Option, Some, None, Ok, Err, inl, inr}
 use Rattle.std.proofs.lemmas.Bool.{ltb-false}
 use Rattle.hir_store.specs.Pointers.{Pointer}
-use Rattle.hir_store.specs.Arenas.{Sourced, with_entry}
+use Rattle.hir_store.specs.Arenas.{Sourced, with_entry, with_made}
 use Rattle.hir_store.specs.Storing as storing
 use Rattle.hir_store.specs.Storing.{expr_id, label_id, pat_id, type_id, lifetime_id}
 use Rattle.hir_store.specs.Bindings.{Bindings, binding_id, problem_set, with_binding}
@@ -25,8 +25,8 @@ use Rattle.hir_scope.specs.Ribs.{Target, reachable, unreachable, undeclared, tar
 use Rattle.hir_lower_form.specs.Builder.{Builder}
 use Rattle.hir_lower_form.specs.Lowering.{Checked, go_on, Lowering, ◌>>=◌, pure, alloc_expr, point, point_field, report, enter_block}
 use Rattle.hir_lower_form.specs.Lowering.{open_label, close, jump_target, found_or_fault, open_as, report_await, open_barrier, enter_root}
-use Rattle.hir_lower_form.specs.Lowering.{leave_root, outside_root, record_root, alloc_type, alloc_lifetime, alloc_pat, alloc_binding}
-use Rattle.hir_lower_form.specs.Lowering.{define, set_problem, point_pat_field, close_barrier, note_yield}
+use Rattle.hir_lower_form.specs.Lowering.{leave_root, outside_root, record_root, alloc_type, alloc_lifetime, alloc_pat, alloc_made_pat}
+use Rattle.hir_lower_form.specs.Lowering.{alloc_binding, define, set_problem, point_pat_field, close_barrier, note_yield}
 use Rattle.hir_lower_form.specs.Lower.{ExprSteps, constant_form}
 use Rattle.hir_lower_form.specs.Ranges.{inner_form}
 use Rattle.hir_meaning.specs.InnerWritten.{InnerBody}
@@ -34,30 +34,35 @@ use Rattle.hir_store.specs.declared.type_ref.TypeRef.{TypeRef}
 use Rattle.hir_store.specs.declared.type_ref.LifetimeRef.{LifetimeRef}
 use Rattle.hir_store.specs.declared.ids.TypeRefId.{TypeRefId}
 use Rattle.hir_store.specs.declared.ids.LifetimeRefId.{LifetimeRefId}
-use Rattle.hir_one_result.specs.Size.{Size, nothing, an_expr, a_label, a_binding, a_pat, a_type, a_lifetime, a_body, ◌∪◌}
+use Rattle.hir_steps.specs.Keeps.{Paired}
+use Rattle.hir_steps.proofs.Logic.{one_more}
+use Rattle.hir_one_result.specs.Size.{Size, nothing, an_expr, a_label, a_binding, a_made_pat, a_pat, a_type, a_lifetime, a_body, ◌∪◌}
 use Rattle.hir_one_result.proofs.Owners.{no_owners}
 use Rattle.hir_one_result.proofs.Took.{Room, Same, Took, grew_none, grew_one, no_sources, none_after, none_before, short_as, short_first}
 use Rattle.hir_one_result.proofs.Took.{short_then, still, took_as, took_besides, took_none, took_then, unnamed}
 
+-- in whatever store, of which each entry has its source
 pub record Takes {A : Type 0} (n : Size) (p : Lowering A) : Type 0 where
-  pub takes : (b : Builder) → Room n b (p b).0 (p b).1
+  pub takes : (b : Builder) → Paired b.stored → Room n b (p b).0 (p b).1
 
 -- one after another
 
 pub takes_then : {A B : Type 0} {n k : Size} {p : Lowering A} {f : A → Lowering B} → Takes n p → ((a : A) → Takes k (f a))
     → Takes (n ∪ k) (p >>= f)
-takes_then {A = A} {B = B} {n = n} {k = k} {p = p} {f = f} h more = record { takes = λ b. first b (p b).0 (p b).1 (h.takes b) }
+takes_then {A = A} {B = B} {n = n} {k = k} {p = p} {f = f} h more =
+    record { takes = λ b d. first b d (p b).0 (p b).1 (h.takes b d) }
   where
     second : (b b' : Builder) → Took n b b' → (o : Checked B) (c : Builder) → Room k b' o c → Room (n ∪ k) b o c
     second b b' x (Ok e) c y = took_then b b' c x y
     second b b' x (Err e) c y = short_then k b b' x y
 
-    first : (b : Builder) (o : Checked A) (c : Builder) → Room n b o c → Room (n ∪ k) b (go_on o c f).0 (go_on o c f).1
-    first b (Ok a) c x = second b c x (f a c).0 (f a c).1 ((more a).takes c)
-    first b (Err e) c x = short_first n k b x
+    first : (b : Builder) → Paired b.stored → (o : Checked A) (c : Builder) → Room n b o c
+        → Room (n ∪ k) b (go_on o c f).0 (go_on o c f).1
+    first b d (Ok a) c x = second b c x (f a c).0 (f a c).1 ((more a).takes c (x.paired d))
+    first b d (Err e) c x = short_first n k b x
 
 pub takes_as : {A : Type 0} {n k : Size} {p : Lowering A} → Same n k → Takes n p → Takes k p
-takes_as {A = A} {n = n} {k = k} {p = p} same h = record { takes = λ b. by b (p b).0 (p b).1 (h.takes b) }
+takes_as {A = A} {n = n} {k = k} {p = p} same h = record { takes = λ b d. by b (p b).0 (p b).1 (h.takes b d) }
   where
     by : (b : Builder) (o : Checked A) (c : Builder) → Room n b o c → Room k b o c
     by b (Ok a) c x = took_as same x
@@ -75,11 +80,11 @@ takes_begin h more = takes_as (none_before _) (takes_then h more)
 -- steps
 
 pub takes_pure : {A : Type 0} (a : A) → Takes nothing (pure a)
-takes_pure a = record { takes = λ b. took_none b }
+takes_pure a = record { takes = λ b d. took_none b }
 
 pub takes_report : (d : ExpressionStoreDiagnostics) → Takes nothing (report d)
 unfolding report storing.report
-takes_report d = record { takes = λ b. took_besides _ _ refl refl refl refl refl refl refl refl refl refl }
+takes_report d = record { takes = λ b d. took_besides _ _ refl refl refl refl refl refl refl refl refl refl refl }
 
 pub takes_report_await : (at : Pointer) (location : Option AwaitLocation) → Takes nothing (report_await at location)
 unfolding report_await
@@ -89,36 +94,36 @@ takes_report_await at (Some l) = takes_report _
 pub takes_block : (n : Option BlockId) → Takes nothing (enter_block n)
 unfolding enter_block storing.enter_block
 takes_block None = takes_pure tt
-takes_block (Some n) = record { takes = λ b. took_besides _ _ refl refl refl refl refl refl refl refl refl refl }
+takes_block (Some n) = record { takes = λ b d. took_besides _ _ refl refl refl refl refl refl refl refl refl refl refl }
 
 pub takes_close : Takes nothing close
 unfolding close
-takes_close = record { takes = λ b. took_besides _ _ refl refl refl refl refl refl refl refl refl refl }
+takes_close = record { takes = λ b d. took_besides _ _ refl refl refl refl refl refl refl refl refl refl refl }
 
 pub takes_point : (at : Pointer) (i : ExprId) → Takes nothing (point at i)
 unfolding point storing.point
-takes_point at i = record { takes = λ b. took_besides _ _ refl refl refl refl refl refl refl refl refl refl }
+takes_point at i = record { takes = λ b d. took_besides _ _ refl refl refl refl refl refl refl refl refl refl refl }
 
 pub takes_point_field : (i : ExprId) (at : Pointer) → Takes nothing (point_field i at)
 unfolding point_field storing.point_field
-takes_point_field i at = record { takes = λ b. took_besides _ _ refl refl refl refl refl refl refl refl refl refl }
+takes_point_field i at = record { takes = λ b d. took_besides _ _ refl refl refl refl refl refl refl refl refl refl refl }
 
 pub takes_jump : (j : Option Jump) → Takes nothing (jump_target j)
 unfolding jump_target report storing.report
 takes_jump None = takes_pure None
-takes_jump (Some j) = record { takes = λ b. by b (target j b.scopes) }
+takes_jump (Some j) = record { takes = λ b d. by b (target j b.scopes) }
   where
     by : (b : Builder) (t : Target LabelId) → Room nothing b (found_or_fault j t b).0 (found_or_fault j t b).1
-    by b (reachable n) = took_besides _ _ refl refl refl refl refl refl refl refl refl refl
-    by b unreachable = took_besides _ _ refl refl refl refl refl refl refl refl refl refl
-    by b undeclared = took_besides _ _ refl refl refl refl refl refl refl refl refl refl
+    by b (reachable n) = took_besides _ _ refl refl refl refl refl refl refl refl refl refl refl
+    by b unreachable = took_besides _ _ refl refl refl refl refl refl refl refl refl refl refl
+    by b undeclared = took_besides _ _ refl refl refl refl refl refl refl refl refl refl refl
 
 abbrev pub made_expr : Bool → Expr → Option Pointer → Sourced Expr ExprId → Checked ExprId × Sourced Expr ExprId
 made_expr t e source a = if t then (Ok (expr_id (length a.entries)), with_entry expr_id a e source) else (Err Full, a)
 
 pub takes_alloc : (e : Expr) (source : Option Pointer) → Takes an_expr (alloc_expr e source)
 unfolding alloc_expr storing.alloc_expr
-takes_alloc e source = record { takes = λ b. by b (nat_lt (length b.stored.exprs.entries) b.stored.exprs.limit) refl }
+takes_alloc e source = record { takes = λ b d. by b (nat_lt (length b.stored.exprs.entries) b.stored.exprs.limit) refl }
   where
     by : (b : Builder) (t : Bool) → nat_lt (length b.stored.exprs.entries) b.stored.exprs.limit ≡ t
         → Room an_expr b (made_expr t e source b.stored.exprs).0
@@ -130,7 +135,15 @@ takes_alloc e source = record { takes = λ b. by b (nat_lt (length b.stored.expr
       pats = still b.stored.pats refl;
       types = still b.stored.types refl;
       lifetimes = still b.stored.lifetimes refl;
+      paired = λ d. record {
+        exprs = one_more b.stored.exprs.entries e b.stored.exprs.sources source d.exprs;
+        labels = d.labels;
+        pats = d.pats;
+        types = d.types;
+        lifetimes = d.lifetimes;
+      };
       pat_sources = no_sources b.stored.pats refl;
+      pat_ways = refl;
       type_sources = no_sources b.stored.types refl;
       lifetime_sources = no_sources b.stored.lifetimes refl;
       names = unnamed refl;
@@ -150,7 +163,7 @@ opening l t b =
 
 pub takes_open : (l : Label) → Takes a_label (open_label l)
 unfolding open_label storing.alloc_label
-takes_open l = record { takes = λ b. by b (nat_lt (length b.stored.labels.entries) b.stored.labels.limit) refl }
+takes_open l = record { takes = λ b d. by b (nat_lt (length b.stored.labels.entries) b.stored.labels.limit) refl }
   where
     by : (b : Builder) (t : Bool) → nat_lt (length b.stored.labels.entries) b.stored.labels.limit ≡ t
         → Room a_label b (opening l t b).0 (opening l t b).1
@@ -161,7 +174,15 @@ takes_open l = record { takes = λ b. by b (nat_lt (length b.stored.labels.entri
       pats = still b.stored.pats refl;
       types = still b.stored.types refl;
       lifetimes = still b.stored.lifetimes refl;
+      paired = λ d. record {
+        exprs = d.exprs;
+        labels = one_more b.stored.labels.entries (record { name = l.name }) b.stored.labels.sources (Some l.pointer) d.labels;
+        pats = d.pats;
+        types = d.types;
+        lifetimes = d.lifetimes;
+      };
       pat_sources = no_sources b.stored.pats refl;
+      pat_ways = refl;
       type_sources = no_sources b.stored.types refl;
       lifetime_sources = no_sources b.stored.lifetimes refl;
       names = unnamed refl;
@@ -175,7 +196,7 @@ made_type t x source a = if t then (Ok (type_id (length a.entries)), with_entry 
 
 pub takes_type : (x : TypeRef) (source : Option Pointer) → Takes (a_type source) (alloc_type x source)
 unfolding alloc_type storing.alloc_type
-takes_type x source = record { takes = λ b. by b (nat_lt (length b.stored.types.entries) b.stored.types.limit) refl }
+takes_type x source = record { takes = λ b d. by b (nat_lt (length b.stored.types.entries) b.stored.types.limit) refl }
   where
     by : (b : Builder) (t : Bool) → nat_lt (length b.stored.types.entries) b.stored.types.limit ≡ t
         → Room (a_type source) b (made_type t x source b.stored.types).0
@@ -187,7 +208,15 @@ takes_type x source = record { takes = λ b. by b (nat_lt (length b.stored.types
       pats = still b.stored.pats refl;
       types = grew_one b.stored.types.entries x b.stored.types.limit;
       lifetimes = still b.stored.lifetimes refl;
+      paired = λ d. record {
+        exprs = d.exprs;
+        labels = d.labels;
+        pats = d.pats;
+        types = one_more b.stored.types.entries x b.stored.types.sources source d.types;
+        lifetimes = d.lifetimes;
+      };
       pat_sources = no_sources b.stored.pats refl;
+      pat_ways = refl;
       type_sources = refl;
       lifetime_sources = no_sources b.stored.lifetimes refl;
       names = unnamed refl;
@@ -203,7 +232,7 @@ made_lifetime t x source a = if t then (Ok (lifetime_id (length a.entries)), wit
 
 pub takes_lifetime : (x : LifetimeRef) (source : Option Pointer) → Takes (a_lifetime source) (alloc_lifetime x source)
 unfolding alloc_lifetime storing.alloc_lifetime
-takes_lifetime x source = record { takes = λ b. by b (nat_lt (length b.stored.lifetimes.entries) b.stored.lifetimes.limit) refl }
+takes_lifetime x source = record { takes = λ b d. by b (nat_lt (length b.stored.lifetimes.entries) b.stored.lifetimes.limit) refl }
   where
     by : (b : Builder) (t : Bool) → nat_lt (length b.stored.lifetimes.entries) b.stored.lifetimes.limit ≡ t
         → Room (a_lifetime source) b (made_lifetime t x source b.stored.lifetimes).0
@@ -215,7 +244,15 @@ takes_lifetime x source = record { takes = λ b. by b (nat_lt (length b.stored.l
       pats = still b.stored.pats refl;
       types = still b.stored.types refl;
       lifetimes = grew_one b.stored.lifetimes.entries x b.stored.lifetimes.limit;
+      paired = λ d. record {
+        exprs = d.exprs;
+        labels = d.labels;
+        pats = d.pats;
+        types = d.types;
+        lifetimes = one_more b.stored.lifetimes.entries x b.stored.lifetimes.sources source d.lifetimes;
+      };
       pat_sources = no_sources b.stored.pats refl;
+      pat_ways = refl;
       type_sources = no_sources b.stored.types refl;
       lifetime_sources = refl;
       names = unnamed refl;
@@ -233,7 +270,7 @@ made_pat t x source a = if t then (Ok (pat_id (length a.entries)), with_entry pa
 
 pub takes_pat : (x : Pat) (source : Option Pointer) → Takes (a_pat source) (alloc_pat x source)
 unfolding alloc_pat storing.alloc_pat
-takes_pat x source = record { takes = λ b. by b (nat_lt (length b.stored.pats.entries) b.stored.pats.limit) refl }
+takes_pat x source = record { takes = λ b d. by b (nat_lt (length b.stored.pats.entries) b.stored.pats.limit) refl }
   where
     by : (b : Builder) (t : Bool) → nat_lt (length b.stored.pats.entries) b.stored.pats.limit ≡ t
         → Room (a_pat source) b (made_pat t x source b.stored.pats).0
@@ -245,7 +282,51 @@ takes_pat x source = record { takes = λ b. by b (nat_lt (length b.stored.pats.e
       pats = grew_one b.stored.pats.entries x b.stored.pats.limit;
       types = still b.stored.types refl;
       lifetimes = still b.stored.lifetimes refl;
+      paired = λ d. record {
+        exprs = d.exprs;
+        labels = d.labels;
+        pats = one_more b.stored.pats.entries x b.stored.pats.sources source d.pats;
+        types = d.types;
+        lifetimes = d.lifetimes;
+      };
       pat_sources = refl;
+      pat_ways = refl;
+      type_sources = no_sources b.stored.types refl;
+      lifetime_sources = no_sources b.stored.lifetimes refl;
+      names = unnamed refl;
+      as_many = refl;
+      owners = λ h. no_owners b.stored.bindings.owners refl;
+    }
+    by b false is = let full = ltb-false (length b.stored.pats.entries) b.stored.pats.limit is in inr (inr (inl (omega arith)))
+
+-- one that is made up for a node
+
+abbrev hidden_pat : Bool → Pat → Option Pointer → Sourced Pat PatId → Checked PatId × Sourced Pat PatId
+hidden_pat t x source a = if t then (Ok (pat_id (length a.entries)), with_made a x source) else (Err Full, a)
+
+pub takes_made_pat : (x : Pat) (source : Option Pointer) → Takes (a_made_pat source) (alloc_made_pat x source)
+unfolding alloc_made_pat storing.alloc_made_pat
+takes_made_pat x source = record { takes = λ b d. by b (nat_lt (length b.stored.pats.entries) b.stored.pats.limit) refl }
+  where
+    by : (b : Builder) (t : Bool) → nat_lt (length b.stored.pats.entries) b.stored.pats.limit ≡ t
+        → Room (a_made_pat source) b (hidden_pat t x source b.stored.pats).0
+        (record b { stored = record b.stored { pats = (hidden_pat t x source b.stored.pats).1 } })
+    by b true is = record {
+      exprs = still b.stored.exprs refl;
+      labels = still b.stored.labels refl;
+      bindings = grew_none refl refl;
+      pats = grew_one b.stored.pats.entries x b.stored.pats.limit;
+      types = still b.stored.types refl;
+      lifetimes = still b.stored.lifetimes refl;
+      paired = λ d. record {
+        exprs = d.exprs;
+        labels = d.labels;
+        pats = one_more b.stored.pats.entries x b.stored.pats.sources source d.pats;
+        types = d.types;
+        lifetimes = d.lifetimes;
+      };
+      pat_sources = refl;
+      pat_ways = refl;
       type_sources = no_sources b.stored.types refl;
       lifetime_sources = no_sources b.stored.lifetimes refl;
       names = unnamed refl;
@@ -259,7 +340,7 @@ made_binding t x a = if t then (Ok (binding_id (length a.entries)), with_binding
 
 pub takes_binding : (x : Binding) → Takes a_binding (alloc_binding x)
 unfolding alloc_binding storing.alloc_binding
-takes_binding x = record { takes = λ b. by b (nat_lt (length b.stored.bindings.entries) b.stored.bindings.limit) refl }
+takes_binding x = record { takes = λ b d. by b (nat_lt (length b.stored.bindings.entries) b.stored.bindings.limit) refl }
   where
     by : (b : Builder) (t : Bool) → nat_lt (length b.stored.bindings.entries) b.stored.bindings.limit ≡ t
         → Room a_binding b (made_binding t x b.stored.bindings).0
@@ -271,7 +352,15 @@ takes_binding x = record { takes = λ b. by b (nat_lt (length b.stored.bindings.
       pats = still b.stored.pats refl;
       types = still b.stored.types refl;
       lifetimes = still b.stored.lifetimes refl;
+      paired = λ d. record {
+        exprs = d.exprs;
+        labels = d.labels;
+        pats = d.pats;
+        types = d.types;
+        lifetimes = d.lifetimes;
+      };
       pat_sources = no_sources b.stored.pats refl;
+      pat_ways = refl;
       type_sources = no_sources b.stored.types refl;
       lifetime_sources = no_sources b.stored.lifetimes refl;
       names = unnamed refl;
@@ -283,41 +372,41 @@ takes_binding x = record { takes = λ b. by b (nat_lt (length b.stored.bindings.
 
 pub takes_define : (id : BindingId) (p : PatId) → Takes nothing (define id p)
 unfolding define storing.define
-takes_define id p = record { takes = λ b. took_besides _ _ refl refl refl refl refl refl refl refl refl refl }
+takes_define id p = record { takes = λ b d. took_besides _ _ refl refl refl refl refl refl refl refl refl refl refl }
 
 pub takes_problem : (id : BindingId) (problem : Option BindingProblems) → Takes nothing (set_problem id problem)
 unfolding set_problem storing.set_problem
 takes_problem id problem = record {
-  takes = λ b. took_besides _ _ refl refl refl (length_at id.0 (problem_set problem) b.stored.bindings.entries)
+  takes = λ b d. took_besides _ _ refl refl refl refl (length_at id.0 (problem_set problem) b.stored.bindings.entries)
       refl refl refl refl refl refl;
 }
 
 pub takes_point_pat_field : (i : PatId) (at : Pointer) → Takes nothing (point_pat_field i at)
 unfolding point_pat_field storing.point_pat_field
-takes_point_pat_field i at = record { takes = λ b. took_besides _ _ refl refl refl refl refl refl refl refl refl refl }
+takes_point_pat_field i at = record { takes = λ b d. took_besides _ _ refl refl refl refl refl refl refl refl refl refl refl }
 
 -- behind a barrier, and a constant there in a root
 
 pub takes_barrier : Takes nothing open_barrier
 unfolding open_barrier
-takes_barrier = record { takes = λ b. took_besides _ _ refl refl refl refl refl refl refl refl refl refl }
+takes_barrier = record { takes = λ b d. took_besides _ _ refl refl refl refl refl refl refl refl refl refl refl }
 
 pub takes_close_barrier : (outside : Bool) → Takes nothing (close_barrier outside)
 unfolding close_barrier
-takes_close_barrier outside = record { takes = λ b. took_besides _ _ refl refl refl refl refl refl refl refl refl refl }
+takes_close_barrier outside = record { takes = λ b d. took_besides _ _ refl refl refl refl refl refl refl refl refl refl refl }
 
 pub takes_note : Takes nothing note_yield
 unfolding note_yield
-takes_note = record { takes = λ b. took_besides _ _ refl refl refl refl refl refl refl refl refl refl }
+takes_note = record { takes = λ b d. took_besides _ _ refl refl refl refl refl refl refl refl refl refl refl }
 
 takes_enter : Takes nothing enter_root
 unfolding enter_root
-takes_enter = record { takes = λ b. took_besides _ _ refl refl refl refl refl refl refl refl refl refl }
+takes_enter = record { takes = λ b d. took_besides _ _ refl refl refl refl refl refl refl refl refl refl refl }
 
 takes_leave : (outer : Bool) (id : ExprId) → Takes nothing (leave_root outer id)
 unfolding leave_root record_root outside_root storing.record_root
 takes_leave true id = takes_pure tt
-takes_leave false id = record { takes = λ b. took_besides _ _ refl refl refl refl refl refl refl refl refl refl }
+takes_leave false id = record { takes = λ b d. took_besides _ _ refl refl refl refl refl refl refl refl refl refl refl }
 
 as_body : (x : InnerBody) (n : Size) → Same n (a_body x n)
 as_body x n = record {

@@ -30,7 +30,7 @@ use Rattle.hir_meaning.specs.Contents.{BlockContents}
 use Rattle.hir_store.specs.declared.ids.CfgId.{CfgId}
 use Rattle.hir_meaning.specs.Small.{at, label_a, root, stored_one}
 use Rattle.hir_one_result.specs.Forms.{leaves_with}
-use Rattle.hir_one_result.specs.Leads.{Way, Ways, expr_way, unled_way, overtaken}
+use Rattle.hir_one_result.specs.Leads.{Way, Ways, expr_way, unled_way, overtaken, owned_way}
 use Rattle.hir_one_result.specs.Stands.{Absent, Stands, opened, statement_of, StandsLiteral, StandsEach, StandsContents}
 use Rattle.hir_one_result.specs.Worked.{Jumps, other, literal_first, Statements, EntersInOrder, Leaves, letter, block_id}
 use Rattle.hir_one_result.specs.StandsMade.{StandsQuestion}
@@ -292,7 +292,8 @@ plain_block ss tail = Some (hir.Block false None None ss tail)
 
 is_const : (store : Store) (source_map : SourceMap) (i : ExprId) (ws : List Way) → Stands store source_map [] const_one i ws
     → IsConst store i ws
-is_const store source_map i ws h =
+is_const store source_map i ws x =
+    let h = x.2 in
     let c = h.2.first.2 in
     let tail = c.5.first.1 in
     let inside = c.5.is ∙ (ap (λ l. l ++ c.5.right) tail.2.2.1 ∙ ap (λ r. expr_way (at 1) tail.0 ∷ r) c.5.second) in
@@ -304,13 +305,15 @@ is_const store source_map i ws h =
       inner = c.4.stored ∙ (ap (λ r. plain_block r.0 r.1) c.3
           ∙ (ap (λ ss. plain_block ss c.1) c.5.first.0 ∙ ap (λ t. plain_block [] t) tail.1));
       is_one = literal_stored store source_map (at 1) _ tail.0 c.5.left tail.2;
-      ways = h.2.is ∙ (ap (λ l. l ++ h.2.right) before ∙ ap (λ r. expr_way (at 1) tail.0 ∷ unled_way h.0.expr ∷ r) h.2.second);
+      ways =
+          let all = h.2.is ∙ (ap (λ l. l ++ h.2.right) before ∙ ap (λ r. expr_way (at 1) tail.0 ∷ unled_way h.0.expr ∷ r) h.2.second) in
+          x.1 ∙ ap (λ vs. map (owned_way i) vs) all;
     }
 
 pub consts : Consts
 consts = record {
   repeats = λ outer store source_map i ws h.
-      let length = h.3.second.first in record {
+      let length = h.3.second.first.2 in record {
         one = h.0;
         other = h.1.expr;
         whole = h.2.stored;
@@ -326,7 +329,8 @@ consts = record {
 
 is_closure : (outer : LabelId) (store : Store) (source_map : SourceMap) (i : ExprId) (ws : List Way)
     → Stands store source_map (opened label_a outer []) closure_break i ws → IsClosure store i
-is_closure outer store source_map i ws h =
+is_closure outer store source_map i ws x =
+    let h = x.2 in
     let body = h.4.second.second.first in record {
       ret = h.1;
       body = h.2;
@@ -349,7 +353,8 @@ seventh_block ss tail = Some (hir.Block false None (Some (block_id 7)) ss tail)
 
 is_coroutine : (moves : Bool) (kind : CoroutineKind) (outer : LabelId) (store : Store) (source_map : SourceMap) (i : ExprId) (ws : List Way)
     → Stands store source_map (opened label_a outer []) (coroutine_break kind moves) i ws → IsCoroutine kind (capture_of moves) store i ws
-is_coroutine moves kind outer store source_map i ws h =
+is_coroutine moves kind outer store source_map i ws x =
+    let h = x.2 in
     let tail = h.7.first.1 in
     let inside = tail.2.2.is ∙ (λ j. tail.2.2.first.1 j ++ tail.2.2.second j) in
     let around = h.7.second.is ∙ (λ j. h.7.second.first j ++ h.7.second.second j) in
@@ -360,7 +365,7 @@ is_coroutine moves kind outer store source_map i ws h =
       inner = h.6.stored ∙ (ap (λ r. seventh_block r.0 r.1) h.3
           ∙ (ap (λ ss. seventh_block ss h.1) h.7.first.0 ∙ ap (λ t. seventh_block [] t) tail.1));
       breaks = tail.2.1.stored ∙ ap (λ v. Some (hir.Break None v)) tail.2.2.first.0;
-      ways = h.7.is ∙ (λ j. inside j ++ around j);
+      ways = x.1 ∙ ap (λ vs. map (owned_way i) vs) (h.7.is ∙ (λ j. inside j ++ around j));
     }
 
 pub coroutines : Coroutines

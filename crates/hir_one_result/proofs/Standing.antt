@@ -50,17 +50,18 @@ use Rattle.hir_steps.proofs.MadeSteps.{AllocatedMade}
 use Rattle.hir_steps.proofs.Steps.{Mark, Rel, Put, Allocated, AllocatedBy, OpenedBy, with_fault, with_target, with_jump, with_block}
 use Rattle.hir_steps.proofs.Steps.{with_await}
 use Rattle.hir_one_result.specs.Forms.{leaf_form, unary_form, binary_form, leaving_form, item_form, range_fields}
-use Rattle.hir_one_result.specs.Leads.{Way, Ways, OneWay, OneUnled, OneLabelWay, OneFieldWay, Overtaken, ◌&◌}
+use Rattle.hir_one_result.specs.Leads.{Way, Ways, OneWay, OneUnled, OneLabelWay, OneFieldWay, OwnedBy, Overtaken, ◌&◌}
 use Rattle.hir_one_result.specs.Stands.{ReadsAs, StandsOverThree, StandsRecord, Open, Absent, There, ExprAt, LabelAt, StandsMissing}
 use Rattle.hir_one_result.specs.Stands.{StandsAlone, StandsPath, StandsLiteral, StandsOver, StandsOverTwo, StandsList, InLabel}
 use Rattle.hir_one_result.specs.Stands.{StandsRange}
 use Rattle.hir_one_result.proofs.Data.{PathIs, path_is}
-use Rattle.hir_one_result.proofs.Lasting.{Correct, correct_alloc, correct_as, correct_bind, correct_both, correct_enter_block}
-use Rattle.hir_one_result.proofs.Lasting.{correct_opened, correct_owning, correct_point, correct_point_field, correct_pure}
-use Rattle.hir_one_result.proofs.Lasting.{correct_report_await, correct_target}
+use Rattle.hir_one_result.proofs.Lasting.{Correct, correct_alloc, correct_as, correct_bind, correct_both, correct_counted}
+use Rattle.hir_one_result.proofs.Lasting.{correct_enter_block, correct_opened, correct_owning, correct_point, correct_point_field}
+use Rattle.hir_one_result.proofs.Lasting.{correct_pure, correct_report_await, correct_target}
 use Rattle.hir_one_result.proofs.Leading.{Shown, shown_as, shown_none, shown_both, shown_swap, shown_after, shown_before, shown_to}
 use Rattle.hir_one_result.proofs.Leading.{shown_expr, shown_made, shown_unled, shown_label, shown_point, shown_field, Moved, moved_same}
-use Rattle.hir_one_result.proofs.Leading.{moved_to, moved_still, moved_report, moved_owner}
+use Rattle.hir_one_result.proofs.Leading.{moved_to, moved_still, moved_report}
+use Rattle.hir_one_result.proofs.OwnedWays.{shown_owned}
 use Rattle.hir_one_result.proofs.Overtaken.{shown_later}
 
 abbrev pub Of : Type 0 → Type 1
@@ -137,12 +138,12 @@ module _ {made : ℕ} {A B : Type 0} {at : Label → LabelId → Frame} {l : Lab
   pub own_label : (row : OpenedBy made at l R Q final ps m m' b) → Shown (OneLabelWay l.pointer row.number) m.stored row.entered.stored
   own_label row = shown_label l row.number (row.new ∙ row.last) row.stored
 
--- whatever owns bindings
+-- and then what they answer owns what is bound in them
 pub owning_shows : {A : Type 0} (owner : A → ExprId) {S : Of A} {p : Lowering A} → Correct p (Shows S)
-    → Correct (owning owner p) (Shows S)
-owning_shows owner h = correct_as (correct_owning owner h) (λ final ps m m' a g row.
-    let owned = moved_owner (binding_id m.bindings) (owner a) row.left.stored in
-    record { shown = shown_before row.first.shown (moved_to (ap (λ k. k.stored) row.is) owned) })
+    → Correct (owning owner p) (Shows (λ final rs a. OwnedBy (owner a) (S final rs a)))
+owning_shows owner h = correct_as (correct_counted (correct_owning owner h)) (λ final ps m m' a g x.
+    let owned = ap (λ k. k.stored) x.row.is in
+    record { shown = shown_owned (binding_id m.bindings) (owner a) x.counted x.row.first.shown owned })
 
 -- leaves
 
@@ -350,7 +351,7 @@ module _ (at : Pointer) where
 
   pub const_stands : {c : Lowering ConstRef} {T : Of ConstRef} → Correct c (Shows T)
       → Correct (owning (λ i. i) (const_form at c))
-      (Shows (λ final rs i. StandsOver (store_of final) (map_of final) hir.Const at (λ n. Overtaken at (T final rs n)) i))
+      (Shows (λ final rs i. OwnedBy i (StandsOver (store_of final) (map_of final) hir.Const at (λ n. Overtaken at (T final rs n)) i)))
   unfolding const_form
   const_stands h = owning_shows (λ i. i) (correct_as (correct_bind h (λ c. correct_alloc (hir.Const c) (Some at)))
       (λ final ps m m' i g row. let made = row.second in record {

@@ -2,6 +2,7 @@
 use Rattle.std.proofs.Common.{Ok, Err}
 use Rattle.hir_lower_form.specs.Builder.{Builder}
 use Rattle.hir_lower_form.specs.Lowering.{Checked, go_on, Lowering, ◌>>=◌, pure}
+use Rattle.hir_steps.specs.Keeps.{Paired}
 use Rattle.hir_one_result.specs.Size.{Size, nothing, ◌∪◌}
 use Rattle.hir_one_result.specs.Room.{Short}
 use Rattle.hir_one_result.proofs.Rooms.{Takes}
@@ -12,30 +13,31 @@ Told n P b (Ok a) c = Took n b c × P a
 Told n P b (Err e) c = Short n b
 
 pub record Tells {A : Type 0} (n : Size) (P : A → Type 0) (p : Lowering A) : Type 0 where
-  pub tells : (b : Builder) → Told n P b (p b).0 (p b).1
+  pub tells : (b : Builder) → Paired b.stored → Told n P b (p b).0 (p b).1
 
 pub tells_then : {A B : Type 0} {n k : Size} {P : A → Type 0} {Q : B → Type 0} {p : Lowering A} {f : A → Lowering B} → Tells n P p
     → ((a : A) → P a → Tells k Q (f a)) → Tells (n ∪ k) Q (p >>= f)
 tells_then {A = A} {B = B} {n = n} {k = k} {P = P} {Q = Q} {p = p} {f = f} h more =
-    record { tells = λ b. first b (p b).0 (p b).1 (h.tells b) }
+    record { tells = λ b d. first b d (p b).0 (p b).1 (h.tells b d) }
   where
     second : (b b' : Builder) → Took n b b' → (o : Checked B) (c : Builder) → Told k Q b' o c → Told (n ∪ k) Q b o c
     second b b' x (Ok e) c y = (took_then b b' c x y.0, y.1)
     second b b' x (Err e) c y = short_then k b b' x y
 
-    first : (b : Builder) (o : Checked A) (c : Builder) → Told n P b o c → Told (n ∪ k) Q b (go_on o c f).0 (go_on o c f).1
-    first b (Ok a) c x = second b c x.0 (f a c).0 (f a c).1 ((more a x.1).tells c)
-    first b (Err e) c x = short_first n k b x
+    first : (b : Builder) → Paired b.stored → (o : Checked A) (c : Builder) → Told n P b o c
+        → Told (n ∪ k) Q b (go_on o c f).0 (go_on o c f).1
+    first b d (Ok a) c x = second b c x.0 (f a c).0 (f a c).1 ((more a x.1).tells c (x.0.paired d))
+    first b d (Err e) c x = short_first n k b x
 
 pub tells_as : {A : Type 0} {n k : Size} {P : A → Type 0} {p : Lowering A} → Same n k → Tells n P p → Tells k P p
-tells_as {A = A} {n = n} {k = k} {P = P} {p = p} same h = record { tells = λ b. by b (p b).0 (p b).1 (h.tells b) }
+tells_as {A = A} {n = n} {k = k} {P = P} {p = p} same h = record { tells = λ b d. by b (p b).0 (p b).1 (h.tells b d) }
   where
     by : (b : Builder) (o : Checked A) (c : Builder) → Told n P b o c → Told k P b o c
     by b (Ok a) c x = (took_as same x.0, x.1)
     by b (Err e) c x = short_as b same x
 
 pub tells_pure : {A : Type 0} (P : A → Type 0) (a : A) → P a → Tells nothing P (pure a)
-tells_pure P a h = record { tells = λ b. (took_none b, h) }
+tells_pure P a h = record { tells = λ b d. (took_none b, h) }
 
 pub tells_end : {A B : Type 0} {n : Size} {P : A → Type 0} {Q : B → Type 0} {p : Lowering A} {f : A → Lowering B} → Tells n P p
     → ((a : A) → P a → Tells nothing Q (f a)) → Tells n Q (p >>= f)
@@ -46,14 +48,14 @@ anything a = Unit {0}
 
 -- of steps that only take
 pub tells_any : {A : Type 0} {n : Size} {p : Lowering A} → Takes n p → Tells n anything p
-tells_any {A = A} {n = n} {p = p} h = record { tells = λ b. by b (p b).0 (p b).1 (h.takes b) }
+tells_any {A = A} {n = n} {p = p} h = record { tells = λ b d. by b (p b).0 (p b).1 (h.takes b d) }
   where
     by : (b : Builder) (o : Checked A) (c : Builder) → Room n b o c → Told n anything b o c
     by b (Ok a) c x = (x, tt)
     by b (Err e) c x = x
 
 pub takes_of : {A : Type 0} {n : Size} {P : A → Type 0} {p : Lowering A} → Tells n P p → Takes n p
-takes_of {A = A} {n = n} {P = P} {p = p} h = record { takes = λ b. by b (p b).0 (p b).1 (h.tells b) }
+takes_of {A = A} {n = n} {P = P} {p = p} h = record { takes = λ b d. by b (p b).0 (p b).1 (h.tells b d) }
   where
     by : (b : Builder) (o : Checked A) (c : Builder) → Told n P b o c → Room n b o c
     by b (Ok a) c x = x.0
@@ -61,7 +63,7 @@ takes_of {A = A} {n = n} {P = P} {p = p} h = record { takes = λ b. by b (p b).0
 
 -- less of what is known
 pub tells_less : {A : Type 0} {n : Size} {P Q : A → Type 0} {p : Lowering A} → ((a : A) → P a → Q a) → Tells n P p → Tells n Q p
-tells_less {A = A} {n = n} {P = P} {Q = Q} {p = p} less h = record { tells = λ b. by b (p b).0 (p b).1 (h.tells b) }
+tells_less {A = A} {n = n} {P = P} {Q = Q} {p = p} less h = record { tells = λ b d. by b (p b).0 (p b).1 (h.tells b d) }
   where
     by : (b : Builder) (o : Checked A) (c : Builder) → Told n P b o c → Told n Q b o c
     by b (Ok a) c x = (x.0, less a x.1)

@@ -1,14 +1,17 @@
 -- How much more is stored, and that there is no room for it.
 use Rattle.std.proofs.Common.{arith, ◌≡◌, ◌∙◌, refl, sym, ap, subst, ℕ, ◌+◌, ◌<◌, ◌≤◌, ◌^◌, length}
-use Rattle.std.proofs.Common.{length-append, append-nil, append_assoc, List, [], ◌∷◌, ◌++◌, Option, Ok, Err, inl, inr, ⊎_elim}
+use Rattle.std.proofs.Common.{length-append, append-nil, append_assoc, List, [], ◌∷◌, ◌++◌, map, Option, Ok, Err, inl, inr, ⊎_elim}
+use Rattle.std.proofs.lemmas.List.{map-append}
 use Rattle.hir_store.specs.Pointers.{Pointer}
 use Rattle.hir_store.specs.Arenas.{Sourced}
 use Rattle.hir_lower_form.specs.Builder.{Builder}
 use Rattle.hir_lower_form.specs.Lowering.{Checked}
+use Rattle.hir_steps.specs.Keeps.{Paired}
 use Rattle.hir_one_result.specs.Laws.{MayBeOwned}
 use Rattle.hir_one_result.specs.Room.{Short}
-use Rattle.hir_one_result.specs.Size.{Size, nothing, placed, ◌∪◌}
+use Rattle.hir_one_result.specs.Size.{PatFrom, Size, nothing, pat_source_of, pats_led, placed, ◌∪◌}
 use Rattle.hir_one_result.proofs.Owners.{as_many_both, as_many_placed, further_none, no_owners, owners_joined, owners_then}
+use Rattle.hir_one_result.proofs.PatWays.{led_behind}
 
 -- an arena of this limit that held so many holds n more
 pub record Grew (n limit held limit' held' : ℕ) : Type 0 where
@@ -61,7 +64,9 @@ pub record Took (n : Size) (before after : Builder) : Type 0 where
       Grew (length n.types) a.limit (length a.entries) b.limit (length b.entries)
   pub lifetimes : let a = before.stored.lifetimes in let b = after.stored.lifetimes in
       Grew (length n.lifetimes) a.limit (length a.entries) b.limit (length b.entries)
-  pub pat_sources : after.stored.pats.sources ≡ before.stored.pats.sources ++ n.pats
+  pub paired : Paired before.stored → Paired after.stored
+  pub pat_sources : after.stored.pats.sources ≡ before.stored.pats.sources ++ map pat_source_of n.pats
+  pub pat_ways : after.stored.pats.map ≡ pats_led (length before.stored.pats.entries) n.pats before.stored.pats.map
   pub type_sources : after.stored.types.sources ≡ before.stored.types.sources ++ n.types
   pub lifetime_sources : after.stored.lifetimes.sources ≡ before.stored.lifetimes.sources ++ n.lifetimes
   pub names : after.names ≡ before.names + n.names
@@ -143,6 +148,12 @@ short_as {n = n} {k = k} b same h = let s = b.stored in shorter n k b b
 then_more : (xs ys zs : List (Option Pointer)) {us vs : List (Option Pointer)} → us ≡ xs ++ ys → vs ≡ us ++ zs → vs ≡ xs ++ (ys ++ zs)
 then_more xs ys zs e f = f ∙ (ap (λ ws. ws ++ zs) e ∙ append_assoc xs ys zs)
 
+-- of patterns
+came_then : (xs : List (Option Pointer)) (ys zs : List PatFrom) {us vs : List (Option Pointer)} → us ≡ xs ++ map pat_source_of ys
+    → vs ≡ us ++ map pat_source_of zs → vs ≡ xs ++ map pat_source_of (ys ++ zs)
+came_then xs ys zs e f =
+    then_more xs (map pat_source_of ys) (map pat_source_of zs) e f ∙ ap (λ ws. xs ++ ws) (sym (map-append pat_source_of ys zs))
+
 named_then : (a b c n k : ℕ) → b ≡ a + n → c ≡ b + k → c ≡ a + (n + k)
 named_then a b c n k e f = omega (arith, e, f)
 
@@ -162,7 +173,9 @@ took_then {n = n} {k = k} a b c t u = record {
   pats = grew_as (joined n.pats k.pats) (grew_then t.pats u.pats);
   types = grew_as (joined n.types k.types) (grew_then t.types u.types);
   lifetimes = grew_as (joined n.lifetimes k.lifetimes) (grew_then t.lifetimes u.lifetimes);
-  pat_sources = then_more a.stored.pats.sources n.pats k.pats t.pat_sources u.pat_sources;
+  paired = λ h. u.paired (t.paired h);
+  pat_sources = came_then a.stored.pats.sources n.pats k.pats t.pat_sources u.pat_sources;
+  pat_ways = led_behind (length a.stored.pats.entries) n.pats k.pats a.stored.pats.map t.pats.more t.pat_ways u.pat_ways;
   type_sources = then_more a.stored.types.sources n.types k.types t.type_sources u.type_sources;
   lifetime_sources = then_more a.stored.lifetimes.sources n.lifetimes k.lifetimes t.lifetime_sources u.lifetime_sources;
   names = named_then a.names b.names c.names n.names k.names t.names u.names;
@@ -179,7 +192,9 @@ took_as {a = a} same t = record {
   pats = grew_as (ap length same.pats) t.pats;
   types = grew_as (ap length same.types) t.types;
   lifetimes = grew_as (ap length same.lifetimes) t.lifetimes;
-  pat_sources = t.pat_sources ∙ ap (λ xs. a.stored.pats.sources ++ xs) same.pats;
+  paired = t.paired;
+  pat_sources = t.pat_sources ∙ ap (λ xs. a.stored.pats.sources ++ map pat_source_of xs) same.pats;
+  pat_ways = t.pat_ways ∙ ap (λ xs. pats_led (length a.stored.pats.entries) xs a.stored.pats.map) same.pats;
   type_sources = t.type_sources ∙ ap (λ xs. a.stored.types.sources ++ xs) same.types;
   lifetime_sources = t.lifetime_sources ∙ ap (λ xs. a.stored.lifetimes.sources ++ xs) same.lifetimes;
   names = t.names ∙ ap (λ k. a.names + k) same.names;
@@ -199,19 +214,34 @@ no_sources a e = ap (λ s. s.sources) e ∙ sym (append-nil a.sources)
 pub unnamed : {a b : ℕ} → b ≡ a → b ≡ a + 0
 unnamed e = omega (arith, e)
 
+-- each has its source still
+as_many_still : {A B : Type 0} {xs us : List A} {ys vs : List B} → us ≡ xs → vs ≡ ys → length ys ≡ length xs → length vs ≡ length us
+as_many_still e f h = ap length f ∙ (h ∙ sym (ap length e))
+
+pairs_still : {T I : Type 0} {a b : Sourced T I} → b ≡ a → length a.sources ≡ length a.entries → length b.sources ≡ length b.entries
+pairs_still e h = subst (λ s. length s.sources ≡ length s.entries) (sym e) h
+
 -- what is stored besides takes nothing
 pub took_besides : (before after : Builder) → let a = before.stored in let b = after.stored in
-    b.exprs.entries ≡ a.exprs.entries → b.exprs.limit ≡ a.exprs.limit → b.labels ≡ a.labels
+    b.exprs.entries ≡ a.exprs.entries → b.exprs.sources ≡ a.exprs.sources → b.exprs.limit ≡ a.exprs.limit → b.labels ≡ a.labels
     → length b.bindings.entries ≡ length a.bindings.entries → b.bindings.limit ≡ a.bindings.limit → b.bindings.owners ≡ a.bindings.owners
     → b.pats ≡ a.pats → b.types ≡ a.types → b.lifetimes ≡ a.lifetimes → after.names ≡ before.names → Took nothing before after
-took_besides before after e limit l n most os p t f k = let a = before.stored in record {
+took_besides before after e from limit l n most os p t f k = let a = before.stored in record {
   exprs = grew_none (ap length e) limit;
   labels = still a.labels l;
   bindings = grew_none n most;
   pats = still a.pats p;
   types = still a.types t;
   lifetimes = still a.lifetimes f;
+  paired = λ d. record {
+    exprs = as_many_still e from d.exprs;
+    labels = pairs_still l d.labels;
+    pats = pairs_still p d.pats;
+    types = pairs_still t d.types;
+    lifetimes = pairs_still f d.lifetimes;
+  };
   pat_sources = no_sources a.pats p;
+  pat_ways = ap (λ s. s.map) p;
   type_sources = no_sources a.types t;
   lifetime_sources = no_sources a.lifetimes f;
   names = unnamed k;
@@ -220,7 +250,7 @@ took_besides before after e limit l n most os p t f k = let a = before.stored in
 }
 
 pub took_none : (b : Builder) → Took nothing b b
-took_none b = took_besides b b refl refl refl refl refl refl refl refl refl refl
+took_none b = took_besides b b refl refl refl refl refl refl refl refl refl refl refl
 
 no_more : (n : ℕ) → n + 0 ≡ n
 no_more n = omega arith

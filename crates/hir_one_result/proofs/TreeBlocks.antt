@@ -2,6 +2,7 @@
 use Rattle.std.proofs.Common.{◌≡◌, ◌∙◌, refl, sym, ap, List, [], ◌∷◌, ◌++◌, append_assoc, append-nil, option_to_list, Option, Some, None}
 use Rattle.std.proofs.Common.{Bool, true, false, true≢false}
 use Rattle.hir_store.specs.Stored.{Stored}
+use Rattle.hir_store.specs.declared.hir.CoroutineKind.{CoroutineKind}
 use Rattle.hir_store.specs.declared.hir.Statement.{Statement}
 use Rattle.hir_store.specs.declared.ids.ExprId.{ExprId}
 use Rattle.hir_store.specs.declared.ids.BlockId.{BlockId}
@@ -50,6 +51,7 @@ use Rattle.hir_one_result.proofs.Telling.{cast_tells, record_tells, offset_of_te
 use Rattle.hir_one_result.proofs.Telling.{block_form_tells, labelled_tells, tells_alloc, tells_aside, constant_tells, inner_tells}
 use Rattle.hir_one_result.proofs.Telling.{repeat_tells, const_tells, rooted_tells}
 use Rattle.hir_one_result.proofs.ClosureTelling.{closure_tells, coroutine_tells, param_tells, yield_tells}
+use Rattle.hir_one_result.proofs.CoroutineTelling.{coroutine_body_tells, coroutine_closure_tells}
 use Rattle.hir_lower_form.specs.Walks.{start, super_read}
 use Rattle.hir_one_result.proofs.PathTelling.{tells_type, over_tells, array_tells, tuple_tells, path_type_tells, ref_tells, fn_tells}
 use Rattle.hir_one_result.proofs.PathTelling.{impl_tells, dyn_tells, path_bound_tells, reads_then, whole_tells, first_tells, counted_tells}
@@ -69,7 +71,7 @@ use Rattle.hir_store.specs.declared.pat.RecordFieldPat.{RecordFieldPat}
 use Rattle.hir_store.specs.declared.ids.PatId.{PatId}
 use Rattle.hir_lower_form.specs.Pats as forms
 use Rattle.hir_lower_form.specs.Pats.{Elements, Table, no_elements, no_names, next_alternative}
-use Rattle.hir_one_result.specs.Formals.{lower_self, each_formal, lower_formals, lower_body, formals_read}
+use Rattle.hir_one_result.specs.Formals.{lower_self, each_formal, lower_formals, lower_body, plain_body, formals_read}
 use Rattle.hir_one_result.proofs.PatTelling.{tells_pat, tells_binding, missing_pat_tells, alone_tells, settle_tells, element_tells}
 use Rattle.hir_one_result.proofs.PatTelling.{path_pat_tells, bind_tells, over_pat_tells, tuple_pat_tells, tuple_struct_tells}
 use Rattle.hir_one_result.proofs.PatTelling.{record_pat_tells, pat_field_tells, slice_pat_tells, or_tells, literal_pat_tells}
@@ -296,6 +298,8 @@ mutual
   node_blocks (tree.const_expr at c) = const_tells entered at (rooted_enters c)
   node_blocks (tree.closure_expr at moves is_static xs t e) = closure_tells entered at moves is_static
       (params_enters no_closure_params xs) (present_type_enters t) (part_blocks e)
+  node_blocks (tree.coroutine_closure_expr at kind moves xs t e) = coroutine_closure_tells entered at kind moves
+      (params_enters no_closure_params xs) (present_type_enters t) (part_blocks e)
   node_blocks (tree.method_call_expr at e name es generics) =
       method_call_tells entered at name (part_blocks e) (each_blocks [] es) (args_enters generics)
   node_blocks (tree.cast_expr at e t) = cast_tells entered at (part_blocks e) (type_enters None t)
@@ -510,10 +514,12 @@ each_formal_enters false done (tree.formal p ∷ fs) =
 each_formal_enters false done (tree.fault_formal at ∷ fs) = tells_bind entered
     (tells_bind entered (tells_report entered _) (λ u. tells_some_pat (missing_pat_tells entered))) (λ x. each_formal_enters false _ fs)
 
-pub body_enters : (skipped : Bool) (f : Formals) (e : OptionExpr)
-    → Enters (blocks_of_tops (formals_read skipped f.formals) ++ blocks_of_part e) (lower_body skipped f e)
-unfolding lower_body lower_formals
-body_enters skipped f e = tells_bind entered
+pub body_enters : (kind : Option CoroutineKind) (skipped : Bool) (f : Formals) (e : OptionExpr)
+    → Enters (blocks_of_tops (formals_read skipped f.formals) ++ blocks_of_part e) (lower_body kind skipped f e)
+unfolding plain_body lower_formals
+body_enters None skipped f e = tells_bind entered
     (tells_bind entered (self_enters f.receiver) (λ s. tells_end entered (each_formal_enters skipped [] f.formals)
     (λ ps. tells_pure entered (s, ps))))
-    (λ g. tells_end entered (part_blocks e) (λ i. tells_pure entered (g, i)))
+    (λ g. tells_end entered (part_blocks e) (λ i. tells_pure entered ((g, g), i)))
+body_enters (Some kind) skipped f e =
+    coroutine_body_tells entered kind skipped f e (self_enters f.receiver) (each_formal_enters skipped [] f.formals) (part_blocks e)

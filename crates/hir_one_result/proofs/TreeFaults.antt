@@ -3,6 +3,7 @@ use Rattle.std.proofs.Common.{◌≡◌, refl, subst, sym, List, [], ◌∷◌, 
 use Rattle.std.proofs.Common.{true, false, true≢false}
 use Rattle.std.proofs.lemmas.List.Sorted.{IsPermutation-refl, IsPermutation-trans, IsPermutation-append, IsPermutation-append_comm}
 use Rattle.hir_store.specs.Stored.{Stored}
+use Rattle.hir_store.specs.declared.hir.CoroutineKind.{CoroutineKind}
 use Rattle.hir_store.specs.declared.ids.BlockId.{BlockId}
 use Rattle.hir_store.specs.declared.hir.Statement.{Statement}
 use Rattle.hir_store.specs.declared.ids.ExprId.{ExprId}
@@ -50,6 +51,7 @@ use Rattle.hir_one_result.proofs.Telling.{cast_tells, record_tells, offset_of_te
 use Rattle.hir_one_result.proofs.Telling.{block_form_tells, labelled_tells, tells_alloc, tells_aside, constant_tells, inner_tells}
 use Rattle.hir_one_result.proofs.Telling.{repeat_tells, const_tells, rooted_tells}
 use Rattle.hir_one_result.proofs.ClosureTelling.{closure_tells, coroutine_tells, param_tells, yield_tells}
+use Rattle.hir_one_result.proofs.CoroutineTelling.{coroutine_body_tells, coroutine_closure_tells}
 use Rattle.hir_lower_form.specs.Walks.{start, super_read}
 use Rattle.hir_one_result.proofs.PathTelling.{tells_type, over_tells, array_tells, tuple_tells, path_type_tells, ref_tells, fn_tells}
 use Rattle.hir_one_result.proofs.PathTelling.{impl_tells, dyn_tells, path_bound_tells, reads_then, whole_tells, first_tells, counted_tells}
@@ -69,7 +71,7 @@ use Rattle.hir_store.specs.declared.pat.RecordFieldPat.{RecordFieldPat}
 use Rattle.hir_store.specs.declared.ids.PatId.{PatId}
 use Rattle.hir_lower_form.specs.Pats as forms
 use Rattle.hir_lower_form.specs.Pats.{Elements, Table, no_elements, no_names, next_alternative}
-use Rattle.hir_one_result.specs.Formals.{lower_self, lower_formal, each_formal, lower_formals, lower_body}
+use Rattle.hir_one_result.specs.Formals.{lower_self, lower_formal, each_formal, lower_formals, lower_body, plain_body}
 use Rattle.hir_one_result.proofs.PatTelling.{tells_pat, tells_binding, missing_pat_tells, alone_tells, settle_tells, element_tells}
 use Rattle.hir_one_result.proofs.PatTelling.{path_pat_tells, bind_tells, over_pat_tells, tuple_pat_tells, tuple_struct_tells}
 use Rattle.hir_one_result.proofs.PatTelling.{record_pat_tells, pat_field_tells, slice_pat_tells, or_tells, literal_pat_tells}
@@ -306,6 +308,8 @@ mutual
   node_faults (tree.const_expr at c) = const_tells reported at (rooted_reports c)
   node_faults (tree.closure_expr at moves is_static xs t e) = closure_tells reported at moves is_static
       (params_reports no_closure_params xs) (present_type_reports t) (part_faults e)
+  node_faults (tree.coroutine_closure_expr at kind moves xs t e) = coroutine_closure_tells reported at kind moves
+      (params_reports no_closure_params xs) (present_type_reports t) (part_faults e)
   node_faults (tree.method_call_expr at e name es generics) =
       method_call_tells reported at name (part_faults e) (each_faults [] es) (args_reports generics)
   node_faults (tree.cast_expr at e t) = cast_tells reported at (part_faults e) (type_reports None t)
@@ -518,9 +522,17 @@ each_formal_reports : (skipped : Bool) (done : List PatId) (fs : List Formal)
 each_formal_reports skipped done [] = tells_pure reported done
 each_formal_reports skipped done (f ∷ fs) = tells_bind reported (formal_reports skipped f) (λ x. each_formal_reports skipped _ fs)
 
-pub body_reports : (skipped : Bool) (f : Formals) (e : OptionExpr) → Reports (λ ss. body_faults skipped ss f e) (lower_body skipped f e)
-unfolding lower_body lower_formals
-body_reports skipped f e = tells_bind reported
+pub body_reports : (kind : Option CoroutineKind) (skipped : Bool) (f : Formals) (e : OptionExpr)
+    → Reports (λ ss. body_faults skipped ss f e) (lower_body kind skipped f e)
+unfolding plain_body lower_formals
+body_reports None skipped f e = tells_bind reported
     (tells_bind reported (self_reports f.receiver) (λ s. tells_end reported (each_formal_reports skipped [] f.formals)
     (λ ps. tells_pure reported (s, ps))))
-    (λ g. tells_end reported (part_faults e) (λ i. tells_pure reported (g, i)))
+    (λ g. tells_end reported (part_faults e) (λ i. tells_pure reported ((g, g), i)))
+body_reports (Some kind) skipped f e = tells_as reported
+    (coroutine_body_tells reported kind skipped f e (self_reports f.receiver) (each_formal_reports skipped [] f.formals) (part_faults e))
+    (λ ss.
+    let own = self_faults f.receiver in
+    let others = each_formal_faults skipped ss f.formals in
+    subst (λ ds. reported.Like ((own ++ others) ++ part_diagnostics ss e) ds) (append_assoc own others (part_diagnostics ss e))
+    (reported.same ((own ++ others) ++ part_diagnostics ss e)))

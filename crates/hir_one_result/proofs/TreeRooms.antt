@@ -1,6 +1,7 @@
 -- Lowering a tree stores as much as it becomes, or there is no room for it.
 use Rattle.std.proofs.Common.{◌≡◌, ◌∙◌, refl, sym, ap, Bool, true, false, List, [], ◌∷◌, ◌++◌, Option, Some, None, ◌||◌, length}
 use Rattle.std.proofs.Common.{append-nil, append_assoc}
+use Rattle.hir_store.specs.declared.hir.CoroutineKind.{CoroutineKind}
 use Rattle.hir_store.specs.declared.hir.Statement.{Statement}
 use Rattle.hir_store.specs.declared.ids.ExprId.{ExprId}
 use Rattle.hir_env.specs.Answered as tree
@@ -32,7 +33,7 @@ use Rattle.hir_lower_form.specs.Pats.{Elements, Table, no_elements, no_names, ne
 use Rattle.hir_lower_form.specs.Targets as targets
 use Rattle.hir_read_back.proofs.PatParts as parts
 use Rattle.hir_read_back.proofs.PatParts.{dots_or_part}
-use Rattle.hir_one_result.specs.Formals.{lower_self, each_formal, lower_formals, lower_body, formals_read}
+use Rattle.hir_one_result.specs.Formals.{lower_self, each_formal, lower_formals, lower_body, plain_body, formals_read}
 use Rattle.hir_one_result.specs.PatRoom.{names_after, names_after_part, names_after_each, names_after_fields, names_after_field}
 use Rattle.hir_one_result.specs.Size.{an_expr, ◌∪◌}
 use Rattle.hir_store.specs.declared.hir.RecordLitField.{RecordLitField}
@@ -49,6 +50,8 @@ use Rattle.hir_one_result.specs.Room.{type_pat_part_size, type_pats_size, limit_
 use Rattle.hir_one_result.specs.Room.{target_fields_size, target_field_size, tops_size, self_size, formals_size, body_size}
 use Rattle.hir_one_result.specs.Room.{param_size, params_size, rooted_size}
 use Rattle.hir_one_result.proofs.ClosureRooms.{closure_takes, const_block_takes, coroutine_takes, param_takes, takes_owned, yield_takes}
+use Rattle.hir_one_result.proofs.CoroutineRooms.{coroutine_closure_takes}
+use Rattle.hir_one_result.proofs.FunctionRooms.{coroutine_body_takes}
 use Rattle.hir_one_result.proofs.LastTree.{part_last}
 use Rattle.hir_one_result.proofs.Rooms.{Takes, takes_then, takes_as, takes_end, takes_begin, takes_pure, takes_report, takes_alloc}
 use Rattle.hir_one_result.proofs.Rooms.{takes_binding, takes_constant, takes_inner, takes_type, takes_pat}
@@ -297,6 +300,8 @@ mutual
   node_takes (tree.const_expr at c) = const_block_takes at (rooted_takes c)
   node_takes (tree.closure_expr at moves is_static xs t e) =
       closure_takes at moves is_static (params_take no_closure_params xs) (present_type_takes t) (part_takes e)
+  node_takes (tree.coroutine_closure_expr at kind moves xs t e) = coroutine_closure_takes kind xs t e
+      (params_take no_closure_params xs) (present_type_takes t) (part_takes e) at moves
   node_takes (tree.method_call_expr at e name es generics) =
       method_call_takes at name (part_takes e) (each_takes [] es) (takes_of (args_tell generics))
   node_takes (tree.cast_expr at e t) = cast_takes at (part_takes e) (type_part_takes None t)
@@ -515,6 +520,9 @@ unfolding lower_formals
 formals_take skipped f =
     takes_then (self_takes f.receiver) (λ s. takes_end (each_formal_takes skipped [] f.formals) (λ ps. takes_pure (s, ps)))
 
-pub body_takes : (skipped : Bool) (f : Formals) (e : OptionExpr) → Takes (body_size skipped f e) (lower_body skipped f e)
-unfolding lower_body
-body_takes skipped f e = takes_then (formals_take skipped f) (λ g. takes_end (part_takes e) (λ i. takes_pure (g, i)))
+pub body_takes : (kind : Option CoroutineKind) (skipped : Bool) (f : Formals) (e : OptionExpr)
+    → Takes (body_size kind skipped f e) (lower_body kind skipped f e)
+unfolding plain_body
+body_takes None skipped f e = takes_then (formals_take skipped f) (λ g. takes_end (part_takes e) (λ i. takes_pure ((g, g), i)))
+body_takes (Some kind) skipped f e =
+    coroutine_body_takes kind skipped f e (self_takes f.receiver) (each_formal_takes skipped [] f.formals) (part_takes e)

@@ -24,7 +24,7 @@ use Rattle.hir_env.specs.Targets.{head_pointer}
 use Rattle.hir_data.specs.Patterns.{uses_after, uses_after_part, uses_after_each, uses_after_fields, uses_of, part_uses, each_uses}
 use Rattle.hir_data.specs.Patterns.{field_uses}
 use Rattle.hir_read_back.proofs.PatParts.{dots_or_part}
-use Rattle.hir_lower_form.specs.Lower.{lower_fields, lower_spread, push_some, settled, lower}
+use Rattle.hir_lower_form.specs.Lower.{lower_fields, lower_spread, push_some, lower}
 use Rattle.hir_lower_form.specs.Lower.{lower_part, present, kept_part, lower_each, lower_block, lower_block_part, lower_stmts}
 use Rattle.hir_lower_form.specs.Lower.{lower_constant, lower_type, type_part, present_type, type_or_unit, lower_parts, read_segment}
 use Rattle.hir_lower_form.specs.Lower.{read_each, read_path, read_option, lower_path, lower_segment_args, parens_part, output_part}
@@ -41,8 +41,7 @@ use Rattle.hir_lower_form.specs.declared.args.ArgLists.{ArgLists}
 use Rattle.hir_lower_form.specs.declared.closures.ClosureParams.{ClosureParams}
 use Rattle.hir_lower_form.specs.declared.walk.PathWalk.{PathWalk}
 use Rattle.hir_steps.proofs.Barriers.{correct_yield}
-use Rattle.hir_steps.proofs.Frames.{ribs, ribs_frames}
-use Rattle.hir_one_result.specs.Laws.{AllStand}
+use Rattle.hir_steps.proofs.Frames.{ribs}
 use Rattle.hir_one_result.specs.Leads.{Ways, OneFieldWay, ◌&◌}
 use Rattle.hir_one_result.specs.PathRoom.{at_first}
 use Rattle.hir_one_result.specs.Stands.{StandsOthers, Open, Stands, StandsPresent, StandsBlock, StandsBlockPart, TypeWays, TypePartWays}
@@ -52,11 +51,11 @@ use Rattle.hir_one_result.specs.Stands.{TypePatWays, TypePatPartWays, TypePatsWa
 use Rattle.hir_one_result.specs.Stands.{StandsPresentBlock, StandsPat, StandsPatPart, StandsSubpat, StandsPats}
 use Rattle.hir_one_result.specs.Stands.{StandsElements, StandsPatFields, StandsSide, StandsTarget}
 use Rattle.hir_one_result.specs.StandsWhole.{ConstantWays, LimitWays, StandsTop}
-use Rattle.hir_one_result.proofs.AfterLowering.{after_lowering}
 use Rattle.hir_one_result.proofs.ClosureStands.{ParamsBehind, closure_stands, coroutine_stands, off_stands, params_for, params_more}
 use Rattle.hir_one_result.proofs.ClosureStands.{params_none, params_off}
+use Rattle.hir_one_result.proofs.CoroutineStanding.{coroutine_closure_stands}
 use Rattle.hir_one_result.proofs.Elements.{all_behind, all_elements, element_stands, no_alternatives, no_elements_stand}
-use Rattle.hir_one_result.proofs.Lasting.{Correct, bound, correct_as, correct_bind, correct_pure, correct_report, unchanged_settled}
+use Rattle.hir_one_result.proofs.Lasting.{Correct, correct_as, correct_bind, correct_pure, correct_report}
 use Rattle.hir_one_result.proofs.Leading.{Shown, shown_as, shown_none, shown_both, shown_after, shown_before, moved_then}
 use Rattle.hir_one_result.proofs.Naming.{PatFine, pat_next}
 use Rattle.hir_one_result.proofs.PathRooms.{seen}
@@ -244,6 +243,8 @@ mutual
   node_stands (tree.repeat_expr at e (tree.constant l)) = repeat_stands at (part_stands e) (constant_shows (part_stands l))
   node_stands (tree.const_expr at (tree.constant e)) = const_stands at (rooted_shows (part_stands e))
   node_stands (tree.closure_expr at moves is_static xs t e) = closure_stands (params_for xs) at moves is_static xs t e
+      (params_stand xs no_closure_params) (option_type_shown t (present_type_left t)) (part_stands e)
+  node_stands (tree.coroutine_closure_expr at kind moves xs t e) = coroutine_closure_stands (params_for xs) kind xs t e at moves
       (params_stand xs no_closure_params) (option_type_shown t (present_type_left t)) (part_stands e)
   node_stands (tree.method_call_expr at e name es generics) =
       method_call_stands at name (part_stands e) (all_stand_for es (each_stands [] es)) (args_shown generics (args_left generics))
@@ -577,23 +578,3 @@ mutual
       target_fields_more at None (assigned_stands t (target_stands t)) (target_fields_stand fs) done
   target_fields_stand (tree.more_target_fields (tree.target_field at (Some n) t) fs) done =
       target_fields_more at (Some n) (target_stands t) (target_fields_stand fs) done
-
-pub all_stand : AllStand
-all_stand e old id new paired is final ext settled =
-    let lasts = after_lowering (part_stands e) old id new paired is final ext in
-    let x = (lasts.rel (unchanged_settled (bound old.stored) settled)).shown in
-    let y = subst (λ rs. Shown (part final rs e id) old.stored new.stored) (sym (ribs_frames old.scopes)) x in
-    let m = y.moved in
-    record {
-      ways = y.ways;
-      stands = y.shown;
-      reaches = record {
-        covers = m.covers;
-        covers_labels = m.covers_labels;
-        covers_bindings = m.covers_bindings;
-        led = m.led;
-        labels = m.labels;
-        settled = lasts.settled;
-        defined = m.defined;
-      };
-    }

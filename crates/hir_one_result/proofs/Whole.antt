@@ -1,5 +1,5 @@
 -- What is stored where one body was lowered is one result of its tree.
-use Rattle.std.proofs.Common.{arith, refl, sym, ap, subst, ℕ, is_some, true≢false, [], ◌∷◌, ◌++◌, ◌∙◌}
+use Rattle.std.proofs.Common.{arith, refl, sym, ap, subst, ℕ, is_some, true≢false, map, [], ◌∷◌, ◌++◌, ◌∙◌}
 use Rattle.hir_store.proofs.Extending.{extends_refl, extends_root}
 use Rattle.hir_store.specs.Arenas.{Sourced, MapsBack}
 use Rattle.hir_store.specs.Stored.{store_of}
@@ -7,15 +7,18 @@ use Rattle.hir_store.specs.Storing.{root_at, record_root}
 use Rattle.hir_store.proofs.Maps.{maps_back_none}
 use Rattle.hir_steps.specs.Keeps.{KeepsAll, Keeps, Paired, Mapped}
 use Rattle.hir_steps.proofs.Keeping.{any, kept_by}
+use Rattle.hir_steps.proofs.Mapping.{maps_none}
 use Rattle.hir_one_result.specs.Laws.{Defined, Grown, GrownUnless}
 use Rattle.hir_one_result.specs.Leads.{LeadBack}
 use Rattle.hir_one_result.specs.OneResult.{OneResults, fresh_owing, in_root_of, with_root}
 use Rattle.hir_one_result.specs.Room.{body_size}
+use Rattle.hir_one_result.specs.Size.{led_source}
 use Rattle.hir_one_result.proofs.AfterLowering.{after_lowering}
 use Rattle.hir_one_result.proofs.Bodies.{body_stands}
 use Rattle.hir_one_result.proofs.Fits.{bodies_fit}
 use Rattle.hir_one_result.proofs.Lasting.{Unchanged}
 use Rattle.hir_one_result.proofs.Led.{leads_nowhere}
+use Rattle.hir_one_result.proofs.PatWays.{ways_back}
 use Rattle.hir_one_result.proofs.TreeBlocks.{body_enters}
 use Rattle.hir_one_result.proofs.TreeFaults.{body_reports}
 
@@ -28,11 +31,11 @@ lead_back place a h = record {
 
 pub one_results : OneResults
 unfolding record_root
-one_results limit owed skipped f e given id new is =
+one_results limit owed kind skipped f e given id new is =
     let old = in_root_of (fresh_owing limit owed) in
     let none : Paired old.stored = record { exprs = refl; labels = refl; pats = refl; types = refl; lifetimes = refl } in
     let nowhere : Mapped old.stored = record {
-      pats = maps_back_none (λ i. i.0) limit;
+      pats = maps_none (λ i. i.0) limit;
       types = maps_back_none (λ i. i.0) limit;
       lifetimes = maps_back_none (λ i. i.0) limit;
     } in
@@ -41,20 +44,21 @@ one_results limit owed skipped f e given id new is =
       each = λ b ps e. absurd (true≢false (sym (ap is_some e)));
       known = λ n b sub e. absurd (true≢false (sym (ap is_some e)));
     } in
-    let kept : KeepsAll old new = subst (λ r. Keeps old r.0 r.1) is (kept_by (any (body_stands skipped f e)) old) in
+    let kept : KeepsAll old new = subst (λ r. Keeps old r.0 r.1) is (kept_by (any (body_stands kind skipped f e)) old) in
     let paired = kept.paired none in
     let mapped = kept.mapped none nowhere in
     let final = with_root id new.stored in
     let stays = extends_root new.stored (root_at (store_of new.stored) id) in
-    let lasts = after_lowering (body_stands skipped f e) old (given, id) new none is final stays in
+    let lasts = after_lowering (body_stands kind skipped f e) old (given, id) new none is final stays in
     let same : Unchanged 0 new.stored final = record { at = λ n x le e. e } in
     let standing = (lasts.rel same).shown in
     let moved = standing.moved in
-    let fits : Grown (body_size skipped f e) old.stored new.stored =
-    subst (λ r. GrownUnless (body_size skipped f e) old r.0 r.1) is (bodies_fit skipped f e old) in
-    let reported = after_lowering (body_reports skipped f e) old (given, id) new none is new.stored (extends_refl new.stored) in
+    let fits : Grown (body_size kind skipped f e) old.stored new.stored =
+    subst (λ r. GrownUnless (body_size kind skipped f e) old r.0 r.1) is (bodies_fit kind skipped f e old none) in
+    let reported = after_lowering (body_reports kind skipped f e) old (given, id) new none is new.stored (extends_refl new.stored) in
     let faults = reported.told [] refl in
-    let blocks = (after_lowering (body_enters skipped f e) old (given, id) new none is new.stored (extends_refl new.stored)).told [] refl in
+    let entered = after_lowering (body_enters kind skipped f e) old (given, id) new none is new.stored (extends_refl new.stored) in
+    let blocks = entered.told [] refl in
     record {
       root = id;
       only = ap (λ rs. rs ++ root_at (store_of new.stored) id ∷ []) (kept.roots refl);
@@ -69,7 +73,8 @@ one_results limit owed skipped f e given id new is =
       pats = let n = fits.pats in omega (arith, n);
       types = let n = fits.types in omega (arith, n);
       lifetimes = let n = fits.lifetimes in omega (arith, n);
-      pat_ways = lead_back (λ i. i.0) new.stored.pats mapped.pats;
+      pat_ways = subst (λ es. LeadBack (λ i. i.0) es (map led_source (body_size kind skipped f e).pats)) (sym fits.pat_ways)
+          (ways_back (body_size kind skipped f e).pats);
       type_ways = lead_back (λ i. i.0) new.stored.types mapped.types;
       lifetime_ways = lead_back (λ i. i.0) new.stored.lifetimes mapped.lifetimes;
       definitions = moved.defined undefined;
@@ -78,6 +83,7 @@ one_results limit owed skipped f e given id new is =
       covers = moved.covers;
       covers_labels = moved.covers_labels;
       covers_bindings = moved.covers_bindings;
+      owner_ways = (moved.owners refl).are;
       leads = moved.led [] (leads_nowhere refl refl refl refl);
       labels = let l = moved.labels in omega (arith, l);
       more = faults.more;

@@ -175,6 +175,8 @@ abbrev mutual
   blocks_of (tree.repeat_expr at e c) = blocks_of_part e ++ blocks_of_constant c
   blocks_of (tree.const_expr at c) = blocks_of_constant c
   blocks_of (tree.closure_expr at moves is_static xs t e) = blocks_of_params xs ++ (blocks_of_present_type t ++ blocks_of_part e)
+  blocks_of (tree.coroutine_closure_expr at kind moves xs t e) =
+      blocks_of_params xs ++ (blocks_of_present_type t ++ blocks_of_part e)
   blocks_of (tree.method_call_expr at e name es generics) = blocks_of_part e ++ (blocks_of_each es ++ blocks_of_args generics)
   blocks_of (tree.cast_expr at e t) = blocks_of_part e ++ blocks_of_type_part t
   blocks_of (tree.record_expr at p head fs s) =

@@ -202,6 +202,8 @@ abbrev mutual
   -- no jump in it reaches what is open around it
   diagnostics ss (tree.closure_expr at moves is_static xs t e) =
       params_faults (barrier ∷ ss) xs ++ (present_type_faults (barrier ∷ ss) t ++ part_diagnostics (barrier ∷ ss) e)
+  diagnostics ss (tree.coroutine_closure_expr at kind moves xs t e) =
+      let inside = barrier ∷ ss in params_faults inside xs ++ (present_type_faults inside t ++ part_diagnostics inside e)
   diagnostics ss (tree.method_call_expr at e name es generics) =
       part_diagnostics ss e ++ (each_diagnostics ss es ++ args_faults ss generics)
   diagnostics ss (tree.cast_expr at e t) = part_diagnostics ss e ++ type_part_faults ss t

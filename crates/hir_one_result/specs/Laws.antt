@@ -1,8 +1,9 @@
 -- What lowering a tree does to what is stored.
-use Rattle.std.specs.Prelude.{◌≡◌, ◌+◌, Bool, List, ◌++◌, length, Option, Ok, Err, IsPermutation}
+use Rattle.std.specs.Prelude.{◌≡◌, ◌+◌, Bool, List, ◌++◌, length, map, Option, Ok, Err, IsPermutation}
 use Rattle.hir_store.specs.Arenas.{Prefix}
 use Rattle.hir_store.specs.Stored.{Stored, store_of, map_of}
 use Rattle.hir_store.specs.Storing.{Checked, Extends}
+use Rattle.hir_store.specs.declared.hir.CoroutineKind.{CoroutineKind}
 use Rattle.hir_store.specs.declared.ids.ExprId.{ExprId}
 use Rattle.hir_store.specs.declared.ids.LabelId.{LabelId}
 use Rattle.hir_env.specs.Answered.{Binder, Formals, OptionType, OptionPath, OptionExpr}
@@ -13,11 +14,11 @@ use Rattle.hir_lower_form.specs.Lower.{type_part, lower_path, lower_part}
 use Rattle.hir_steps.specs.Keeps.{Paired}
 use Rattle.hir_one_result.specs.Definitions.{DefinitionsAre}
 use Rattle.hir_one_result.specs.Formals.{lower_body}
-use Rattle.hir_one_result.specs.Leads.{Way, label_ways, Covers, CoversLabels, CoversBindings, Led}
+use Rattle.hir_one_result.specs.Leads.{Way, label_ways, Covers, CoversLabels, CoversBindings, Led, OwnersAre}
 use Rattle.hir_one_result.specs.Stands.{StandsPart}
 use Rattle.hir_one_result.specs.Diagnostics.{Faults, part_diagnostics, Around}
 use Rattle.hir_one_result.specs.Blocks.{blocks_of_part}
-use Rattle.hir_one_result.specs.Size.{Size, placed}
+use Rattle.hir_one_result.specs.Size.{Size, pat_source_of, pats_led, placed}
 use Rattle.hir_one_result.specs.Room.{Short, body_size, size_part, type_part_size, whole_size}
 
 -- what is claimed where the tree is lowered into a `Paired` store
@@ -35,8 +36,12 @@ Settled old new = Prefix old.bindings.entries new.bindings.entries
 abbrev pub Defined : Stored → Type 0
 Defined s = DefinitionsAre s.pats.entries (length s.bindings.entries) s.bindings.definitions
 
+-- Of each binding it is stored what owns it, or that nothing does.
+abbrev pub MayBeOwned : Stored → Type 0
+MayBeOwned s = length s.bindings.owners ≡ length s.bindings.entries
+
 -- What is stored between these two is what these ways lead to: what led somewhere before leads there or by the ways, and each
--- expression, label and binding more is the end of one.
+-- expression, label and binding more is the end of one. What owns a binding is what its way says.
 pub record Reaches (old new : Stored) (ways : List Way) : Type 0 where
   pub covers : Covers ways (length old.exprs.entries) (length new.exprs.entries)
   pub covers_labels : CoversLabels ways (length old.labels.entries) (length new.labels.entries)
@@ -45,6 +50,7 @@ pub record Reaches (old new : Stored) (ways : List Way) : Type 0 where
   pub labels : length new.labels.entries ≡ length old.labels.entries + label_ways ways
   pub settled : Settled old new
   pub defined : Defined old → Defined new
+  pub owner_ways : MayBeOwned old → OwnersAre new.bindings.owners ways
 
 -- The expression stands for the tree, and so does each one that is stored with it.
 pub record Standing (final : Stored) (e : OptionExpr) (old new : Builder) (id : ExprId) : Type 0 where
@@ -81,12 +87,8 @@ BlocksAre = WhereLowered (λ e old id new. new.stored.block_scopes ≡ old.store
 
 -- numbers
 
--- Of each binding it is stored what owns it, or that nothing does.
-abbrev pub MayBeOwned : Stored → Type 0
-MayBeOwned s = length s.bindings.owners ≡ length s.bindings.entries
-
--- So many expressions, labels and bindings come behind those that were stored, each binding with what owns it, and patterns, types and
--- lifetimes with these sources.
+-- So many expressions, labels and bindings come behind those that were stored, and patterns, types and lifetimes with these sources. Of
+-- patterns it is said which the nodes lead to, and of bindings the numbers of what owns them, in the order in which they come.
 pub record Grown (n : Size) (old new : Stored) : Type 0 where
   pub exprs : length new.exprs.entries ≡ length old.exprs.entries + n.exprs
   pub labels : length new.labels.entries ≡ length old.labels.entries + n.labels
@@ -94,7 +96,8 @@ pub record Grown (n : Size) (old new : Stored) : Type 0 where
   pub owners : MayBeOwned old → new.bindings.owners ≡ old.bindings.owners ++ placed (length old.exprs.entries) n.owners
   pub may_be_owned : MayBeOwned old → MayBeOwned new
   pub pats : length new.pats.entries ≡ length old.pats.entries + length n.pats
-  pub pat_sources : new.pats.sources ≡ old.pats.sources ++ n.pats
+  pub pat_sources : new.pats.sources ≡ old.pats.sources ++ map pat_source_of n.pats
+  pub pat_ways : new.pats.map ≡ pats_led (length old.pats.entries) n.pats old.pats.map
   pub types : length new.types.entries ≡ length old.types.entries + length n.types
   pub lifetimes : length new.lifetimes.entries ≡ length old.lifetimes.entries + length n.lifetimes
   pub type_sources : new.types.sources ≡ old.types.sources ++ n.types
@@ -112,19 +115,20 @@ abbrev pub FitsUnless : OptionExpr → Builder → Checked ExprId → Builder �
 FitsUnless e old result new = GrownUnless (size_part e) old result new
 
 abbrev pub AllFit : Type 0
-AllFit = (e : OptionExpr) (old : Builder) → FitsUnless e old (lower_part e old).0 (lower_part e old).1
+AllFit = (e : OptionExpr) (old : Builder) → Paired old.stored → FitsUnless e old (lower_part e old).0 (lower_part e old).1
 
 -- so it is of types and paths by themselves
 
 abbrev pub TypesFit : Type 0
-TypesFit = (binder : Option Binder) (t : OptionType) (old : Builder)
+TypesFit = (binder : Option Binder) (t : OptionType) (old : Builder) → Paired old.stored
     → GrownUnless (type_part_size t) old (type_part binder t old).0 (type_part binder t old).1
 
 abbrev pub PathsFit : Type 0
-PathsFit = (p : OptionPath) (old : Builder) → GrownUnless (whole_size p) old (lower_path p old).0 (lower_path p old).1
+PathsFit = (p : OptionPath) (old : Builder) → Paired old.stored
+    → GrownUnless (whole_size p) old (lower_path p old).0 (lower_path p old).1
 
 -- and of bodies behind their parameters
 
 abbrev pub BodiesFit : Type 0
-BodiesFit = (skipped : Bool) (f : Formals) (e : OptionExpr) (old : Builder)
-    → GrownUnless (body_size skipped f e) old (lower_body skipped f e old).0 (lower_body skipped f e old).1
+BodiesFit = (kind : Option CoroutineKind) (skipped : Bool) (f : Formals) (e : OptionExpr) (old : Builder) → Paired old.stored
+    → GrownUnless (body_size kind skipped f e) old (lower_body kind skipped f e old).0 (lower_body kind skipped f e old).1

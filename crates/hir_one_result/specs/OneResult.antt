@@ -1,7 +1,11 @@
 -- Store, source map and faults of a lowered body are one result of its tree.
-use Rattle.std.specs.Prelude.{◌≡◌, ℕ, Bool, true, false, List, [], ◌∷◌, ◌++◌, length, Option, Some, Ok, IsPermutation, slice_get}
+use Rattle.std.specs.Prelude.{◌≡◌, ℕ, Bool, true, false, List, [], ◌∷◌, ◌++◌, length, map, Option, Some, None, Ok, IsPermutation}
+use Rattle.std.specs.Prelude.{slice_get}
 use Rattle.hir_store.specs.Stored.{Stored, Store, SourceMap, store_of, map_of}
 use Rattle.hir_store.specs.Storing.{root_at, record_root}
+use Rattle.hir_store.specs.declared.hir.CoroutineKind.{CoroutineKind}
+use Rattle.hir_store.specs.declared.hir.CoroutineSource.TheVariants as source
+use Rattle.hir_store.specs.declared.hir.Statement.{Statement}
 use Rattle.hir_store.specs.declared.ids.BindingId.{BindingId}
 use Rattle.hir_store.specs.declared.ids.ExprId.{ExprId}
 use Rattle.hir_store.specs.declared.ids.PatId.{PatId}
@@ -13,12 +17,13 @@ use Rattle.hir_lower_form.specs.Pats.{new_binding}
 use Rattle.hir_one_result.specs.Blocks.{blocks_of_part, blocks_of_tops}
 use Rattle.hir_one_result.specs.Definitions.{DefinitionsAre}
 use Rattle.hir_one_result.specs.Diagnostics.{Faults, body_faults}
-use Rattle.hir_one_result.specs.Formals.{Given, formals_read, lower_body}
-use Rattle.hir_one_result.specs.Leads.{Way, Ways, No, OneBindingWay, ◌&◌, label_ways, Covers, CoversLabels, CoversBindings, MapLeads}
-use Rattle.hir_one_result.specs.Leads.{LeadBack}
-use Rattle.hir_one_result.specs.Room.{body_size}
-use Rattle.hir_one_result.specs.Size.{placed}
+use Rattle.hir_one_result.specs.Formals.{Given, Received, formals_read, lower_body}
+use Rattle.hir_one_result.specs.Leads.{Way, Ways, No, OneBindingWay, OneUnled, OwnedBy, ◌&◌, label_ways, Covers, CoversLabels}
+use Rattle.hir_one_result.specs.Leads.{CoversBindings, LeadBack, MapLeads, OwnersAre}
+use Rattle.hir_one_result.specs.Room.{body_size, formals_data}
+use Rattle.hir_one_result.specs.Size.{led_source, pat_source_of, placed}
 use Rattle.hir_one_result.specs.Stands.{Open, Absent, StandsBefore, StandsPart}
+use Rattle.hir_one_result.specs.StandsPreludes.{IsCoroutine, Named, StandsHanded, StandsLets, StandsSelfLet}
 use Rattle.hir_one_result.specs.StandsWhole.{StandsTop}
 
 -- what stands for a body and its parameters
@@ -35,45 +40,61 @@ StandsTops store source_map rs [] is = λ ws. (is ≡ []) × No ws
 StandsTops store source_map rs (p ∷ ps) is =
     StandsBefore false (λ i. StandsTop store source_map rs p i) (λ others. StandsTops store source_map rs ps others) is
 
-abbrev pub StandsGiven : Store → SourceMap → Open → Bool → Formals → Given → Ways
+abbrev pub StandsGiven : Store → SourceMap → Open → Bool → Formals → Received → Ways
 StandsGiven store source_map rs skipped f given =
     StandsSelf store f.receiver given.0 & StandsTops store source_map rs (formals_read skipped f.formals) given.1
 
--- What is stored where one body was lowered, behind its parameters, which may be skipped. To the one root belongs all that is
--- stored, each with its source, as many expressions and bindings as the tree becomes, and patterns, types and lifetimes from
--- just those of its nodes that become one. The root stands for the tree, and each expression is what a written one became, or a
+-- A plain body is handed what was written. What the outside hands the arguments of a coroutine to is `self` in front of it, and behind
+-- it a pattern for each other parameter; in it `self` is what a `let` makes it. The coroutine owns what is bound in it.
+abbrev pub StandsBody : Store → SourceMap → Open → Option CoroutineKind → Bool → Formals → OptionExpr → Given → ExprId → Ways
+StandsBody store source_map rs None skipped f e given i = λ ws. (given.1 ≡ given.0)
+    × (StandsGiven store source_map rs skipped f given.0 & StandsPart store source_map rs e i) ws
+StandsBody store source_map rs (Some kind) skipped f e given i = λ ws. (body : ExprId) × (begin : List Statement) × (xs : List Named)
+    × (lets : List Statement) × (block : ExprId) × IsCoroutine store source_map kind source.Fn (begin ++ lets) body block i
+    × (StandsSelf store f.receiver given.0.0
+    & OwnedBy i (StandsTops store source_map rs (formals_read skipped f.formals) given.1.1 & StandsPart store source_map rs e body
+    & StandsSelfLet store source_map f.receiver given.1.0 begin
+    & StandsLets store source_map xs (formals_data skipped f.formals) given.1.1 lets & OneUnled block & OneUnled i)
+    & StandsHanded store source_map xs (formals_data skipped f.formals) given.0.1) ws
+
+-- What is stored where one body was lowered, behind its parameters, which may be one of a function that is a coroutine, and may be
+-- skipped. To the one root belongs all that is stored, each with its source, as many expressions and bindings as the tree becomes, and
+-- patterns, types and lifetimes from just those of its nodes that become one, and patterns that are made up for those of parameters. The
+-- root stands for the tree, and each expression is what a written one became, or a
 -- missing one for an absent or disabled part, or in front of a tuple with a leading comma, or what is called for a range, or
--- the turn of a `while` or the break in it, or the block in a coroutine, or is made up for a `for`, a `?` or a `try`; each label is
--- what a written one or a `try` became, and there are as many; each binding is that of a name of a top pattern, or of `self`, or of
--- a name that is made up, has the patterns that make it, and is owned by the innermost closure, coroutine, `const` block, length or
--- argument around it, or by nothing. The source map leads from each written expression and label to what it became, and from
--- nowhere else; the nodes of patterns, types and lifetimes lead to them, and no other nodes do. Behind the faults that the body
--- owes as a whole come those of what is read of the tree, in some order. The blocks with numbers are those of the tree, in the
--- order of entering.
-pub record OneResult (store : Store) (source_map : SourceMap) (owed : Faults) (skipped : Bool) (f : Formals) (given : Given)
-    (e : OptionExpr) : Type 0 where
+-- the turn of a `while` or the break in it, or the block in a coroutine, or the coroutine of a closure or a function or a name that is
+-- read in front of its body, or is made up for a `for`, a `?` or a `try`; each label is what a written one or a `try` became, and there
+-- are as many; each binding is that of a name of a top pattern, or of `self`, or of a name that is made up or that a parameter is handed
+-- in by, has the patterns that make it, and is owned by the innermost closure, coroutine, `const` block, length or argument around it, or
+-- by nothing, as its way says and as it is counted. The source map leads from each written expression and label to what it became, and
+-- from nowhere else; the nodes of patterns, types and lifetimes lead to them, but for patterns that are made up, and no other nodes do.
+-- Behind the faults that the body owes as a whole come those of what is read of the tree, in some order. The blocks with numbers are those
+-- of the tree, in the order of entering.
+pub record OneResult (store : Store) (source_map : SourceMap) (owed : Faults) (kind : Option CoroutineKind) (skipped : Bool) (f : Formals)
+    (given : Given) (e : OptionExpr) : Type 0 where
   pub root : ExprId
   pub only : store.roots ≡ root_at store root ∷ []
   pub expr_sources : length source_map.expr_sources ≡ length store.exprs
   pub label_sources : length source_map.label_sources ≡ length store.labels
-  pub pat_sources : source_map.pat_sources ≡ (body_size skipped f e).pats
-  pub type_sources : source_map.type_sources ≡ (body_size skipped f e).types
-  pub lifetime_sources : source_map.lifetime_sources ≡ (body_size skipped f e).lifetimes
-  pub exprs : length store.exprs ≡ (body_size skipped f e).exprs
-  pub bindings : length store.bindings ≡ (body_size skipped f e).bindings
-  pub owners : store.binding_owners ≡ placed 0 (body_size skipped f e).owners
-  pub pats : length store.pats ≡ length (body_size skipped f e).pats
-  pub types : length store.types ≡ length (body_size skipped f e).types
-  pub lifetimes : length store.lifetimes ≡ length (body_size skipped f e).lifetimes
-  pub pat_ways : LeadBack (λ i. i.0) source_map.pat_map source_map.pat_sources
+  pub pat_sources : source_map.pat_sources ≡ map pat_source_of (body_size kind skipped f e).pats
+  pub type_sources : source_map.type_sources ≡ (body_size kind skipped f e).types
+  pub lifetime_sources : source_map.lifetime_sources ≡ (body_size kind skipped f e).lifetimes
+  pub exprs : length store.exprs ≡ (body_size kind skipped f e).exprs
+  pub bindings : length store.bindings ≡ (body_size kind skipped f e).bindings
+  pub owners : store.binding_owners ≡ placed 0 (body_size kind skipped f e).owners
+  pub pats : length store.pats ≡ length (body_size kind skipped f e).pats
+  pub types : length store.types ≡ length (body_size kind skipped f e).types
+  pub lifetimes : length store.lifetimes ≡ length (body_size kind skipped f e).lifetimes
+  pub pat_ways : LeadBack (λ i. i.0) source_map.pat_map (map led_source (body_size kind skipped f e).pats)
   pub type_ways : LeadBack (λ i. i.0) source_map.types_map source_map.type_sources
   pub lifetime_ways : LeadBack (λ i. i.0) source_map.lifetime_map source_map.lifetime_sources
   pub definitions : DefinitionsAre store.pats (length store.bindings) source_map.binding_definitions
   pub ways : List Way
-  pub stands : (StandsGiven store source_map [] skipped f given & StandsPart store source_map [] e root) ways
+  pub stands : StandsBody store source_map [] kind skipped f e given root ways
   pub covers : Covers ways 0 (length store.exprs)
   pub covers_labels : CoversLabels ways 0 (length store.labels)
   pub covers_bindings : CoversBindings ways 0 (length store.bindings)
+  pub owner_ways : OwnersAre store.binding_owners ways
   pub leads : MapLeads source_map ways
   pub labels : length store.labels ≡ label_ways ways
   pub more : Faults
@@ -94,6 +115,6 @@ with_root root s = (record_root root s).1
 
 -- so it is where a body is lowered first, and is the root
 abbrev pub OneResults : Type 0
-OneResults = (limit : ℕ) (owed : Faults) (skipped : Bool) (f : Formals) (e : OptionExpr) (given : Given) (id : ExprId) (new : Builder)
-    → lower_body skipped f e (in_root_of (fresh_owing limit owed)) ≡ (Ok (given, id), new)
-    → OneResult (store_of (with_root id new.stored)) (map_of (with_root id new.stored)) owed skipped f given e
+OneResults = (limit : ℕ) (owed : Faults) (kind : Option CoroutineKind) (skipped : Bool) (f : Formals) (e : OptionExpr) (given : Given)
+    (id : ExprId) (new : Builder) → lower_body kind skipped f e (in_root_of (fresh_owing limit owed)) ≡ (Ok (given, id), new)
+    → OneResult (store_of (with_root id new.stored)) (map_of (with_root id new.stored)) owed kind skipped f given e

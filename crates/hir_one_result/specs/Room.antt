@@ -2,16 +2,19 @@
 -- parentheses become none besides what is in them, and a range may become a call of one more. An absent or disabled part is one
 -- missing expression, or none where the form knows none, and so is what stands in front of a tuple with a leading comma. Nothing
 -- in a disabled node becomes anything. Patterns likewise; each name of a top pattern becomes one binding, at its first use.
-use Rattle.std.specs.Prelude.{◌+◌, ◌<◌, ◌≤◌, ◌^◌, ◌⊎◌, ◌||◌, [], ◌∷◌, Option, Some, None, Bool, true, false, is_some, not, length}
+use Rattle.std.specs.Prelude.{◌+◌, ◌<◌, ◌≤◌, ◌^◌, ◌⊎◌, ◌||◌, List, [], ◌∷◌, map, length, Option, Some, None, is_some}
+use Rattle.std.specs.Prelude.{Bool, true, false, not}
+use Rattle.hir_store.specs.declared.hir.CoroutineKind.{CoroutineKind}
 use Rattle.hir_env.specs.Answered as tree
 use Rattle.hir_env.specs.Answered.{Type_, OptionType, Parts, Path, OptionPath, Segments, Segment, SegmentArgs, OptionParens, OptionRet}
 use Rattle.hir_env.specs.Answered.{OptionArgs, Args, Arg, Bounds, Bound, Constant, Listing, Label, Expr, OptionExpr, Exprs, Fields, Field}
 use Rattle.hir_env.specs.Answered.{Spread, Block, OptionBlock, Stmts, Stmt, Arms, Arm, Guard, Pat, OptionPat, Pats, PatFields, PatField}
 use Rattle.hir_env.specs.Answered.{Side, TypePat, OptionTypePat, TypePats, Limit, Target, Targets, TargetFields, TargetField, SelfFormal}
-use Rattle.hir_env.specs.Answered.{Formals, Param, Params}
-use Rattle.hir_data.specs.Patterns.{is_dots, ellipsis_of}
+use Rattle.hir_env.specs.Answered.{Formal, Formals, Param, Params}
+use Rattle.hir_data.specs.Data.{PatData}
+use Rattle.hir_data.specs.Patterns.{is_dots, ellipsis_of, written_pat}
 use Rattle.hir_data.specs.Targets.{target_dots}
-use Rattle.hir_data.specs.Tops.{Tops}
+use Rattle.hir_data.specs.Tops.{Tops, params_tops}
 use Rattle.hir_data.specs.Uses.{FirstUses}
 use Rattle.hir_lower_form.specs.Builder.{Builder}
 use Rattle.hir_meaning.specs.InnerWritten.{constant_body, limit_body}
@@ -19,6 +22,7 @@ use Rattle.hir_meaning.specs.Left.{is_kept, is_left, gives_value}
 use Rattle.hir_one_result.specs.Formals.{formals_read}
 use Rattle.hir_one_result.specs.PatRoom.{names_after, names_after_part, names_after_each, names_after_field, name_size, front_pat_size}
 use Rattle.hir_one_result.specs.PatRoom.{or_size, name_side_size, rest_size, range_size}
+use Rattle.hir_one_result.specs.PreludeRoom.{handed_size, prelude_size, self_let_size}
 use Rattle.hir_one_result.specs.Size.{Size, nothing, an_expr, a_label, a_binding, a_pat, a_type, a_lifetime, a_super, a_body, dots_behind}
 use Rattle.hir_one_result.specs.Size.{a_made_name, a_made_bind, a_flow_arm, a_for_turn, an_item_call, owned, ◌∪◌, if_so, or_missing}
 use Rattle.hir_one_result.specs.PathRoom.{Seen, nothing_seen, at_first, segments_read, own_read, whole_read, before, yields, lifetime_size}
@@ -200,6 +204,10 @@ abbrev mutual
       ∪ a_made_name ∪ type_size t ∪ a_made_bind ∪ an_expr ∪ an_expr
   -- the block, which comes from no node, and the coroutine
   size (tree.coroutine_expr at kind moves number ss e) = owned ((stmts_size ss ∪ size_kept e) ∪ an_expr ∪ an_expr)
+  -- what is in the coroutine, which is owned by that; what the outside hands its parameters to; and the closure
+  size (tree.coroutine_closure_expr at kind moves xs t e) =
+      let ys = map written_pat (params_tops xs) in
+      owned (owned (params_size xs ∪ present_size t ∪ size_part e ∪ prelude_size ys ∪ an_expr ∪ an_expr) ∪ handed_size ys ∪ an_expr)
   size (tree.call_expr at f has_list es) = size_part f ∪ size_each es ∪ an_expr
   size (tree.path_expr at p h) = whole_size p ∪ an_expr
   size (tree.continue_expr at jump) = an_expr
@@ -415,8 +423,21 @@ self_size (tree.self_formal at u _) = a_binding
 abbrev pub formals_size : Bool → Formals → Size
 formals_size skipped f = self_size f.receiver ∪ tops_size (formals_read skipped f.formals)
 
-abbrev pub body_size : Bool → Formals → OptionExpr → Size
-body_size skipped f e = formals_size skipped f ∪ size_part e
+-- what the patterns of what is read of the parameters are
+abbrev pub formals_data : Bool → List Formal → List PatData
+formals_data skipped fs = map written_pat (formals_read skipped fs)
+
+-- in a coroutine that a function becomes: its parameters but `self`, its body, its prelude, and two expressions
+abbrev pub in_coroutine_size : Bool → Formals → OptionExpr → Size
+in_coroutine_size skipped f e =
+    tops_size (formals_read skipped f.formals) ∪ size_part e ∪ self_let_size f.receiver ∪ prelude_size (formals_data skipped f.formals)
+    ∪ an_expr ∪ an_expr
+
+-- Where the function is a coroutine, that owns what is bound in it, and nothing owns what the outside hands arguments to.
+abbrev pub body_size : Option CoroutineKind → Bool → Formals → OptionExpr → Size
+body_size None skipped f e = formals_size skipped f ∪ size_part e
+body_size (Some kind) skipped f e =
+    self_size f.receiver ∪ owned (in_coroutine_size skipped f e) ∪ handed_size (formals_data skipped f.formals)
 
 -- There is no room for so much behind what a builder has: some arena would hold more than it may, or something counts too far, be it
 -- the names that are made up.
@@ -435,6 +456,6 @@ Short n b =
 abbrev pub TooLarge : Builder → OptionExpr → Type 0
 TooLarge b e = Short (size_part e) b
 
--- nor for a body with its parameters, which may be skipped
-abbrev pub BodyTooLarge : Builder → Bool → Formals → OptionExpr → Type 0
-BodyTooLarge b skipped f e = Short (body_size skipped f e) b
+-- nor for a body with its parameters, which may be a coroutine, or be skipped
+abbrev pub BodyTooLarge : Builder → Option CoroutineKind → Bool → Formals → OptionExpr → Type 0
+BodyTooLarge b kind skipped f e = Short (body_size kind skipped f e) b

@@ -1,9 +1,31 @@
 -- What lowering stores, and what it counts.
-use Rattle.std.specs.Prelude.{ℕ, ◌+◌, ◌-◌, ◌≤◌, ◌^◌, ◌⊎◌, Bool, true, false, List, [], ◌∷◌, ◌++◌, map, Option, Some, None, option_map}
+use Rattle.std.specs.Prelude.{ℕ, suc, ◌+◌, ◌-◌, ◌≤◌, ◌^◌, ◌⊎◌, Bool, true, false, List, [], ◌∷◌, ◌++◌, map, Option, Some, None, option_map}
+use Rattle.hir_store.specs.Arenas.{pointed}
 use Rattle.hir_store.specs.Pointers.{Pointer}
-use Rattle.hir_store.specs.Storing.{expr_id}
+use Rattle.hir_store.specs.Storing.{expr_id, pat_id}
 use Rattle.hir_store.specs.declared.ids.ExprId.{ExprId}
+use Rattle.hir_store.specs.declared.ids.PatId.{PatId}
 use Rattle.hir_meaning.specs.InnerWritten.{InnerBody, Bodies}
+
+-- Where a pattern comes from: from a node, which leads to it, or from none; or it is made up for a node, which doesn't lead to it, or for
+-- none.
+pub data PatFrom : Type 0 where
+  from_node : Option Pointer → PatFrom
+  made_for : Option Pointer → PatFrom
+
+abbrev pub pat_source_of : PatFrom → Option Pointer
+pat_source_of (from_node source) = source
+pat_source_of (made_for source) = source
+
+-- the node that leads to it
+abbrev pub led_source : PatFrom → Option Pointer
+led_source (from_node source) = source
+led_source (made_for source) = None
+
+-- where the nodes of patterns lead once these are stored, of which the first has this number
+abbrev pub pats_led : ℕ → List PatFrom → List (Pointer × PatId) → List (Pointer × PatId)
+pats_led n [] es = es
+pats_led n (x ∷ xs) es = pats_led (suc n) xs (pointed es (led_source x) (pat_id n))
 
 pub record Size : Type 1 where
   pub exprs : ℕ
@@ -15,7 +37,7 @@ pub record Size : Type 1 where
   -- names that lowering makes up
   pub names : ℕ
   -- of each pattern, each type and each lifetime where it comes from, in the order in which they are stored
-  pub pats : List (Option Pointer)
+  pub pats : List PatFrom
   pub types : List (Option Pointer)
   pub lifetimes : List (Option Pointer)
   -- the bodies inside that stand in no other one, in the order in which they are done
@@ -50,7 +72,11 @@ abbrev pub a_made_name : Size
 a_made_name = record nothing { names = 1 }
 
 abbrev pub a_pat : Option Pointer → Size
-a_pat source = record nothing { pats = source ∷ [] }
+a_pat source = record nothing { pats = from_node source ∷ [] }
+
+-- one that is made up for a node
+abbrev pub a_made_pat : Option Pointer → Size
+a_made_pat source = record nothing { pats = made_for source ∷ [] }
 
 abbrev pub a_type : Option Pointer → Size
 a_type source = record nothing { types = source ∷ [] }

@@ -1,14 +1,15 @@
 -- What stands in a store for a written tree: for each kept expression one stored expression of its form, which came from its own node
 -- and whose parts stand for its parts. An absent or disabled part is a missing expression that came from no node, or none where the
--- form knows none. What is made up for a form came from the form's node, but what makes the iterator of a `for` from that of its head,
--- and a pattern or the block in a coroutine from none. With it stand the ways of the tree: from the node of each written expression and
--- label to what it became, and to each missing one and each made up from no node. What its constants became stands for them, also where
--- nothing names it. A top pattern reads back as it is written, and so does one in a field without a name, which is part of nothing; the
--- names of a top pattern have one binding each, and what is in it stands for what is written there.
+-- form knows none. What is made up for a form came from the form's node, but what makes the iterator of a `for` from that of its head;
+-- from none came a pattern, the block in a coroutine, and of a closure that is a coroutine its coroutine and what stands in front of the
+-- body, where what is made up for a pattern came from the pattern's node. With it stand the ways of the tree: from the node of each
+-- written expression and label to what it became, and to each missing one and each made up from no node; and to each binding, with what
+-- owns it: the innermost closure, coroutine, `const` block, length or argument around it. What its constants became stands for them, also
+-- where nothing names it. A top pattern reads back as it is written, and so does one in a field without a name, which is part of nothing;
+-- the names of a top pattern have one binding each, and what is in it stands for what is written there.
 use Rattle.std.specs.Prelude.{◌≡◌, ℕ, Bool, true, false, List, [], ◌∷◌, ◌++◌, map, Option, Some, None, option_to_list, slice_get}
 use Rattle.std.specs.Prelude.{unwrap_or}
 use Rattle.hir_base.specs.declared.op.RangeOp.{RangeOp}
-use Rattle.hir_binding.specs.Rule.{Shows}
 use Rattle.hir_syntax.specs.declared.ast.Literal.{Literal as AstLiteral}
 use Rattle.hir_store.specs.Pointers.{Pointer}
 use Rattle.hir_store.specs.Stored.{Store, SourceMap}
@@ -23,7 +24,6 @@ use Rattle.hir_store.specs.declared.hir.Literal.{Literal}
 use Rattle.hir_store.specs.declared.hir.RecordLitField.{RecordLitField}
 use Rattle.hir_store.specs.declared.hir.RecordSpread.{RecordSpread}
 use Rattle.hir_store.specs.declared.hir.RecordSpread.TheVariants as spread
-use Rattle.hir_store.specs.declared.pat.Binding.{Binding}
 use Rattle.hir_store.specs.declared.pat.Pat.{Pat as HirPat}
 use Rattle.hir_store.specs.declared.pat.Pat.TheVariants as pat
 use Rattle.hir_store.specs.declared.pat.RecordFieldPat.{RecordFieldPat}
@@ -46,15 +46,13 @@ use Rattle.hir_env.specs.Answered.{OptionRet, OptionArgs, Args, Arg, Bounds, Bou
 use Rattle.hir_env.specs.Answered.{Fields, Spread, Block, OptionBlock, Stmts, Arms, Guard, RangeForm, Signed, Pat, OptionPat, Pats}
 use Rattle.hir_env.specs.Answered.{PatFields, Side, TypePat, OptionTypePat, TypePats, Limit, Params, Target, Targets, TargetFields}
 use Rattle.hir_env.specs.Targets.{head_pointer}
-use Rattle.hir_data.specs.BindingRule.{made_for}
 use Rattle.hir_data.specs.Closures.{capture_of, kind_of}
-use Rattle.hir_data.specs.Data.{PathData, PatData}
-use Rattle.hir_data.specs.Patterns.{is_dots, first_uses, pattern_data, uses_after, uses_after_part, uses_after_each, written_pat}
-use Rattle.hir_data.specs.Patterns.{written_uses}
-use Rattle.hir_data.specs.Reading.{stored_path, stored_type, stored_option_type, stored_args, stored_pat}
-use Rattle.hir_data.specs.Targets.{target_data}
+use Rattle.hir_data.specs.Data.{PathData}
+use Rattle.hir_data.specs.Patterns.{is_dots, pattern_data, uses_after, uses_after_part, uses_after_each, written_pat}
+use Rattle.hir_data.specs.Reading.{stored_path, stored_type, stored_args}
+use Rattle.hir_data.specs.Tops.{params_tops}
 use Rattle.hir_data.specs.Uses.{FirstUses}
-use Rattle.hir_data.specs.Written.{written_path, written_type, written_option_type, written_args, signed_data}
+use Rattle.hir_data.specs.Written.{written_path, written_type, written_args, signed_data}
 use Rattle.hir_data.specs.Lookup.{lookup_hygiene}
 use Rattle.hir_meaning.specs.Data.{literal_data, literal_read}
 use Rattle.hir_meaning.specs.Left.{is_kept, is_left, gives_value}
@@ -62,11 +60,13 @@ use Rattle.hir_meaning.specs.Contents.{BlockContents}
 use Rattle.hir_one_result.specs.Forms.{leaf_form, unary_form, binary_form, lazy_form, leaving_form, item_form, no_macro, path_of_name}
 use Rattle.hir_one_result.specs.Forms.{pat_unary_form, range_fields}
 use Rattle.hir_one_result.specs.PathRoom.{Seen, nothing_seen, at_first, segments_read, own_read, yields}
-use Rattle.hir_one_result.specs.Leads.{Ways, No, OneWay, OneUnled, OneLabelWay, OneFieldWay, OnePatFieldWay, Overtaken, ◌&◌}
+use Rattle.hir_one_result.specs.Leads.{Ways, No, OneWay, OneUnled, OneLabelWay, OneFieldWay, OnePatFieldWay, OwnedBy, Overtaken, ◌&◌}
 pub use Rattle.hir_one_result.specs.StandsParts.{ExprAt, LabelAt, Open, opened, Absent, There, ThereIf, ReadsAs, statement_of, SomeExpr}
 pub use Rattle.hir_one_result.specs.StandsParts.{SomeConst}
 use Rattle.hir_one_result.specs.StandsMade.{StandsFor, StandsForLoop, StandsForTurn, StandsQuestion, StandsTry, StandsTypedTry, StandsWhile}
 use Rattle.hir_one_result.specs.StandsMade.{StandsClosure, StandsCoroutine, StandsParam, StoredParams}
+use Rattle.hir_one_result.specs.StandsPreludes.{StandsCoroutineClosure}
+pub use Rattle.hir_one_result.specs.StandsReads.{NamesOf, WithNames, ReadsAsPat, ReadsAsTarget, ReadsAsType}
 pub use Rattle.hir_one_result.specs.StandsParts.{WhereOn, Unless, StandsBefore, WherePath, BehindFront, Names, NewName, StandsName}
 
 -- in a store
@@ -168,30 +168,6 @@ module _ (store : Store) (source_map : SourceMap) where
   RangeIs None i low high = PatIs i pat.Missing
   RangeIs (Some op) i low high = PatIs i (pat.Range op low high)
 
-  -- The pattern is the written one, and each of its names has one of these bindings, with the mode of its first use. A binding
-  -- shows no problem where the rule says that the name is right, and else one that is true of it.
-  pub record NamesOf (p : OptionPat) (i : PatId) (ks : Names) : Type 0 where
-    pub is_read : stored_pat store source_map i ≡ written_pat p
-    pub one_for_each : map (made_for store) ks ≡ map Some (first_uses p)
-    pub shown : (k : ℕ) (b : BindingId) (x : Binding) → slice_get ks k ≡ Some b → slice_get store.bindings b.0 ≡ Some x
-        → Shows x.problems k (written_uses p)
-
-  -- what is so where the names of a top pattern have some bindings
-  abbrev pub WithNames : OptionPat → (Names → Ways) → PatId → Ways
-  WithNames p S i = λ ws. (ks : Names) × NamesOf p i ks × S ks ws
-
-  -- one that is no part of a pattern reads back by itself
-  abbrev pub ReadsAsPat : PatData → Ways → PatId → Ways
-  ReadsAsPat d S i = λ ws. (stored_pat store source_map i ≡ d) × S ws
-
-  -- a whole target reads back as it is written
-  abbrev pub ReadsAsTarget : Target → Ways → PatId → Ways
-  ReadsAsTarget t S i = ReadsAsPat (target_data t) S i
-
-  -- a type that may stay absent, in which this stands
-  abbrev pub ReadsAsType : OptionType → Ways → Option TypeRefId → Ways
-  ReadsAsType t S y = S & ReadsAs (stored_option_type store source_map) (written_option_type t) y
-
   abbrev mutual
     -- ---- what stands for the constants of types, paths, arguments and bounds
 
@@ -286,9 +262,13 @@ module _ (store : Store) (source_map : SourceMap) where
     BoundWays rs (tree.lifetime_bound l) = No
     BoundWays rs (tree.use_bound us) = No
 
-    -- no jump in it reaches what is open around it
+    -- a length or an argument, of which the expression owns what is bound in it; no jump in it reaches what is open around it
     pub StandsConstant : Open → Constant → ConstRef → Ways
-    StandsConstant rs (tree.constant e) n = StandsPart (barrier_rib ∷ rs) e n.expr
+    StandsConstant rs (tree.constant e) n = OwnedBy n.expr (StandsPart (barrier_rib ∷ rs) e n.expr)
+
+    -- that of a `const` block: what is bound in it is owned by the expression around it
+    pub StandsRooted : Open → Constant → ConstRef → Ways
+    StandsRooted rs (tree.constant e) n = StandsPart (barrier_rib ∷ rs) e n.expr
 
     pub TypePatWays : Open → TypePat → Ways
     TypePatWays rs (tree.not_null_type_pat at) = No
@@ -340,7 +320,7 @@ module _ (store : Store) (source_map : SourceMap) where
     -- its head and its pattern lie outside of its label
     Stands rs (tree.for_expr at items label _ p h b) i =
         StandsFor store source_map at (head_pointer at h) items (λ x. StandsPart rs h x)
-        (λ q. WithNames p (λ ks. StandsPatPart ks rs p [] q) q)
+        (λ q. WithNames store source_map p (λ ks. StandsPatPart ks rs p [] q) q)
         (λ n q l. InLabel rs label (λ inner k. StandsForLoop store source_map at k
         (λ t. StandsForTurn store source_map at items n q (λ x. StandsPart inner b x) t) l)) i
     Stands rs (tree.question_expr at items e) i =
@@ -352,10 +332,10 @@ module _ (store : Store) (source_map : SourceMap) where
         (λ x. StandsTry store source_map at item number (gives_value ss (is_left e))
         (λ label is o. StandsContents (try_rib label true ∷ rs) ss (λ around o. StandsKept around e o) is o) x)
         (λ y. TypeWays rs t & ReadsAs (stored_type store source_map) (written_type (tree.some_type t)) y) i
-    -- no jump in it reaches what is open around it
+    -- no jump in it reaches what is open around it, and it owns what is bound in it
     Stands rs (tree.coroutine_expr at kind moves number ss e) i =
-        StandsCoroutine store source_map at kind (capture_of moves) number (gives_value ss (is_left e))
-        (λ is o. StandsContents (barrier_rib ∷ rs) ss (λ around o. StandsKept around e o) is o) i
+        OwnedBy i (StandsCoroutine store source_map at kind (capture_of moves) number (gives_value ss (is_left e))
+        (λ is o. StandsContents (barrier_rib ∷ rs) ss (λ around o. StandsKept around e o) is o) i)
     Stands rs (tree.call_expr at f has_list es) i = λ ws.
         (callee : ExprId) × (arguments : List ExprId) × ExprAt store source_map i (hir.Call callee arguments) (Some at)
         × (StandsPart rs f callee & StandsEach rs es arguments & OneWay at i) ws
@@ -375,11 +355,16 @@ module _ (store : Store) (source_map : SourceMap) where
     Stands rs (tree.repeat_expr at e c) i =
         StandsOverTwo (λ x n. hir.Array (array.Repeat x n)) at (λ x. StandsPart rs e x) (λ n. StandsConstant rs c n) i
     -- the block in it came from the same node, which leads to the const block alone
-    Stands rs (tree.const_expr at c) i = StandsOver hir.Const at (λ n. Overtaken at (StandsConstant rs c n)) i
-    -- no jump in it reaches what is open around it
+    Stands rs (tree.const_expr at c) i = OwnedBy i (StandsOver hir.Const at (λ n. Overtaken at (StandsRooted rs c n)) i)
+    -- no jump in it reaches what is open around it, and it owns what is bound in it
     Stands rs (tree.closure_expr at moves is_static xs t e) i =
-        StandsClosure store source_map at (kind_of is_static e) (capture_of moves) (λ l. StandsParams (barrier_rib ∷ rs) xs l)
-        (λ y. ReadsAsType t (PresentTypeWays (barrier_rib ∷ rs) t) y) (λ x. StandsPart (barrier_rib ∷ rs) e x) i
+        OwnedBy i (StandsClosure store source_map at (kind_of is_static e) (capture_of moves) (λ l. StandsParams (barrier_rib ∷ rs) xs l)
+        (λ y. ReadsAsType store source_map t (PresentTypeWays (barrier_rib ∷ rs) t) y) (λ x. StandsPart (barrier_rib ∷ rs) e x) i)
+    -- and its coroutine owns what is bound in that
+    Stands rs (tree.coroutine_closure_expr at kind moves xs t e) i =
+        OwnedBy i (StandsCoroutineClosure store source_map at kind (capture_of moves) (map written_pat (params_tops xs))
+        (λ l. StandsParams (barrier_rib ∷ rs) xs l) (λ y. ReadsAsType store source_map t (PresentTypeWays (barrier_rib ∷ rs) t) y)
+        (λ x. StandsPart (barrier_rib ∷ rs) e x) i)
     Stands rs (tree.method_call_expr at e name es generics) i =
         StandsOverThree (λ receiver arguments g. hir.MethodCall receiver name g arguments) at
         (λ x. StandsPart rs e x) (λ is. StandsEach rs es is)
@@ -399,21 +384,21 @@ module _ (store : Store) (source_map : SourceMap) where
     -- the operand stands in the store, and is part of nothing
     Stands rs (tree.nameless_expr at e) i = StandsOver (λ x. hir.Missing) at (λ x. StandsPart rs e x) i
     Stands rs (tree.let_expr at p e) i =
-        StandsOverTwo hir.Let at (λ q. WithNames p (λ ks. StandsPatPart ks rs p [] q) q) (λ x. StandsPart rs e x) i
+        StandsOverTwo hir.Let at (λ q. WithNames store source_map p (λ ks. StandsPatPart ks rs p [] q) q) (λ x. StandsPart rs e x) i
     Stands rs (tree.match_expr at e arms) i = StandsOverTwo hir.Match at (λ x. StandsPart rs e x) (λ as'. StandsArms rs arms as') i
     Stands rs (tree.range_expr at form low high) i =
         StandsRange at form (λ o. StandsPresent rs low o) (λ o. StandsPresent rs high o) i
     -- the target before the value
     Stands rs (tree.assign_expr at own t e) i =
-        StandsOverTwo hir.Assignment at (λ q. ReadsAsTarget t (StandsTarget rs t q) q) (λ x. StandsPart rs e x) i
+        StandsOverTwo hir.Assignment at (λ q. ReadsAsTarget store source_map t (StandsTarget rs t q) q) (λ x. StandsPart rs e x) i
 
     -- a disabled parameter becomes nothing
     pub StandsParams : Open → Params → StoredParams → Ways
     StandsParams rs tree.no_params l = λ ws. (l ≡ ([], [])) × No ws
     StandsParams rs (tree.more_params (tree.disabled_param at by x) xs) l = StandsParams rs xs l
     StandsParams rs (tree.more_params (tree.param p t) xs) l = StandsParam
-        (λ q. WithNames p (λ ks. StandsPatPart ks rs p [] q) q) (λ y. ReadsAsType t (PresentTypeWays rs t) y)
-        (λ others. StandsParams rs xs others) l
+        (λ q. WithNames store source_map p (λ ks. StandsPatPart ks rs p [] q) q)
+        (λ y. ReadsAsType store source_map t (PresentTypeWays rs t) y) (λ others. StandsParams rs xs others) l
 
     pub StandsPart : Open → OptionExpr → ExprId → Ways
     StandsPart rs tree.no_expr i = StandsMissing i
@@ -453,7 +438,8 @@ module _ (store : Store) (source_map : SourceMap) where
     StandsArms rs (tree.more_arms (tree.arm p e g) arms) is = λ ws.
         (q : PatId) × (x : ExprId) × (o : Option ExprId) × (others : List MatchArm)
         × (is ≡ record { pat = q; guard = o; expr = x } ∷ others)
-        × ((WithNames p (λ ks. StandsPatPart ks rs p [] q) q & StandsPart rs e x & StandsGuard rs g o) & StandsArms rs arms others) ws
+        × ((WithNames store source_map p (λ ks. StandsPatPart ks rs p [] q) q & StandsPart rs e x & StandsGuard rs g o)
+        & StandsArms rs arms others) ws
 
     pub StandsGuard : Open → Guard → Option ExprId → Ways
     StandsGuard rs tree.no_guard o = Absent o
@@ -487,8 +473,8 @@ module _ (store : Store) (source_map : SourceMap) where
     StandsContents rs (tree.more_stmts (tree.let_stmt p t e b) ss) Tail is tail = λ ws.
         (q : PatId) × (y : Option TypeRefId) × (x : Option ExprId) × (z : Option ExprId) × (others : List Statement)
         × (is ≡ statement.Let q y x z ∷ others)
-        × ((WithNames p (λ ks. StandsPatPart ks rs p [] q) q
-        & ReadsAsType t (PresentTypeWays rs t) y & StandsPresent rs e x & StandsPresentBlock rs b z)
+        × ((WithNames store source_map p (λ ks. StandsPatPart ks rs p [] q) q
+        & ReadsAsType store source_map t (PresentTypeWays rs t) y & StandsPresent rs e x & StandsPresentBlock rs b z)
         & StandsContents rs ss Tail others tail) ws
 
     -- ---- patterns
@@ -547,7 +533,8 @@ module _ (store : Store) (source_map : SourceMap) where
     pub StandsPatFields : Names → Open → PatFields → FirstUses → List RecordFieldPat → Ways
     StandsPatFields ks rs tree.no_pat_fields us is = λ ws. (is ≡ []) × No ws
     StandsPatFields ks rs (tree.more_pat_fields (tree.pat_field at None p) fs) us is = λ ws.
-        (i : PatId) × (ReadsAsPat (pattern_data p us) (StandsPat ks rs p us i) i & StandsPatFields ks rs fs (uses_after p us) is) ws
+        (i : PatId)
+        × (ReadsAsPat store source_map (pattern_data p us) (StandsPat ks rs p us i) i & StandsPatFields ks rs fs (uses_after p us) is) ws
     StandsPatFields ks rs (tree.more_pat_fields (tree.pat_field at (Some n) p) fs) us is = λ ws.
         (i : PatId) × (others : List RecordFieldPat) × (is ≡ record { name = n; pat = i } ∷ others)
         × ((StandsPat ks rs p us i & OnePatFieldWay i at) & StandsPatFields ks rs fs (uses_after p us) others) ws
@@ -591,7 +578,7 @@ module _ (store : Store) (source_map : SourceMap) where
     pub StandsTargetFields : Open → TargetFields → List RecordFieldPat → Ways
     StandsTargetFields rs tree.no_target_fields is = λ ws. (is ≡ []) × No ws
     StandsTargetFields rs (tree.more_target_fields (tree.target_field at None t) fs) is = λ ws.
-        (i : PatId) × (ReadsAsTarget t (StandsTarget rs t i) i & StandsTargetFields rs fs is) ws
+        (i : PatId) × (ReadsAsTarget store source_map t (StandsTarget rs t i) i & StandsTargetFields rs fs is) ws
     StandsTargetFields rs (tree.more_target_fields (tree.target_field at (Some n) t) fs) is = λ ws.
         (i : PatId) × (others : List RecordFieldPat) × (is ≡ record { name = n; pat = i } ∷ others)
         × ((StandsTarget rs t i & OnePatFieldWay i at) & StandsTargetFields rs fs others) ws

@@ -238,7 +238,7 @@ pub record BindsTwice (store : Store) (q : PatId) (ws : List Way) : Type 0 where
   pub second_binds : slice_get store.pats second.0 ≡ Some (pat.Bind one None)
   pub made : made_for store one ≡ Some use_x
   pub shows : (x : Binding) → slice_get store.bindings one.0 ≡ Some x → x.problems ≡ Some BoundMoreThanOnce
-  pub ways : ws ≡ binding_way one ∷ []
+  pub ways : ws ≡ binding_way one None ∷ []
 
 -- `1 = 2`
 abbrev pub assign_one : Expr
@@ -518,4 +518,4 @@ pub record Owners : Type 0 where
   -- `|x| 1` behind five others: the literal 5, the closure 6
   pub behind_others : placed 5 (size (closure_of param_x (literal_part 1))).owners ≡ owner 6 ∷ []
   -- `self` and `x` of a function
-  pub of_function : placed 0 (body_size false self_and_x (literal_part 3)).owners ≡ None ∷ None ∷ []
+  pub of_function : placed 0 (body_size None false self_and_x (literal_part 3)).owners ≡ None ∷ None ∷ []

@@ -1,5 +1,5 @@
 -- What a written expression becomes comes from its node: a line for each form, whatever its parts are.
-use Rattle.std.proofs.Common.{arith, refl, ℕ, Bool, true, false, List, Option, Some, None, option_map}
+use Rattle.std.proofs.Common.{arith, refl, ℕ, Bool, true, false, List, [], Option, Some, None, option_map}
 use Rattle.hir_binding.specs.declared.binding.BindingAnnotation.TheVariants.{Mutable, Unannotated}
 use Rattle.hir_store.specs.Pointers.{Pointer}
 use Rattle.hir_store.specs.Stored.{Stored}
@@ -33,6 +33,7 @@ use Rattle.hir_lower_form.specs.Forms.{break_form, paren_form, path_form, operan
 use Rattle.hir_lower_form.specs.Forms.{method_call_form, await_form, cast_form, offset_of_form, record_of, record_form, block_form}
 use Rattle.hir_lower_form.specs.Forms.{labelled, constant_form, let_form, match_form, assign_form, settled, repeat_form, const_form}
 use Rattle.hir_lower_form.specs.Forms.{closure_form, coroutine_block_form, coroutine_form, yield_form}
+use Rattle.hir_lower_form.specs.Preludes.{coroutine_closure_form}
 use Rattle.hir_lower_form.specs.Ranges.{made_range, range_form}
 use Rattle.hir_steps.proofs.Frames.{Frame, loop_at, block_at}
 use Rattle.hir_steps.proofs.Steps.{Mark, Rel, Correct, correct_bind, correct_as, correct_pure, correct_alloc, correct_point}
@@ -40,7 +41,8 @@ use Rattle.hir_steps.proofs.Steps.{correct_enter_block, correct_opened, correct_
 use Rattle.hir_steps.proofs.Barriers.{correct_closure, correct_coroutine, correct_yield}
 use Rattle.hir_steps.proofs.Constants.{correct_constant}
 use Rattle.hir_steps.proofs.ApartForms.{flow_arm_apart, item_call_apart, made_path_apart, residual_apart, wrapped_apart}
-use Rattle.hir_steps.proofs.Keeping.{Any}
+use Rattle.hir_steps.proofs.CoroutineClosures.{correct_coroutine_closure}
+use Rattle.hir_steps.proofs.Keeping.{Any, handed_any, within_any}
 use Rattle.hir_steps.proofs.MadeSteps.{correct_alloc_made, correct_made_bind, correct_made_number, correct_opened_try}
 use Rattle.hir_steps.proofs.Owning.{owning_keeps}
 use Rattle.hir_data.specs.Rule.{PathRead}
@@ -153,6 +155,12 @@ module _ (at : Pointer) where
   pub closure_from : (moves is_static : Bool) {p : Lowering ClosureParams} {t : Lowering (Option TypeRefId)} {e : ExprSteps} → Correct p Any
       → Correct t Any → Correct e Any → From here (closure_form at moves is_static p t e)
   closure_from moves is_static hp ht he = correct_as (correct_closure at moves is_static hp ht he)
+      (λ final ps m m' i g row. record { is = λ d le. rw (row.made.number, row.made.from) refl })
+
+  pub coroutine_closure_from : (which : CoroutineKind) (moves : Bool) {p : Lowering ClosureParams} {t : Lowering (Option TypeRefId)}
+      {e : ExprSteps} → Correct p Any → Correct t Any → Correct e Any → From here (coroutine_closure_form at which moves p t e)
+  coroutine_closure_from which moves hp ht he = correct_as
+      (correct_coroutine_closure at which moves _ _ _ (within_any which hp ht he) (handed_any []))
       (λ final ps m m' i g row. record { is = λ d le. rw (row.made.number, row.made.from) refl })
 
   pub coroutine_block_from : (kind : CoroutineKind) (moves : Bool) (number : Option BlockId) {c : Lowering StoredContents} → Correct c Any

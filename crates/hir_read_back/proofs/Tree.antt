@@ -261,6 +261,8 @@ mutual
   expr_from (tree.const_expr at c) = owning_from (sites.const_from at (rooted_any c))
   expr_from (tree.closure_expr at moves is_static xs t e) = owning_from
       (sites.closure_from at moves is_static (params_any lower.no_closure_params xs) (present_type_any t) (part_any e))
+  expr_from (tree.coroutine_closure_expr at kind moves xs t e) = owning_from
+      (sites.coroutine_closure_from at kind moves (params_any lower.no_closure_params xs) (present_type_any t) (part_any e))
   expr_from (tree.method_call_expr at e name es as') =
       sites.method_call_from at name (part_any e) (each_any [] es) (args_any as')
   expr_from (tree.leaving_expr at form e) = sites.value_from at _ (present_any e)

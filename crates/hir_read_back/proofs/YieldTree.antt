@@ -28,6 +28,7 @@ use Rattle.hir_steps.specs.Keeps.{Paired}
 use Rattle.hir_steps.proofs.ApartPats.{elements_apart, missing_pat_apart, named_apart}
 use Rattle.hir_steps.proofs.ApartTree as apart
 use Rattle.hir_steps.proofs.Barriers.{raises_yield, still_closure, still_coroutine}
+use Rattle.hir_steps.proofs.CoroutineClosures.{still_coroutine_closure}
 use Rattle.hir_steps.proofs.Logic.{mark}
 use Rattle.hir_steps.proofs.Owning.{raises_owning, still_owning}
 use Rattle.hir_steps.proofs.StillPats.{elements_still, missing_pat_still, named_still}
@@ -168,6 +169,9 @@ mutual
   expr_raises (tree.closure_expr at moves is_static ps t e) =
       raises_still (apart.node_apart (tree.closure_expr at moves is_static ps t e)) (still_owning (λ i. i)
       (still_closure at moves is_static (lower.lower_params lower.no_closure_params ps) (lower.present_type t) (lower.lower_part e)))
+  expr_raises (tree.coroutine_closure_expr at kind moves ps t e) =
+      raises_still (apart.node_apart (tree.coroutine_closure_expr at kind moves ps t e)) (still_owning (λ i. i)
+      (still_coroutine_closure at kind moves (lower.lower_params lower.no_closure_params ps) (lower.present_type t) (lower.lower_part e)))
   expr_raises (tree.method_call_expr at e name es generics) =
       forms.method_call_raises at name (part_raises e) (each_raise [] es)
       (raises_still (apart.args_apart generics) (still.args_still generics))

@@ -1,21 +1,25 @@
 -- What lowering stores for a path, a type, a list of arguments, a pattern or what is assigned to reads back, in what is stored by
 -- then and in all that is stored later, as what is written.
-use Rattle.std.specs.Prelude.{◌≡◌, ◌||◌, None, Option, option_map, Ok}
+use Rattle.std.specs.Prelude.{◌≡◌, ◌||◌, Bool, None, Option, map, option_map, Ok}
+use Rattle.hir_store.specs.Pointers.{Pointer}
 use Rattle.hir_store.specs.Stored.{Stored, store_of, map_of}
 use Rattle.hir_store.specs.Storing.{Extends}
+use Rattle.hir_store.specs.declared.hir.CoroutineKind.{CoroutineKind}
 use Rattle.hir_store.specs.declared.ids.ExprId.{ExprId}
 use Rattle.hir_store.specs.declared.ids.PatId.{PatId}
 use Rattle.hir_store.specs.declared.ids.TypeRefId.{TypeRefId}
 use Rattle.hir_store.specs.declared.path.GenericArgs.{GenericArgs}
 use Rattle.hir_store.specs.declared.path.Path.{Path as HirPath}
-use Rattle.hir_env.specs.Answered.{OptionExpr, OptionType, OptionPath, OptionArgs, OptionPat, Target}
+use Rattle.hir_env.specs.Answered.{OptionExpr, OptionType, OptionPath, OptionArgs, OptionPat, Params, Target, coroutine_closure_expr}
 use Rattle.hir_lower_form.specs.Builder.{Builder}
-use Rattle.hir_lower_form.specs.Lower.{type_part, lower_part, lower_path, args_part, lower_top, lower_target}
-use Rattle.hir_steps.specs.Keeps.{Paired}
+use Rattle.hir_lower_form.specs.Lower.{type_part, lower, lower_part, lower_path, args_part, lower_top, lower_target}
+use Rattle.hir_steps.specs.Keeps.{Paired, formals_of}
 use Rattle.hir_data.specs.Written.{written_type, written_path, written_args}
 use Rattle.hir_data.specs.Patterns.{written_pat}
+use Rattle.hir_data.specs.Preludes.{formal_patterns}
 use Rattle.hir_data.specs.Reading.{stored_type, stored_path, stored_args, stored_pat}
 use Rattle.hir_data.specs.Targets.{target_data}
+use Rattle.hir_data.specs.Tops.{params_tops}
 use Rattle.hir_data.specs.Yields.{yields_in}
 
 -- none is answered where the path is absent or refused
@@ -38,6 +42,14 @@ PatLaw = (p : OptionPat) (o o' : Builder) (i : PatId) → Paired o.stored → lo
 abbrev pub TargetLaw : Type 0
 TargetLaw = (t : Target) (o o' : Builder) (i : PatId) → Paired o.stored → lower_target t o ≡ (Ok i, o')
     → (final : Stored) → Extends o'.stored final → stored_pat (store_of final) (map_of final) i ≡ target_data t
+
+-- what a closure whose body is a coroutine is handed its arguments by
+abbrev pub FormalsLaw : Type 0
+FormalsLaw = (at : Pointer) (kind : CoroutineKind) (moves : Bool) (ps : Params) (t : OptionType) (e : OptionExpr) (o o' : Builder)
+    (i : ExprId) → Paired o.stored → lower (coroutine_closure_expr at kind moves ps t e) o ≡ (Ok i, o')
+    → (final : Stored) → Extends o'.stored final
+    → map (λ p. stored_pat (store_of final) (map_of final) p) (formals_of (store_of final) i.0)
+    ≡ formal_patterns (map written_pat (params_tops ps))
 
 -- A `yield` is noted exactly where one stands in it, and in none of the bodies inside it.
 abbrev pub YieldsLaw : Type 0

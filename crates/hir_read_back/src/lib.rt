@@ -2,7 +2,7 @@
 #![tactic(auto)]
 
 ghost use Rattle.hir_read_back.specs.Asked.{NameLaw};
-ghost use Rattle.hir_read_back.specs.Laws.{PathLaw, TypeLaw, ArgsLaw, PatLaw, TargetLaw, YieldsLaw};
+ghost use Rattle.hir_read_back.specs.Laws.{PathLaw, TypeLaw, ArgsLaw, PatLaw, TargetLaw, FormalsLaw, YieldsLaw};
 
 /// A path reads back as it is written, and none is answered exactly where it is absent or refused.
 pub fn path_law()
@@ -27,6 +27,12 @@ pub fn pat_law()
 /// What is assigned to reads back as it is written.
 pub fn target_law()
     ensures { TargetLaw }
+{}
+
+/// What a closure with `async`, `gen` or both is handed its arguments by reads back as the formal parameters of what is written: each is
+/// a `mut` binding of the parameter's name, where its pattern is a name as a whole, or else of one that is made up.
+pub fn formals_law()
+    ensures { FormalsLaw }
 {}
 
 /// What is asked about a path in a pattern, or in what is assigned to, is asked about the path that the rule says it is.

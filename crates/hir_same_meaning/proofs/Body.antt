@@ -4,11 +4,12 @@ use Rattle.hir_store.specs.Stored.{Stored, store_of, map_of}
 use Rattle.hir_store.specs.declared.ids.ExprId.{ExprId}
 use Rattle.hir_steps.proofs.Frames.{Frame, scopes, Falls}
 use Rattle.hir_meaning.specs.Run.{Value, Outcome, value, break, continue, leave}
-use Rattle.hir_meaning.specs.Syntax.{SyntaxBody}
-use Rattle.hir_meaning.specs.Store.{JumpLabel, new_table, run_store, stored_body}
-use Rattle.hir_meaning.specs.Jumps.{Enclosed}
+use Rattle.hir_meaning.specs.Syntax.{SyntaxBody, SyntaxRun}
+use Rattle.hir_meaning.specs.Store.{JumpLabel, RunTable, new_table, run_store, stored_body}
+use Rattle.hir_meaning.specs.Jumps.{Enclosed, EnclosedTo}
 use Rattle.hir_meaning.specs.Same.{SameRun, SameBody, ending, begin_with}
 use Rattle.hir_same_meaning.specs.Headline.{body_to}
+use Rattle.hir_same_meaning.proofs.From.{SameFrom}
 use Rattle.hir_same_meaning.proofs.Views.{numbers, view}
 use Rattle.hir_same_meaning.proofs.Senses.{Base}
 use Rattle.hir_same_meaning.proofs.Senses.{Walk, run_in, one, Goes}
@@ -39,4 +40,20 @@ unfolding run_store Enclosed
 body_is {final = final} ps h le f none = record {
   runs = runs_at ps (length final.exprs.entries) h le f;
   jumps = rw (← none) (h.jumps (length final.exprs.entries) le);
+}
+
+-- that begins with this table
+pub body_from : {x : ℕ → SyntaxRun Value} (final : Stored) {i : ExprId} (table : RunTable) (ps : List Frame)
+    → ((turns : ℕ) → SameFrom table ps (run_in final (length final.exprs.entries) turns i) (x turns))
+    → EnclosedTo (store_of final) (length final.exprs.entries) [] i
+    → SameBody (store_of final) (record { table = table; run = run_store (store_of final) (map_of final) i }) i
+    (record { table = tt; run = x })
+unfolding run_store Enclosed
+body_from final {i = i} table ps same jumps = record {
+  runs = record {
+    events = λ turns answers. let a = (same turns).same (begin_with table answers) (λ k. refl) in ap (λ w. w.events) a.world;
+    endings = λ turns answers. let w = begin_with table answers in let a = (same turns).same w (λ k. refl) in
+        ending_view ps (run_in final (length final.exprs.entries) turns i w).0 ∙ ap ending a.outcome;
+  };
+  jumps = jumps;
 }

@@ -29,7 +29,7 @@ use Rattle.hir_same_meaning.proofs.Relation.{same_ask}
 use Rattle.hir_same_meaning.proofs.Senses.{Base, Goes, Runs, goes_at, one}
 
 -- events of the same parts
-event_as : {k k' : ClosureKind} {c c' : CaptureBy} {ps ps' : List PatData} {ts ts' : List OptionTypeData} {t t' : OptionTypeData}
+pub event_as : {k k' : ClosureKind} {c c' : CaptureBy} {ps ps' : List PatData} {ts ts' : List OptionTypeData} {t t' : OptionTypeData}
     → k ≡ k' → c ≡ c' → ps ≡ ps' → ts ≡ ts' → t ≡ t' → closure k c ps ts t ≡ closure k' c' ps' ts' t'
 event_as {k' = k'} {c = c} {c' = c'} {ps = ps} {ps' = ps'} {ts = ts} {ts' = ts'} {t = t} a b d e f =
     ap (λ x. closure x c ps ts t) a ∙ (ap (λ x. closure k' x ps ts t) b ∙ (ap (λ x. closure k' c' x ts t) d

@@ -1,7 +1,6 @@
 -- What stored arguments and bindings hold, each through one level of the other.
 use Rattle.std.proofs.Common.{◌≡◌, ◌∙◌, refl, sym, ap, Bool, true, List, [], ◌∷◌, ◌++◌, append-nil, append_assoc, Option, Some, None}
 use Rattle.hir_store.specs.Generics.{of_args as args_of_parts, of_binding as binding_of_parts, self_first}
-use Rattle.hir_store.specs.declared.ids.ExprId.{ExprId}
 use Rattle.hir_store.specs.declared.ids.TypeRefId.{TypeRefId}
 use Rattle.hir_store.specs.declared.name.Name.{Name}
 use Rattle.hir_store.specs.declared.name.Name.TheVariants.{Missing}
@@ -14,9 +13,9 @@ use Rattle.hir_store.specs.declared.path.GenericArgsParentheses.TheVariants.{No}
 use Rattle.hir_store.specs.declared.path.AssociatedTypeBinding.{AssociatedTypeBinding}
 use Rattle.hir_store.specs.declared.path.AssociatedTypeBinding.TheFolds as folds
 use Rattle.hir_store.specs.declared.path.AssociatedTypeBinding.TheViews.{out-GenericArgs}
-use Rattle.hir_meaning.specs.Inner.{Inners, all_of, of_present, of_arg, of_bound, binding_step, args_step, of_args, of_list}
+use Rattle.hir_meaning.specs.Inner.{Inners, Inside, all_of, of_present, of_arg, of_bound, binding_step, args_step, of_args, of_list}
 
-pub all_append : {A : Type 0} (f : A → List ExprId) (xs ys : List A) → all_of f (xs ++ ys) ≡ all_of f xs ++ all_of f ys
+pub all_append : {A : Type 0} (f : A → List Inside) (xs ys : List A) → all_of f (xs ++ ys) ≡ all_of f xs ++ all_of f ys
 all_append f [] ys = refl
 all_append f (x ∷ xs) ys = ap (λ is. f x ++ is) (all_append f xs ys) ∙ sym (append_assoc (f x) (all_of f xs) (all_of f ys))
 
@@ -31,8 +30,8 @@ one_mapped {A} {B} {C} {D} f g x =
 
 module _ (r : Inners) where
   -- what a binding holds
-  unfoldable pub of_binding : AssociatedTypeBinding → List ExprId
-  of_binding = folds.fold-AssociatedTypeBinding (List ExprId) (List ExprId) (binding_step r) (args_step r)
+  unfoldable pub of_binding : AssociatedTypeBinding → List Inside
+  of_binding = folds.fold-AssociatedTypeBinding (List Inside) (List Inside) (binding_step r) (args_step r)
 
   joined_is : (xs : List AssociatedTypeBinding) → all_of (λ is. is) (mapped (of_binding) (of_args r) xs) ≡ all_of of_binding xs
   joined_is [] = refl
@@ -46,7 +45,7 @@ module _ (r : Inners) where
       → of_args r (args_of_parts as' self bs ps) ≡ all_of (of_arg r) as' ++ all_of of_binding bs
   unfolding of_args of_binding
   args_roll as' self bs ps =
-      folds.fold-roll-GenericArgs (List ExprId) (List ExprId) (binding_step r) (args_step r)
+      folds.fold-roll-GenericArgs (List Inside) (List Inside) (binding_step r) (args_step r)
       (record { args = as'; has_self_type = self; bindings = bs; parenthesized = ps })
       ∙ ap (λ is. all_of (of_arg r) as' ++ is) (joined_is bs)
 
@@ -54,7 +53,7 @@ module _ (r : Inners) where
       → of_binding (binding_of_parts n a t bs) ≡ of_list r a ++ (of_present r.type t ++ all_of (of_bound r) bs)
   unfolding of_args of_binding
   binding_roll n a t bs =
-      folds.fold-roll-AssociatedTypeBinding (List ExprId) (List ExprId) (binding_step r) (args_step r)
+      folds.fold-roll-AssociatedTypeBinding (List Inside) (List Inside) (binding_step r) (args_step r)
       (record { name = n; args = a; type_ref = t; bounds = bs })
       ∙ ap (λ is. is ++ (of_present r.type t ++ all_of (of_bound r) bs)) (present_is a)
 
@@ -62,7 +61,7 @@ module _ (r : Inners) where
   unfolding of_args of_binding
   args_out a =
       let o = out-GenericArgs a in
-      folds.fold_out-GenericArgs (List ExprId) (List ExprId) (binding_step r) (args_step r) a
+      folds.fold_out-GenericArgs (List Inside) (List Inside) (binding_step r) (args_step r) a
       ∙ ap (λ is. all_of (of_arg r) o.args ++ is) (joined_is o.bindings)
 
   -- a type for `Self` in front

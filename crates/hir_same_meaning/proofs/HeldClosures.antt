@@ -1,17 +1,18 @@
 -- What is stored for a closure holds what its parameters, its type and its body hold, and its body.
-use Rattle.std.proofs.Common.{◌≡◌, ◌∙◌, refl, sym, ap, subst, ℕ, ◌+◌, ◌≤◌, Bool, List, [], ◌∷◌, ◌++◌, map, append-nil, append_assoc}
-use Rattle.std.proofs.Common.{Option, arith}
+use Rattle.std.proofs.Common.{◌≡◌, ◌∙◌, refl, sym, ap, subst, ℕ, ◌+◌, ◌≤◌, Bool, true, false, List, [], ◌∷◌, ◌++◌, map, append-nil}
+use Rattle.std.proofs.Common.{append_assoc, Option, arith}
 use Rattle.hir_store.specs.Pointers.{Pointer}
 use Rattle.hir_store.specs.Stored.{Stored}
 use Rattle.hir_store.specs.declared.diagnostics.ExpressionStoreDiagnostics.{ExpressionStoreDiagnostics}
+use Rattle.hir_store.specs.declared.ids.ExprId.{ExprId}
 use Rattle.hir_store.specs.declared.ids.PatId.{PatId}
 use Rattle.hir_store.specs.declared.ids.TypeRefId.{TypeRefId}
 use Rattle.hir_env.specs.Answered.{OptionExpr}
 use Rattle.hir_lower_form.specs.declared.closures.ClosureParams.{ClosureParams}
-use Rattle.hir_lower_form.specs.Forms.{add_param}
+use Rattle.hir_lower_form.specs.Forms.{add_param, closure_kind}
 use Rattle.hir_lower_form.specs.Lower.{closure_form, lower_part, no_closure_params, param_form}
 use Rattle.hir_lower_form.specs.Lowering.{Lowering, ◌>>=◌, ◌>>◌, pure, report}
-use Rattle.hir_meaning.specs.Inner.{Bodies, Inners, all_of, bodies_in, constant_body, of_params, of_present}
+use Rattle.hir_meaning.specs.Inner.{Bodies, Inners, all_of, bodies_in, by_itself, constant_body, of_closure, of_params, of_present}
 use Rattle.hir_steps.proofs.Barriers.{correct_closure}
 use Rattle.hir_steps.proofs.Frames.{Frame, barrier_at}
 use Rattle.hir_steps.proofs.Steps.{Mark, Correct, correct_as, correct_bind, correct_both, correct_in_store, correct_pure, correct_report}
@@ -91,6 +92,13 @@ params_roll : (r : Inners) (new : List Param) → of_params r (map (λ x. x.0) n
 params_roll r [] = refl
 params_roll r (x ∷ new) = ap (λ is. a_param r x ++ is) (params_roll r new)
 
+-- Whether a `yield` stands in it or not, its body comes behind the others.
+closure_list : (r : Inners) (args : List PatId) (types : List (Option TypeRefId)) (ret : Option TypeRefId) (body : ExprId)
+    (y is_static : Bool) → of_closure r args types ret body (closure_kind y is_static)
+    ≡ of_params r args types ++ (of_present r.type ret ++ (by_itself body ∷ r.expr body))
+closure_list r args types ret body true is_static = refl
+closure_list r args types ret body false is_static = refl
+
 -- Its body runs as written: nothing that is open around its barrier is in its frames.
 pub closure_held : {ps ts : Bodies} (at : Pointer) (moves is_static : Bool) (e : OptionExpr) {p : Lowering ClosureParams}
     {t : Lowering (Option TypeRefId)} → Correct p (ParamsHeld no_closure_params ps) → Correct t (Holds (maybe a_type) ts)
@@ -106,9 +114,11 @@ closure_held {ps = es} {ts = ts} at moves is_static e hp ht h = correct_as
     expr_held row.made row.to_end (λ d le. let r = inners_in final d in
     let roll = ap (λ k. of_params r k l.arg_types) held.args ∙ (ap (λ k. of_params r (map (λ y. y.0) held.new) k) held.types
     ∙ params_roll r held.new) in
-    same_append final (of_params r l.args l.arg_types) (of_present r.type row.ret ++ (row.body ∷ r.expr row.body)) es (ts ++ behind)
+    same_ids final (es ++ (ts ++ behind)) (closure_list r l.args l.arg_types row.ret row.body row.yields is_static)
+    (same_append final (of_params r l.args l.arg_types) (of_present r.type row.ret ++ (by_itself row.body ∷ r.expr row.body))
+    es (ts ++ behind)
     (same_ids final es roll (held.same d
     (omega (le, row.to_ret.nodes, row.to_ret.entries, row.to_body.nodes, row.to_body.entries, arith))))
-    (same_append final (of_present r.type row.ret) (row.body ∷ r.expr row.body) ts behind
+    (same_append final (of_present r.type row.ret) (by_itself row.body ∷ r.expr row.body) ts behind
     (row.in_ret.same d (omega (le, row.to_body.nodes, row.to_body.entries, arith)))
-    (body_is (barrier_at ∷ ps) x.rel x.nodes tt refl, row.in_body.other.same d le))))
+    (body_is (barrier_at ∷ ps) x.rel x.nodes tt refl, row.in_body.other.same d le)))))

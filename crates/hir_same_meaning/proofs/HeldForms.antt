@@ -32,8 +32,8 @@ use Rattle.hir_lower_form.specs.Lower.{method_call_form, await_form, paren_form,
 use Rattle.hir_lower_form.specs.Lower.{offset_of_form, record_contents, record_of, record_form, field_form, block_form, labelled}
 use Rattle.hir_lower_form.specs.Lower.{repeat_form, const_form, yield_form}
 use Rattle.hir_lower_form.specs.Lower.{stored_leaf, stored_unary, stored_binary, stored_leaving, settled, settled_block, kept}
-use Rattle.hir_meaning.specs.Inner.{Bodies, Inners, all_of, of_present, of_path, of_list, of_field, of_others, of_statement, of_expr}
-use Rattle.hir_meaning.specs.Inner.{if_read, expr_bodies}
+use Rattle.hir_meaning.specs.Inner.{Bodies, Inners, Inside, all_of, of_present, of_path, of_list, of_field, of_others, of_statement}
+use Rattle.hir_meaning.specs.Inner.{of_expr, if_read, expr_bodies}
 use Rattle.hir_read_back.proofs.Going.{PathIs}
 use Rattle.hir_read_back.proofs.Layers.{Pushed}
 use Rattle.hir_read_back.proofs.Walk.{Answers}
@@ -70,7 +70,7 @@ unfolding newly
 newly_pushed done None new = refl
 newly_pushed done (Some x) new = append_assoc done (x ∷ []) new
 
-pub newly_holds : {A : Type 0} (f : A → List ExprId) (o : Option A) (new : List A) → all_of f (newly o new) ≡ of_present f o ++ all_of f new
+pub newly_holds : {A : Type 0} (f : A → List Inside) (o : Option A) (new : List A) → all_of f (newly o new) ≡ of_present f o ++ all_of f new
 unfolding newly
 newly_holds f None new = refl
 newly_holds f (Some x) new = refl

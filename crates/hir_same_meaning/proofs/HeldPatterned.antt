@@ -26,8 +26,7 @@ use Rattle.hir_lower_form.specs.Pats.{Table, Elements, elements_form, settle, no
 use Rattle.hir_lower_form.specs.Ranges.{item_expr, range_fields, end_operand, made_range, range_form}
 use Rattle.hir_lower_form.specs.Targets as forms
 use Rattle.hir_meaning.specs.Inner.{Bodies, Inners, all_of, of_present, of_path, of_pat, of_pat_field, of_arm, of_statement}
-use Rattle.hir_meaning.specs.Inner.{of_expr, of_field}
-use Rattle.hir_meaning.specs.Inner.{if_read, if_made}
+use Rattle.hir_meaning.specs.Inner.{Inside, of_expr, of_field, if_read, if_made}
 use Rattle.hir_read_back.proofs.Going.{PathIs}
 use Rattle.hir_steps.proofs.PatAny.{settle_any}
 use Rattle.hir_steps.proofs.PatSteps.{correct_alloc_pat, correct_point_pat_field}
@@ -165,7 +164,7 @@ module _ (at : Pointer) where
   assign_held ht hv = expr2 (Some at) hir.Assignment (λ r t v. refl) ht hv
 
 -- the ends of a range, as fields and as operands
-abbrev of_ends : Inners → Option ExprId → Option ExprId → List ExprId
+abbrev of_ends : Inners → Option ExprId → Option ExprId → List Inside
 of_ends r s e = of_present r.expr s ++ of_present r.expr e
 
 fields_are : (r : Inners) (last : Name) (s e : Option ExprId) → all_of (of_field r) (range_fields last s e) ++ [] ≡ of_ends r s e

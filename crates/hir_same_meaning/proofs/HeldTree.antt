@@ -46,6 +46,8 @@ use Rattle.hir_same_meaning.proofs.Holding.{holds_owning, type0, expr0, pat0, Id
 use Rattle.hir_same_meaning.proofs.HeldClosures as closures
 use Rattle.hir_same_meaning.proofs.HeldClosures.{ParamsHeld}
 use Rattle.hir_same_meaning.proofs.HeldCoroutines.{coroutine_held}
+use Rattle.hir_same_meaning.proofs.HeldCoroutineClosures as coroutines
+use Rattle.hir_same_meaning.proofs.HeldCoroutineClosures.{ParamsApart, coroutine_closure_held}
 use Rattle.hir_same_meaning.proofs.HeldLimits as limits
 use Rattle.hir_same_meaning.proofs.HeldPats as pats
 use Rattle.hir_same_meaning.proofs.HeldPats.{PatHeld, Added, added_none, added_more, added_some, added_all}
@@ -237,6 +239,8 @@ mutual
       (params_hold ps lower.no_closure_params) (maybe_type_holds t) (body_holds e))
   expr_holds (tree.coroutine_expr at kind moves number ss e) = holds_owning (λ i. i)
       (coroutine_held at kind moves number ss e (contents_fine ss e) (stmts_hold (kept_part_holds e) ss []))
+  expr_holds (tree.coroutine_closure_expr at kind moves ps t e) = holds_owning (λ i. i)
+      (coroutine_closure_held at kind moves ps e (params_hold_apart ps lower.no_closure_params) (maybe_type_holds t) (body_holds e))
   expr_holds (tree.method_call_expr at e name es generics) =
       forms.method_call_held at name (body_holds e) (list_holds generics) (pushed_all (each_holds es []))
   expr_holds (tree.cast_expr at e t) = forms.cast_held at (body_holds e) (part_holds None t)
@@ -260,6 +264,15 @@ mutual
   params_hold (tree.more_params (tree.disabled_param at by x) xs) done = closures.params_skip done (InactiveCode at by) (params_hold xs)
   params_hold (tree.more_params (tree.param p t) xs) done =
       closures.params_more done (closures.param_held done (top_holds p) (maybe_type_holds t)) (params_hold xs)
+
+  -- where what is in their patterns is not with what is in their types
+  params_hold_apart : (xs : Params) (done : ClosureParams)
+      → Correct (lower.lower_params done xs) (ParamsApart done (inner.param_pats_bodies xs) (inner.param_types_bodies xs))
+  params_hold_apart tree.no_params done = coroutines.apart_none done
+  params_hold_apart (tree.more_params (tree.disabled_param at by x) xs) done =
+      coroutines.apart_skip done (InactiveCode at by) (params_hold_apart xs)
+  params_hold_apart (tree.more_params (tree.param p t) xs) done =
+      coroutines.apart_more done (coroutines.param_apart done (top_holds p) (maybe_type_holds t)) (params_hold_apart xs)
 
   -- what is inside a body
   pub body_holds : (e : OptionExpr) → Correct (lower.lower_part e) (Holds an_expr (bodies_in e))

@@ -10,7 +10,7 @@ use Rattle.hir_store.specs.declared.ids.TypeRefId.{TypeRefId}
 use Rattle.hir_store.specs.declared.pat.Pat.{Pat as HirPat}
 use Rattle.hir_store.specs.declared.type_ref.TypeRef.{TypeRef}
 use Rattle.hir_lower_form.specs.Lowering.{Lowering, ◌>>=◌, pure, owning, alloc_expr, alloc_pat, alloc_type}
-use Rattle.hir_meaning.specs.Inner.{Bodies, Inners, inners, all_of, of_present, of_type, of_expr, of_pat, of_type_pat}
+use Rattle.hir_meaning.specs.Inner.{Bodies, Inners, Inside, inners, all_of, of_present, of_type, of_expr, of_pat, of_type_pat}
 use Rattle.hir_meaning.specs.Same.{SameBodies}
 use Rattle.hir_read_back.proofs.Layers.{Pushed}
 use Rattle.hir_steps.proofs.Frames.{Frame}
@@ -20,29 +20,29 @@ use Rattle.hir_steps.proofs.Steps.{Mark, Grows, Put, Rel, Correct, AllocatedBy, 
 use Rattle.hir_steps.proofs.Steps.{correct_alloc, correct_alloc_type}
 
 -- these stored expressions, each as a body by itself, are the written ones
-abbrev pub SameIn : Stored → List ExprId → Bodies → Type 0
+abbrev pub SameIn : Stored → List Inside → Bodies → Type 0
 SameIn final is es = SameBodies (store_of final) (map_of final) is es
 
 -- what is inside the parts of an entry, looked into so deep
 abbrev pub inners_in : Stored → ℕ → Inners
 inners_in final d = inners (store_of final) d
 
-pub same_append : (final : Stored) (is js : List ExprId) (es fs : Bodies)
+pub same_append : (final : Stored) (is js : List Inside) (es fs : Bodies)
     → SameIn final is es → SameIn final js fs → SameIn final (is ++ js) (es ++ fs)
 same_append final [] js [] fs h k = k
 same_append final [] js (e ∷ es) fs h k = absurd h
 same_append final (i ∷ is) js [] fs h k = absurd h
 same_append final (i ∷ is) js (e ∷ es) fs h k = (h.0, same_append final is js es fs h.1 k)
 
-pub same_ids : (final : Stored) {is js : List ExprId} (es : Bodies) → is ≡ js → SameIn final js es → SameIn final is es
+pub same_ids : (final : Stored) {is js : List Inside} (es : Bodies) → is ≡ js → SameIn final js es → SameIn final is es
 same_ids final es e h = subst (λ is. SameIn final is es) (sym e) h
 
-pub same_bodies : (final : Stored) (is : List ExprId) {es fs : Bodies} → es ≡ fs → SameIn final is es → SameIn final is fs
+pub same_bodies : (final : Stored) (is : List Inside) {es fs : Bodies} → es ≡ fs → SameIn final is es → SameIn final is fs
 same_bodies final is e h = subst (λ es. SameIn final is es) e h
 
--- the numbers that something holds, given those that the parts of entries hold
+-- the bodies that something holds, given those that the parts of entries hold
 abbrev pub Ids : Type 0 → Type 0
-Ids A = Inners → A → List ExprId
+Ids A = Inners → A → List Inside
 
 abbrev pub an_expr : Ids ExprId
 an_expr r i = r.expr i

@@ -35,6 +35,7 @@ use Rattle.hir_same_meaning.proofs.Forms
 use Rattle.hir_same_meaning.proofs.Families
 use Rattle.hir_same_meaning.proofs.Closures
 use Rattle.hir_same_meaning.proofs.Coroutines
+use Rattle.hir_same_meaning.proofs.CoroutineClosures
 use Rattle.hir_same_meaning.proofs.Typed
 use Rattle.hir_same_meaning.proofs.Patterned
 use Rattle.hir_same_meaning.proofs.Ranges
@@ -76,6 +77,8 @@ mutual
       runs_owning (λ i. i) (Closures.closure_fine at moves is_static ps t e (part_any e))
   expr_fine (tree.coroutine_expr at kind moves number ss e) =
       runs_owning (λ i. i) (Coroutines.coroutine_fine at kind moves number (contents_part_any ss e))
+  expr_fine (tree.coroutine_closure_expr at kind moves ps t e) =
+      runs_owning (λ i. i) (CoroutineClosures.coroutine_closure_fine at kind moves ps t e (part_any e))
   expr_fine (tree.method_call_expr at e name es generics) =
       Typed.method_call_fine at name generics (part_fine e) (Forms.pushed_all (each_fine es []))
   expr_fine (tree.cast_expr at e t) = Typed.cast_fine at t (part_fine e)

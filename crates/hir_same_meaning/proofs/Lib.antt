@@ -3,6 +3,7 @@ pub mod Targets
 pub mod NamesKept
 pub mod Relation
 pub mod Rows
+pub mod From
 pub mod Turns
 pub mod Senses
 pub mod Nodes
@@ -22,6 +23,10 @@ pub mod Knowing
 pub mod Questions
 pub mod Tries
 pub mod Fors
+pub mod Arguments
+pub mod Preludes
+pub mod Handing
+pub mod CoroutineClosures
 pub mod Induction
 pub mod Spread
 pub mod Owning
@@ -44,6 +49,9 @@ pub mod HeldLimits
 pub mod HeldPatterned
 pub mod HeldClosures
 pub mod HeldCoroutines
+pub mod HeldPreludes
+pub mod HeldCoroutineClosures
 pub mod HeldTree
 pub mod Whole
+pub mod Functions
 pub mod Computed

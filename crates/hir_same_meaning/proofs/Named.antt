@@ -28,6 +28,7 @@ use Rattle.hir_lower_form.specs.Forms.{list_form, repeat_form, const_form, closu
 use Rattle.hir_lower_form.specs.Forms.{method_call_form, await_form, cast_form, offset_of_form, record_of, record_form, block_form}
 use Rattle.hir_lower_form.specs.Forms.{labelled, let_form, match_form, assign_form, settled, stored_binary, stored_leaf}
 use Rattle.hir_lower_form.specs.Forms.{stored_leaving, stored_unary}
+use Rattle.hir_lower_form.specs.Preludes.{coroutine_closure_form}
 use Rattle.hir_lower_form.specs.Ranges.{made_range, range_form}
 use Rattle.hir_meaning.specs.Store.{made_as, made_expr}
 use Rattle.hir_read_back.proofs.Now.{path_now}
@@ -38,7 +39,8 @@ use Rattle.hir_steps.proofs.ApartForms.{flow_arm_apart, item_call_apart, made_pa
 use Rattle.hir_steps.proofs.Keeping.{Any, any, args_any, arms_any, block_part_any, contents_any, contents_part_any, each_any, fields_any}
 use Rattle.hir_steps.proofs.Keeping.{for_loop_any, lower_path_any, one_type_any, part_any, present_any, spread_any, target_any, top_any}
 use Rattle.hir_steps.proofs.Barriers.{correct_closure, correct_coroutine, correct_yield}
-use Rattle.hir_steps.proofs.Keeping.{turn_any, type_any, constant_any, rooted_any, params_any, present_type_any}
+use Rattle.hir_steps.proofs.CoroutineClosures.{correct_coroutine_closure}
+use Rattle.hir_steps.proofs.Keeping.{turn_any, type_any, constant_any, rooted_any, params_any, present_type_any, within_any, handed_any}
 use Rattle.hir_steps.proofs.MadeSteps.{correct_alloc_made, correct_made_bind, correct_made_number, correct_opened_try}
 use Rattle.hir_steps.proofs.Owning.{owning_keeps}
 use Rattle.hir_same_meaning.proofs.Coroutines.{coroutine_is}
@@ -117,6 +119,12 @@ module _ (at : Pointer) where
       → Correct (coroutine_form (coroutine_block_form at kind moves number c)) Unnamed
   coroutine_unnamed kind moves number h = correct_as (correct_coroutine (coroutine_is at kind moves number h))
       (λ final ps m m' i g row. let x = row.inside in record { is = rw (x.made.number, x.made.here) refl })
+
+  coroutine_closure_unnamed : (kind : CoroutineKind) (moves : Bool) {p : Lowering ClosureParams} {t : Lowering (Option TypeRefId)}
+      {e : ExprSteps} → Correct p Any → Correct t Any → Correct e Any → Correct (coroutine_closure_form at kind moves p t e) Unnamed
+  coroutine_closure_unnamed kind moves {p = p} {t = t} {e = e} hp ht he = correct_as
+      (correct_coroutine_closure at kind moves p t e (within_any kind hp ht he) (handed_any []))
+      (λ final ps m m' i g row. record { is = rw (row.made.number, row.made.here) refl })
 
   loop_unnamed : (from : LoopSource) (label : Option Label) {b : ExprSteps} → Correct b Any → Correct (loop_form at from label b) Unnamed
   unfolding loop_form
@@ -240,6 +248,8 @@ mutual
       (closure_unnamed at moves is_static (params_any lower.no_closure_params ps) (present_type_any t) (part_any e))
   expr_unnamed (tree.coroutine_expr at kind moves number ss e) =
       unnamed_owning (coroutine_unnamed at kind moves number (contents_part_any ss e))
+  expr_unnamed (tree.coroutine_closure_expr at kind moves ps t e) = unnamed_owning
+      (coroutine_closure_unnamed at kind moves (params_any lower.no_closure_params ps) (present_type_any t) (part_any e))
   expr_unnamed (tree.const_expr at c) =
       unnamed_owning (ends_unnamed (rooted_any c) (λ n. stored_unnamed _ (Some at) (λ final. refl)))
   expr_unnamed (tree.method_call_expr at e name es as') = ends_unnamed (part_any e) (λ i. ends_unnamed (each_any [] es)

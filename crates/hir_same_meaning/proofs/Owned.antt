@@ -30,6 +30,7 @@ use Rattle.hir_same_meaning.proofs.Owning.{unary_below, binary_below, leaving_be
 use Rattle.hir_same_meaning.proofs.Owning.{operands_owns, value_owns, list_owns, method_call_owns, cast_owns, offset_of_owns, record_owns}
 use Rattle.hir_same_meaning.proofs.Owning.{field_owns, await_owns, nameless_owns, if_owns, call_owns, loop_owns, turn_owns}
 use Rattle.hir_same_meaning.proofs.Owning.{break_owns, repeat_owns, const_owns, closure_owns, coroutine_owns, yield_owns, owns_owning}
+use Rattle.hir_same_meaning.proofs.Owning.{coroutine_closure_owns}
 use Rattle.hir_same_meaning.proofs.Owning.{continue_owns, paren_owns, path_owns, kept_owns, disabled_owns, each_more, fields_more}
 use Rattle.hir_same_meaning.proofs.Owning.{fields_own_all, Filled, filled_end, filled_held, filled_none, filled_silent, filled_expr}
 use Rattle.hir_same_meaning.proofs.Owning.{block_owns, each_owns_all}
@@ -70,6 +71,8 @@ mutual
       (closure_owns at moves is_static (params_any no_closure_params ps) (present_type_any t) (part_any e))
   expr_owns (tree.coroutine_expr at kind moves number ss e) =
       owns_owning (λ i. i) (coroutine_owns at kind moves number (contents_part_any ss e))
+  expr_owns (tree.coroutine_closure_expr at kind moves ps t e) = owns_owning (λ i. i)
+      (coroutine_closure_owns at kind moves (params_any no_closure_params ps) (present_type_any t) (part_any e))
   expr_owns (tree.method_call_expr at e name es generics) =
       method_call_owns at name generics (part_owns e) (each_owns_all (each_owns es []))
   expr_owns (tree.cast_expr at e t) = cast_owns at t (part_owns e)

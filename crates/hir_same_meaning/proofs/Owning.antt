@@ -39,6 +39,7 @@ use Rattle.hir_lower_form.specs.Lower.{stored_leaf, stored_unary, stored_binary,
 use Rattle.hir_lower_form.specs.Lower.{operand_form, operands_form, value_form, list_form, method_call_form, await_form}
 use Rattle.hir_lower_form.specs.declared.closures.ClosureParams.{ClosureParams}
 use Rattle.hir_lower_form.specs.Lower.{repeat_form, const_form, closure_form, coroutine_block_form, coroutine_form, yield_form}
+use Rattle.hir_lower_form.specs.Preludes.{coroutine_closure_form}
 use Rattle.hir_same_meaning.specs.Reached.{of_some, of_each, of_fields, of_others, of_statement, of_statements, below, reached_to, Spread}
 use Rattle.hir_steps.proofs.Frames.{Frame, loop_at, block_at}
 use Rattle.hir_steps.proofs.Barriers.{correct_closure, correct_coroutine, correct_yield}
@@ -46,7 +47,8 @@ use Rattle.hir_steps.proofs.Owning.{owning_keeps}
 use Rattle.hir_steps.proofs.Steps.{Mark, Grows, Put, Rel, Correct, AllocatedBy, correct_bind, correct_as, correct_pure}
 use Rattle.hir_steps.proofs.Steps.{correct_report, correct_report_await, correct_point, correct_enter_block, correct_alloc}
 use Rattle.hir_steps.proofs.Steps.{correct_opened, correct_target, correct_point_field}
-use Rattle.hir_steps.proofs.Keeping.{type_any, args_any, lower_path_any}
+use Rattle.hir_steps.proofs.CoroutineClosures.{correct_coroutine_closure}
+use Rattle.hir_steps.proofs.Keeping.{Any, type_any, args_any, lower_path_any, handed_any, within_any}
 use Rattle.hir_same_meaning.proofs.Coroutines.{coroutine_is}
 use Rattle.hir_same_meaning.proofs.Spread.{spread_none, spread_wider, spread_append, spread_node}
 use Rattle.hir_same_meaning.proofs.Forms.{Pushed, pushed_one}
@@ -216,6 +218,14 @@ module _ (at : Pointer) where
       (λ final ps m m' i g row. let x = row.inside in
       owns_at m x.made (omega (x.to_entered.nodes, x.to_filled.nodes, x.to_left.nodes, arith))
       (λ d le. spread_none m.nodes x.left.nodes))
+
+  -- nor is its coroutine, where the closure makes one
+  pub coroutine_closure_owns : (kind : CoroutineKind) (moves : Bool) {p : Lowering ClosureParams} {t : Lowering (Option TypeRefId)}
+      {e : ExprSteps} → Correct p Any → Correct t Any → Correct e Any → Correct (coroutine_closure_form at kind moves p t e) Owns
+  coroutine_closure_owns kind moves {p = p} {t = t} {e = e} hp ht he = correct_as
+      (correct_coroutine_closure at kind moves p t e (within_any kind hp ht he) (handed_any []))
+      (λ final ps m m' i g row. owns_at m row.made (omega (row.to_left.nodes, row.to_handed.nodes, arith))
+      (λ d le. spread_none m.nodes row.handed.nodes))
 
   pub yield_owns : {p : Lowering (Option ExprId)} → Correct p OwnsSome → Correct (yield_form at p) Owns
   yield_owns h = correct_yield at _ (value_owns hir.Yield (λ f s o. refl) h)

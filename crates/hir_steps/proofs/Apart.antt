@@ -1,13 +1,13 @@
 -- What the steps do with names that are made up: those made before stand where they stood, and no two are the same.
-use Rattle.std.proofs.Common.{◌≡◌, ⊎_elim, ℕ, zero, suc, ◌+◌, ◌<◌, ◌≤◌, Bool, true, false, if◌then◌else◌, nat_eq, List, [], ◌∷◌, ◌++◌}
-use Rattle.std.proofs.Common.{Option, Some, None, refl, ap, ◌∙◌, arith}
+use Rattle.std.proofs.Common.{◌≡◌, ◌⊎◌, inl, ⊎_elim, ℕ, zero, suc, ◌+◌, ◌<◌, ◌≤◌, Bool, true, false, if◌then◌else◌, nat_eq, List, []}
+use Rattle.std.proofs.Common.{◌∷◌, ◌++◌, Option, Some, None, refl, sym, ap, subst, ◌∙◌, arith}
 use Rattle.std.proofs.lemmas.Bool.{eqb-true}
 use Rattle.hir_binding.specs.declared.binding.BindingProblems.{BindingProblems}
 use Rattle.hir_store.specs.Bindings.{at_place, problem_set}
 use Rattle.hir_store.specs.Names.{IsWritten}
 use Rattle.hir_binding.specs.declared.binding.BindingAnnotation.{BindingAnnotation}
 use Rattle.hir_store.specs.Pointers.{Pointer}
-use Rattle.hir_store.specs.Stored.{Stored}
+use Rattle.hir_store.specs.Stored.{Stored, store_of}
 use Rattle.hir_store.specs.declared.hir.Expr.{Expr}
 use Rattle.hir_store.specs.declared.hir.Label.{Label as HirLabel}
 use Rattle.hir_store.specs.declared.diagnostics.AwaitLocation.{AwaitLocation}
@@ -35,7 +35,7 @@ use Rattle.hir_lower_form.specs.Forms.{stored_closure}
 use Rattle.hir_lower_form.specs.Lower.{ExprSteps, closure_form, constant_form, coroutine_form}
 use Rattle.hir_lower_form.specs.Made.{made_binding, made_bind_form}
 use Rattle.hir_lower_form.specs.Ranges.{inner_form}
-use Rattle.hir_steps.specs.Keeps.{MadeApart, times_bound, times_labelled, times_made, times_named}
+use Rattle.hir_steps.specs.Keeps.{IsOneOf, formals_of, times_bound, times_labelled, times_made, times_named}
 use Rattle.hir_steps.proofs.Barriers.{correct_closure, correct_coroutine}
 use Rattle.hir_steps.proofs.Constants.{correct_constant, correct_inner, with_root}
 use Rattle.hir_steps.proofs.Frames.{Frame, rib, ribs}
@@ -51,12 +51,37 @@ use Rattle.hir_steps.proofs.Steps.{correct_point, correct_point_field, correct_r
 use Rattle.hir_steps.proofs.Steps.{with_block, with_expr, with_fault, with_field, with_jump, with_label, with_lifetime, with_target}
 use Rattle.hir_steps.proofs.Steps.{with_type}
 
+-- how often a name is of bindings, and how often of labels
+abbrev pub Times : Type 0
+Times = ℕ × ℕ
+
+abbrev pub times : ℕ → Stored → Times
+times k s = (times_bound k s.bindings.entries, times_labelled k s.labels.entries)
+
+abbrev pub sum : Times → ℕ
+sum t = t.0 + t.1
+
+-- it is of two bindings, one of which is a formal parameter in the final store
+pub record OfFormal (final : Stored) (k : ℕ) (t : Times) : Type 0 where
+  pub number : ℕ
+  pub formal : IsOneOf k (store_of final) (formals_of (store_of final) number)
+  pub bound : t.0 ≡ 2
+  pub labelled : t.1 ≡ 0
+
+abbrev pub Once : Stored → ℕ → Times → Type 0
+Once final k t = (sum t ≤ 1) ⊎ OfFormal final k t
+
+-- made names that stand apart, where what is formal is so in the final store
+pub record ApartIn (final : Stored) (names : ℕ) (s : Stored) : Type 0 where
+  pub once : (k : ℕ) → Once final k (times k s)
+  pub later : (k : ℕ) → names ≤ k → times_made k s ≡ 0
+
 pub record Apart {A : Type 0} (final : Stored) (ps : List Frame) (m m' : Mark) (a : A) : Type 0 where
   pub names : m.names ≤ m'.names
-  pub old : (k : ℕ) → k < m.names → times_made k m'.stored ≡ times_made k m.stored
-  pub apart : MadeApart m.names m.stored → MadeApart m'.names m'.stored
+  pub old : (k : ℕ) → k < m.names → times k m'.stored ≡ times k m.stored
+  pub apart : ApartIn final m.names m.stored → ApartIn final m'.names m'.stored
 
-apart_trans : {A B : Type 0} {final : Stored} {ps : List Frame} {m m1 m' : Mark} {a : A} {b : B} → Apart final ps m m1 a
+pub apart_trans : {A B : Type 0} {final : Stored} {ps : List Frame} {m m1 m' : Mark} {a : A} {b : B} → Apart final ps m m1 a
     → Apart final ps m1 m' b → Apart final ps m m' b
 apart_trans g h = record {
   names = let p = g.names in let q = h.names in omega (arith, p, q);
@@ -65,28 +90,28 @@ apart_trans g h = record {
 }
 
 -- what is answered doesn't matter, nor what is open
-apart_of : {A B : Type 0} {final : Stored} {ps qs : List Frame} {m m' : Mark} {a : A} {b : B} → Apart final ps m m' a
+pub apart_of : {A B : Type 0} {final : Stored} {ps qs : List Frame} {m m' : Mark} {a : A} {b : B} → Apart final ps m m' a
     → Apart final qs m m' b
 apart_of h = record { names = h.names; old = h.old; apart = h.apart }
 
 module _ {A : Type 0} {final : Stored} {ps : List Frame} {a : A} where
-  apart_same : (m m' : Mark) → m'.names ≡ m.names → ((k : ℕ) → times_made k m'.stored ≡ times_made k m.stored) → Apart final ps m m' a
+  pub apart_same : (m m' : Mark) → m'.names ≡ m.names → ((k : ℕ) → times k m'.stored ≡ times k m.stored) → Apart final ps m m' a
   apart_same m m' e h = record {
     names = omega (arith, e);
     old = λ k lt. h k;
     apart = λ p. record {
-      once = λ k. let here = h k in let o = p.once k in omega (arith, here, o);
-      later = λ k le. h k ∙ p.later k (omega (arith, e, le));
+      once = λ k. subst (Once final k) (sym (h k)) (p.once k);
+      later = λ k le. ap sum (h k) ∙ p.later k (omega (arith, e, le));
     };
   }
 
   -- where what is written is of no binding and no label
-  apart_stored : (f : Stored → Stored) (m m' : Mark) → m'.names ≡ m.names → m'.stored ≡ f m.stored
-      → ((s : Stored) (k : ℕ) → times_made k (f s) ≡ times_made k s) → Apart final ps m m' a
-  apart_stored f m m' e stored h = apart_same m m' e (λ k. ap (times_made k) stored ∙ h m.stored k)
+  pub apart_stored : (f : Stored → Stored) (m m' : Mark) → m'.names ≡ m.names → m'.stored ≡ f m.stored
+      → ((s : Stored) (k : ℕ) → times k (f s) ≡ times k s) → Apart final ps m m' a
+  apart_stored f m m' e stored h = apart_same m m' e (λ k. ap (times k) stored ∙ h m.stored k)
 
   apart_still : (m m' : Mark) → m' ≡ m → Apart final ps m m' a
-  apart_still m m' e = apart_same m m' (ap (λ x. x.names) e) (λ k. ap (λ x. times_made k x.stored) e)
+  apart_still m m' e = apart_same m m' (ap (λ x. x.names) e) (λ k. ap (λ x. times k x.stored) e)
 
 pub pure_apart : {A : Type 0} (a : A) → Correct (pure a) Apart
 pure_apart a = correct_as (correct_pure a) (λ final ps m m' b g row. apart_still m m' row.still)
@@ -121,8 +146,7 @@ pub report_apart : (fault : ExpressionStoreDiagnostics) → Correct (report faul
 report_apart fault = correct_as (correct_report fault)
     (λ final ps m m' u g row. apart_stored (with_fault fault) m m' row.names row.stored (λ s k. refl))
 
-await_times : (node : Pointer) (location : Option AwaitLocation) (s : Stored) (k : ℕ)
-    → times_made k (with_await node location s) ≡ times_made k s
+await_times : (node : Pointer) (location : Option AwaitLocation) (s : Stored) (k : ℕ) → times k (with_await node location s) ≡ times k s
 await_times node None s k = refl
 await_times node (Some location) s k = refl
 
@@ -138,7 +162,7 @@ pub point_field_apart : (id : ExprId) (node : Pointer) → Correct (point_field 
 point_field_apart id node = correct_as (correct_point_field id node)
     (λ final ps m m' u g row. apart_stored (with_field id node) m m' row.names row.stored (λ s k. refl))
 
-block_times : (n : Option BlockId) (s : Stored) (k : ℕ) → times_made k (with_block n s) ≡ times_made k s
+block_times : (n : Option BlockId) (s : Stored) (k : ℕ) → times k (with_block n s) ≡ times k s
 block_times None s k = refl
 block_times (Some n) s k = refl
 
@@ -146,12 +170,12 @@ pub enter_block_apart : (n : Option BlockId) → Correct (enter_block n) Apart
 enter_block_apart n = correct_as (correct_enter_block n)
     (λ final ps m m' u g row. apart_stored (with_block n) m m' row.names row.stored (block_times n))
 
-target_times : (j : Jump) {A : Type 0} (t : Target A) (s : Stored) (k : ℕ) → times_made k (with_target j t s) ≡ times_made k s
+target_times : (j : Jump) {A : Type 0} (t : Target A) (s : Stored) (k : ℕ) → times k (with_target j t s) ≡ times k s
 target_times j (reachable a) s k = refl
 target_times j unreachable s k = refl
 target_times j undeclared s k = refl
 
-jump_times : (j : Option Jump) {A : Type 0} (rs : List (Rib A)) (s : Stored) (k : ℕ) → times_made k (with_jump j rs s) ≡ times_made k s
+jump_times : (j : Option Jump) {A : Type 0} (rs : List (Rib A)) (s : Stored) (k : ℕ) → times k (with_jump j rs s) ≡ times k s
 jump_times None rs s k = refl
 jump_times (Some j) rs s k = target_times j (target j rs) s k
 
@@ -179,7 +203,7 @@ bound_at k (suc n) problem (b ∷ bs) = ap (λ t. times_named k b.name + t) (bou
 pub set_problem_apart : (id : BindingId) (problem : Option BindingProblems) → Correct (set_problem id problem) Apart
 set_problem_apart id problem = correct_as (correct_set_problem id problem)
     (λ final ps m m' u g row. apart_stored (with_problem_of id problem) m m' (ap (λ c. c.7) row.counts_are) row.stored
-    (λ s k. ap (λ t. t + times_labelled k s.labels.entries) (bound_at k id.0 problem s.bindings.entries)))
+    (λ s k. ap (λ t. (t, times_labelled k s.labels.entries)) (bound_at k id.0 problem s.bindings.entries)))
 
 -- names are the same, whatever owns bindings
 pub owning_apart : {A : Type 0} (owner : A → ExprId) {p : Lowering A} → Correct p Apart → Correct (owning owner p) Apart
@@ -191,20 +215,20 @@ owning_apart owner h = owning_keeps owner (λ final ps m left start id a row. re
 
 -- bodies inside
 
-root_times : (i : ExprId) (s : Stored) (k : ℕ) → times_made k (with_root i s) ≡ times_made k s
+root_times : (i : ExprId) (s : Stored) (k : ℕ) → times k (with_root i s) ≡ times k s
 root_times i s k = refl
 
 pub inner_apart : {p : ExprSteps} → Correct p Apart → Correct (inner_form p) Apart
 inner_apart h = correct_as (correct_inner h) (λ final ps m m' i g row.
     let names = ap (λ c. c.7) row.counts_are in
-    let still : (k : ℕ) → times_made k m'.stored ≡ times_made k row.left.stored =
-    λ k. ⊎_elim (λ e. ap (times_made k) e) (λ e. ap (times_made k) e ∙ root_times i row.left.stored k) row.stored in
+    let still : (k : ℕ) → times k m'.stored ≡ times k row.left.stored =
+    λ k. ⊎_elim (λ e. ap (times k) e) (λ e. ap (times k) e ∙ root_times i row.left.stored k) row.stored in
     apart_trans (apart_of {qs = ps} {b = i} row.first) (apart_same row.left m' names still))
 
 pub constant_apart : {p : ExprSteps} → Correct p Apart → Correct (constant_form p) Apart
 constant_apart h = correct_as (correct_constant h) (λ final ps m m' c g row.
-    let still : (k : ℕ) → times_made k m'.stored ≡ times_made k row.left.stored =
-    λ k. ⊎_elim (λ e. ap (times_made k) e) (λ e. ap (times_made k) e ∙ root_times c.expr row.left.stored k) row.stored in
+    let still : (k : ℕ) → times k m'.stored ≡ times k row.left.stored =
+    λ k. ⊎_elim (λ e. ap (times k) e) (λ e. ap (times k) e ∙ root_times c.expr row.left.stored k) row.stored in
     apart_trans (apart_of {qs = ps} {b = c} row.first) (apart_same row.left m' row.names still))
 
 pub closure_apart : (at : Pointer) (moves is_static : Bool) {p : Lowering ClosureParams} {t : Lowering (Option TypeRefId)} {e : ExprSteps}
@@ -228,24 +252,28 @@ labelled_push : (k : ℕ) (ls : List HirLabel) (l : HirLabel) → times_labelled
 labelled_push k [] l = omega arith
 labelled_push k (c ∷ ls) l = let e = labelled_push k ls l in omega (arith, e)
 
--- one more of the first, or of the second
-more_first : (a b c d : ℕ) → c ≡ a + d → c + b ≡ (a + b) + d
-more_first a b c d e = omega (arith, e)
+-- so much more of the bindings, or of the labels
+abbrev pub more_of : Bool → ℕ → Times → Times
+more_of true d t = (t.0 + d, t.1)
+more_of false d t = (t.0, t.1 + d)
 
-more_second : (a b c d : ℕ) → c ≡ b + d → a + c ≡ (a + b) + d
-more_second a b c d e = omega (arith, e)
+pub none_more : (bound : Bool) (d : ℕ) (t : Times) → d ≡ 0 → more_of bound d t ≡ t
+none_more true d t e = let same : t.0 + d ≡ t.0 = omega (arith, e) in ap (λ n. (n, t.1)) same
+none_more false d t e = let same : t.1 + d ≡ t.1 = omega (arith, e) in ap (λ n. (t.0, n)) same
 
-binding_push : (s : Stored) (b : Binding) (k : ℕ) → times_made k (with_new_binding b s) ≡ times_made k s + times_named k b.name
-binding_push s b k = more_first (times_bound k s.bindings.entries) (times_labelled k s.labels.entries)
-    (times_bound k (s.bindings.entries ++ b ∷ [])) (times_named k b.name) (bound_push k s.bindings.entries b)
+pub sum_more : (bound : Bool) (d : ℕ) (t : Times) → sum (more_of bound d t) ≡ sum t + d
+sum_more true d t = omega arith
+sum_more false d t = omega arith
 
-label_push : (s : Stored) (l : Label) (k : ℕ) → times_made k (with_label l s) ≡ times_made k s + times_named k l.name
+pub binding_push : (s : Stored) (b : Binding) (k : ℕ) → times k (with_new_binding b s) ≡ more_of true (times_named k b.name) (times k s)
+binding_push s b k = ap (λ n. (n, times_labelled k s.labels.entries)) (bound_push k s.bindings.entries b)
+
+label_push : (s : Stored) (l : Label) (k : ℕ) → times k (with_label l s) ≡ more_of false (times_named k l.name) (times k s)
 label_push s l k =
     let x : HirLabel = record { name = l.name } in
-    more_second (times_bound k s.bindings.entries) (times_labelled k s.labels.entries)
-    (times_labelled k (s.labels.entries ++ x ∷ [])) (times_named k l.name) (labelled_push k s.labels.entries x)
+    ap (λ n. (times_bound k s.bindings.entries, n)) (labelled_push k s.labels.entries x)
 
-written_never : (k : ℕ) (n : Name) → IsWritten n → times_named k n ≡ 0
+pub written_never : (k : ℕ) (n : Name) → IsWritten n → times_named k n ≡ 0
 written_never k (name.Text t) w = refl
 written_never k name.Missing w = refl
 written_never k (name.Generated n) w = absurd w
@@ -253,16 +281,8 @@ written_never k (name.Generated n) w = absurd w
 abbrev one_if : Bool → ℕ
 one_if t = if t then 1 else 0
 
--- a name of its own, once
-named_itself : (k n : ℕ) → times_named k (name.Generated n) ≤ 1
-named_itself k n = by (nat_eq n k)
-  where
-    by : (t : Bool) → one_if t ≤ 1
-    by true = omega arith
-    by false = omega arith
-
--- no other
-named_other : (k n : ℕ) → (n ≡ k → ⊥) → times_named k (name.Generated n) ≡ 0
+-- no other name than its own
+pub named_other : (k n : ℕ) → (n ≡ k → ⊥) → times_named k (name.Generated n) ≡ 0
 named_other k n differ = by (nat_eq n k) refl
   where
     by : (t : Bool) → nat_eq n k ≡ t → one_if t ≡ 0
@@ -270,59 +290,53 @@ named_other k n differ = by (nat_eq n k) refl
     by false e = refl
 
 -- once where it stood nowhere
-once_more : (k n a : ℕ) → a ≤ 1 → (n ≡ k → a ≡ 0) → a + times_named k (name.Generated n) ≤ 1
-once_more k n a le free = by (nat_eq n k) refl
+once_more : (final : Stored) (bound : Bool) (k n : ℕ) (t : Times) → Once final k t → (n ≡ k → sum t ≡ 0)
+    → Once final k (more_of bound (times_named k (name.Generated n)) t)
+once_more final bound k n t once free = by (nat_eq n k) refl
   where
-    by : (t : Bool) → nat_eq n k ≡ t → a + one_if t ≤ 1
-    by true e = let none = free (eqb-true n k e) in omega (arith, none)
-    by false e = omega (arith, le)
+    by : (named : Bool) → nat_eq n k ≡ named → Once final k (more_of bound (one_if named) t)
+    by true e = let none = free (eqb-true n k e) in let more = sum_more bound 1 t in inl (omega (arith, none, more))
+    by false e = subst (Once final k) (sym (none_more bound 0 t refl)) once
 
 -- A name that is written is of a binding or a label more.
-apart_written : {A : Type 0} {final : Stored} {ps : List Frame} {a : A} (m m' : Mark) (n : Name) → IsWritten n → m'.names ≡ m.names
-    → ((k : ℕ) → times_made k m'.stored ≡ times_made k m.stored + times_named k n) → Apart final ps m m' a
-apart_written m m' n w names h =
-    apart_same m m' names (λ k. let e = h k in let none = written_never k n w in omega (arith, e, none))
+apart_written : {A : Type 0} {final : Stored} {ps : List Frame} {a : A} (bound : Bool) (m m' : Mark) (n : Name) → IsWritten n
+    → m'.names ≡ m.names → ((k : ℕ) → times k m'.stored ≡ more_of bound (times_named k n) (times k m.stored)) → Apart final ps m m' a
+apart_written bound m m' n w names h =
+    apart_same m m' names (λ k. h k ∙ none_more bound (times_named k n) (times k m.stored) (written_never k n w))
 
 -- The name of the next number is made up, other steps are taken, and then it is of a binding or a label more.
-apart_made : {A B : Type 0} {final : Stored} {ps : List Frame} {a : A} {b : B} (m m1 m2 m3 : Mark) (n : ℕ) → n ≡ m.names
+apart_made : {A B : Type 0} {final : Stored} {ps : List Frame} {a : A} {b : B} (bound : Bool) (m m1 m2 m3 : Mark) (n : ℕ) → n ≡ m.names
     → m1.names ≡ suc m.names → m1.stored ≡ m.stored → Apart final ps m1 m2 a → m3.names ≡ m2.names
-    → ((k : ℕ) → times_made k m3.stored ≡ times_made k m2.stored + times_named k (name.Generated n)) → Apart final ps m m3 b
-apart_made m m1 m2 m3 n is next stored between names h = record {
+    → ((k : ℕ) → times k m3.stored ≡ more_of bound (times_named k (name.Generated n)) (times k m2.stored)) → Apart final ps m m3 b
+apart_made {final = final} bound m m1 m2 m3 n is next stored between names h = record {
   names = let x = between.names in omega (arith, next, x, names);
   old = λ k lt.
-      let e = h k in
       let other = named_other k n (λ same. omega (arith, same, is, lt)) in
-      let still = was k (omega (arith, next, lt)) in
-      omega (arith, e, other, still);
+      h k ∙ (none_more bound (times_named k (name.Generated n)) (times k m2.stored) other ∙ was k (omega (arith, next, lt)));
   apart = λ p. record {
-    once = λ k.
-        let e = h k in
-        let o = (between.apart (first p)).once k in
-        let sum = once_more k n (times_made k m2.stored) o
-        (λ same. was k (omega (arith, same, is, next)) ∙ p.later k (omega (arith, same, is))) in
-        omega (arith, e, sum);
+    once = λ k. subst (Once final k) (sym (h k)) (once_more final bound k n (times k m2.stored) ((between.apart (first p)).once k)
+        (λ same. ap sum (was k (omega (arith, same, is, next))) ∙ p.later k (omega (arith, same, is))));
     later = λ k le.
-        let e = h k in
         let x = between.names in
         let other = named_other k n (λ same. omega (arith, same, is, next, x, names, le)) in
-        let none = (between.apart (first p)).later k (omega (arith, names, le)) in
-        omega (arith, e, other, none);
+        ap sum (h k ∙ none_more bound (times_named k (name.Generated n)) (times k m2.stored) other)
+        ∙ (between.apart (first p)).later k (omega (arith, names, le));
   };
 }
   where
-    was : (k : ℕ) → k < m1.names → times_made k m2.stored ≡ times_made k m.stored
-    was k lt = between.old k lt ∙ ap (times_made k) stored
+    was : (k : ℕ) → k < m1.names → times k m2.stored ≡ times k m.stored
+    was k lt = between.old k lt ∙ ap (times k) stored
 
-    first : MadeApart m.names m.stored → MadeApart m1.names m1.stored
+    first : ApartIn final m.names m.stored → ApartIn final m1.names m1.stored
     first p = record {
-      once = λ k. let e = ap (times_made k) stored in let o = p.once k in omega (arith, e, o);
-      later = λ k le. ap (times_made k) stored ∙ p.later k (omega (arith, next, le));
+      once = λ k. subst (Once final k) (sym (ap (times k) stored)) (p.once k);
+      later = λ k le. ap (λ s. times_made k s) stored ∙ p.later k (omega (arith, next, le));
     }
 
 -- a binding of a written name
 pub binding_apart : (b : Binding) → IsWritten b.name → Correct (alloc_binding b) Apart
 binding_apart b w = correct_as (correct_alloc_binding b) (λ final ps m m' i g row.
-    apart_written m m' b.name w row.names (λ k. ap (times_made k) row.stored ∙ binding_push m.stored b k))
+    apart_written true m m' b.name w row.names (λ k. ap (times k) row.stored ∙ binding_push m.stored b k))
 
 -- one of a name that is made up some steps before
 pub named_apart : (mode : BindingAnnotation) {A B : Type 0} {p : Lowering A} {f : ℕ → A → PatId → Lowering B} → Correct p Apart
@@ -334,8 +348,9 @@ named_apart mode hp hf = correct_as
     let next = row.first in
     let own = row.second.second.first in
     apart_trans
-    (apart_made {b = row.second.second.one} m row.middle row.second.middle row.second.second.middle row.one next.is next.names next.stored
-    row.second.first own.names (λ k. ap (times_made k) own.stored ∙ binding_push row.second.middle.stored (made_binding mode row.one) k))
+    (apart_made {b = row.second.second.one} true m row.middle row.second.middle row.second.second.middle row.one next.is next.names
+    next.stored row.second.first own.names
+    (λ k. ap (times k) own.stored ∙ binding_push row.second.middle.stored (made_binding mode row.one) k))
     row.second.second.second)
 
 -- labels
@@ -347,8 +362,8 @@ pub opened_apart : {A B : Type 0} (at : Label → LabelId → Frame) (l : Label)
     → Correct (open_label l >>= (λ n. p n >>= (λ a. close >>= (λ _. f n a)))) Apart
 opened_apart at l w frame hp hf = correct_as (correct_opened at l frame hp hf) (λ final ps m m' b g row.
     let names = row.names in
-    let opened = apart_written {ps = ps} {a = row.number} m row.entered l.name w (omega (arith, names))
-    (λ k. ap (times_made k) row.stored ∙ label_push m.stored l k) in
+    let opened = apart_written {ps = ps} {a = row.number} false m row.entered l.name w (omega (arith, names))
+    (λ k. ap (times k) row.stored ∙ label_push m.stored l k) in
     apart_trans opened (apart_trans (apart_of {qs = ps} {b = row.one} row.first) row.second))
 
 -- one of a made name
@@ -359,7 +374,7 @@ opened_try_apart at typed hs hp hf = correct_as (correct_opened_try at typed hs 
     let names = row.names in
     let numbered : Mark = record m { names = suc m.names } in
     let still = apart_still {final = final} {ps = ps} {a = row.number} numbered numbered refl in
-    let opened = apart_made {b = row.number} m numbered numbered row.entered m.names refl refl refl still (omega (arith, names))
-    (λ k. ap (times_made k) row.stored ∙ label_push m.stored (made_label at m.names) k) in
+    let opened = apart_made {b = row.number} false m numbered numbered row.entered m.names refl refl refl still (omega (arith, names))
+    (λ k. ap (times k) row.stored ∙ label_push m.stored (made_label at m.names) k) in
     let inside = apart_trans row.first.first row.first.second in
     apart_trans opened (apart_trans (apart_of {qs = ps} {b = row.one} inside) row.second))

@@ -49,6 +49,7 @@ use Rattle.hir_steps.proofs.ApartTypes.{args_form_apart, array_apart, assoc_apar
 use Rattle.hir_steps.proofs.ApartTypes.{impl_apart, lifetime_apart, lifetime_option_apart, over_apart, parens_form_apart}
 use Rattle.hir_steps.proofs.ApartTypes.{path_bound_apart, path_type_apart, proceed_apart, ref_apart, tuple_apart, unit_apart}
 use Rattle.hir_steps.proofs.ApartTypes.{uses_apart, whole_apart, with_trait_apart}
+use Rattle.hir_steps.proofs.ApartPreludes.{coroutine_closure_apart}
 use Rattle.hir_steps.proofs.Steps.{Correct}
 use Rattle.hir_steps.proofs.ApartForms.{missing_apart, stored_apart, some_apart, if_apart, loop_apart, turn_apart, call_apart}
 use Rattle.hir_steps.proofs.ApartForms.{continue_apart, break_apart, paren_apart, path_apart, operand_apart, operands_apart, value_apart}
@@ -200,6 +201,8 @@ mutual
   node_apart (tree.const_expr at c) = owning_apart (λ i. i) (const_apart at (rooted_apart c))
   node_apart (tree.closure_expr at moves is_static xs r e) = owning_apart (λ i. i)
       (closure_apart at moves is_static (params_apart no_closure_params xs) (present_type_apart r) (part_apart e))
+  node_apart (tree.coroutine_closure_expr at kind moves xs r e) = owning_apart (λ i. i)
+      (coroutine_closure_apart at kind moves (params_apart no_closure_params xs) (present_type_apart r) (part_apart e))
   node_apart (tree.method_call_expr at e name es generics) =
       method_call_apart at name (part_apart e) (each_apart [] es) (args_apart generics)
   node_apart (tree.cast_expr at e t) = cast_apart at (part_apart e) (type_apart None t)

@@ -146,7 +146,7 @@ still_coroutine p = record { still = λ b. by b (p (shut b)).0 (p (shut b)).1 }
 
 -- ---- steps of a closure, grouped otherwise
 
-grouped : {A B C : Type 0} (p : Lowering A) (f : A → Lowering B) (g : B → Lowering C) (b : Builder)
+pub grouped : {A B C : Type 0} (p : Lowering A) (f : A → Lowering B) (g : B → Lowering C) (b : Builder)
     → ((p >>= f) >>= g) b ≡ (p >>= (λ a. f a >>= g)) b
 grouped {A = A} p f g b = by (p b).0 (p b).1
   where

@@ -2,15 +2,22 @@
 use Rattle.std.proofs.Common.{◌≡◌, ℕ, List, [], Option, Some, Ok, Err, subst}
 use Rattle.hir_store.specs.Stored.{Stored}
 use Rattle.hir_store.proofs.Extending.{extends_refl}
+use Rattle.hir_store.specs.declared.hir.CoroutineKind.{CoroutineKind}
+use Rattle.hir_store.specs.declared.hir.CoroutineSource.{CoroutineSource}
+use Rattle.hir_store.specs.declared.hir.CoroutineSource.TheVariants as source
 use Rattle.hir_store.specs.declared.hir.MatchArm.{MatchArm}
 use Rattle.hir_store.specs.declared.hir.RecordLitField.{RecordLitField}
 use Rattle.hir_store.specs.declared.hir.RecordSpread.{RecordSpread}
+use Rattle.hir_store.specs.declared.hir.Statement.{Statement}
 use Rattle.hir_store.specs.declared.ids.ExprId.{ExprId}
+use Rattle.hir_store.specs.declared.ids.TypeRefId.{TypeRefId}
 use Rattle.hir_store.specs.Pointers.{Pointer}
 use Rattle.hir_env.specs.Answered.{Arms, Binder, Constant, Exprs, Fields, OptionArgs, OptionBlock, OptionExpr, OptionPat, OptionPath}
 use Rattle.hir_store.specs.declared.ids.PatId.{PatId}
 use Rattle.hir_env.specs.Answered.{ForItems, IsWrittenLabel, Label, OptionType, Params, Spread, Stmts, Target, Type_}
 use Rattle.hir_lower_form.specs.declared.closures.ClosureParams.{ClosureParams}
+use Rattle.hir_lower_form.specs.declared.preludes.Handed.{Handed}
+use Rattle.hir_lower_form.specs.declared.preludes.Prelude.{Prelude}
 use Rattle.hir_lower_form.specs.Made.{for_turn_form, made_loop_form}
 use Rattle.hir_lower_form.specs.Builder.{Builder}
 use Rattle.hir_lower_form.specs.Lower.{ExprSteps, args_part, kept_part, lower_arms, lower_block_part, lower_constant, lower_each}
@@ -18,11 +25,15 @@ use Rattle.hir_lower_form.specs.Lower.{lower_fields, lower_params, lower_part, l
 use Rattle.hir_lower_form.specs.Lower.{lower_target, lower_top, present}
 use Rattle.hir_lower_form.specs.Lower.{lower_type, present_type, record_contents, turn_form, type_part}
 use Rattle.hir_lower_form.specs.Lowering.{Checked, Lowering}
+use Rattle.hir_lower_form.specs.Preludes.{let_params, lower_handed, made_coroutine_form, no_prelude, within_form}
 use Rattle.hir_steps.specs.Keeps.{Keeps, Keeping, KeepsApart, MadeApart, Paired, PathsKeep, TypesKeep}
 use Rattle.hir_steps.proofs.Apart.{Apart}
 use Rattle.hir_steps.proofs.ApartForms.{for_turn_apart, made_loop_apart}
+use Rattle.hir_steps.proofs.ApartPreludes.{handed_hand_out, let_params_add, made_coroutine_apart}
 use Rattle.hir_steps.proofs.ApartTree as apart
+use Rattle.hir_steps.proofs.Formals.{apart_in, apart_now}
 use Rattle.hir_steps.proofs.Frames.{Frame, frames, ribs_frames}
+use Rattle.hir_steps.proofs.Preludes.{correct_within}
 use Rattle.hir_steps.proofs.Steps.{Holds, Correct, correct_alloc, correct_pure}
 pub use Rattle.hir_steps.proofs.TypeAny.{Any, any}
 use Rattle.hir_steps.proofs.TypeAny.{then_any}
@@ -89,6 +100,22 @@ pub for_loop_any : (at : Pointer) (items : ForItems) (label : Option Label) → 
     → Correct (made_loop_form at label (for_turn_form at items n p (lower_part b))) Any
 for_loop_any at items label w n p b = any (made_loop_apart at label w (for_turn_apart at items n p (apart.part_apart b)))
 
+-- what hands arguments in
+
+pub lets_any : (done : Prelude) (is : List PatId) → Correct (let_params done is) Any
+lets_any done is = any (let_params_add done is)
+
+pub handed_any : (done : List PatId) (xs : List Handed) → Correct (lower_handed done xs) Any
+handed_any done xs = any (handed_hand_out done xs)
+
+pub made_coroutine_any : (which : CoroutineKind) (from : CoroutineSource) (ss : List Statement) (i : ExprId)
+    → Correct (made_coroutine_form which from ss i) Any
+made_coroutine_any which from ss i = any (made_coroutine_apart which from ss i)
+
+pub within_any : (which : CoroutineKind) {p : Lowering ClosureParams} {t : Lowering (Option TypeRefId)} {e : ExprSteps} → Correct p Any
+    → Correct t Any → Correct e Any → Correct (within_form which p t e) Any
+within_any which hp ht he = any (correct_within which hp ht he (lets_any no_prelude) (made_coroutine_any which source.Closure))
+
 -- of forms
 
 pub turn_any : (at : Pointer) {c b : ExprSteps} → Correct c Any → Correct b Any → Correct (turn_form at c b) Any
@@ -127,7 +154,8 @@ apart_by {p = p} h b b' a d is =
     let ps = frames b.scopes in
     let held : Holds Apart b'.stored ps b (Ok a) b' =
     subst (λ r. Holds Apart b'.stored ps b r.0 r.1) is (h.holds b'.stored ps b (ribs_frames b.scopes)) in
-    (held.in_final d (extends_refl b'.stored)).apart
+    let row = held.in_final d (extends_refl b'.stored) in
+    λ m. apart_now (row.apart (apart_in held.kept.stays m))
 
 pub keeps_apart : KeepsApart
 keeps_apart e b b' i d is m = apart_by (apart.part_apart e) b b' i d is m

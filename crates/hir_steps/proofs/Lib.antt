@@ -1,6 +1,8 @@
 pub mod Frames
 pub mod Logic
+pub mod Always
 pub mod TypeSteps
+pub mod Mapping
 pub mod PatSteps
 pub mod Steps
 pub mod MadeSteps
@@ -9,11 +11,15 @@ pub mod Yields
 pub mod Owning
 pub mod Opening
 pub mod Barriers
+pub mod Preludes
+pub mod CoroutineClosures
 pub mod StillTypes
 pub mod StillPats
 pub mod StillTree
 pub mod Aside
 pub mod Apart
+pub mod Formals
+pub mod ApartPreludes
 pub mod ApartTypes
 pub mod ApartPats
 pub mod ApartForms

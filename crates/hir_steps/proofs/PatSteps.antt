@@ -2,8 +2,8 @@
 use Rattle.std.proofs.Common.{◌≡◌, suc, Bool, true, false, if◌then◌else◌, nat_lt, slice_get, map, List, []}
 use Rattle.std.proofs.Common.{◌∷◌, ◌++◌, length, Option, Some, None, Ok, Err, refl, sym, ap, subst, arith, length-append}
 use Rattle.hir_binding.specs.declared.binding.BindingProblems.{BindingProblems}
-use Rattle.hir_store.specs.Pointers.{Pointer}
-use Rattle.hir_store.specs.Arenas.{Sourced, Prefix, with_entry}
+use Rattle.hir_store.specs.Pointers.{Pointer, flattened}
+use Rattle.hir_store.specs.Arenas.{Sourced, Prefix, with_entry, with_made}
 use Rattle.hir_store.specs.Bindings.{Bindings, BindingsContinue, EachGoesOn, binding_id, with_binding, with_definition, with_problem}
 use Rattle.hir_store.specs.Bindings.{without_problem, problem_set}
 use Rattle.hir_store.specs.FirstMap.{with_first_by}
@@ -15,22 +15,27 @@ use Rattle.hir_store.specs.declared.pat.Binding.{Binding}
 use Rattle.hir_store.specs.declared.pat.Pat.{Pat}
 use Rattle.hir_store.specs.declared.ids.BindingId.{BindingId}
 use Rattle.hir_store.specs.declared.ids.PatId.{PatId}
-use Rattle.hir_store.proofs.Arenas.{continues_refl, continues_entry, prefix_refl}
+use Rattle.hir_store.proofs.Arenas.{continues_refl, continues_entry, continues_made, prefix_refl}
 use Rattle.hir_store.proofs.BindingLemmas.{bindings_refl, length_at}
-use Rattle.hir_store.proofs.Maps.{maps_back_entry}
 use Rattle.hir_store.proofs.OwnerLemmas.{stay_more}
 use Rattle.hir_store.proofs.Extending.{extends_refl, extends_definition, extends_problem, extends_pat_field}
 use Rattle.hir_lower_form.specs.Builder.{Builder}
-use Rattle.hir_lower_form.specs.Lowering.{Checked, alloc_pat, alloc_binding, define, set_problem, point_pat_field}
+use Rattle.hir_lower_form.specs.Lowering.{Checked, alloc_pat, alloc_made_pat, alloc_binding, define, set_problem, point_pat_field}
+use Rattle.hir_lower_form.specs.Preludes.{alloc_beside, pat_source}
 use Rattle.hir_steps.proofs.Frames.{Frame}
-use Rattle.hir_steps.proofs.Logic.{Mark, mark, counts, Holds, Correct, grows_still, in_prefix, one_more}
+use Rattle.hir_steps.proofs.Logic.{Mark, mark, counts, Holds, Rel, Correct, grows_still, in_prefix, one_more}
+use Rattle.hir_steps.proofs.Mapping.{maps_entry, made_beside}
 
 -- a pattern
 
-abbrev pub with_pat : Pat → Option Pointer → Stored → Stored
+-- what a pattern makes of what is stored
+abbrev pub PutPat : Type 0
+PutPat = Pat → Option Pointer → Stored → Stored
+
+abbrev pub with_pat : PutPat
 with_pat p source s = record s { pats = with_entry pat_id s.pats p source }
 
-pub record AllocatedPat (p : Pat) (source : Option Pointer) (final : Stored) (ps : List Frame) (m m' : Mark) (i : PatId)
+pub record AllocatedPatBy (put : PutPat) (p : Pat) (source : Option Pointer) (final : Stored) (ps : List Frame) (m m' : Mark) (i : PatId)
     : Type 0 where
   pub number : i.0 ≡ m.pats
   pub here : slice_get final.pats.entries m.pats ≡ Some p
@@ -44,7 +49,10 @@ pub record AllocatedPat (p : Pat) (source : Option Pointer) (final : Stored) (ps
   pub lifetimes : m'.lifetimes ≡ m.lifetimes
   pub last : m.pats ≡ length m.stored.pats.entries
   pub names : m'.names ≡ m.names
-  pub stored : m'.stored ≡ with_pat p source m.stored
+  pub stored : m'.stored ≡ put p source m.stored
+
+abbrev pub AllocatedPat : Pat → Option Pointer → Rel PatId
+AllocatedPat = AllocatedPatBy with_pat
 
 abbrev made_pat : Bool → Pat → Option Pointer → Sourced Pat PatId → Checked PatId × Sourced Pat PatId
 made_pat room p source a = if room then (Ok (pat_id (length a.entries)), with_entry pat_id a p source) else (Err Full, a)
@@ -74,7 +82,7 @@ correct_alloc_pat p source =
               lifetimes = d.lifetimes;
             };
             mapped = λ d w. record {
-              pats = maps_back_entry (λ i. i.0) pat_id (λ n. refl) s.pats p d.pats w.pats source;
+              pats = maps_entry (λ i. i.0) s.pats p w.pats pat_id (λ n. refl) d.pats source;
               types = w.types;
               lifetimes = w.lifetimes;
             };
@@ -82,6 +90,89 @@ correct_alloc_pat p source =
               exprs = continues_refl s.exprs;
               labels = continues_refl s.labels;
               pats = continues_entry pat_id s.pats p source;
+              bindings = bindings_refl s.bindings;
+              types = continues_refl s.types;
+              lifetimes = continues_refl s.lifetimes;
+              roots = prefix_refl s.roots;
+              field_map_back = prefix_refl s.field_map_back;
+              pat_field_map_back = prefix_refl s.pat_field_map_back;
+              block_scopes = prefix_refl s.block_scopes;
+              diagnostics = prefix_refl s.diagnostics;
+            };
+          };
+          grows = record {
+            nodes = omega arith;
+            labels = omega arith;
+            pats = omega arith;
+            bindings = omega arith;
+            types = omega arith;
+            lifetimes = omega arith;
+            entries = omega arith;
+            names = omega arith;
+          };
+          in_final = λ d pre. record {
+            number = refl;
+            here = in_prefix xs p (length xs) refl pre.pats.entries;
+            from = in_prefix ss source (length xs) (sym d.pats) pre.pats.sources;
+            next = omega arith;
+            entries = omega arith;
+            nodes = refl;
+            labels = refl;
+            bindings = refl;
+            types = refl;
+            lifetimes = refl;
+            last = refl;
+            names = refl;
+            stored = refl;
+          };
+        }
+    go final ps b false = extends_refl b.stored
+
+-- one that is made up for the node that another one came from
+
+abbrev pub put_made_pat : PutPat
+put_made_pat p source s = record s { pats = with_made s.pats p source }
+
+-- the node that a pattern came from
+abbrev pub source_in : Stored → PatId → Option Pointer
+source_in s p = flattened (slice_get s.pats.sources p.0)
+
+abbrev pub AllocatedBeside : Pat → PatId → Rel PatId
+AllocatedBeside p own = λ final ps m m' i. AllocatedPatBy put_made_pat p (source_in m.stored own) final ps m m' i
+
+abbrev put_pat : Bool → Pat → Option Pointer → Sourced Pat PatId → Checked PatId × Sourced Pat PatId
+put_pat room p source a = if room then (Ok (pat_id (length a.entries)), with_made a p source) else (Err Full, a)
+
+pub correct_alloc_beside : (p : Pat) (own : PatId) → Correct (alloc_beside p own) (AllocatedBeside p own)
+unfolding alloc_beside pat_source alloc_made_pat storing.alloc_made_pat
+correct_alloc_beside p own =
+    record { holds = λ final ps b r. go final ps b (nat_lt (length b.stored.pats.entries) b.stored.pats.limit) }
+  where
+    go : (final : Stored) (ps : List Frame) (b : Builder) (room : Bool)
+        → Holds (AllocatedBeside p own) final ps b (put_pat room p (source_in b.stored own) b.stored.pats).0
+        (record b { stored = record b.stored { pats = (put_pat room p (source_in b.stored own) b.stored.pats).1 } })
+    go final ps b true =
+        let s = b.stored in
+        let source = source_in s own in
+        let xs = s.pats.entries in
+        let ss = s.pats.sources in
+        let grown = length-append xs (p ∷ []) in record {
+          kept = record {
+            scopes = refl;
+            in_root = refl;
+            roots = λ t. refl;
+            paired = λ d. record {
+              exprs = d.exprs;
+              labels = d.labels;
+              pats = one_more xs p ss source d.pats;
+              types = d.types;
+              lifetimes = d.lifetimes;
+            };
+            mapped = λ d w. record { pats = made_beside (λ i. i.0) s.pats p w.pats own.0; types = w.types; lifetimes = w.lifetimes };
+            stays = record {
+              exprs = continues_refl s.exprs;
+              labels = continues_refl s.labels;
+              pats = continues_made s.pats p source;
               bindings = bindings_refl s.bindings;
               types = continues_refl s.types;
               lifetimes = continues_refl s.lifetimes;

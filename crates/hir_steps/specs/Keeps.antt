@@ -1,13 +1,21 @@
 -- What lowering leaves as it was.
-use Rattle.std.specs.Prelude.{◌≡◌, ◌≤◌, ◌+◌, ℕ, true, nat_eq, if◌then◌else◌, List, [], ◌∷◌, length, Option, Ok, Err}
-use Rattle.hir_store.specs.Arenas.{MapsBack}
-use Rattle.hir_store.specs.Stored.{Stored}
+use Rattle.std.specs.Prelude.{◌≡◌, ◌≤◌, ◌⊎◌, ◌+◌, ℕ, true, nat_eq, if◌then◌else◌, List, [], ◌∷◌, length, map, slice_get}
+use Rattle.std.specs.Prelude.{Option, Some, None, option_map, Ok, Err}
+use Rattle.hir_store.specs.Arenas.{MapsBack, Sourced}
+use Rattle.hir_store.specs.Pointers.{Pointer, found}
+use Rattle.hir_store.specs.Stored.{Store, Stored, store_of}
 use Rattle.hir_store.specs.Storing.{Checked, Extends}
+use Rattle.hir_store.specs.declared.hir.ClosureKind.TheVariants as closure
+use Rattle.hir_store.specs.declared.hir.Expr.{Expr}
+use Rattle.hir_store.specs.declared.hir.Expr.TheVariants as hir
 use Rattle.hir_store.specs.declared.hir.Label.{Label}
 use Rattle.hir_store.specs.declared.ids.ExprId.{ExprId}
+use Rattle.hir_store.specs.declared.ids.PatId.{PatId}
 use Rattle.hir_store.specs.declared.name.Name.{Name}
 use Rattle.hir_store.specs.declared.name.Name.TheVariants as name
 use Rattle.hir_store.specs.declared.pat.Binding.{Binding}
+use Rattle.hir_store.specs.declared.pat.Pat.{Pat}
+use Rattle.hir_store.specs.declared.pat.Pat.TheVariants as pat
 use Rattle.hir_env.specs.Answered.{Binder, OptionType, OptionPath, OptionExpr}
 use Rattle.hir_lower_form.specs.Builder.{Builder}
 use Rattle.hir_lower_form.specs.Lower.{type_part, lower_path, lower_part}
@@ -20,9 +28,21 @@ pub record Paired (s : Stored) : Type 0 where
   pub types : length s.types.sources ≡ length s.types.entries
   pub lifetimes : length s.lifetimes.sources ≡ length s.lifetimes.entries
 
--- the nodes of patterns, types and lifetimes lead to them, and no other node does: so it is in an empty store, and stays
+-- the node leads to an entry
+pub record LeadsSomewhere {T I : Type 0} (a : Sourced T I) (p : Pointer) : Type 0 where
+  pub id : I
+  pub is : found a.map p ≡ Some id
+
+-- What a node leads to came from it, and where an entry came from a node, that leads to one: to this or to another one, since an entry
+-- may be made up for a node, which doesn't lead to it.
+pub record MapsToOne {T I : Type 0} (place : I → ℕ) (a : Sourced T I) : Type 0 where
+  pub to_source : (p : Pointer) (id : I) → found a.map p ≡ Some id → slice_get a.sources (place id) ≡ Some (Some p)
+  pub to_entry : (n : ℕ) (p : Pointer) → slice_get a.sources n ≡ Some (Some p) → LeadsSomewhere a p
+
+-- The nodes of patterns, types and lifetimes lead to them, and no other node does, where of the patterns of one node one is led to: so
+-- it is in an empty store, and stays.
 pub record Mapped (s : Stored) : Type 0 where
-  pub pats : MapsBack (λ i. i.0) s.pats
+  pub pats : MapsToOne (λ i. i.0) s.pats
   pub types : MapsBack (λ i. i.0) s.types
   pub lifetimes : MapsBack (λ i. i.0) s.lifetimes
 
@@ -70,9 +90,47 @@ times_labelled k (l ∷ ls) = times_named k l.name + times_labelled k ls
 abbrev pub times_made : ℕ → Stored → ℕ
 times_made k s = times_bound k s.bindings.entries + times_labelled k s.labels.entries
 
--- Where so many names are made up, each of them is the name of one binding or label at most, and no other made name is of any.
+abbrev pub times_among : ℕ → List Name → ℕ
+times_among k [] = 0
+times_among k (n ∷ ns) = times_named k n + times_among k ns
+
+-- the name that a pattern binds, where it is that alone
+abbrev pub alone_in : List Binding → Option Pat → Option Name
+alone_in bs (Some (pat.Bind id None)) = option_map (λ b. b.name) (slice_get bs id.0)
+alone_in bs _ = None
+
+abbrev pub name_alone : Store → PatId → Option Name
+name_alone store p = alone_in store.bindings (slice_get store.pats p.0)
+
+-- what a closure whose body is a coroutine is handed its arguments by
+abbrev pub formals_in : Option Expr → List PatId
+formals_in (Some (hir.Closure args types ret body (closure.CoroutineClosure which) by)) = args
+formals_in _ = []
+
+abbrev pub formals_of : Store → ℕ → List PatId
+formals_of store n = formals_in (slice_get store.exprs n)
+
+-- Each of these patterns is a name alone, and the made name of this number is that of just one.
+pub record IsOneOf (k : ℕ) (store : Store) (formals : List PatId) : Type 0 where
+  pub names : List Name
+  pub are : map (name_alone store) formals ≡ map Some names
+  pub once : times_among k names ≡ 1
+
+-- the name of two bindings and of no label
+pub record IsOfTwo (k : ℕ) (bindings : List Binding) (labels : List Label) : Type 0 where
+  pub bound : times_bound k bindings ≡ 2
+  pub labelled : times_labelled k labels ≡ 0
+
+-- The closure of some number is handed an argument by that name: it is of two bindings, one of which is just one of its formal parameters.
+pub record IsHanded (k : ℕ) (store : Store) : Type 0 where
+  pub number : ℕ
+  pub formal : IsOneOf k store (formals_of store number)
+  pub two : IsOfTwo k store.bindings store.labels
+
+-- Where so many names are made up, each of them is the name of one binding or label at most, or of two bindings where one of them is a
+-- formal parameter of a closure whose body is a coroutine. No other made name is of any.
 pub record MadeApart (names : ℕ) (s : Stored) : Type 0 where
-  pub once : (k : ℕ) → times_made k s ≤ 1
+  pub once : (k : ℕ) → (times_made k s ≤ 1) ⊎ IsHanded k (store_of s)
   pub later : (k : ℕ) → names ≤ k → times_made k s ≡ 0
 
 -- so it stays

@@ -15,7 +15,8 @@ pub fn keeps_alone()
     ensures paths { PathsKeep }
 {}
 
-/// No two names that lowering makes up are the same, and none is made up twice.
+/// No two names that lowering makes up are the same, and none is made up twice: one by which a closure is handed an argument is of two
+/// bindings, of which its formal parameter is one, and each other one is of one binding or label.
 pub fn made_apart()
     ensures { KeepsApart }
 {}

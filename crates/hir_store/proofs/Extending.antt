@@ -202,9 +202,9 @@ extends_field s id p = record {
   diagnostics = prefix_refl s.diagnostics;
 }
 
-pub extends_pat : (s : Stored) (x : Pat) (source : Option Pointer) (r : Checked PatId) (a : Sourced Pat PatId)
-    → Allocs pat_id x source s.pats r a → Extends s (record s { pats = a })
-extends_pat s x source (Ok id) a h = record {
+pub extends_pat : (s : Stored) (step : Adding Pat PatId) (x : Pat) (r : Checked PatId) (a : Sourced Pat PatId)
+    → Adds step pat_id x s.pats r a → Extends s (record s { pats = a })
+extends_pat s step x (Ok id) a h = record {
   exprs = continues_refl s.exprs;
   labels = continues_refl s.labels;
   pats = h.1;
@@ -217,7 +217,7 @@ extends_pat s x source (Ok id) a h = record {
   block_scopes = prefix_refl s.block_scopes;
   diagnostics = prefix_refl s.diagnostics;
 }
-extends_pat s x source (Err f) a h = rw h.0 (extends_refl s)
+extends_pat s step x (Err f) a h = rw h.0 (extends_refl s)
 
 pub extends_binding : (s : Stored) (x : Binding) (r : Checked BindingId) (a : Bindings)
     → AddsBinding x s.bindings r a → Extends s (record s { bindings = a })

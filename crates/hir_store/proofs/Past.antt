@@ -41,6 +41,12 @@ each_push past [] x = join_nothing (past x)
 each_push past (y ∷ xs) x =
     ap (join (past y)) (each_push past xs x) ∙ join_assoc (past y) (of.past_each past xs) (past x)
 
+pub each_append : {A : Type 0} (past : A → Past) (xs ys : List A)
+    → of.past_each past (xs ++ ys) ≡ join (of.past_each past xs) (of.past_each past ys)
+each_append past [] ys = same_past (omega arith) (omega arith) (omega arith) (omega arith)
+each_append past (x ∷ xs) ys =
+    ap (join (past x)) (each_append past xs ys) ∙ join_assoc (past x) (of.past_each past xs) (of.past_each past ys)
+
 pub type_ids_push : (xs : List TypeRefId) (x : TypeRefId)
     → of.past_type_ids (xs ++ x ∷ []) ≡ join (of.past_type_ids xs) (of.past_type_id x)
 type_ids_push = each_push of.past_type_id
@@ -60,6 +66,10 @@ pat_fields_push = each_push of.past_pat_field
 pub statements_push : (xs : List Statement) (x : Statement)
     → of.past_statements (xs ++ x ∷ []) ≡ join (of.past_statements xs) (of.past_statement x)
 statements_push = each_push of.past_statement
+
+pub statements_append : (xs ys : List Statement)
+    → of.past_statements (xs ++ ys) ≡ join (of.past_statements xs) (of.past_statements ys)
+statements_append = each_append of.past_statement
 
 pub arms_push : (xs : List MatchArm) (x : MatchArm) → of.past_arms (xs ++ x ∷ []) ≡ join (of.past_arms xs) (of.past_arm x)
 arms_push = each_push of.past_arm

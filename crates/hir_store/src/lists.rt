@@ -38,6 +38,19 @@ pub fn push_statement(
     statements.push(statement)
 }
 
+/// Adds statements to those of a block.
+#[tactic(auto, using(crate::proofs::Past::statements_append))]
+pub fn append_statements(
+    statements: &mut Seq<Statement>,
+    more: Seq<Statement>,
+) -> Result<(), AllocError>
+    ensures statements { OnOk result (statements.new ≡ statements.old ++ more) }
+    ensures past { OnOk result (past_statements statements.new
+        ≡ join (past_statements statements.old) (past_statements more)) }
+{
+    statements.append(more)
+}
+
 /// Adds a field to those of a record.
 #[tactic(auto, using(crate::proofs::Arenas::past_push))]
 pub fn push_field(fields: &mut Seq<RecordLitField>, field: RecordLitField) -> Result<(), AllocError>

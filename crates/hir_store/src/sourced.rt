@@ -3,6 +3,7 @@
 ghost use Rattle.std.specs.Prelude.{◌≡◌, ◌<◌, ◌≤◌, ◌↔◌, IfOk, OnOk, OnErr, IsErrOf, length, slice_get};
 ghost use Rattle.std.specs.Option.{option_copied};
 ghost use Rattle.hir_store.specs.Arenas.{Allocs, AllocsMade, Kept, none_yet, pointed, with_way};
+ghost use Rattle.hir_store.specs.Pointers.{flattened};
 
 use crate::arena::{Arena, Entry};
 use crate::fault::StoreFault;
@@ -83,6 +84,13 @@ impl<T: Entry> SourcedArena<T> {
         ensures kept { Kept T.place self.now }
     {
         self.entries.get(T::place(id) as usize)
+    }
+
+    /// The node that the entry came from; none where it came from none, or where there is no such entry.
+    pub fn source(&self, id: T::Id) -> Option<InFile<AstPtr>>
+        ensures { result ≡ flattened (slice_get self.now.sources (T.place id)) }
+    {
+        self.sources.get(T::place(id) as usize).copied().flatten()
     }
 
     /// Stores an entry. The node that it came from, where it came from one, leads to it from now on.

@@ -19,10 +19,11 @@ use Rattle.hir_store.specs.declared.type_ref.LifetimeRef.{LifetimeRef}
 use Rattle.hir_lower_form.specs.Builder.{Builder}
 use Rattle.hir_lower_form.specs.Lowering.{Checked, Lowering, ◌>>=◌, pure, alloc_expr, alloc_made, alloc_pat, alloc_type, alloc_lifetime}
 use Rattle.hir_lower_form.specs.Lowering.{owning}
+use Rattle.hir_lower_form.specs.Preludes.{alloc_beside}
 use Rattle.hir_steps.proofs.Frames.{Frame}
 use Rattle.hir_steps.proofs.MadeSteps.{correct_alloc_made}
 use Rattle.hir_steps.proofs.Owning.{owned_by, owning_keeps}
-use Rattle.hir_steps.proofs.PatSteps.{correct_alloc_pat}
+use Rattle.hir_steps.proofs.PatSteps.{AllocatedPatBy, PutPat, correct_alloc_beside, correct_alloc_pat}
 use Rattle.hir_steps.proofs.Steps.{Mark, Grows, Rel, Seq, Holds, Correct, correct_bind, correct_as, correct_pure, correct_alloc}
 use Rattle.hir_steps.proofs.Steps.{correct_alloc_type, correct_alloc_lifetime}
 use Rattle.hir_type_result.specs.Reached.{below, types_reached}
@@ -117,6 +118,10 @@ pub both : (P : ℕ → Type 0) (ks js : List ℕ) → Each P ks → Each P js �
 both P [] js h k = k
 both P (i ∷ ks) js h k = (h.0, both P ks js h.1 k)
 
+pub parted : (P : ℕ → Type 0) (ks js : List ℕ) → Each P (ks ++ js) → Each P ks × Each P js
+parted P [] js h = (tt, h)
+parted P (i ∷ ks) js h = let x = parted P ks js h.1 in ((h.0, x.0), x.1)
+
 member : (lo hi k : ℕ) (js : List ℕ) → 1 ≤ times k js → Each (Between lo hi) js → Between lo hi k
 member lo hi k [] le h = absurd (omega (arith, le))
 member lo hi k (j ∷ js) le h = by (same k j) refl (member lo hi k js)
@@ -132,7 +137,7 @@ member lo hi k (j ∷ js) le h = by (same k j) refl (member lo hi k js)
     by (suc n) e later = subst (Between lo hi) (sym (is_same k j (omega (arith, e)))) h.0
 
 -- no number stands in the one that doesn't in the other
-fewer : (lo hi : ℕ) (ks js : List ℕ) → ks ⊑ js → Each (Between lo hi) js → Each (Between lo hi) ks
+pub fewer : (lo hi : ℕ) (ks js : List ℕ) → ks ⊑ js → Each (Between lo hi) js → Each (Between lo hi) ks
 fewer lo hi [] js le h = tt
 fewer lo hi (k ∷ ks) js le h = (
   member lo hi k js (let a = le k in let s = same_self k in omega (arith, a, s)) h,
@@ -416,27 +421,60 @@ adds_lifetime l source = correct_as (correct_alloc_lifetime l source)
     (λ final ps m m' i g row. adds_still g (ap (λ x. x.pats.entries) row.stored) (λ s d k. ap (λ x. named s final d x k) row.stored)
     (λ l k. omega arith))
 
--- an expression names what was named, whether or not its node leads to it
-pub expr_adds : {was : Numbers} (e : HirExpr) {final : Stored} {ps : List Frame} {m m' : Mark} {i : ExprId} → Grows m m'
-    → m'.stored.pats.entries ≡ m.stored.pats.entries
-    → ((s : Sort) (d k : ℕ) → named s final d m'.stored k ≡ times k (of_exprs (look s final d) (m.stored.exprs.entries ++ e ∷ []))
-    + (times k (of_pats (look s final d) (chosen s m.stored.pats.entries)) + times k (of_types (look s final d) m.stored.types.entries)))
-    → ((l : Look) → of_expr l e ⊑ was l) → Adds was (λ i. none) final ps m m' i
-expr_adds e {final = final} {m = m} {m' = m'} g none new h = record {
-  bound = λ lo le t w. record { known = tt; named = tt; made = none_made lo final m m' none };
-  grown = λ s d k.
-      let n = new s d k in
-      let p = each_push (of_expr (look s final d)) m.stored.exprs.entries e k in omega arith;
+-- At some depth at which all is reached that was stored by then, no number stands more often in `now`, and in what is held, than it did
+-- in `was` and what was held, but for those that were given out.
+abbrev pub CountedAt : Sort → Numbers → Numbers → Stored → Mark → Mark → ℕ → ℕ → Type 0
+CountedAt s was now final m m' all k =
+    times k (now (look s final all)) + (named s final all m'.stored k + less k (known s m))
+    ≤ times k (was (look s final all)) + (named s final all m.stored k + less k (known s m'))
+
+-- where all is looked at so deep, however deep it was stored
+pub record AtOnce {A : Type 0} (was : Numbers) (now : A → Numbers) (final : Stored) (ps : List Frame) (m m' : Mark) (a : A) : Type 0 where
+  pub bound : (lo : ℕ) → lo ≤ m.bindings → Each (Between lo m.bindings) (was of_bindings_alone)
+      → Bound lo final m m' [] (now a of_bindings_alone)
+  pub grown : (s : Sort) (d k : ℕ) → named s final d m.stored k ≤ named s final d m'.stored k
+  pub counted : (s : Sort) (all k : ℕ) → known s m' ≤ all → CountedAt s was (now a) final m m' all k
+
+-- nothing is named any more
+pub at_once_done : {A : Type 0} {was : Numbers} {final : Stored} {ps : List Frame} {m m' : Mark} {a : A} → Grows m m'
+    → AtOnce was (λ a. none) final ps m m' a → Adds was (λ a. none) final ps m m' a
+at_once_done g row = record {
+  bound = λ lo le t w. row.bound lo le w;
+  grown = row.grown;
   earlier = λ s d all le le'. record {
     depth = all;
     deep = omega (arith, le', grows s g);
-    counted = λ k.
-        let x = h (look s final all) k in
-        let n = new s all k in
-        let p = each_push (of_expr (look s final all)) m.stored.exprs.entries e k in
-        let l = less_grows k (known s m) (known s m') (grows s g) in omega arith;
+    counted = λ k. row.counted s all k le';
   };
 }
+
+-- what is held once this expression is stored
+abbrev pub ExprCame : HirExpr → Stored → Mark → Mark → Type 0
+ExprCame e final m m' = (s : Sort) (d k : ℕ) → let l = look s final d in
+    named s final d m'.stored k ≡ times k (of_exprs l (m.stored.exprs.entries ++ e ∷ []))
+    + (times k (of_pats l (chosen s m.stored.pats.entries)) + times k (of_types l m.stored.types.entries))
+
+-- an expression names what was named, whether or not its node leads to it
+
+pub expr_at_once : {was : Numbers} (e : HirExpr) {final : Stored} {ps : List Frame} {m m' : Mark} {i : ExprId} → Grows m m'
+    → m'.stored.pats.entries ≡ m.stored.pats.entries → ExprCame e final m m' → ((l : Look) → of_expr l e ⊑ was l)
+    → AtOnce was (λ i. none) final ps m m' i
+expr_at_once e {final = final} {m = m} {m' = m'} g none new h = record {
+  bound = λ lo le w. record { known = tt; named = tt; made = none_made lo final m m' none };
+  grown = λ s d k.
+      let n = new s d k in
+      let p = each_push (of_expr (look s final d)) m.stored.exprs.entries e k in omega arith;
+  counted = λ s all k le.
+      let x = h (look s final all) k in
+      let n = new s all k in
+      let p = each_push (of_expr (look s final all)) m.stored.exprs.entries e k in
+      let l = less_grows k (known s m) (known s m') (grows s g) in omega arith;
+}
+
+pub expr_adds : {was : Numbers} (e : HirExpr) {final : Stored} {ps : List Frame} {m m' : Mark} {i : ExprId} → Grows m m'
+    → m'.stored.pats.entries ≡ m.stored.pats.entries → ExprCame e final m m' → ((l : Look) → of_expr l e ⊑ was l)
+    → Adds was (λ i. none) final ps m m' i
+expr_adds e g none new h = at_once_done g (expr_at_once e g none new h)
 
 pub adds_expr : {was : Numbers} (e : HirExpr) (at : Option Pointer) → ((l : Look) → of_expr l e ⊑ was l)
     → Correct (alloc_expr e at) (Adds was (λ i. none))
@@ -448,64 +486,58 @@ pub adds_made : {was : Numbers} (e : HirExpr) (at : Option Pointer) → ((l : Lo
 adds_made e at h = correct_as (correct_alloc_made e at) (λ final ps m m' i g row.
     expr_adds e g (ap (λ x. x.pats.entries) row.stored) (λ s d k. ap (λ x. named s final d x k) row.stored) h)
 
--- a pattern names itself and what it holds; types are named by it
-pub adds_pat : {was : Numbers} (p : HirPat) (source : Option Pointer) → ((l : Look) → of_pat l p ⊑ was l)
-    → Correct (alloc_pat p source) (Adds was (λ i l. l.pats i))
+-- what is held once this pattern is stored
+abbrev PatCame : HirPat → Sort → Stored → Mark → Mark → ℕ → ℕ → Type 0
+PatCame p s final m m' d k = let l = look s final d in
+    named s final d m'.stored k ≡ times k (of_exprs l m.stored.exprs.entries)
+    + (times k (of_pats l (chosen s (m.stored.pats.entries ++ p ∷ []))) + times k (of_types l m.stored.types.entries))
+
+-- a pattern names itself and what it holds, whether or not its node leads to it; types are named by it
+pat_adds : {was : Numbers} (p : HirPat) {put : PutPat} {source : Option Pointer} {final : Stored} {ps : List Frame} {m m' : Mark}
+    {i : PatId} → AllocatedPatBy put p source final ps m m' i → Grows m m'
+    → m'.stored.pats.entries ≡ m.stored.pats.entries ++ p ∷ [] → ((s : Sort) (d k : ℕ) → PatCame p s final m m' d k)
+    → ((l : Look) → of_pat l p ⊑ was l) → Adds was (λ i l. l.pats i) final ps m m' i
 unfolding pats_reached
-adds_pat {was = was} p source h = correct_as (correct_alloc_pat p source) (λ final ps m m' i g row. record {
+pat_adds {was = was} p {final = final} {m = m} {m' = m'} {i = i} row g new came h = record {
   bound = λ lo le t w. record {
     known = tt;
     named = tt;
-    made = made_one final lo m m' (wider lo m.bindings m'.bindings (of_pat of_bindings_alone p) g.bindings
-        (fewer lo m.bindings (of_pat of_bindings_alone p) (was of_bindings_alone) (h of_bindings_alone) w))
-        row.here row.last (ap (λ x. x.pats.entries) row.stored);
+    made = made_one lo (wider lo m.bindings m'.bindings (of_pat of_bindings_alone p) g.bindings
+        (fewer lo m.bindings (of_pat of_bindings_alone p) (was of_bindings_alone) (h of_bindings_alone) w));
   };
-  grown = λ s d k. grown s final m m' d k (ap (λ x. named s final d x k) row.stored);
-  earlier = λ s d all le le'. by s final m m' i g d all le le' row.number row.here row.next
-      (λ k. ap (λ x. named s final all x k) row.stored);
-})
+  grown = λ s d k. grown s d k (came s d k);
+  earlier = λ s d all le le'. by s d all le le' (came s all);
+}
   where
-    made_one : (final : Stored) (lo : ℕ) (m m' : Mark) → Each (Between lo m'.bindings) (of_pat of_bindings_alone p)
-        → slice_get final.pats.entries m.pats ≡ Some p → m.pats ≡ length m.stored.pats.entries
-        → m'.stored.pats.entries ≡ m.stored.pats.entries ++ p ∷ [] → Made lo final m m'
-    made_one final lo m m' w here last new n q from to is =
+    made_one : (lo : ℕ) → Each (Between lo m'.bindings) (of_pat of_bindings_alone p) → Made lo final m m'
+    made_one lo w n q from to is =
         let l = ap length new in
         let l' = length-append m.stored.pats.entries (p ∷ []) in
-        let at : m.pats ≡ n = omega (arith, l, l', last, from, to) in
-        let one : Some p ≡ Some q = sym here ∙ (ap (λ k. slice_get final.pats.entries k) at ∙ is) in
+        let at : m.pats ≡ n = omega (arith, l, l', row.last, from, to) in
+        let one : Some p ≡ Some q = sym row.here ∙ (ap (λ k. slice_get final.pats.entries k) at ∙ is) in
         subst (λ x. Each (Between lo m'.bindings) (of_pat of_bindings_alone x)) (same_Some p q one) w
 
-    New : Sort → Stored → Mark → Mark → ℕ → ℕ → Type 0
-    New s final m m' d k =
-        named s final d m'.stored k ≡ times k (of_exprs (look s final d) m.stored.exprs.entries)
-        + (times k (of_pats (look s final d) (chosen s (m.stored.pats.entries ++ p ∷ [])))
-        + times k (of_types (look s final d) m.stored.types.entries))
-
-    grown : (s : Sort) (final : Stored) (m m' : Mark) (d k : ℕ) → New s final m m' d k
-        → named s final d m.stored k ≤ named s final d m'.stored k
-    grown the_types final m m' d k new =
+    grown : (s : Sort) (d k : ℕ) → PatCame p s final m m' d k → named s final d m.stored k ≤ named s final d m'.stored k
+    grown the_types d k new =
         let e = each_push (of_pat (look the_types final d)) m.stored.pats.entries p k in omega (arith, new, e)
-    grown the_pats final m m' d k new = omega (arith, new)
+    grown the_pats d k new = omega (arith, new)
 
-    at_depth : (final : Stored) (m m' : Mark) (i : PatId) (d all : ℕ) → m'.pats ≤ d → i.0 ≡ m.pats
-        → slice_get final.pats.entries m.pats ≡ Some p → m'.pats ≡ suc m.pats
-        → ((k : ℕ) → named the_pats final all m'.stored k ≡ named the_pats final all m.stored k)
+    at_depth : (d all : ℕ) → m'.pats ≤ d → ((k : ℕ) → named the_pats final all m'.stored k ≡ named the_pats final all m.stored k)
         → Earlier the_pats was final m m' all (pats_reached final.pats.entries d i)
-    at_depth final m m' i zero all le number here next still = absurd (omega (arith, le, next))
-    at_depth final m m' i (suc d) all le number here next still = record {
+    at_depth zero all le still = absurd (omega (arith, le, row.next))
+    at_depth (suc d) all le still = record {
       depth = d;
-      deep = omega (arith, le, next);
+      deep = omega (arith, le, row.next);
       counted = λ k.
           let e = h (look the_pats final d) k in
           let q = one_past k m.pats in
           let n = still k in
-          rw (number, here, next) (omega (arith, e, q, n));
+          rw (row.number, row.here, row.next) (omega (arith, e, q, n));
     }
 
-    by : (s : Sort) (final : Stored) (m m' : Mark) (i : PatId) → Grows m m' → (d all : ℕ) → known s m' ≤ d → known s m' ≤ all
-        → i.0 ≡ m.pats → slice_get final.pats.entries m.pats ≡ Some p → m'.pats ≡ suc m.pats
-        → ((k : ℕ) → New s final m m' all k) → Earlier s was final m m' all ((look s final d).pats i)
-    by the_types final m m' i g d all le le' number here next new = record {
+    by : (s : Sort) (d all : ℕ) → known s m' ≤ d → known s m' ≤ all → ((k : ℕ) → PatCame p s final m m' all k)
+        → Earlier s was final m m' all ((look s final d).pats i)
+    by the_types d all le le' new = record {
       depth = all;
       deep = omega (arith, le', g.types);
       counted = λ k.
@@ -514,4 +546,15 @@ adds_pat {was = was} p source h = correct_as (correct_alloc_pat p source) (λ fi
           let q = each_push (of_pat (look the_types final all)) m.stored.pats.entries p k in
           let l = less_grows k m.types m'.types g.types in omega (arith, e, n, q, l);
     }
-    by the_pats final m m' i g d all le le' number here next new = at_depth final m m' i d all le number here next new
+    by the_pats d all le le' new = at_depth d all le new
+
+pub adds_pat : {was : Numbers} (p : HirPat) (source : Option Pointer) → ((l : Look) → of_pat l p ⊑ was l)
+    → Correct (alloc_pat p source) (Adds was (λ i l. l.pats i))
+adds_pat p source h = correct_as (correct_alloc_pat p source) (λ final ps m m' i g row.
+    pat_adds p row g (ap (λ x. x.pats.entries) row.stored) (λ s d k. ap (λ x. named s final d x k) row.stored) h)
+
+-- one that is made up for the node of another one
+pub adds_pat_beside : {was : Numbers} (p : HirPat) (own : PatId) → ((l : Look) → of_pat l p ⊑ was l)
+    → Correct (alloc_beside p own) (Adds was (λ i l. l.pats i))
+adds_pat_beside p own h = correct_as (correct_alloc_beside p own) (λ final ps m m' i g row.
+    pat_adds p row g (ap (λ x. x.pats.entries) row.stored) (λ s d k. ap (λ x. named s final d x k) row.stored) h)

@@ -49,11 +49,11 @@ module _ {A : Type 0} {p : Lowering A} (b c : Builder) (a : A) (paired : Paired 
 
   pub roots_behind : {es : Bodies} → Notes es p → (later : Stored) → Extends c.stored later
       → RootsOf b.scopes b.stored c.stored later (recorded b.in_root es)
-  roots_behind {es = es} h later stays = by b.in_root refl (subst (λ q. Noted es b q.0 q.1) is (h.notes b))
+  roots_behind {es = es} h later stays = by b.in_root refl (subst (λ q. Noted es b q.0 q.1) is (h.notes b paired))
     where
       by : (inside : Bool) → b.in_root ≡ inside → Noting es b c → RootsOf b.scopes b.stored c.stored later (recorded inside es)
-      by true e n = no_roots (further_stored n.kept.stays (n.settled paired)) (n.kept.roots e)
-      by false e n = n.noted e paired later stays
+      by true e n = no_roots (further_stored n.kept.stays n.settled) (n.kept.roots e)
+      by false e n = n.noted e later stays
 
 pub type_roots : TypeRoots
 unfolding type_inner_bodies

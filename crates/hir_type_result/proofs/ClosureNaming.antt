@@ -1,30 +1,42 @@
--- A closure names the types and the patterns of its parameters and what it returns; a coroutine block names by what is in it.
+-- A closure names the types and the patterns of its parameters and what it returns; a coroutine names by what is in it, also by the `let`s
+-- in front of its body.
 use Rattle.std.proofs.Common.{arith, ap, ℕ, List, [], ◌∷◌, ◌++◌, Bool, Option, Some, None}
 use Rattle.hir_store.specs.Pointers.{Pointer}
 use Rattle.hir_store.specs.Stored.{Stored}
+use Rattle.hir_store.specs.Bindings.{binding_id}
 use Rattle.hir_store.specs.declared.hir.CoroutineKind.{CoroutineKind}
+use Rattle.hir_store.specs.declared.hir.CoroutineSource.TheVariants as source
 use Rattle.hir_store.specs.declared.hir.Expr.TheVariants as hir
 use Rattle.hir_store.specs.declared.ids.BlockId.{BlockId}
 use Rattle.hir_store.specs.declared.ids.ExprId.{ExprId}
 use Rattle.hir_store.specs.declared.ids.PatId.{PatId}
 use Rattle.hir_store.specs.declared.ids.TypeRefId.{TypeRefId}
 use Rattle.hir_lower_form.specs.declared.closures.ClosureParams.{ClosureParams}
+use Rattle.hir_lower_form.specs.declared.preludes.Within.{Within}
 use Rattle.hir_lower_form.specs.Forms.{ExprSteps, StoredContents, add_param, stored_closure, stored_coroutine}
 use Rattle.hir_lower_form.specs.Lower.{closure_form, coroutine_block_form, coroutine_form, param_form, yield_form}
 use Rattle.hir_lower_form.specs.Lowering.{Lowering}
+use Rattle.hir_lower_form.specs.Preludes.{coroutine_closure_form, no_prelude, stored_coroutine_closure, within_form}
 use Rattle.hir_steps.proofs.Barriers.{correct_closure, correct_coroutine, correct_yield}
-use Rattle.hir_steps.proofs.Frames.{Frame}
+use Rattle.hir_steps.proofs.CoroutineClosures.{correct_coroutine_closure}
+use Rattle.hir_steps.proofs.Frames.{Frame, barrier_at}
 use Rattle.hir_steps.proofs.Logic.{grows_trans}
+use Rattle.hir_steps.proofs.Owning.{owned_by}
+use Rattle.hir_steps.proofs.Preludes.{within_of}
 use Rattle.hir_steps.proofs.Steps.{Correct, Mark, correct_as}
 use Rattle.hir_type_result.specs.Named.{Look, of_expr}
 use Rattle.hir_type_result.specs.Reached.{of_each, of_present}
 use Rattle.hir_type_result.proofs.Counted.{◌⊑◌, times_append}
 use Rattle.hir_type_result.proofs.Numbers.{each_push}
-use Rattle.hir_type_result.proofs.Adding.{Adds, Numbers, Quiet, Steps, added_beside, added_quiet, adds_beside, adds_expr, adds_pure}
-use Rattle.hir_type_result.proofs.Adding.{adds_seq, adds_then, expr_adds, named, none}
+use Rattle.hir_type_result.proofs.Adding.{Adds, AtOnce, Numbers, Quiet, Steps, added_beside, added_quiet, adds_beside, adds_expr}
+use Rattle.hir_type_result.proofs.Adding.{adds_pure, adds_seq, adds_then, at_once_done, expr_adds, expr_at_once, named, none}
 use Rattle.hir_type_result.proofs.Naming.{quiet_enter_block, quiet_then}
 use Rattle.hir_type_result.proofs.NamingForms.{contents, settled_less, value_quiet}
-use Rattle.hir_type_result.proofs.Owned.{a_pat, maybe_type}
+use Rattle.hir_type_result.proofs.NamingAtOnce.{at_once, at_once_beside, at_once_from, at_once_more, at_once_owned, at_once_pure}
+use Rattle.hir_type_result.proofs.NamingAtOnce.{at_once_seq, at_once_still, at_once_then, came_beside, grows_owned}
+use Rattle.hir_type_result.proofs.NamingPreludes.{handed_add, let_params_name, made_coroutine_names, prelude}
+use Rattle.hir_type_result.proofs.Owned.{a_pat, beside, maybe_type}
+use Rattle.hir_type_result.proofs.OwnedPats.{pats}
 
 -- the patterns, and then the types
 abbrev pub params_named : ClosureParams → Numbers
@@ -124,3 +136,58 @@ module _ (at : Pointer) where
 -- behind the barrier
 pub coroutine_quiet : {p : ExprSteps} → Correct p Quiet → Correct (coroutine_form p) Quiet
 coroutine_quiet h = correct_as (correct_coroutine h) (λ final ps m m' i g row. added_in row.inside)
+
+-- ---- closures that make a coroutine
+
+-- The patterns of the parameters are named in the coroutine, the types are not.
+
+abbrev types_named : ClosureParams → Option TypeRefId → Numbers
+types_named c r l = of_each (of_present l.types) c.arg_types ++ maybe_type r l
+
+abbrev within_named : Within → Numbers
+within_named w l = of_each (of_present l.types) w.arg_types ++ maybe_type w.ret l
+
+types_beside : (c : ClosureParams) (r : Option TypeRefId) (l : Look)
+    → beside (types_named c r) (beside (prelude no_prelude) (pats c.args)) l ⊑ beside (params_named c) (maybe_type r) l
+types_beside c r l k =
+    let types = of_each (of_present l.types) c.arg_types in
+    let a = times_append k (types_named c r l) (pats c.args l) in
+    let b = times_append k types (maybe_type r l) in
+    let d = times_append k (params_named c l) (maybe_type r l) in
+    let e = times_append k (pats c.args l) types in omega arith
+
+within_names : (which : CoroutineKind) {p : Lowering ClosureParams} {t : Lowering (Option TypeRefId)} {e : ExprSteps}
+    → Correct p (Adds none params_named) → Correct t (Adds none maybe_type) → Correct e Quiet
+    → Correct (within_form which p t e) (AtOnce none within_named)
+unfolding within_form
+within_names which hp ht he = at_once_then (at_once hp) (λ c. at_once_then (at_once_more (params_named c) ht)
+    (λ r. at_once_then (at_once_still he) (λ i. at_once_then (at_once_from (types_beside c r)
+    (at_once_beside (types_named c r) (let_params_name no_prelude c.args)))
+    (λ d. at_once_then (at_once_beside (types_named c r) (made_coroutine_names which source.Closure d.lets i))
+    (λ o. at_once_pure (within_of c r d o) (λ l k. let x = times_append k (types_named c r l) [] in omega arith))))))
+
+coroutine_node : (which : CoroutineKind) (moves : Bool) (formals : List PatId) (w : Within) (l : Look)
+    → of_expr l (stored_coroutine_closure which moves formals w) ⊑ beside (within_named w) (pats formals) l
+coroutine_node which moves formals w l k =
+    let x = times_append k (pats formals l) (within_named w l) in
+    let y = times_append k (within_named w l) (pats formals l) in omega arith
+
+pub coroutine_closure_quiet : (at : Pointer) (which : CoroutineKind) (moves : Bool) {p : Lowering ClosureParams}
+    {t : Lowering (Option TypeRefId)} {e : ExprSteps} → Correct p (Adds none params_named) → Correct t (Adds none maybe_type)
+    → Correct e Quiet → Correct (coroutine_closure_form at which moves p t e) Quiet
+coroutine_closure_quiet at which moves {p = p} {t = t} {e = e} hp ht he = correct_as
+    (correct_coroutine_closure at which moves p t e (within_names which hp ht he) (λ xs. handed_add [] xs)) (λ final ps m m' i g row.
+    let w = row.within in
+    let node = stored_coroutine_closure which moves row.formals w in
+    let stored = row.made.stored in
+    let start = binding_id m.bindings in
+    let grown = grows_owned row.to_left row.to_handed start w.coroutine in
+    let own = owned_by start w.coroutine row.left in
+    let inside : AtOnce none within_named final (barrier_at ∷ ps) m own w = at_once_owned start w.coroutine row.in_within in
+    let formals : AtOnce (within_named w) (λ is. beside (within_named w) (pats is)) final (barrier_at ∷ ps) own row.handed row.formals =
+    came_beside (within_named w) grown.1 row.in_formals in
+    let made : AtOnce (beside (within_named w) (pats row.formals)) (λ j. none) final ps row.handed m' i =
+    expr_at_once node row.to_end (ap (λ x. x.pats.entries) stored) (λ s d k. ap (λ x. named s final d x k) stored)
+    (coroutine_node which moves row.formals w) in
+    let behind : AtOnce (within_named w) (λ j. none) final ps own m' i = at_once_seq grown.1 row.to_end formals made in
+    at_once_done g (at_once_seq grown.0 (grows_trans grown.1 row.to_end) inside behind))

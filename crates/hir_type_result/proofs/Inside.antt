@@ -10,7 +10,6 @@ use Rattle.hir_store.specs.declared.ids.ExprId.{ExprId}
 use Rattle.hir_store.specs.declared.ids.PatId.{PatId}
 use Rattle.hir_store.specs.declared.ids.TypeRefId.{TypeRefId}
 use Rattle.hir_store.specs.declared.pat.RecordFieldPat.{RecordFieldPat}
-use Rattle.hir_store.specs.declared.path.Path.{Path}
 use Rattle.hir_store.specs.declared.path.GenericArg.TheVariants as arg
 use Rattle.hir_store.specs.declared.type_ref.TypeBound.{TypeBound}
 use Rattle.hir_env.specs.Answered as tree
@@ -40,7 +39,7 @@ use Rattle.hir_lower_form.specs.Lower.{lower_top, lower_pat, pat_part, present_p
 use Rattle.hir_lower_form.specs.Lower.{lower_later, lower_pat_fields, lower_pat_field, lower_side, lower_type_pat_part, lower_type_pat}
 use Rattle.hir_lower_form.specs.Lower.{lower_type_pats, lower_limit, limit_side, lower_target, lower_targets, lower_target_fields}
 use Rattle.hir_lower_form.specs.Lower.{lower_target_field, push_some, lower_param, lower_params, no_closure_params}
-use Rattle.hir_meaning.specs.Inner.{of_bound, of_present}
+use Rattle.hir_meaning.specs.Inner.{Inside, by_itself, of_bound, of_path, of_present}
 use Rattle.hir_steps.specs.Keeps.{Paired}
 use Rattle.hir_steps.proofs.Steps.{Correct, correct_in_store, correct_report}
 use Rattle.hir_steps.proofs.PatAny.{settle_any}
@@ -48,7 +47,7 @@ use Rattle.hir_steps.proofs.TypeAny.{lifetime_any, uses_any}
 use Rattle.hir_one_result.proofs.AfterLowering.{after_lowering}
 use Rattle.hir_same_meaning.specs.Reached.{of_each, reached_to, Spread}
 use Rattle.hir_type_result.specs.Inside.{InsideReachedOnce, TypeInsideReachedOnce, PathInsideReachedOnce}
-use Rattle.hir_type_result.specs.Unrun.{unruns, unrun_in, unrun_in_path, unrun_in_type}
+use Rattle.hir_type_result.specs.Unrun.{all_unruns, exprs_of, unrun_in, unrun_in_path, unrun_in_type}
 use Rattle.hir_type_result.proofs.Meaning.{held_deep}
 use Rattle.hir_type_result.proofs.Counted.{times, times_append, counted_spread}
 use Rattle.hir_type_result.proofs.Weighed.{Cost, view, free, an_expr, a_type, a_type_pat, a_pat, a_limit, a_target, a_constant, sum}
@@ -257,6 +256,8 @@ mutual
   node_adds (tree.const_expr at c) = adds_owning (λ i. i) (forms.const_adds at (rooted_adds c))
   node_adds (tree.closure_expr at moves is_static xs t e) = adds_owning (λ i. i)
       (closures.closure_adds at moves is_static (params_add no_closure_params xs) (present_adds t) (body_adds e))
+  node_adds (tree.coroutine_closure_expr at kind moves xs t e) = adds_owning (λ i. i)
+      (closures.coroutine_closure_adds kind (params_add no_closure_params xs) (present_adds t) (body_adds e) at moves)
   node_adds (tree.method_call_expr at e name es generics) =
       forms.method_call_adds at name (body_adds e) (each_expr_adds [] es) (args_add generics)
   node_adds (tree.cast_expr at e t) = forms.cast_adds at (body_adds e) (part_adds None t)
@@ -273,12 +274,12 @@ mutual
   node_adds (tree.range_expr at form low high) = pats.range_adds at form (present_expr_adds low) (present_expr_adds high)
   node_adds (tree.assign_expr at own target e) = aims.assign_adds at (target_adds target) (body_adds e)
 
-  params_add : (c : ClosureParams) (xs : Params) → Correct (lower_params c xs) (Adds (closures.params c) closures.params)
-  params_add c tree.no_params = adds_pure c (λ v. omega arith)
-  params_add c (tree.more_params x xs) = adds_then (one_param_adds c x) (λ d. params_add d xs)
+  params_add : (c : ClosureParams) (xs : Params) → Correct (lower_params c xs) (closures.Params c)
+  params_add c tree.no_params = closures.no_more_params c
+  params_add c (tree.more_params x xs) = closures.params_then c (one_param_adds c x) (λ l. params_add l xs)
 
-  one_param_adds : (c : ClosureParams) (x : Param) → Correct (lower_param c x) (Adds (closures.params c) closures.params)
-  one_param_adds c (tree.disabled_param at by x) = adds_then (adds_any (correct_report _)) (λ u. adds_pure c (λ v. omega arith))
+  one_param_adds : (c : ClosureParams) (x : Param) → Correct (lower_param c x) (closures.Params c)
+  one_param_adds c (tree.disabled_param at by x) = closures.param_off c (correct_report _)
   one_param_adds c (tree.param p t) = closures.param_adds c (top_adds p) (present_adds t)
 
   pub body_adds : (e : OptionExpr) → Correct (lower_part e) (Adds free an_expr)
@@ -455,17 +456,17 @@ mutual
 -- ---- laws
 
 -- what is reached, list by list
-weighed : (f : ExprId → List ℕ) (k : ℕ) (is : List ExprId) → times k (of_each f is) ≡ sum (λ i. times k (f i)) is
+weighed : (f : ExprId → List ℕ) (k : ℕ) (xs : List Inside) → times k (of_each f (exprs_of xs)) ≡ sum (λ i. times k (f i)) xs
 weighed f k [] = refl
-weighed f k (i ∷ is) = let a = times_append k (f i) (of_each f is) in let r = weighed f k is in omega arith
+weighed f k (x ∷ xs) = let a = times_append k (f x.expr) (of_each f (exprs_of xs)) in let r = weighed f k xs in omega arith
 
 -- where nothing was reached before, and the answer costs as much as these reach
 pub inside_once : {A : Type 0} {now : A → Cost} {p : Lowering A} → Correct p (Adds free now) → (b b' : Builder) (a : A) → Paired b.stored
     → p b ≡ (Ok a, b') → (final : Stored) → Extends b'.stored final → (depth : ℕ) → length final.exprs.entries ≤ depth
-    → (is : List ExprId) → ((k : ℕ) → sum (λ i. times k (reached_to (store_of final) depth i)) is
+    → (xs : List Inside) → ((k : ℕ) → sum (λ i. times k (reached_to (store_of final) depth i)) xs
     ≤ now a (view final depth k depth (held_deep final) (length final.pats.entries)))
-    → Spread (length b.stored.exprs.entries) (length b'.stored.exprs.entries) (of_each (reached_to (store_of final) depth) is)
-inside_once h b b' a paired is final stays depth le list less =
+    → Spread (length b.stored.exprs.entries) (length b'.stored.exprs.entries) (of_each (reached_to (store_of final) depth) (exprs_of xs))
+inside_once h b b' a paired is final stays depth le xs less =
     let r = after_lowering (correct_in_store h) b a b' paired is final stays in
     let n = r.nodes in
     counted_spread _ _ _ (λ k.
@@ -477,26 +478,21 @@ inside_once h b b' a paired is final stays depth le list less =
     }) in
     let c = e.counted in
     let l = less k in
-    let w = weighed (reached_to (store_of final) depth) k list in omega arith)
+    let w = weighed (reached_to (store_of final) depth) k xs in omega arith)
 
 pub expr_inside : InsideReachedOnce
 unfolding unrun_in
 expr_inside e b b' i l final stays depth le =
-    inside_once (body_adds e) b b' i l.paired l.is final stays depth le (i ∷ unrun_in (store_of final) i) (λ k. omega arith)
+    inside_once (body_adds e) b b' i l.paired l.is final stays depth le (by_itself i ∷ (all_unruns (store_of final)).expr i)
+    (λ k. omega arith)
 
 pub type_inside : TypeInsideReachedOnce
 unfolding unrun_in_type
 type_inside binder t b b' i paired is final stays depth le =
-    inside_once (part_adds binder t) b b' i paired is final stays depth le (unrun_in_type (store_of final) i) (λ k. omega arith)
-
-held_path : (final : Stored) (r : Option Path) (k : ExprId → ℕ)
-    → sum k (of_present (unrun_in_path (store_of final)) r)
-    ≤ weights.in_path k (unruns (store_of final) (held_deep final)) r
-unfolding unrun_in_path
-held_path final None k = omega arith
-held_path final (Some p) k = omega arith
+    inside_once (part_adds binder t) b b' i paired is final stays depth le ((all_unruns (store_of final)).type i) (λ k. omega arith)
 
 pub path_inside : PathInsideReachedOnce
+unfolding unrun_in_path
 path_inside p b b' r paired is final stays depth le =
-    inside_once (path_adds p) b b' r paired is final stays depth le (of_present (unrun_in_path (store_of final)) r)
-    (λ k. held_path final r (λ i. times k (reached_to (store_of final) depth i)))
+    inside_once (path_adds p) b b' r paired is final stays depth le (of_present (of_path (all_unruns (store_of final))) r)
+    (λ k. omega arith)

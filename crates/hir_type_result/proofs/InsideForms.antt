@@ -30,7 +30,7 @@ use Rattle.hir_lower_form.specs.Lower.{method_call_form, await_form, paren_form,
 use Rattle.hir_lower_form.specs.Lower.{offset_of_form, record_contents, record_of, record_form, field_form, block_form, labelled}
 use Rattle.hir_lower_form.specs.Lower.{stored_leaf, stored_unary, stored_binary, stored_leaving, settled, settled_block, kept}
 use Rattle.hir_meaning.specs.Inner as inner
-use Rattle.hir_meaning.specs.Inner.{all_of, of_constant, of_present, of_list, of_path}
+use Rattle.hir_meaning.specs.Inner.{Inside, all_of, of_constant, of_present, of_list, of_path}
 use Rattle.hir_steps.proofs.Frames.{loop_at, block_at}
 use Rattle.hir_steps.proofs.Steps.{Correct, correct_report, correct_report_await, correct_point, correct_point_field}
 use Rattle.hir_steps.proofs.Steps.{correct_enter_block, correct_target}
@@ -55,6 +55,10 @@ pub each_push : {A : Type 0} (cost : A → Cost) (done : List A) (a : A) (v : Vi
 each_push cost [] a v = omega arith
 each_push cost (b ∷ done) a v = let e = each_push cost done a v in omega arith
 
+pub each_append : {A : Type 0} (cost : A → Cost) (xs ys : List A) (v : View) → each cost (xs ++ ys) v ≡ each cost xs v + each cost ys v
+each_append cost [] ys v = omega arith
+each_append cost (x ∷ xs) ys v = let e = each_append cost xs ys v in omega arith
+
 pub pushed : {A : Type 0} (cost : A → Cost) (done : List A) (o : Option A) (v : View)
     → each cost (push_some done o) v ≤ each cost done v + maybe cost o v
 pushed cost done None v = omega arith
@@ -68,7 +72,7 @@ some_more {cost = cost} h k done =
 
 -- ---- what is reached and what is inside, together
 
-pub both : (v : View) (js ks : List ℕ) (is ls : List ExprId)
+pub both : (v : View) (js ks : List ℕ) (is ls : List Inside)
     → times v.number (js ++ ks) + sum v.weight (is ++ ls) ≡ (times v.number js + sum v.weight is) + (times v.number ks + sum v.weight ls)
 both v js ks is ls =
     let x = times_append v.number js ks in

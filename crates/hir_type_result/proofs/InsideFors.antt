@@ -24,11 +24,10 @@ use Rattle.hir_steps.proofs.MadeSteps.{correct_made_number}
 use Rattle.hir_steps.proofs.Steps.{Correct, correct_as, correct_bind}
 use Rattle.hir_type_result.proofs.Counted.{less}
 use Rattle.hir_type_result.proofs.Weighed.{View, Cost, free, beside, an_expr, a_pat, in_expr, Adds, adds_pure, adds_then, adds_beside}
-use Rattle.hir_type_result.proofs.Weighed.{adds_expr, adds_made, adds_opened, adds_pat, still_deep}
+use Rattle.hir_type_result.proofs.Weighed.{DeepView, adds_expr, adds_made, adds_opened, adds_pat, deep_before, still_deep}
 use Rattle.hir_type_result.proofs.InsideForms.{both, block_less}
 use Rattle.hir_type_result.proofs.InsidePats.{an_arm, arms_are, arm_less}
-use Rattle.hir_type_result.proofs.InsideMade.{item_pat_less, made_bind_adds, made_path_adds, item_call_adds, two_arms_less, DeepView}
-use Rattle.hir_type_result.proofs.InsideMade.{deep_before}
+use Rattle.hir_type_result.proofs.InsideMade.{item_pat_less, made_bind_adds, made_path_adds, item_call_adds, two_arms_less}
 
 only_tail_less : (e : ExprId) (v : View) → in_expr (only_tail e) v ≤ an_expr e v
 only_tail_less e v = let x = block_less false None None [] (Some e) v in omega (arith, x)

@@ -29,7 +29,8 @@ use Rattle.hir_steps.proofs.PatSteps.{correct_alloc_binding, correct_define}
 use Rattle.hir_steps.proofs.Steps.{Mark, Grows, Correct, correct_as, correct_bind, correct_enter_block, correct_pure}
 use Rattle.hir_same_meaning.specs.Reached.{of_arms}
 use Rattle.hir_type_result.proofs.Counted.{less, less_grows}
-use Rattle.hir_type_result.proofs.Weighed.{View, view, Cost, free, beside, an_expr, a_type, a_pat, in_expr, in_pat, sum_append, Deep, Adds}
+use Rattle.hir_type_result.proofs.Weighed.{View, Cost, free, beside, an_expr, a_type, a_pat, in_expr, in_pat, sum_append, Deep, DeepView}
+use Rattle.hir_type_result.proofs.Weighed.{Adds, at_depth, came_of, deep_before}
 use Rattle.hir_type_result.proofs.Weighed.{adds_pure, adds_then, adds_beside, adds_any, adds_expr, adds_made, adds_pat, still_deep}
 use Rattle.hir_type_result.proofs.InsideForms.{maybe, each, each_push, both, a_statement, block_less, first_less, value_less}
 use Rattle.hir_type_result.proofs.InsidePats.{an_arm, arms_are, arm_less, let_less}
@@ -113,13 +114,6 @@ module _ (at : Pointer) where
 
 -- ---- what is in a block, of which the tail lies deeper than the rest
 
--- deep enough, so far
-abbrev pub DeepView : Mark → ℕ → ℕ × ℕ × ℕ → Type 0
-DeepView m all d = Deep m all d.0 d.1 d.2
-
-abbrev at_depth : Stored → ℕ → ℕ → ℕ × ℕ × ℕ → View
-at_depth final all number d = view final all number d.0 d.1 d.2
-
 -- What is reached by these statements, and once the last of them may have become the tail, was given out from this number on.
 pub record Front (from : ℕ) (final : Stored) (m : Mark) (all number : ℕ) (done : List Statement) : Type 0 where
   pub listed : (d : ℕ × ℕ × ℕ) → DeepView m all d
@@ -136,15 +130,6 @@ pub record Settles (from : ℕ) (final : Stored) (m : Mark) (all number : ℕ) (
 
 pub record Contains (done : List Statement) (final : Stored) (ps : List Frame) (m m' : Mark) (r : StoredContents) : Type 0 where
   pub settles : (from all number : ℕ) → Front from final m all number done → Settles from final m' all number r
-
--- what was deep enough later was so before
-pub deep_before : {m m' : Mark} {all : ℕ} (d : ℕ × ℕ × ℕ) → Grows m m' → DeepView m' all d → DeepView m all d
-deep_before d g h = record {
-  all_of = omega (arith, h.all_of, g.nodes);
-  deep = omega (arith, h.deep, g.nodes);
-  inside = omega (arith, h.inside, g.nodes, g.entries);
-  placed = omega (arith, h.placed, g.pats);
-}
 
 front_none : (from : ℕ) (final : Stored) (m : Mark) (all number : ℕ) → from ≡ m.nodes → Front from final m all number []
 front_none from final m all number is = let e = ap (less number) is in record {
@@ -259,12 +244,6 @@ module _ {from : ℕ} {final : Stored} {m m' : Mark} {all number : ℕ} {done : 
         let x = f.listed d (deep_before d g h) in
         let y = came d' h' in omega (arith, x, y);
   }
-
--- what a step that reached nothing gave out
-came_of : {A : Type 0} {cost : A → Cost} {final : Stored} {ps : List Frame} {m m' : Mark} {a : A} → Adds free cost final ps m m' a
-    → (all number : ℕ) (d : ℕ × ℕ × ℕ) → DeepView m' all d
-    → cost a (at_depth final all number d) + less number m.nodes ≤ less number m'.nodes
-came_of row all number d h = let x = (row.earlier all number d.0 d.1 d.2 h).counted in omega (arith, x)
 
 pub contains_tail : (done : List Statement) {tail : Lowering (Option ExprId)} → Correct tail (Adds free (maybe an_expr))
     → Correct (tail >>= (λ t. pure (done, t))) (Contains done)

@@ -3,7 +3,6 @@ use Rattle.std.proofs.Common.{◌≤◌, Bool, List, [], ◌∷◌, ◌++◌, Op
 use Rattle.std.specs.Prelude.{option_map}
 use Rattle.hir_store.specs.Pointers.{Pointer}
 use Rattle.hir_store.specs.declared.hir.Mutability.{Mutability}
-use Rattle.hir_store.specs.declared.ids.ExprId.{ExprId}
 use Rattle.hir_store.specs.declared.ids.PatId.{PatId}
 use Rattle.hir_store.specs.declared.ids.TypeRefId.{TypeRefId}
 use Rattle.hir_store.specs.declared.name.Name.{Name}
@@ -31,7 +30,7 @@ use Rattle.hir_lower_form.specs.Types.{pattern_type_form}
 use Rattle.hir_lower_form.specs.Types.{tuple_type_form, path_type_form, ref_type_form, fn_type_form, impl_type_form, dyn_type_form}
 use Rattle.hir_lower_form.specs.Types.{stored_leaf_type, stored_over_type, path_or_error, stored_impl}
 use Rattle.hir_lower_form.specs.Types.{binding_form, path_bound_of, path_bound_form}
-use Rattle.hir_meaning.specs.Inner.{Inners, all_of, of_present, of_bound, of_constant, of_type}
+use Rattle.hir_meaning.specs.Inner.{Inners, Inside, all_of, of_present, of_bound, of_constant, of_type}
 use Rattle.hir_steps.proofs.Steps.{Correct, correct_alloc_type, correct_count_out}
 use Rattle.hir_steps.proofs.TypeAny.{lifetime_option_any}
 use Rattle.hir_same_meaning.proofs.HeldArgs.{of_binding}
@@ -232,7 +231,7 @@ binding_adds name dots ha ht hb = adds_then ha (λ a. adds_then (adds_beside (ar
 
 -- lists that grow, of what holds this
 
-module _ {A : Type 0} (ids : Inners → A → List ExprId) where
+module _ {A : Type 0} (ids : Inners → A → List Inside) where
   abbrev in_one : A → Cost
   in_one a v = sum v.weight (ids v.held a)
 

@@ -5,6 +5,8 @@ pub mod Naming
 pub mod Owned
 pub mod OwnedPats
 pub mod NamingForms
+pub mod NamingAtOnce
+pub mod NamingPreludes
 pub mod ClosureNaming
 pub mod NamingMade
 pub mod NamingFors
@@ -22,9 +24,11 @@ pub mod Weighed
 pub mod Weights
 pub mod InsideTypes
 pub mod InsideForms
-pub mod InsideClosures
 pub mod Fronts
 pub mod InsidePats
+pub mod InsideAtOnce
+pub mod InsidePreludes
+pub mod InsideClosures
 pub mod InsideTargets
 pub mod InsideMade
 pub mod InsideFors

@@ -1,9 +1,12 @@
 -- Each type and each pattern that is stored is named in one way.
 use Rattle.std.proofs.Common.{◌∙◌, sym, suc, ◌<◌, slice_get, append_assoc, append-nil, length-append}
-use Rattle.std.proofs.Common.{◌≡◌, ◌≤◌, ap, arith, refl, ℕ, ◌+◌, Bool, true, false, length, List, [], ◌∷◌, ◌++◌, Some, None, Ok}
+use Rattle.std.proofs.Common.{◌≡◌, ◌≤◌, ap, arith, refl, ℕ, ◌+◌, Bool, true, false, length, List, [], ◌∷◌, ◌++◌, Option, Some, None, Ok}
 use Rattle.hir_store.specs.Stored.{Stored}
 use Rattle.hir_store.specs.Storing.{Extends}
+use Rattle.hir_store.specs.declared.hir.CoroutineKind.{CoroutineKind}
+use Rattle.hir_store.specs.declared.hir.CoroutineSource.TheVariants as source
 use Rattle.hir_store.specs.declared.hir.Expr.{Expr as HirExpr}
+use Rattle.hir_store.specs.declared.ids.BindingId.{BindingId}
 use Rattle.hir_store.specs.declared.ids.PatId.{PatId}
 use Rattle.hir_store.specs.declared.ids.TypeRefId.{TypeRefId}
 use Rattle.hir_store.specs.declared.pat.Pat.{Pat}
@@ -15,23 +18,27 @@ use Rattle.hir_lower_form.specs.Forms.{some}
 use Rattle.hir_lower_form.specs.Lowering.{Lowering}
 use Rattle.hir_steps.specs.Keeps.{Paired}
 use Rattle.hir_steps.proofs.Steps.{Correct, correct_in_store}
-use Rattle.hir_one_result.specs.Formals.{Given, each_formal, lower_body, lower_formal, lower_formals, lower_self}
+use Rattle.hir_one_result.specs.Formals.{Given, Received, coroutine_body, each_formal, in_function, lower_body, lower_formal}
+use Rattle.hir_one_result.specs.Formals.{lower_formals, lower_self, plain_body}
 use Rattle.hir_one_result.proofs.AfterLowering.{after_lowering}
 use Rattle.hir_scope.specs.Each.{Each}
 use Rattle.hir_same_meaning.specs.Reached.{Between}
 use Rattle.hir_store.proofs.Extending.{extends_refl}
 use Rattle.hir_type_result.specs.Reached.{of_each, of_path, of_present, types_reached}
 use Rattle.hir_type_result.specs.Named.{Look, of_types_alone, of_pats_alone, of_bindings_alone, of_expr, of_exprs, of_pat, of_pats}
-use Rattle.hir_type_result.specs.Named.{TypesSpread, ExprTypesReachedOnce, PathTypesReachedOnce, TypesReachedOnce}
+use Rattle.hir_type_result.specs.Named.{TypesSpread, BodyTypesReachedOnce, ExprTypesReachedOnce, PathTypesReachedOnce, TypesReachedOnce}
 use Rattle.hir_type_result.specs.Pats.{of_type, of_types, pats_reached, PatsSpread, ExprPatsReachedOnce, TypePatsReachedOnce}
 use Rattle.hir_type_result.specs.Pats.{PathPatsReachedOnce, BodyPatsReachedOnce, BindingsCame, ExprBindingsCame, TypeBindingsCame}
 use Rattle.hir_type_result.specs.Pats.{PathBindingsCame, BodyBindingsCame}
 use Rattle.hir_type_result.proofs.Counted.{times, less, times_append, counted_spread}
 use Rattle.hir_type_result.proofs.Numbers.{each_append}
-use Rattle.hir_type_result.proofs.Adding.{Numbers, none, Adds, Quiet, the_types, the_pats, adds_pure, adds_then, adds_quiet}
+use Rattle.hir_type_result.proofs.Adding.{Numbers, none, Adds, Quiet, the_types, the_pats, adds_owning, adds_pure, adds_then, adds_quiet}
 use Rattle.hir_type_result.proofs.Adding.{both, no_pats_named}
 use Rattle.hir_type_result.proofs.Ranges.{found_between}
 use Rattle.hir_type_result.proofs.Naming.{quiet_pure, quiet_then, quiet_report, quiet_binding, quiet_some}
+use Rattle.hir_type_result.proofs.NamingAtOnce.{at_once, at_once_from, at_once_more, at_once_pure, at_once_still, at_once_then}
+use Rattle.hir_type_result.proofs.NamingAtOnce.{quiet_at_once}
+use Rattle.hir_type_result.proofs.NamingPreludes.{handed_add, let_params_name, let_self_names, made_coroutine_names, prelude}
 use Rattle.hir_type_result.proofs.OwnedPats.{pats, maybe_pat, missing_named}
 use Rattle.hir_type_result.proofs.TreeNamed.{part_adds, part_quiet, path_adds, some_then, top_adds}
 
@@ -145,22 +152,55 @@ each_formal_adds : (skipped : Bool) (done : List PatId) (fs : List Formal) → C
 each_formal_adds skipped done [] = adds_pure done (λ l k. omega arith)
 each_formal_adds skipped done (f ∷ fs) = some_then (λ l. l.pats) (formal_adds skipped f) (λ is. each_formal_adds skipped is fs) done
 
-abbrev pub given : Given → Numbers
-given g = pats g.1
+abbrev received : Received → Numbers
+received g = pats g.1
 
-formals_add : (skipped : Bool) (f : Formals) → Correct (lower_formals skipped f) (Adds none given)
+formals_add : (skipped : Bool) (f : Formals) → Correct (lower_formals skipped f) (Adds none received)
 unfolding lower_formals
 formals_add skipped f = adds_then (self_quiet f.receiver) (λ s. adds_then (each_formal_adds skipped [] f.formals)
     (λ ps. adds_pure (s, ps) (λ l k. omega arith)))
 
-pub body_adds : (skipped : Bool) (f : Formals) (e : OptionExpr) → Correct (lower_body skipped f e) (Adds none (λ r. given r.0))
-unfolding lower_body
-body_adds skipped f e = adds_then (formals_add skipped f) (λ g. adds_then (adds_quiet (part_quiet e))
-    (λ root. adds_pure (g, root) (λ l k. omega arith)))
+-- what the outside hands arguments to
+abbrev pub given : Given → Numbers
+given g = received g.0
+
+plain_adds : (skipped : Bool) (f : Formals) (e : OptionExpr) → Correct (plain_body skipped f e) (Adds none (λ r. given r.0))
+unfolding plain_body
+plain_adds skipped f e = adds_then (formals_add skipped f) (λ g. adds_then (adds_quiet (part_quiet e))
+    (λ root. adds_pure ((g, g), root) (λ l k. omega arith)))
+
+-- What was written is named in front of the body of the coroutine.
+in_function_quiet : (kind : CoroutineKind) (skipped : Bool) (self : Option BindingId) (fs : List Formal) (e : OptionExpr)
+    → Correct (in_function kind skipped self fs e) Quiet
+unfolding in_function
+in_function_quiet kind skipped self fs e = quiet_at_once (at_once_then (at_once (each_formal_adds skipped [] fs))
+    (λ ps. at_once_then (at_once_still (part_quiet e)) (λ body. at_once_then (at_once_more (pats ps) (let_self_names self))
+    (λ begun. at_once_then (at_once_from (λ l k.
+    let x = times_append k (prelude begun.1 l) (pats ps l) in
+    let y = times_append k (pats ps l) (prelude begun.1 l) in omega arith)
+    (let_params_name begun.1 ps))
+    (λ d. at_once_then (made_coroutine_names kind source.Fn d.lets body)
+    (λ c. at_once_pure ((begun.0, ps), (d.handed, c)) (λ l k. omega arith)))))))
+
+coroutine_adds : (kind : CoroutineKind) (skipped : Bool) (f : Formals) (e : OptionExpr)
+    → Correct (coroutine_body kind skipped f e) (Adds none (λ r. given r.0))
+unfolding coroutine_body
+coroutine_adds kind skipped f e = adds_then (self_quiet f.receiver)
+    (λ self. adds_then (adds_owning (λ x. x.1.1) (in_function_quiet kind skipped self f.formals e))
+    (λ inside. adds_then (handed_add [] inside.1.0) (λ ps. adds_pure (((self, ps), inside.0), inside.1.1) (λ l k. omega arith))))
+
+pub body_adds : (kind : Option CoroutineKind) (skipped : Bool) (f : Formals) (e : OptionExpr)
+    → Correct (lower_body kind skipped f e) (Adds none (λ r. given r.0))
+body_adds None skipped f e = plain_adds skipped f e
+body_adds (Some kind) skipped f e = coroutine_adds kind skipped f e
+
+pub body_types_once : BodyTypesReachedOnce
+body_types_once kind skipped f e b b' g i paired is final stays =
+    types_came (λ r f. []) (body_adds kind skipped f e) (λ r f k. omega arith) b b' (g, i) paired is final stays
 
 pub body_pats_once : BodyPatsReachedOnce
-body_pats_once skipped f e b b' g i paired is final stays =
-    pats_once (λ r. r.0.1) (body_adds skipped f e) (λ r l k. omega arith) b b' (g, i) paired is final stays
+body_pats_once kind skipped f e b b' g i paired is final stays =
+    pats_once (λ r. r.0.0.1) (body_adds kind skipped f e) (λ r l k. omega arith) b b' (g, i) paired is final stays
 
 -- ---- bindings
 
@@ -197,4 +237,4 @@ pub path_bindings_came : PathBindingsCame
 path_bindings_came p b b' r paired is = bindings_came (path_adds p) b b' r paired is
 
 pub body_bindings_came : BodyBindingsCame
-body_bindings_came skipped f e b b' g i paired is = bindings_came (body_adds skipped f e) b b' (g, i) paired is
+body_bindings_came kind skipped f e b b' g i paired is = bindings_came (body_adds kind skipped f e) b b' (g, i) paired is

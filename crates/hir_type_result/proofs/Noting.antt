@@ -24,7 +24,7 @@ use Rattle.hir_lower_form.specs.Lowering.{enter_root, close_barrier, leave_root,
 use Rattle.hir_lower_form.specs.Lowering.{owning}
 use Rattle.hir_lower_form.specs.Lower.{ExprSteps, constant_form, lower_limit, lower_part}
 use Rattle.hir_lower_form.specs.Ranges.{inner_form}
-use Rattle.hir_meaning.specs.Inner.{Bodies, InnerBody, constant_body, limit_body}
+use Rattle.hir_meaning.specs.Inner.{Bodies, InnerBody, by_itself, constant_body, limit_body}
 use Rattle.hir_steps.specs.Keeps.{Paired, KeepsAll, Keeps}
 use Rattle.hir_steps.proofs.Frames.{Frame, frames, ribs_frames}
 use Rattle.hir_steps.proofs.Constants.{correct_constant, correct_inner}
@@ -45,7 +45,7 @@ use Rattle.hir_type_result.specs.Pats.{of_types, pats_reached}
 use Rattle.hir_type_result.specs.Reached.{types_reached}
 use Rattle.hir_type_result.specs.Roots.{Lengths, lengths_now, ends_of, Further, RootIs, RootsAre, RootsOf, SameInner, exprs_between}
 use Rattle.hir_type_result.specs.Roots.{pats_between, types_between}
-use Rattle.hir_type_result.specs.Unrun.{unrun_in}
+use Rattle.hir_type_result.specs.Unrun.{all_unruns, unrun_in}
 use Rattle.hir_type_result.proofs.Adding.{Quiet}
 use Rattle.hir_type_result.proofs.Inside.{inside_once, limit_adds, rooted_adds}
 use Rattle.hir_type_result.proofs.Meaning.{constant_means, limit_means}
@@ -82,16 +82,15 @@ settled_trans a b c g h = prefix_trans g h
 -- Nothing is lost, and outside of a root these bodies are recorded.
 pub record Noting (es : Bodies) (b c : Builder) : Type 0 where
   pub kept : KeepsAll b c
-  pub settled : Paired b.stored → Settled b.stored c.stored
-  pub noted : b.in_root ≡ false → Paired b.stored → (later : Stored) → Extends c.stored later
-      → RootsOf b.scopes b.stored c.stored later es
+  pub settled : Settled b.stored c.stored
+  pub noted : b.in_root ≡ false → (later : Stored) → Extends c.stored later → RootsOf b.scopes b.stored c.stored later es
 
 abbrev pub Noted : {A : Type 0} → Bodies → Builder → Checked A → Builder → Type 0
 Noted es b (Ok a) c = Noting es b c
 Noted es b (Err f) c = Unit {0}
 
 pub record Notes {A : Type 0} (es : Bodies) (p : Lowering A) : Type 0 where
-  pub notes : (b : Builder) → Noted es b (p b).0 (p b).1
+  pub notes : (b : Builder) → Paired b.stored → Noted es b (p b).0 (p b).1
 
 -- ---- one after another
 
@@ -140,11 +139,10 @@ roots_then {around = around} {a = a} {b = b} {c = c} {later = later} {es = es} {
 noting_then : {es fs : Bodies} {a b c : Builder} → Noting es a b → Noting fs b c → Noting (es ++ fs) a c
 noting_then {fs = fs} {a = a} {b = b} {c = c} g h = record {
   kept = kept_trans g.kept h.kept;
-  settled = λ d. settled_trans a.stored b.stored c.stored (g.settled d) (h.settled (g.kept.paired d));
-  noted = λ outside d later x.
-      roots_then (h.settled (g.kept.paired d)) (g.noted outside d later (extends_trans h.kept.stays x))
-      (subst (λ rs. RootsOf rs b.stored c.stored later fs) g.kept.scopes
-      (h.noted (g.kept.in_root ∙ outside) (g.kept.paired d) later x));
+  settled = settled_trans a.stored b.stored c.stored g.settled h.settled;
+  noted = λ outside later x.
+      roots_then h.settled (g.noted outside later (extends_trans h.kept.stays x))
+      (subst (λ rs. RootsOf rs b.stored c.stored later fs) g.kept.scopes (h.noted (g.kept.in_root ∙ outside) later x));
 }
 
 then_noted : {B : Type 0} {es : Bodies} (fs : Bodies) {b b' : Builder} → Noting es b b' → (o : Checked B) (c : Builder)
@@ -154,22 +152,23 @@ then_noted fs x (Err f) c y = tt
 
 pub notes_then : {A B : Type 0} {es fs : Bodies} {p : Lowering A} {f : A → Lowering B} → Notes es p
     → ((a : A) → Notes fs (f a)) → Notes (es ++ fs) (p >>= f)
-notes_then {A = A} {es = es} {fs = fs} {p = p} {f = f} h k = record { notes = λ b. by b (p b).0 (p b).1 (h.notes b) }
+notes_then {A = A} {es = es} {fs = fs} {p = p} {f = f} h k = record { notes = λ b d. by b d (p b).0 (p b).1 (h.notes b d) }
   where
-    by : (b : Builder) (o : Checked A) (c : Builder) → Noted es b o c → Noted (es ++ fs) b (go_on o c f).0 (go_on o c f).1
-    by b (Ok a) c x = then_noted fs x (f a c).0 (f a c).1 ((k a).notes c)
-    by b (Err f) c x = tt
+    by : (b : Builder) → Paired b.stored → (o : Checked A) (c : Builder) → Noted es b o c
+        → Noted (es ++ fs) b (go_on o c f).0 (go_on o c f).1
+    by b d (Ok a) c x = then_noted fs x (f a c).0 (f a c).1 ((k a).notes c (x.kept.paired d))
+    by b d (Err f) c x = tt
 
 -- where it is known what the first answers
 pub notes_given : {A B : Type 0} {n : Size} {G : A → Type 0} {es fs : Bodies} {p : Lowering A} {f : A → Lowering B} → Notes es p
     → Tells n G p → ((a : A) → G a → Notes fs (f a)) → Notes (es ++ fs) (p >>= f)
 notes_given {A = A} {n = n} {G = G} {es = es} {fs = fs} {p = p} {f = f} h t k =
-    record { notes = λ b. by b (p b).0 (p b).1 (h.notes b) (t.tells b) }
+    record { notes = λ b d. by b d (p b).0 (p b).1 (h.notes b d) (t.tells b d) }
   where
-    by : (b : Builder) (o : Checked A) (c : Builder) → Noted es b o c → Told n G b o c
+    by : (b : Builder) → Paired b.stored → (o : Checked A) (c : Builder) → Noted es b o c → Told n G b o c
         → Noted (es ++ fs) b (go_on o c f).0 (go_on o c f).1
-    by b (Ok a) c x y = then_noted fs x (f a c).0 (f a c).1 ((k a y.1).notes c)
-    by b (Err f) c x y = tt
+    by b d (Ok a) c x y = then_noted fs x (f a c).0 (f a c).1 ((k a y.1).notes c (x.kept.paired d))
+    by b d (Err f) c x y = tt
 
 pub notes_as : {A : Type 0} {es fs : Bodies} {p : Lowering A} → es ≡ fs → Notes es p → Notes fs p
 notes_as {p = p} e h = subst (λ xs. Notes xs p) e h
@@ -195,20 +194,20 @@ as_settled a b e = subst (λ xs. Prefix a.bindings.entries xs) (sym e) (prefix_r
 notes_none : {A : Type 0} {R : Rel A} {p : Lowering A} → Correct p R
     → ((final : Stored) (ps : List Frame) (m m' : Mark) (a : A) → R final ps m m' a → Aside m m') → Notes [] p
 notes_none {A = A} {R = R} {p = p} h still =
-    record { notes = λ b. by b (p b).0 (p b).1 (λ final. h.holds final (frames b.scopes) b (ribs_frames b.scopes)) }
+    record { notes = λ b d. by b d (p b).0 (p b).1 (λ final. h.holds final (frames b.scopes) b (ribs_frames b.scopes)) }
   where
-    by : (b : Builder) (o : Checked A) (c : Builder) → ((final : Stored) → Holds R final (frames b.scopes) b o c) → Noted [] b o c
-    by b (Ok a) c x =
-        let aside : (later : Stored) → Paired b.stored → Extends c.stored later → Aside (mark b) (mark c) =
-        λ later d e. still later (frames b.scopes) (mark b) (mark c) a ((x later).in_final d e) in
+    by : (b : Builder) → Paired b.stored → (o : Checked A) (c : Builder)
+        → ((final : Stored) → Holds R final (frames b.scopes) b o c) → Noted [] b o c
+    by b d (Ok a) c x =
+        let aside : (later : Stored) → Extends c.stored later → Aside (mark b) (mark c) =
+        λ later e. still later (frames b.scopes) (mark b) (mark c) a ((x later).in_final d e) in
         let kept = (x b.stored).kept in
-        let settled : Paired b.stored → Settled b.stored c.stored =
-        λ d. as_settled b.stored c.stored (aside c.stored d (extends_refl c.stored)).bindings in record {
+        let settled = as_settled b.stored c.stored (aside c.stored (extends_refl c.stored)).bindings in record {
           kept = kept;
           settled = settled;
-          noted = λ outside d later e. no_roots (further_stored kept.stays (settled d)) (aside later d e).roots;
+          noted = λ outside later e. no_roots (further_stored kept.stays settled) (aside later e).roots;
         }
-    by b (Err f) c x = tt
+    by b d (Err f) c x = tt
 
 pub notes_pure : {A : Type 0} (a : A) → Notes [] (pure a)
 notes_pure a = notes_none (correct_pure a) (λ final ps m m' b row. record {
@@ -236,7 +235,7 @@ notes_pat p source = notes_none (correct_alloc_pat p source) (λ final ps m m' i
 
 pub notes_count_out : {A : Type 0} → Notes {A = A} [] count_out
 unfolding count_out
-notes_count_out = record { notes = λ b. tt }
+notes_count_out = record { notes = λ b d. tt }
 
 notes_bindings_end : Notes [] bindings_end
 notes_bindings_end = notes_none correct_bindings_end (λ final ps m m' start row. record {
@@ -317,26 +316,27 @@ module _ {A : Type 0} (make : ExprId → A) (x : InnerBody) (p : ExprSteps) wher
       → Facts x b.stored c.stored i later) → Notes (x ∷ []) behind
   unfolding open_barrier enter_root close_barrier leave_root outside_root record_root storing.record_root
   notes_behind shows any_inside any_all facts = record {
-    notes = λ b. by b b.in_root refl (p (entered b)).0 (p (entered b)).1 refl (kept_by any_inside (entered b))
+    notes = λ b d. by b d b.in_root refl (p (entered b)).0 (p (entered b)).1 refl (kept_by any_inside (entered b))
         (kept_by any_all b) (facts b);
   }
     where
-      by : (b : Builder) (outer : Bool) → b.in_root ≡ outer → (o : Checked ExprId) (c : Builder) → p (entered b) ≡ (o, c)
-          → Keeps (entered b) o c → Keeps b (go_on o c (leaving b.yields outer)).0 (go_on o c (leaving b.yields outer)).1
-          → ((d : Builder) (i : ExprId) → Paired b.stored → go_on o c (leaving b.yields outer) ≡ (Ok (make i), d) → (later : Stored)
-          → Extends d.stored later → Facts x b.stored d.stored i later)
+      by : (b : Builder) → Paired b.stored → (outer : Bool) → b.in_root ≡ outer → (o : Checked ExprId) (c : Builder)
+          → p (entered b) ≡ (o, c) → Keeps (entered b) o c
+          → Keeps b (go_on o c (leaving b.yields outer)).0 (go_on o c (leaving b.yields outer)).1
+          → ((e : Builder) (i : ExprId) → Paired b.stored → go_on o c (leaving b.yields outer) ≡ (Ok (make i), e) → (later : Stored)
+          → Extends e.stored later → Facts x b.stored e.stored i later)
           → Noted (x ∷ []) b (go_on o c (leaving b.yields outer)).0 (go_on o c (leaving b.yields outer)).1
-      by b true in' (Ok i) c is inner kept facts = record {
+      by b d true in' (Ok i) c is inner kept facts = record {
         kept = kept;
-        settled = λ d. root_settles x shows (entered b) c i d is;
+        settled = root_settles x shows (entered b) c i d is;
         noted = λ outside. absurd (true≢false (sym in' ∙ outside));
       }
-      by b false in' (Ok i) c is inner kept facts =
+      by b d false in' (Ok i) c is inner kept facts =
           let root = root_at (store_of c.stored) i in
           let left = (go_on {B = A} (Ok i) c (leaving b.yields false)).1 in record {
             kept = kept;
-            settled = λ d. root_settles x shows (entered b) c i d is;
-            noted = λ outside d later e.
+            settled = root_settles x shows (entered b) c i d is;
+            noted = λ outside later e.
                 let stays = extends_trans (extends_root c.stored root) e in
                 let f = facts left i d refl later e in
                 let goes_on = further_stored inner.stays (root_settles x shows (entered b) c i d is) in
@@ -362,7 +362,7 @@ module _ {A : Type 0} (make : ExprId → A) (x : InnerBody) (p : ExprSteps) wher
                   each = λ s. (types_end, whole s, further_refl (ends_of root types_end));
                 };
           }
-      by b outer in' (Err f) c is inner kept facts = tt
+      by b d outer in' (Err f) c is inner kept facts = tt
 
 pub notes_constant : (e : OptionExpr) → Notes (constant_body e ∷ []) (constant_form (lower_part e))
 unfolding constant_form unrun_in
@@ -375,7 +375,7 @@ notes_constant e =
     (subst (λ r. Keeps b r.0 r.1) is (kept_by all b))
     (constant_means e (frames b.scopes) b c x (ribs_frames b.scopes) paired is later stays)
     (λ depth le. inside_once (rooted_adds (tree.constant e)) b c x paired is later stays depth le
-    (i ∷ unrun_in (store_of later) i) (λ k. omega arith)))
+    (by_itself i ∷ (all_unruns (store_of later)).expr i) (λ k. omega arith)))
 
 limit_facts : (l : Limit) (b c : Builder) (i : ExprId) → Paired b.stored → lower_limit l b ≡ (Ok i, c) → Keeps b (Ok i) c
     → (later : Stored) → Extends c.stored later → Facts (limit_body l) b.stored c.stored i later
@@ -383,7 +383,8 @@ unfolding unrun_in
 limit_facts l b c i paired is kept later stays =
     facts_of (limit_body l) b c i i paired is later stays (limit_quiet l) kept
     (limit_means l (frames b.scopes) b c i (ribs_frames b.scopes) paired is later stays)
-    (λ depth le. inside_once (limit_adds l) b c i paired is later stays depth le (i ∷ unrun_in (store_of later) i) (λ k. omega arith))
+    (λ depth le. inside_once (limit_adds l) b c i paired is later stays depth le (by_itself i ∷ (all_unruns (store_of later)).expr i)
+    (λ k. omega arith))
 
 limit_notes : (l : Limit) → lower_limit l ≡ inner_form (contents l) → Notes (limit_body l ∷ []) (inner_form (contents l))
 unfolding inner_form

@@ -60,8 +60,8 @@ use Rattle.hir_type_result.proofs.NamingMade.{question_quiet, try_block_quiet, t
 use Rattle.hir_type_result.proofs.NamingFors.{for_quiet}
 use Rattle.hir_env.specs.Targets.{head_pointer}
 use Rattle.hir_type_result.proofs.NamingForms.{call_quiet, continue_quiet, break_quiet, paren_quiet, operand_quiet, operands_quiet}
-use Rattle.hir_type_result.proofs.ClosureNaming.{closure_quiet, coroutine_block_quiet, coroutine_quiet, param_adds, params_named}
-use Rattle.hir_type_result.proofs.ClosureNaming.{yield_quiet}
+use Rattle.hir_type_result.proofs.ClosureNaming.{closure_quiet, coroutine_block_quiet, coroutine_closure_quiet, coroutine_quiet}
+use Rattle.hir_type_result.proofs.ClosureNaming.{param_adds, params_named, yield_quiet}
 use Rattle.hir_type_result.proofs.NamingForms.{value_quiet, list_quiet, await_quiet, field_quiet, block_form_quiet, path_quiet, cast_quiet}
 use Rattle.hir_type_result.proofs.NamingForms.{offset_of_quiet, method_call_quiet, record_quiet, contents_quiet, labelled_quiet}
 use Rattle.hir_type_result.proofs.NamingForms.{kept_quiet, contents}
@@ -268,6 +268,8 @@ mutual
   node_quiet (tree.const_expr at c) = adds_owning (λ i. i) (const_quiet at (rooted_quiet c))
   node_quiet (tree.closure_expr at moves is_static xs t e) = adds_owning (λ i. i)
       (closure_quiet at moves is_static (params_add no_closure_params xs) (present_adds t) (part_quiet e))
+  node_quiet (tree.coroutine_closure_expr at kind moves xs t e) = adds_owning (λ i. i)
+      (coroutine_closure_quiet at kind moves (params_add no_closure_params xs) (present_adds t) (part_quiet e))
   node_quiet (tree.method_call_expr at e name es generics) =
       method_call_quiet at name (part_quiet e) (each_quiet [] es) (args_add generics)
   node_quiet (tree.cast_expr at e t) = cast_quiet at (part_quiet e) (part_adds None t)

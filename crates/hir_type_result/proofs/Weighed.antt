@@ -3,6 +3,7 @@ use Rattle.std.proofs.Common.{◌≡◌, ◌∙◌, refl, sym, ap, ℕ, zero, su
 use Rattle.hir_store.specs.Pointers.{Pointer}
 use Rattle.hir_store.specs.Stored.{Store, Stored, store_of}
 use Rattle.hir_store.specs.declared.hir.Expr.{Expr as HirExpr}
+use Rattle.hir_store.specs.declared.ids.BindingId.{BindingId}
 use Rattle.hir_store.specs.declared.ids.ExprId.{ExprId}
 use Rattle.hir_store.specs.declared.ids.LabelId.{LabelId}
 use Rattle.hir_store.specs.declared.ids.PatId.{PatId}
@@ -13,14 +14,15 @@ use Rattle.hir_store.specs.declared.type_ref.TypeRef.{TypeRef}
 use Rattle.hir_env.specs.Answered.{Label}
 use Rattle.hir_lower_form.specs.Lowering.{Lowering, ◌>>=◌, pure, owning, alloc_expr, alloc_made, alloc_pat, alloc_type, open_label, close}
 use Rattle.hir_lower_form.specs.Lower.{ExprSteps, constant_form}
+use Rattle.hir_lower_form.specs.Preludes.{alloc_beside}
 use Rattle.hir_lower_form.specs.Ranges.{inner_form}
-use Rattle.hir_meaning.specs.Inner.{Inners, of_type, of_expr, of_constant, of_limit, of_type_pat}
+use Rattle.hir_meaning.specs.Inner.{Inners, Inside, handed_to, of_type, of_expr, of_constant, of_limit, of_type_pat}
 use Rattle.hir_meaning.specs.Places.{places_in, places_to}
 use Rattle.hir_steps.proofs.Constants.{correct_constant, correct_inner}
 use Rattle.hir_steps.proofs.Frames.{Frame, rib, ribs}
 use Rattle.hir_steps.proofs.MadeSteps.{correct_alloc_made}
-use Rattle.hir_steps.proofs.Owning.{owning_keeps}
-use Rattle.hir_steps.proofs.PatSteps.{correct_alloc_pat}
+use Rattle.hir_steps.proofs.Owning.{owned_by, owning_keeps}
+use Rattle.hir_steps.proofs.PatSteps.{AllocatedPatBy, PutPat, correct_alloc_beside, correct_alloc_pat}
 use Rattle.hir_steps.proofs.Steps.{Mark, Grows, Rel, Correct, correct_bind, correct_as, correct_in_store, correct_pure, correct_alloc}
 use Rattle.hir_steps.proofs.Steps.{correct_alloc_type, correct_opened, with_label, Put, AllocatedBy}
 use Rattle.hir_same_meaning.specs.Reached.{below, of_each, reached_to}
@@ -30,13 +32,18 @@ use Rattle.hir_type_result.proofs.Adding.{linked}
 
 -- ---- weights
 
-abbrev pub sum : (ExprId → ℕ) → List ExprId → ℕ
+abbrev pub sum : (ExprId → ℕ) → List Inside → ℕ
 sum k [] = 0
-sum k (i ∷ is) = k i + sum k is
+sum k (x ∷ xs) = k x.expr + sum k xs
 
-pub sum_append : (k : ExprId → ℕ) (is js : List ExprId) → sum k (is ++ js) ≡ sum k is + sum k js
-sum_append k [] js = omega arith
-sum_append k (i ∷ is) js = let e = sum_append k is js in omega arith
+pub sum_append : (k : ExprId → ℕ) (xs ys : List Inside) → sum k (xs ++ ys) ≡ sum k xs + sum k ys
+sum_append k [] ys = omega arith
+sum_append k (x ∷ xs) ys = let e = sum_append k xs ys in omega arith
+
+-- whatever they are handed
+pub sum_handed : (k : ExprId → ℕ) (ps : List PatId) (xs : List Inside) → sum k (handed_to ps xs) ≡ sum k xs
+sum_handed k ps [] = refl
+sum_handed k ps (x ∷ xs) = refl
 
 -- ---- costs: how often a number is reached
 
@@ -114,9 +121,32 @@ pub record Deep (m : Mark) (all reach hold place : ℕ) : Type 0 where
   pub inside : m.nodes + m.entries ≤ hold
   pub placed : m.pats ≤ place
 
+-- how far in is looked at what is reached, at what is held, and for places
+
+abbrev pub DeepView : Mark → ℕ → ℕ × ℕ × ℕ → Type 0
+DeepView m all d = Deep m all d.0 d.1 d.2
+
+abbrev pub at_depth : Stored → ℕ → ℕ → ℕ × ℕ × ℕ → View
+at_depth final all number d = view final all number d.0 d.1 d.2
+
+-- what was deep enough later was so before
+pub deep_before : {m m' : Mark} {all : ℕ} (d : ℕ × ℕ × ℕ) → Grows m m' → DeepView m' all d → DeepView m all d
+deep_before d g h = record {
+  all_of = omega (arith, h.all_of, g.nodes);
+  deep = omega (arith, h.deep, g.nodes);
+  inside = omega (arith, h.inside, g.nodes, g.entries);
+  placed = omega (arith, h.placed, g.pats);
+}
+
 pub record Adds {A : Type 0} (was : Cost) (now : A → Cost) (final : Stored) (ps : List Frame) (m m' : Mark) (a : A) : Type 0 where
   pub earlier : (all number reach hold place : ℕ) → Deep m' all reach hold place
       → Earlier was final m m' all number (now a (view final all number reach hold place))
+
+-- what a step that reached nothing gave out
+pub came_of : {A : Type 0} {cost : A → Cost} {final : Stored} {ps : List Frame} {m m' : Mark} {a : A} → Adds free cost final ps m m' a
+    → (all number : ℕ) (d : ℕ × ℕ × ℕ) → DeepView m' all d
+    → cost a (at_depth final all number d) + less number m.nodes ≤ less number m'.nodes
+came_of row all number d h = let x = (row.earlier all number d.0 d.1 d.2 h).counted in omega (arith, x)
 
 -- no further into it than into what is answered
 pub still_deep : {was : Cost} {final : Stored} {m m' : Mark} {all number now : ℕ} (reach hold place : ℕ) → Grows m m'
@@ -194,31 +224,33 @@ adds_any h = correct_as h (λ final ps m m' a g row. record {
 
 -- An expression that is held and not run costs what it reaches by itself.
 
-pub added_aside : {A : Type 0} {now held : A → Cost} {final : Stored} {ps : List Frame} {m m' : Mark} {a : A} → Grows m m'
-    → ((all number reach hold place : ℕ)
+pub adds_aside : {A : Type 0} {was : Cost} {now held : A → Cost} {p : Lowering A}
+    → ((a : A) (final : Stored) (all number reach hold place : ℕ)
     → held a (view final all number reach hold place) ≤ now a (view final all number all hold place))
-    → Adds free now final ps m m' a → Adds free held final ps m m' a
-added_aside g less_is row = record {
+    → Correct p (Adds was now) → Correct p (Adds was held)
+adds_aside less_is h = correct_as h (λ final ps m m' a g row. record {
   earlier = λ all number reach hold place d.
       let x = row.earlier all number all hold place (record {
         all_of = d.all_of;
         deep = d.all_of;
         inside = d.inside;
         placed = d.placed;
-      }) in
-      still_deep reach hold place g d (let c = x.counted in let l = less_is all number reach hold place in omega arith);
-}
-
-pub adds_aside : {A : Type 0} {now held : A → Cost} {p : Lowering A}
-    → ((a : A) (final : Stored) (all number reach hold place : ℕ)
-    → held a (view final all number reach hold place) ≤ now a (view final all number all hold place))
-    → Correct p (Adds free now) → Correct p (Adds free held)
-adds_aside less_is h = correct_as h (λ final ps m m' a g row. added_aside g (less_is a final) row)
+      }) in record {
+        reach = x.reach;
+        hold = x.hold;
+        place = x.place;
+        deep = x.deep;
+        inside = x.inside;
+        placed = x.placed;
+        counted = let c = x.counted in let l = less_is a final all number reach hold place in omega arith;
+      };
+})
 
 -- whatever owns bindings
-pub adds_owning : {A : Type 0} {was : Cost} {now : A → Cost} (owner : A → ExprId) {p : Lowering A} → Correct p (Adds was now)
-    → Correct (owning owner p) (Adds was now)
-adds_owning owner h = owning_keeps owner (λ final ps m left start id a row. record {
+
+pub added_owned : {A : Type 0} {was : Cost} {now : A → Cost} {final : Stored} {ps : List Frame} {m left : Mark} {a : A} (start : BindingId)
+    (id : ExprId) → Adds was now final ps m left a → Adds was now final ps m (owned_by start id left) a
+added_owned start id row = record {
   earlier = λ all number reach hold place d.
       let x = row.earlier all number reach hold place (record {
         all_of = d.all_of;
@@ -234,7 +266,11 @@ adds_owning owner h = owning_keeps owner (λ final ps m left start id a row. rec
         placed = x.placed;
         counted = x.counted;
       };
-}) h
+}
+
+pub adds_owning : {A : Type 0} {was : Cost} {now : A → Cost} (owner : A → ExprId) {p : Lowering A} → Correct p (Adds was now)
+    → Correct (owning owner p) (Adds was now)
+adds_owning owner h = owning_keeps owner (λ final ps m left start id a row. added_owned start id row) h
 
 -- of more
 pub adds_from : {A : Type 0} {was was' : Cost} {now : A → Cost} {p : Lowering A} → ((v : View) → was v ≤ was' v)
@@ -281,33 +317,41 @@ adds_type {was = was} t source h = correct_as (correct_alloc_type t source) (λ 
     }
 
 -- A pattern costs what this step says of it, one level further in.
-adds_pat_as : {was : Cost} (cost : PatId → Cost) (step : Cost) (p : Pat) (source : Option Pointer)
-    → ((final : Stored) (all number reach hold place : ℕ) (i : PatId) → slice_get final.pats.entries i.0 ≡ Some p
-    → cost i (view final all number reach (suc hold) (suc place)) ≡ step (view final all number reach hold place))
-    → ((v : View) → step v ≤ was v) → Correct (alloc_pat p source) (Adds was cost)
-adds_pat_as {was = was} cost step p source law h = correct_as (correct_alloc_pat p source) (λ final ps m m' i g row. record {
-  earlier = λ all number reach hold place d.
-      at_depth final m m' i all number reach hold place d (ap (λ n. slice_get final.pats.entries n) row.number ∙ row.here)
-      row.next row.entries row.nodes;
-})
+
+abbrev OneFurther : (PatId → Cost) → Cost → Pat → Type 0
+OneFurther cost step p = (final : Stored) (all number reach hold place : ℕ) (i : PatId) → slice_get final.pats.entries i.0 ≡ Some p
+    → cost i (view final all number reach (suc hold) (suc place)) ≡ step (view final all number reach hold place)
+
+added_pat : {was : Cost} {cost : PatId → Cost} {step : Cost} (p : Pat) {put : PutPat} {source : Option Pointer} {final : Stored}
+    {ps : List Frame} {m m' : Mark} {i : PatId} → OneFurther cost step p → ((v : View) → step v ≤ was v)
+    → AllocatedPatBy put p source final ps m m' i → Adds was cost final ps m m' i
+added_pat {was = was} {cost = cost} p {final = final} {m = m} {m' = m'} {i = i} law h row = record {
+  earlier = λ all number reach hold place d. at_depth all number reach hold place d;
+}
   where
-    at_depth : (final : Stored) (m m' : Mark) (i : PatId) (all number reach hold place : ℕ) → Deep m' all reach hold place
-        → slice_get final.pats.entries i.0 ≡ Some p → m'.pats ≡ suc m.pats → m'.entries ≡ suc m.entries → m'.nodes ≡ m.nodes
+    here : slice_get final.pats.entries i.0 ≡ Some p
+    here = ap (λ n. slice_get final.pats.entries n) row.number ∙ row.here
+
+    at_depth : (all number reach hold place : ℕ) → Deep m' all reach hold place
         → Earlier was final m m' all number (cost i (view final all number reach hold place))
-    at_depth final m m' i all number reach zero place d here next more still = absurd (omega (arith, d.inside, more))
-    at_depth final m m' i all number reach (suc hold) zero d here next more still = absurd (omega (arith, d.placed, next))
-    at_depth final m m' i all number reach (suc hold) (suc place) d here next more still = record {
+    at_depth all number reach zero place d = absurd (omega (arith, d.inside, row.entries))
+    at_depth all number reach (suc hold) zero d = absurd (omega (arith, d.placed, row.next))
+    at_depth all number reach (suc hold) (suc place) d = record {
       reach = reach;
       hold = hold;
       place = place;
-      deep = omega (arith, d.deep, still);
-      inside = omega (arith, d.inside, more, still);
-      placed = omega (arith, d.placed, next);
+      deep = omega (arith, d.deep, row.nodes);
+      inside = omega (arith, d.inside, row.entries, row.nodes);
+      placed = omega (arith, d.placed, row.next);
       counted =
           let c = law final all number reach hold place i here in
           let e = h (view final all number reach hold place) in
-          let l = ap (less number) still in omega (arith, c, e, l);
+          let l = ap (less number) row.nodes in omega (arith, c, e, l);
     }
+
+adds_pat_as : {was : Cost} {cost : PatId → Cost} {step : Cost} (p : Pat) (source : Option Pointer) → OneFurther cost step p
+    → ((v : View) → step v ≤ was v) → Correct (alloc_pat p source) (Adds was cost)
+adds_pat_as p source law h = correct_as (correct_alloc_pat p source) (λ final ps m m' i g row. added_pat p law h row)
 
 -- a pattern holds what it names
 abbrev pub in_pat : Pat → Cost
@@ -316,7 +360,14 @@ in_pat p v = sum v.weight (unrun_of_pat v.held p)
 pub adds_pat : {was : Cost} (p : Pat) (source : Option Pointer) → ((v : View) → in_pat p v ≤ was v)
     → Correct (alloc_pat p source) (Adds was a_pat)
 unfolding unruns
-adds_pat p source h = adds_pat_as a_pat (in_pat p) p source (λ final all number reach hold place i here. rw here refl) h
+adds_pat p source h = adds_pat_as {cost = a_pat} {step = in_pat p} p source (λ final all number reach hold place i here. rw here refl) h
+
+-- one that is made up for the node of another one
+pub adds_pat_beside : {was : Cost} (p : Pat) (own : PatId) → ((v : View) → in_pat p v ≤ was v)
+    → Correct (alloc_beside p own) (Adds was a_pat)
+unfolding unruns
+adds_pat_beside p own h = correct_as (correct_alloc_beside p own) (λ final ps m m' i g row.
+    added_pat {cost = a_pat} {step = in_pat p} p (λ final all number reach hold place i here. rw here refl) h row)
 
 abbrev pub in_type_pat : Pat → Cost
 in_type_pat p v = sum v.weight (of_type_pat v.held p)
@@ -325,7 +376,7 @@ pub adds_type_pat : {was : Cost} (p : Pat) (source : Option Pointer) → ((v : V
     → Correct (alloc_pat p source) (Adds was a_type_pat)
 unfolding unruns
 adds_type_pat p source h =
-    adds_pat_as a_type_pat (in_type_pat p) p source (λ final all number reach hold place i here. rw here refl) h
+    adds_pat_as {cost = a_type_pat} {step = in_type_pat p} p source (λ final all number reach hold place i here. rw here refl) h
 
 -- and its places are reached where it is assigned to
 abbrev pub in_target : Pat → Cost
@@ -334,7 +385,8 @@ in_target p v = times v.number (of_each v.reach (places_in (places_to v.store v.
 pub adds_target : {was : Cost} (p : Pat) (source : Option Pointer) → ((v : View) → in_target p v ≤ was v)
     → Correct (alloc_pat p source) (Adds was a_target)
 unfolding unruns places_to
-adds_target p source h = adds_pat_as a_target (in_target p) p source (λ final all number reach hold place i here. rw here refl) h
+adds_target p source h =
+    adds_pat_as {cost = a_target} {step = in_target p} p source (λ final all number reach hold place i here. rw here refl) h
 
 -- an expression reaches itself and what it names, with all places looked for, whether or not its node leads to it
 

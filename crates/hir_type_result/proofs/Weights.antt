@@ -23,7 +23,7 @@ use Rattle.hir_lower_form.specs.Walks.{args_of, with_self, without_last_self, ha
 use Rattle.hir_lower_form.specs.Walks.{add_name, finished, path_read, at_first}
 use Rattle.hir_lower_form.specs.Paths.{or_notation, sugared_args, output_name}
 use Rattle.hir_lower_form.specs.Types.{add_arg, add_binding, yielded, is_none_of, stored_path_bound}
-use Rattle.hir_meaning.specs.Inner.{Inners, all_of, of_present, of_arg, of_bound, of_list, of_path}
+use Rattle.hir_meaning.specs.Inner.{Inners, Inside, all_of, of_present, of_arg, of_bound, of_list, of_path}
 use Rattle.hir_same_meaning.proofs.HeldArgs.{of_binding, args_roll, binding_roll, self_first_is}
 use Rattle.hir_type_result.proofs.Counted.{either}
 use Rattle.hir_type_result.proofs.Weighed.{sum, sum_append}
@@ -31,7 +31,7 @@ use Rattle.hir_type_result.proofs.Weighed.{sum, sum_append}
 module _ (k : ExprId → ℕ) where
   -- ---- lists
 
-  pub each_push : {A : Type 0} (f : A → List ExprId) (xs : List A) (x : A)
+  pub each_push : {A : Type 0} (f : A → List Inside) (xs : List A) (x : A)
       → sum k (all_of f (xs ++ x ∷ [])) ≡ sum k (all_of f xs) + sum k (f x)
   each_push f [] x = let e = sum_append k (f x) [] in omega arith
   each_push f (y ∷ xs) x =
@@ -39,7 +39,7 @@ module _ (k : ExprId → ℕ) where
       let b = sum_append k (f y) (all_of f (xs ++ x ∷ [])) in
       let r = each_push f xs x in omega arith
 
-  each_append : {A : Type 0} (f : A → List ExprId) (xs ys : List A)
+  each_append : {A : Type 0} (f : A → List Inside) (xs ys : List A)
       → sum k (all_of f (xs ++ ys)) ≡ sum k (all_of f xs) + sum k (all_of f ys)
   each_append f [] ys = omega arith
   each_append f (x ∷ xs) ys =
@@ -47,7 +47,7 @@ module _ (k : ExprId → ℕ) where
       let b = sum_append k (f x) (all_of f (xs ++ ys)) in
       let r = each_append f xs ys in omega arith
 
-  each_reverse : {A : Type 0} (f : A → List ExprId) (xs : List A) → sum k (all_of f (reverse xs)) ≡ sum k (all_of f xs)
+  each_reverse : {A : Type 0} (f : A → List Inside) (xs : List A) → sum k (all_of f (reverse xs)) ≡ sum k (all_of f xs)
   each_reverse f [] = refl
   each_reverse f (x ∷ xs) =
       let e = ap (λ ys. sum k (all_of f ys)) (reverse-append (x ∷ []) xs) in

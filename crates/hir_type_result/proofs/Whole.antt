@@ -1,5 +1,5 @@
 -- What is stored where one type was lowered is one result of its tree.
-use Rattle.std.proofs.Common.{arith, refl, sym, ap, subst, ℕ, [], None, IsPermutation, is_some, true≢false}
+use Rattle.std.proofs.Common.{arith, refl, sym, ap, subst, ℕ, map, [], None, IsPermutation, is_some, true≢false}
 use Rattle.hir_store.specs.Stored.{store_of, map_of}
 use Rattle.hir_store.proofs.Arenas.{prefix_refl}
 use Rattle.hir_store.proofs.Maps.{maps_back_none}
@@ -8,11 +8,15 @@ use Rattle.hir_lower_form.specs.Builder.{fresh}
 use Rattle.hir_read_back.proofs.Now.{type_law}
 use Rattle.hir_steps.specs.Keeps.{Paired, Mapped, Keeps, KeepsAll}
 use Rattle.hir_steps.proofs.Keeping.{types_keep}
+use Rattle.hir_steps.proofs.Mapping.{maps_none}
 use Rattle.hir_one_result.specs.Diagnostics.{type_part_faults}
 use Rattle.hir_one_result.specs.Laws.{Defined, Grown, GrownUnless, Settled}
+use Rattle.hir_one_result.specs.Leads.{LeadBack}
 use Rattle.hir_one_result.specs.Room.{type_part_size}
+use Rattle.hir_one_result.specs.Size.{led_source}
 use Rattle.hir_one_result.proofs.Fits.{types_fit}
 use Rattle.hir_one_result.proofs.Led.{leads_nowhere}
+use Rattle.hir_one_result.proofs.PatWays.{ways_back}
 use Rattle.hir_one_result.proofs.TreeBlocks.{type_enters}
 use Rattle.hir_one_result.proofs.TreeFaults.{type_reports}
 use Rattle.hir_one_result.proofs.TreeStands.{type_left}
@@ -28,7 +32,7 @@ nothing_paired limit = record { exprs = refl; labels = refl; pats = refl; types 
 
 nothing_mapped : (limit : ℕ) → Mapped (fresh limit).stored
 nothing_mapped limit = record {
-  pats = maps_back_none (λ i. i.0) limit;
+  pats = maps_none (λ i. i.0) limit;
   types = maps_back_none (λ i. i.0) limit;
   lifetimes = maps_back_none (λ i. i.0) limit;
 }
@@ -48,7 +52,7 @@ type_results limit t i new is =
     let paired = kept.paired none in
     let mapped = kept.mapped none (nothing_mapped limit) in
     let fits : Grown (type_part_size t) old.stored new.stored =
-    subst (λ r. GrownUnless (type_part_size t) old r.0 r.1) is (types_fit None t old) in
+    subst (λ r. GrownUnless (type_part_size t) old r.0 r.1) is (types_fit None t old none) in
     let stays = extends_refl new.stored in
     let settled : Settled new.stored new.stored = prefix_refl new.stored.bindings.entries in
     let left = ways_behind old new i none is (type_left None t) new.stored stays settled in
@@ -69,7 +73,8 @@ type_results limit t i new is =
       pat_sources = fits.pat_sources;
       type_sources = fits.type_sources;
       lifetime_sources = fits.lifetime_sources;
-      pat_ways = lead_back (λ i. i.0) new.stored.pats mapped.pats;
+      pat_ways = subst (λ es. LeadBack (λ i. i.0) es (map led_source (type_part_size t).pats)) (sym fits.pat_ways)
+          (ways_back (type_part_size t).pats);
       type_ways = lead_back (λ i. i.0) new.stored.types mapped.types;
       lifetime_ways = lead_back (λ i. i.0) new.stored.lifetimes mapped.lifetimes;
       definitions = left.moved.defined (nothing_defined limit);
@@ -78,6 +83,7 @@ type_results limit t i new is =
       covers = left.moved.covers;
       covers_labels = left.moved.covers_labels;
       covers_bindings = left.moved.covers_bindings;
+      owner_ways = (left.moved.owners refl).are;
       leads = left.moved.led [] (leads_nowhere refl refl refl refl);
       types_reached_once = λ depth le.
           types_once None t old new i none is new.stored stays depth le new.stored.exprs.entries refl new.stored.pats.entries refl;
@@ -93,4 +99,4 @@ type_results limit t i new is =
 
 pub refused_types : RefusedTypes
 refused_types limit t fault new is =
-    let old = fresh limit in subst (λ r. GrownUnless (type_part_size t) old r.0 r.1) is (types_fit None t old)
+    let old = fresh limit in subst (λ r. GrownUnless (type_part_size t) old r.0 r.1) is (types_fit None t old (nothing_paired limit))

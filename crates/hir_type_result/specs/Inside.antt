@@ -3,13 +3,13 @@
 use Rattle.std.specs.Prelude.{◌≡◌, ℕ, ◌≤◌, length, Bool, ◌∷◌, ◌++◌, Option, Ok}
 use Rattle.hir_store.specs.Storing.{Extends}
 use Rattle.hir_store.specs.Stored.{Stored, store_of}
+use Rattle.hir_store.specs.declared.hir.CoroutineKind.{CoroutineKind}
 use Rattle.hir_store.specs.declared.ids.ExprId.{ExprId}
 use Rattle.hir_store.specs.declared.ids.TypeRefId.{TypeRefId}
 use Rattle.hir_store.specs.declared.path.Path.{Path}
 use Rattle.hir_env.specs.Answered.{Binder, Formals, OptionExpr, OptionPath, OptionType}
 use Rattle.hir_lower_form.specs.Builder.{Builder}
 use Rattle.hir_lower_form.specs.Lower.{lower_path, type_part}
-use Rattle.hir_meaning.specs.Inner.{of_present}
 use Rattle.hir_steps.specs.Keeps.{Paired}
 use Rattle.hir_same_meaning.specs.Headline.{InLaterStores}
 use Rattle.hir_same_meaning.specs.Reached.{Spread, of_each, reached_to}
@@ -38,14 +38,14 @@ PathInsideReachedOnce =
     (p : OptionPath) (b b' : Builder) (r : Option Path) → Paired b.stored → lower_path p b ≡ (Ok r, b')
     → (final : Stored) → Extends b'.stored final → (depth : ℕ) → length final.exprs.entries ≤ depth
     → Spread (length b.stored.exprs.entries) (length b'.stored.exprs.entries)
-    (of_each (reached_to (store_of final) depth) (of_present (unrun_in_path (store_of final)) r))
+    (of_each (reached_to (store_of final) depth) (unrun_in_path (store_of final) r))
 
--- and of a body behind its parameters, with what the patterns of these hold.
+-- and of a body behind its parameters, with what the patterns hold that the outside hands its arguments to.
 abbrev pub BodyInsideReachedOnce : Type 0
 BodyInsideReachedOnce =
-    (skipped : Bool) (f : Formals) (e : OptionExpr) (b b' : Builder) (given : Given) (i : ExprId) → Paired b.stored
-    → lower_body skipped f e b ≡ (Ok (given, i), b')
+    (kind : Option CoroutineKind) (skipped : Bool) (f : Formals) (e : OptionExpr) (b b' : Builder) (given : Given) (i : ExprId)
+    → Paired b.stored → lower_body kind skipped f e b ≡ (Ok (given, i), b')
     → (final : Stored) → Extends b'.stored final → (depth : ℕ) → length final.exprs.entries ≤ depth
     → let s = store_of final in
     Spread (length b.stored.exprs.entries) (length b'.stored.exprs.entries)
-    (of_each (reached_to s depth) (unrun_in_pats s given.1 ++ i ∷ unrun_in s i))
+    (of_each (reached_to s depth) (unrun_in_pats s given.0.1 ++ i ∷ unrun_in s i))

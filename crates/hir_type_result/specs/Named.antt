@@ -1,7 +1,8 @@
 -- Which types paths, expressions and patterns reach that are stored, and that each is reached in one way only.
-use Rattle.std.specs.Prelude.{◌≡◌, ℕ, ◌≤◌, length, List, [], ◌∷◌, ◌++◌, Option, Ok}
+use Rattle.std.specs.Prelude.{◌≡◌, ℕ, ◌≤◌, length, Bool, List, [], ◌∷◌, ◌++◌, Option, Ok}
 use Rattle.hir_store.specs.Storing.{Extends}
 use Rattle.hir_store.specs.Stored.{Stored}
+use Rattle.hir_store.specs.declared.hir.CoroutineKind.{CoroutineKind}
 use Rattle.hir_store.specs.declared.hir.Expr.{Expr as HirExpr}
 use Rattle.hir_store.specs.declared.hir.Expr.TheVariants as hir
 use Rattle.hir_store.specs.declared.hir.MatchArm.{MatchArm}
@@ -15,11 +16,12 @@ use Rattle.hir_store.specs.declared.pat.Pat.{Pat as HirPat}
 use Rattle.hir_store.specs.declared.pat.Pat.TheVariants as pat
 use Rattle.hir_store.specs.declared.pat.RecordFieldPat.{RecordFieldPat}
 use Rattle.hir_store.specs.declared.path.Path.{Path}
-use Rattle.hir_env.specs.Answered.{Binder, OptionExpr, OptionPath, OptionType}
+use Rattle.hir_env.specs.Answered.{Binder, Formals, OptionExpr, OptionPath, OptionType}
 use Rattle.hir_lower_form.specs.Builder.{Builder}
 use Rattle.hir_lower_form.specs.Lower.{lower_part, lower_path, type_part}
 use Rattle.hir_steps.specs.Keeps.{Paired}
 use Rattle.hir_same_meaning.specs.Reached.{Spread}
+use Rattle.hir_one_result.specs.Formals.{Given, lower_body}
 use Rattle.hir_type_result.specs.Reached.{of_args, of_each, of_path, of_present, types_reached}
 
 -- what is reached from each type, from each pattern, and from each binding
@@ -116,8 +118,15 @@ PathTypesReachedOnce =
     (p : OptionPath) (b b' : Builder) (r : Option Path) → Paired b.stored → lower_path p b ≡ (Ok r, b')
     → (final : Stored) → Extends b'.stored final → TypesSpread b.stored b'.stored final (λ f. of_present (of_path f) r)
 
--- and of a lowered tree.
+-- of a lowered tree,
 abbrev pub ExprTypesReachedOnce : Type 0
 ExprTypesReachedOnce =
     (e : OptionExpr) (b b' : Builder) (i : ExprId) → Paired b.stored → lower_part e b ≡ (Ok i, b')
+    → (final : Stored) → Extends b'.stored final → TypesSpread b.stored b'.stored final (λ f. [])
+
+-- and of a body behind its parameters.
+abbrev pub BodyTypesReachedOnce : Type 0
+BodyTypesReachedOnce =
+    (kind : Option CoroutineKind) (skipped : Bool) (f : Formals) (e : OptionExpr) (b b' : Builder) (given : Given) (i : ExprId)
+    → Paired b.stored → lower_body kind skipped f e b ≡ (Ok (given, i), b')
     → (final : Stored) → Extends b'.stored final → TypesSpread b.stored b'.stored final (λ f. [])

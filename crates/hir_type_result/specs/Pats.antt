@@ -3,6 +3,7 @@
 use Rattle.std.specs.Prelude.{◌≡◌, ℕ, zero, suc, ◌≤◌, length, Bool, List, [], ◌∷◌, ◌++◌, Option, Some, None, slice_get, Ok}
 use Rattle.hir_store.specs.Storing.{Extends}
 use Rattle.hir_store.specs.Stored.{Stored}
+use Rattle.hir_store.specs.declared.hir.CoroutineKind.{CoroutineKind}
 use Rattle.hir_store.specs.declared.hir.Expr.{Expr as HirExpr}
 use Rattle.hir_store.specs.declared.ids.ExprId.{ExprId}
 use Rattle.hir_store.specs.declared.ids.PatId.{PatId}
@@ -67,12 +68,13 @@ PathPatsReachedOnce =
     (p : OptionPath) (b b' : Builder) (r : Option Path) → Paired b.stored → lower_path p b ≡ (Ok r, b')
     → (final : Stored) → Extends b'.stored final → PatsSpread b.stored b'.stored final []
 
--- and of a body behind its parameters, with the patterns of these.
+-- And of a body behind its parameters, with the patterns that the outside hands its arguments to. Where the function is a coroutine, what
+-- was written of its parameters is reached by the `let`s in front of its body.
 abbrev pub BodyPatsReachedOnce : Type 0
 BodyPatsReachedOnce =
-    (skipped : Bool) (f : Formals) (e : OptionExpr) (b b' : Builder) (given : Given) (i : ExprId) → Paired b.stored
-    → lower_body skipped f e b ≡ (Ok (given, i), b')
-    → (final : Stored) → Extends b'.stored final → PatsSpread b.stored b'.stored final given.1
+    (kind : Option CoroutineKind) (skipped : Bool) (f : Formals) (e : OptionExpr) (b b' : Builder) (given : Given) (i : ExprId)
+    → Paired b.stored → lower_body kind skipped f e b ≡ (Ok (given, i), b')
+    → (final : Stored) → Extends b'.stored final → PatsSpread b.stored b'.stored final given.0.1
 
 -- Each binding that a pattern makes which came is one that came with it, or with others of its tree.
 abbrev pub BindingsCame : Stored → Stored → Type 0
@@ -97,5 +99,5 @@ PathBindingsCame =
 
 abbrev pub BodyBindingsCame : Type 0
 BodyBindingsCame =
-    (skipped : Bool) (f : Formals) (e : OptionExpr) (b b' : Builder) (given : Given) (i : ExprId) → Paired b.stored
-    → lower_body skipped f e b ≡ (Ok (given, i), b') → BindingsCame b.stored b'.stored
+    (kind : Option CoroutineKind) (skipped : Bool) (f : Formals) (e : OptionExpr) (b b' : Builder) (given : Given) (i : ExprId)
+    → Paired b.stored → lower_body kind skipped f e b ≡ (Ok (given, i), b') → BindingsCame b.stored b'.stored

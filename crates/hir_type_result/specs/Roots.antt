@@ -14,8 +14,9 @@ use Rattle.hir_env.specs.Answered as tree
 use Rattle.hir_env.specs.Answered.{Binder, OptionType, OptionPath}
 use Rattle.hir_lower_form.specs.Builder.{Builder}
 use Rattle.hir_lower_form.specs.Lower.{lower_path, type_part}
-use Rattle.hir_meaning.specs.Inner.{InnerBody, constant_body, coroutine_body, limit_body, Bodies, bodies_in, side_bodies, inner_bodies}
-use Rattle.hir_meaning.specs.Inner.{of_present, part_bodies, path_bodies, path_inner_bodies, stmts_bodies, type_inner_bodies}
+use Rattle.hir_meaning.specs.Inner.{InnerBody, constant_body, coroutine_body, limit_body, making_body, prelude_body, Bodies, bodies_in}
+use Rattle.hir_meaning.specs.Inner.{side_bodies, inner_bodies, of_present, part_bodies, path_bodies, path_inner_bodies, stmts_bodies}
+use Rattle.hir_meaning.specs.Inner.{tops_bodies, type_inner_bodies}
 use Rattle.hir_meaning.specs.Limits.{written_inner}
 use Rattle.hir_meaning.specs.Same.{SameBody, SameBodies}
 use Rattle.hir_meaning.specs.Store.{stored_body}
@@ -63,14 +64,19 @@ pub record Further (a b : Lengths) : Type 0 where
 abbrev pub inside : InnerBody → Bodies
 inside (constant_body e) = bodies_in e
 inside (coroutine_body number ss e) = stmts_bodies ss ++ bodies_in e
+-- the coroutine that it makes stands beside it
+inside (making_body kind source) = []
+inside (prelude_body self ps e) = tops_bodies ps ++ bodies_in e
 inside (limit_body (tree.item_limit i)) = []
 inside (limit_body (tree.side_limit s)) = side_bodies s
 inside (limit_body (tree.before_limit i s)) = side_bodies s
 
 abbrev pub StandsInner : Store → SourceMap → Open → InnerBody → ExprId → Ways
 StandsInner store source_map rs (constant_body e) i = StandsPart store source_map rs e i
--- a coroutine block stands inside of a root, and is none
+-- a coroutine stands inside of a root, and so does what makes it: they are none
 StandsInner store source_map rs (coroutine_body number ss e) i = λ ws. ⊥
+StandsInner store source_map rs (making_body kind source) i = λ ws. ⊥
+StandsInner store source_map rs (prelude_body self ps e) i = λ ws. ⊥
 StandsInner store source_map rs (limit_body l) i = StandsLimit store source_map rs l i
 
 -- The stored expression does what the written body does, and so does each body inside it.

@@ -1,5 +1,5 @@
 -- Store and source map of a type that is lowered by itself are one result of its tree.
-use Rattle.std.specs.Prelude.{◌≡◌, ℕ, ◌≤◌, List, [], ◌++◌, length, None, Ok, Err, IsPermutation}
+use Rattle.std.specs.Prelude.{◌≡◌, ℕ, ◌≤◌, List, [], ◌++◌, length, map, None, Ok, Err, IsPermutation}
 use Rattle.hir_store.specs.Stored.{Store, SourceMap, store_of, map_of}
 use Rattle.hir_store.specs.declared.fault.StoreFault.{StoreFault}
 use Rattle.hir_store.specs.declared.ids.TypeRefId.{TypeRefId}
@@ -10,13 +10,13 @@ use Rattle.hir_lower_form.specs.Builder.{Builder, fresh}
 use Rattle.hir_lower_form.specs.Lower.{type_part}
 use Rattle.hir_same_meaning.specs.Reached.{Spread, of_each, reached_to}
 use Rattle.hir_one_result.specs.Definitions.{DefinitionsAre}
-use Rattle.hir_one_result.specs.Leads.{Way, Covers, CoversBindings, CoversLabels, MapLeads, LeadBack}
+use Rattle.hir_one_result.specs.Leads.{Way, Covers, CoversBindings, CoversLabels, MapLeads, LeadBack, OwnersAre}
 use Rattle.hir_meaning.specs.Inner.{part_bodies, type_inner_bodies}
 use Rattle.hir_meaning.specs.Same.{SameBodies}
 use Rattle.hir_one_result.specs.Blocks.{blocks_of_type_part}
 use Rattle.hir_one_result.specs.Diagnostics.{type_part_faults}
 use Rattle.hir_one_result.specs.Room.{Short, type_part_size}
-use Rattle.hir_one_result.specs.Size.{placed}
+use Rattle.hir_one_result.specs.Size.{led_source, pat_source_of, placed}
 use Rattle.hir_one_result.specs.Stands.{TypePartWays}
 use Rattle.hir_type_result.specs.Named.{of_exprs, of_pats, of_pats_alone, of_types_alone}
 use Rattle.hir_type_result.specs.Pats.{of_types, pats_reached}
@@ -25,14 +25,15 @@ use Rattle.hir_type_result.specs.Roots.{RootsAre, lengths_of, no_lengths}
 use Rattle.hir_type_result.specs.Unrun.{unrun_in_type}
 
 -- What is stored where one type was lowered. It reads back as what is written, and each body inside it does what the written one
--- does. There are patterns, types and lifetimes from just those of its nodes that become one, in the order of lowering, and as many
--- expressions, labels and bindings as the bodies inside it become, and nothing besides. Each body inside is a root, in the order in
--- which they are done, also one that the type doesn't reach. Nodes of patterns, types and lifetimes lead to them, those of
--- expressions and labels to what they became, and no other nodes lead anywhere. However deep one looks, the type, all expressions
--- and all patterns together reach no type in two ways, types and expressions no pattern, and what the type holds and doesn't run no
--- expression. Each binding is that of a name of a top pattern in these bodies, has the patterns that make it, and is owned by the
--- innermost closure, coroutine, `const` block, length or argument around it. The faults and the entered blocks are those of these
--- bodies.
+-- does. There are patterns, types and lifetimes from just those of its nodes that become one, in the order of lowering, patterns that
+-- are made up for those of parameters, and as many expressions, labels and bindings as the bodies inside it become, and nothing besides.
+-- Each body inside is a root, in the order in which they are done, also one that the type doesn't reach. Nodes of patterns, types and
+-- lifetimes lead to them, but for patterns that are made up, those of expressions and labels to what they became, and no other nodes
+-- lead anywhere. However deep one looks, the type, all expressions and all patterns together reach no type in two ways, types and
+-- expressions no pattern, and what the type holds and doesn't run no expression. Each binding is that of a name of a top pattern in these
+-- bodies, or of a name that is made up or that a parameter is handed in by, has the patterns that make it, and is owned by the innermost
+-- closure, coroutine, `const` block, length or argument around it, as its way says and as it is counted. The faults and the entered
+-- blocks are those of these bodies.
 pub record TypeResult (store : Store) (source_map : SourceMap) (i : TypeRefId) (t : OptionType) : Type 0 where
   pub reads_back : stored_type store source_map i ≡ written_type t
   pub inner : SameBodies store source_map (type_inner_bodies store i) (part_bodies t)
@@ -45,10 +46,10 @@ pub record TypeResult (store : Store) (source_map : SourceMap) (i : TypeRefId) (
   pub lifetimes : length store.lifetimes ≡ length (type_part_size t).lifetimes
   pub expr_sources : length source_map.expr_sources ≡ length store.exprs
   pub label_sources : length source_map.label_sources ≡ length store.labels
-  pub pat_sources : source_map.pat_sources ≡ (type_part_size t).pats
+  pub pat_sources : source_map.pat_sources ≡ map pat_source_of (type_part_size t).pats
   pub type_sources : source_map.type_sources ≡ (type_part_size t).types
   pub lifetime_sources : source_map.lifetime_sources ≡ (type_part_size t).lifetimes
-  pub pat_ways : LeadBack (λ i. i.0) source_map.pat_map source_map.pat_sources
+  pub pat_ways : LeadBack (λ i. i.0) source_map.pat_map (map led_source (type_part_size t).pats)
   pub type_ways : LeadBack (λ i. i.0) source_map.types_map source_map.type_sources
   pub lifetime_ways : LeadBack (λ i. i.0) source_map.lifetime_map source_map.lifetime_sources
   pub definitions : DefinitionsAre store.pats (length store.bindings) source_map.binding_definitions
@@ -57,6 +58,7 @@ pub record TypeResult (store : Store) (source_map : SourceMap) (i : TypeRefId) (
   pub covers : Covers ways 0 (length store.exprs)
   pub covers_labels : CoversLabels ways 0 (length store.labels)
   pub covers_bindings : CoversBindings ways 0 (length store.bindings)
+  pub owner_ways : OwnersAre store.binding_owners ways
   pub leads : MapLeads source_map ways
   pub types_reached_once : (depth : ℕ) → length store.types ≤ depth
       → let f = types_reached store.types depth in let l = of_types_alone f in

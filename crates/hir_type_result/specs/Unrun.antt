@@ -1,6 +1,6 @@
 -- The expressions that a body holds and doesn't run with itself: the bodies inside it, the literals of patterns, and the sides of their
 -- ranges.
-use Rattle.std.specs.Prelude.{ℕ, zero, suc, ◌+◌, List, [], ◌++◌, length, slice_get}
+use Rattle.std.specs.Prelude.{ℕ, zero, suc, ◌+◌, List, [], ◌++◌, length, map, Option, slice_get}
 use Rattle.hir_store.specs.Stored.{Store}
 use Rattle.hir_store.specs.declared.ids.ExprId.{ExprId}
 use Rattle.hir_store.specs.declared.ids.PatId.{PatId}
@@ -8,13 +8,17 @@ use Rattle.hir_store.specs.declared.ids.TypeRefId.{TypeRefId}
 use Rattle.hir_store.specs.declared.pat.Pat.{Pat}
 use Rattle.hir_store.specs.declared.pat.Pat.TheVariants as pat
 use Rattle.hir_store.specs.declared.path.Path.{Path}
-use Rattle.hir_meaning.specs.Inner.{Inners, all_of, of_present, of_expr, of_limit, of_pat, of_path, of_type, of_type_pat}
+use Rattle.hir_meaning.specs.Inner.{Inners, Inside, all_of, of_present, of_expr, of_limit, of_pat, of_path, of_type, of_type_pat}
 
 -- A literal and a side are held like the end of a range in a type: itself, and what it holds.
-abbrev pub unrun_of_pat : Inners → Pat → List ExprId
+abbrev pub unrun_of_pat : Inners → Pat → List Inside
 unrun_of_pat r (pat.Lit e) = of_limit r e
 unrun_of_pat r (pat.Range op start end) = of_present (of_limit r) start ++ of_present (of_limit r) end
 unrun_of_pat r p = of_pat r p
+
+-- whatever they are handed
+abbrev pub exprs_of : List Inside → List ExprId
+exprs_of xs = map (λ x. x.expr) xs
 
 module _ (store : Store) where
   -- with at most so many entries inside one another
@@ -32,15 +36,15 @@ module _ (store : Store) where
   all_unruns = unruns (length store.exprs + (length store.types + length store.pats))
 
   unfoldable pub unrun_in : ExprId → List ExprId
-  unrun_in i = all_unruns.expr i
+  unrun_in i = exprs_of (all_unruns.expr i)
 
-  -- in a type, in a path, and in patterns
+  -- in a type, in a path where there is one, and in patterns
 
   unfoldable pub unrun_in_type : TypeRefId → List ExprId
-  unrun_in_type i = all_unruns.type i
+  unrun_in_type i = exprs_of (all_unruns.type i)
 
-  unfoldable pub unrun_in_path : Path → List ExprId
-  unrun_in_path p = of_path all_unruns p
+  unfoldable pub unrun_in_path : Option Path → List ExprId
+  unrun_in_path p = exprs_of (of_present (of_path all_unruns) p)
 
   unfoldable pub unrun_in_pats : List PatId → List ExprId
-  unrun_in_pats ps = all_of all_unruns.pat ps
+  unrun_in_pats ps = exprs_of (all_of all_unruns.pat ps)

@@ -3,7 +3,7 @@
 #![tactic(auto)]
 
 ghost use Rattle.hir_type_result.specs.TypeResult.{TypeResults, RefusedTypes};
-ghost use Rattle.hir_type_result.specs.Named.{ExprTypesReachedOnce, PathTypesReachedOnce, TypesReachedOnce};
+ghost use Rattle.hir_type_result.specs.Named.{BodyTypesReachedOnce, ExprTypesReachedOnce, PathTypesReachedOnce, TypesReachedOnce};
 ghost use Rattle.hir_type_result.specs.Pats.{BodyPatsReachedOnce, ExprPatsReachedOnce, PathPatsReachedOnce, TypePatsReachedOnce};
 ghost use Rattle.hir_type_result.specs.Pats.{BodyBindingsCame, ExprBindingsCame, PathBindingsCame, TypeBindingsCame};
 ghost use Rattle.hir_type_result.specs.Roots.{PathRoots, TypeRoots};
@@ -15,14 +15,16 @@ pub fn types_reached_once()
     ensures { TypesReachedOnce }
 {}
 
-/// So it is of a lowered path, and of the expressions and patterns of a lowered tree.
+/// So it is of a lowered path, and of the expressions and patterns of a lowered tree and of a body behind its parameters.
 pub fn named_types_reached_once()
     ensures paths { PathTypesReachedOnce }
     ensures exprs { ExprTypesReachedOnce }
+    ensures bodies { BodyTypesReachedOnce }
 {}
 
 /// Each pattern that the expressions and types of a lowered tree, type or path reach, through its parts, is one that its lowering
-/// stored, and is reached in one way. So it is of a body behind its parameters, and the patterns of these.
+/// stored, and is reached in one way. So it is of a body behind its parameters, and the patterns that the outside hands its arguments
+/// to: where the function is a coroutine, it begins with `let`s that reach what was written of them.
 pub fn pats_reached_once()
     ensures exprs { ExprPatsReachedOnce }
     ensures types { TypePatsReachedOnce }
@@ -41,7 +43,7 @@ pub fn bindings_came()
 
 /// Each expression that a lowered tree reaches, or that one does which it holds and doesn't run, is one that its lowering stored, and is
 /// reached in one way by one of them. So it is of what a type or a path holds, and of a body behind its parameters, with what the
-/// patterns of these hold.
+/// patterns hold that the outside hands its arguments to.
 pub fn inside_reached_once()
     ensures exprs { InsideReachedOnce }
     ensures types { TypeInsideReachedOnce }

@@ -175,8 +175,8 @@ expr_row kind.ClosureExpr = record {
   fields = (codes "params" ∶ sort.List group.Param)
       ∷ (codes "ret" ∶ sort.Part group.Ret)
       ∷ (codes "body" ∶ sort.Part group.Expr)
-      ∷ (codes "async" ∶ sort.NotYet)
-      ∷ (codes "gen" ∶ sort.NotYet)
+      ∷ (codes "async" ∶ sort.Flag)
+      ∷ (codes "gen" ∶ sort.Flag)
       ∷ (codes "move" ∶ sort.Flag)
       ∷ (codes "static" ∶ sort.Flag)
       ∷ [];

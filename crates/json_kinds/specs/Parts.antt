@@ -111,7 +111,7 @@ part_row kind.Fn = record {
       ∷ (codes "params" ∶ sort.Part group.ParamList)
       ∷ (codes "ret" ∶ sort.NotYet)
       ∷ (codes "body" ∶ sort.Part group.Expr)
-      ∷ (codes "async" ∶ sort.NotYet)
-      ∷ (codes "gen" ∶ sort.NotYet)
+      ∷ (codes "async" ∶ sort.Flag)
+      ∷ (codes "gen" ∶ sort.Flag)
       ∷ [];
 }

@@ -58,7 +58,7 @@ macro_rules! exprs {
             RangeExpr [Expr] { "op": WordIfThere(Words::RangeOps), "start": Part(Expr), "end": Part(Expr) }
             OffsetOfExpr [Expr] { "ty": Part(Type_), "fields": List(Name) }
             ClosureExpr [Expr] {
-                "params": List(Param), "ret": Part(Ret), "body": Part(Expr), "async": NotYet, "gen": NotYet, "move": Flag,
+                "params": List(Param), "ret": Part(Ret), "body": Part(Expr), "async": Flag, "gen": Flag, "move": Flag,
                 "static": Flag
             }
             CfgPredExpr [Expr] { "pred": Number }
@@ -169,7 +169,7 @@ macro_rules! parts {
             Name [Name UseArg] { "t": Text }
             Fn [Fn] {
                 "generics": NotYet, "where": NotYet, "params": Part(ParamList), "ret": NotYet, "body": Part(Expr),
-                "async": NotYet, "gen": NotYet
+                "async": Flag, "gen": Flag
             }
         }
     };

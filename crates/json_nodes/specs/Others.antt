@@ -77,11 +77,13 @@ other h kind.Lifetime = lifetime h
 other h kind.Name = name h
 other h _ = None
 
--- a function, of which parameters and body are read alone
+-- a function: its parameters, its body, and what makes a coroutine of that
 unfoldable pub function : Here → Fn
 function h = record {
   id = h.id;
   range = h.range;
   params = part_in h as_param_list (codes "params");
   body = part_in h as_expr (codes "body");
+  async_ = flag_of (get (codes "async") h.value);
+  gen_ = flag_of (get (codes "gen") h.value);
 }

@@ -25,6 +25,8 @@ closure h = expr.ClosureExpr
     (list_if_there h as_param (codes "params"))
     (part_in h as_ret (codes "ret"))
     (part_in h as_expr (codes "body"))
+    (flag_of (get (codes "async") h.value))
+    (flag_of (get (codes "gen") h.value))
     (flag_of (get (codes "move") h.value))
     (flag_of (get (codes "static") h.value))
 

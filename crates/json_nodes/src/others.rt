@@ -154,7 +154,7 @@ pub fn other<F: Fields>(node: &F, refused: &mut bool, kind: PartNode) -> Option<
     }
 }
 
-/// A function, of which parameters and body are read alone.
+/// A function: its parameters, its body, and what makes a coroutine of that.
 #[tactic(auto, unfolding(crate::specs::Others::function))]
 pub fn function<F: Fields>(node: &F, refused: &mut bool) -> Fn
     requires { F.can node.now }
@@ -167,5 +167,7 @@ pub fn function<F: Fields>(node: &F, refused: &mut bool) -> Fn
         range: node.range(),
         params,
         body,
+        async_: flag(node.value(), "async"),
+        gen_: flag(node.value(), "gen"),
     }
 }

@@ -27,6 +27,8 @@ fn closure<F: Fields>(node: &F, refused: &mut bool) -> ExprKind
         params,
         ret,
         body,
+        async_: flag(node.value(), "async"),
+        gen_: flag(node.value(), "gen"),
         move_: flag(node.value(), "move"),
         static_: flag(node.value(), "static"),
     }

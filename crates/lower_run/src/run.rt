@@ -54,8 +54,8 @@ fn listed_body(alloc: Global, document: &Document, item: &ast::Fn) -> Result<Str
         ModuleId(0),
         item.params.as_ref(),
         item.body.as_ref(),
-        false,
-        false,
+        item.async_,
+        item.gen_,
     )?;
     let listed = listed_in(document, &body.store, &source_map.store);
     let self_param = match body.self_param {

@@ -6,6 +6,8 @@ mod bindings;
 #[cfg(test)]
 mod constants;
 #[cfg(test)]
+mod coroutines;
+#[cfg(test)]
 mod definitions;
 #[cfg(test)]
 mod errors;

@@ -29,8 +29,8 @@ fn lowered_item<E: LowerEnv>(
         ModuleId(0),
         item.params.as_ref(),
         item.body.as_ref(),
-        false,
-        false,
+        item.async_,
+        item.gen_,
     );
     match lowered {
         Ok(both) => Some(both),

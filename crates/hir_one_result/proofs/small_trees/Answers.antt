@@ -1,6 +1,8 @@
 use Rattle.hir_one_result.proofs.PatRows.{patterned}
 use Rattle.hir_one_result.proofs.Rows.{jumps, statements, enters_in_order, leaves, plain_forms, tries, fors, consts, closures}
 use Rattle.hir_one_result.proofs.Rows.{coroutines, owners}
+use Rattle.hir_one_result.proofs.PreludeRows.{coroutine_closures, owners_of_coroutines}
+use Rattle.hir_one_result.proofs.OwnerRows.{owners_stand}
 use Rattle.hir_one_result.proofs.small_trees.Goals as goal
 
 pub returns-clause-jumps : goal.returns-clause-jumps
@@ -38,3 +40,12 @@ returns-clause-coroutines c = coroutines
 
 pub returns-clause-owners : goal.returns-clause-owners
 returns-clause-owners c = owners
+
+pub returns-clause-coroutine_closures : goal.returns-clause-coroutine_closures
+returns-clause-coroutine_closures c = coroutine_closures
+
+pub returns-clause-owners_of_coroutines : goal.returns-clause-owners_of_coroutines
+returns-clause-owners_of_coroutines c = owners_of_coroutines
+
+pub returns-clause-owners_stand : goal.returns-clause-owners_stand
+returns-clause-owners_stand c = owners_stand

@@ -1,4 +1,4 @@
-use Rattle.hir_type_result.proofs.Named.{expr_types_once, path_types_once}
+use Rattle.hir_type_result.proofs.Named.{body_types_once, expr_types_once, path_types_once}
 use Rattle.hir_type_result.proofs.named_types_reached_once.Goals as goal
 
 pub returns-clause-paths : goal.returns-clause-paths
@@ -6,3 +6,6 @@ returns-clause-paths c = path_types_once
 
 pub returns-clause-exprs : goal.returns-clause-exprs
 returns-clause-exprs c = expr_types_once
+
+pub returns-clause-bodies : goal.returns-clause-bodies
+returns-clause-bodies c = body_types_once

@@ -95,18 +95,24 @@ pub fn closure_word(kind: ClosureKind) -> &'static str {
         ClosureKind::Closure => "closure",
         ClosureKind::OldCoroutine(Movability::Movable) => "old:movable",
         ClosureKind::OldCoroutine(Movability::Static) => "old:static",
-        ClosureKind::Coroutine {
-            kind,
-            source: CoroutineSource::Block,
-        } => block_coroutine_word(kind),
+        ClosureKind::Coroutine { kind, source } => coroutine_word(kind, source),
+        ClosureKind::CoroutineClosure(CoroutineKind::Async) => "coclosure:async",
+        ClosureKind::CoroutineClosure(CoroutineKind::Gen) => "coclosure:gen",
+        ClosureKind::CoroutineClosure(CoroutineKind::AsyncGen) => "coclosure:asyncgen",
     }
 }
 
-fn block_coroutine_word(kind: CoroutineKind) -> &'static str {
-    match kind {
-        CoroutineKind::Async => "co:async:block",
-        CoroutineKind::Gen => "co:gen:block",
-        CoroutineKind::AsyncGen => "co:asyncgen:block",
+fn coroutine_word(kind: CoroutineKind, source: CoroutineSource) -> &'static str {
+    match (kind, source) {
+        (CoroutineKind::Async, CoroutineSource::Block) => "co:async:block",
+        (CoroutineKind::Async, CoroutineSource::Closure) => "co:async:closure",
+        (CoroutineKind::Async, CoroutineSource::Fn) => "co:async:fn",
+        (CoroutineKind::Gen, CoroutineSource::Block) => "co:gen:block",
+        (CoroutineKind::Gen, CoroutineSource::Closure) => "co:gen:closure",
+        (CoroutineKind::Gen, CoroutineSource::Fn) => "co:gen:fn",
+        (CoroutineKind::AsyncGen, CoroutineSource::Block) => "co:asyncgen:block",
+        (CoroutineKind::AsyncGen, CoroutineSource::Closure) => "co:asyncgen:closure",
+        (CoroutineKind::AsyncGen, CoroutineSource::Fn) => "co:asyncgen:fn",
     }
 }
 

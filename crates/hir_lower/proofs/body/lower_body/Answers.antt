@@ -5,22 +5,23 @@ use Rattle.hir_lower.proofs.body.lower_body.Goals as goal
 
 pub returns-clause-same_meaning : goal.returns-clause-same_meaning
 returns-clause-same_meaning g c =
-    has_body_if _ _ _ _ _ 4294967295 (λ r. r.0.store) (λ r. r.1.store) (λ r. r.0) c.body_steps.result c.body_steps.ensures.stores
+    has_body_if _ _ _ _ _ _ 4294967295 (λ r. r.0.store) (λ r. r.1.store) (λ r. r.0) c.body_steps.result c.body_steps.ensures.stores
     c.body_steps.ensures.given
 
 pub returns-clause-one_result : goal.returns-clause-one_result
 returns-clause-one_result g c =
-    one_result_if _ _ _ _ _ 4294967295 (λ r. r.0.store) (λ r. r.1.store) (λ r. r.0) c.body_steps.result c.body_steps.ensures.stores
+    one_result_if _ _ _ _ _ _ 4294967295 (λ r. r.0.store) (λ r. r.1.store) (λ r. r.0) c.body_steps.result c.body_steps.ensures.stores
     c.body_steps.ensures.given
 
 pub returns-clause-params : goal.returns-clause-params
 returns-clause-params g c =
-    params_if _ _ _ _ _ 4294967295 (λ r. r.0) (λ r. r.0.store) (λ r. r.1.store) c.body_steps.result c.body_steps.ensures.stores
+    params_if _ _ _ _ _ _ 4294967295 (λ r. r.0) (λ r. r.0.store) (λ r. r.1.store) c.body_steps.result c.body_steps.ensures.stores
     c.body_steps.ensures.given
 
 pub returns-clause-too_large : goal.returns-clause-too_large
-returns-clause-too_large g c = λ is. body_too_large _ _ _ _ _ 4294967295 (c.body_steps.ensures.full is)
+returns-clause-too_large g c = λ is. body_too_large _ _ _ _ _ _ 4294967295 (c.body_steps.ensures.full is)
 
 pub returns-clause-made_once : goal.returns-clause-made_once
 returns-clause-made_once g c =
-    made_once_if _ _ _ _ _ 4294967295 (λ r. r.0.store) (λ r. r.1.store) c.body_steps.result c.body_steps.ensures.stores
+    made_once_if _ _ _ _ _ _ 4294967295 (λ r. r.0) (λ r. r.0.store) (λ r. r.1.store) c.body_steps.result c.body_steps.ensures.stores
+    c.body_steps.ensures.given

@@ -21,7 +21,7 @@ pub returns-clause-outside : goal.returns-clause-outside
 returns-clause-outside c = λ out. outside_type_if _ _ _ _ c.alloc_type.result c.alloc_type.ensures out
 
 pub returns-clause-apart : goal.returns-clause-apart
-returns-clause-apart c = λ m. apart_type_if _ _ _ _ c.alloc_type.result c.alloc_type.ensures m
+returns-clause-apart c = λ d m. apart_type_if _ _ _ _ c.alloc_type.result c.alloc_type.ensures d m
 
 pub returns-clause-owners : goal.returns-clause-owners
 returns-clause-owners c = λ m. may_be_owned_type_if _ _ _ _ c.alloc_type.result c.alloc_type.ensures m

@@ -11,7 +11,7 @@ pub returns-clause-stays : goal.returns-clause-stays
 returns-clause-stays g c = λ m n. stays_unless _ _ _ c.root_steps.result c.root_steps.ensures m n
 
 pub returns-clause-too_large : goal.returns-clause-too_large
-returns-clause-too_large g c = λ is. too_large_if _ _ _ c.root_steps.result c.root_steps.ensures is
+returns-clause-too_large g c = λ d is. too_large_if _ _ _ c.root_steps.result c.root_steps.ensures d is
 
 pub returns-clause-apart : goal.returns-clause-apart
 returns-clause-apart g c = λ d m. apart_if _ _ _ c.root_steps.result c.root_steps.ensures d m

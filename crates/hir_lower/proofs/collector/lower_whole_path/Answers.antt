@@ -18,7 +18,7 @@ pub returns-clause-full : goal.returns-clause-full
 returns-clause-full g c = λ is. ends_if _ _ _ _ c.lower_path.result c.lower_path.ensures is
 
 pub returns-clause-too_large : goal.returns-clause-too_large
-returns-clause-too_large g c = λ is. path_too_large_if _ _ _ _ c.lower_path.result c.lower_path.ensures is
+returns-clause-too_large g c = λ d is. path_too_large_if _ _ _ _ c.lower_path.result c.lower_path.ensures d is
 
 pub returns-clause-stays : goal.returns-clause-stays
 returns-clause-stays g c = λ m n. path_stays_if _ _ _ _ c.lower_path.result c.lower_path.ensures m n

@@ -20,7 +20,7 @@ for_form-requires g c =
 
 pub closure_form-requires : goal.closure_form-requires
 closure_form-requires g c =
-    let parts = rw (opened (kind.rolls-ClosureExpr _ _ _ _ _ ∙ sym c.in-ClosureExpr.is)) at c.requires.parts in
+    let parts = rw (opened (kind.rolls-ClosureExpr _ _ _ _ _ _ _ ∙ sym c.in-ClosureExpr.is)) at c.requires.parts in
     record { params = parts.0; ret = parts.1; body = parts.2 }
 
 pub returns-in-LetExpr : goal.returns-in-LetExpr
@@ -33,4 +33,4 @@ pub returns-in-ForExpr : goal.returns-in-ForExpr
 returns-in-ForExpr g c = rw (opened (kind.rolls-ForExpr _ _ _ _ ∙ sym c.in-ForExpr.is)) c.for_form.ensures
 
 pub returns-in-ClosureExpr : goal.returns-in-ClosureExpr
-returns-in-ClosureExpr g c = rw (opened (kind.rolls-ClosureExpr _ _ _ _ _ ∙ sym c.in-ClosureExpr.is)) c.closure_form.ensures
+returns-in-ClosureExpr g c = rw (opened (kind.rolls-ClosureExpr _ _ _ _ _ _ _ ∙ sym c.in-ClosureExpr.is)) c.closure_form.ensures

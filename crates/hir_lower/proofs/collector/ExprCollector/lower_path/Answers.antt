@@ -17,4 +17,5 @@ returns-then-self-clause-stays g c = λ n. stays_refl _
 
 pub returns-in_err-lowered-clause-too_large : goal.returns-in_err-lowered-clause-too_large
 returns-in_err-lowered-clause-too_large g c =
-    full_before _ _ c.from_residual.ensures.1 (λ is. rw (← c.mode.ensures) (c.in_err-lowered.ensures.too_large (ap Err is)))
+    full_before _ _ c.from_residual.ensures.1
+    (λ is. rw (← c.mode.ensures) (c.in_err-lowered.ensures.too_large (c.args.self.now.paired c.if-self.false) (ap Err is)))

@@ -1,0 +1,134 @@
+//! Which stored parts the parameters of a function are whose body is a coroutine, and where the coroutine of a closure is stored.
+
+use crate::lowered::lowered_text;
+use crate::ways::node;
+use hir_lower::{Body, BodySourceMap};
+use hir_store::hir::{Expr, Pat, Statement};
+use hir_store::ids::{BindingId, ExprId, PatId};
+use hir_store::store::ExpressionStore;
+use lower_json::fault::ReadError;
+use std::alloc::Global;
+
+/// `async fn f(self, x: A, (y, z): B) {}`
+const FUNCTION: &str = r#"{"nodes": [
+    {"k": "Fn", "params": 1, "body": 15, "async": true},
+    {"k": "ParamList", "self": 2, "params": [3, 8]},
+    {"k": "SelfParam", "name": "self"},
+    {"k": "Param", "pat": 4, "ty": 5},
+    {"k": "IdentPat", "name": "x"},
+    {"k": "PathType", "path": 6},
+    {"k": "Path", "segs": [7]},
+    {"k": "PathSegment", "seg": "name", "name": "A"},
+    {"k": "Param", "pat": 9, "ty": 12},
+    {"k": "TuplePat", "fields": [10, 11]},
+    {"k": "IdentPat", "name": "y"},
+    {"k": "IdentPat", "name": "z"},
+    {"k": "PathType", "path": 13},
+    {"k": "Path", "segs": [14]},
+    {"k": "PathSegment", "seg": "name", "name": "B"},
+    {"k": "BlockExpr"}
+]}"#;
+
+/// `fn f() { async |x| x }`
+const CLOSURE: &str = r#"{"nodes": [
+    {"k": "Fn", "body": 1},
+    {"k": "BlockExpr", "tail": 2},
+    {"k": "ClosureExpr", "params": [3], "body": 5, "async": true},
+    {"k": "Param", "pat": 4},
+    {"k": "IdentPat", "name": "x"},
+    {"k": "PathExpr", "path": 6},
+    {"k": "Path", "segs": [7]},
+    {"k": "PathSegment", "seg": "name", "name": "x"}
+]}"#;
+
+/// The statements of the block in the coroutine that the body is.
+fn prelude(store: &ExpressionStore) -> Option<&[Statement]> {
+    let root = store.expr_roots().last()?;
+    let Some(Expr::Closure { body, .. }) = store.expr(root.root) else {
+        return None;
+    };
+    match store.expr(*body) {
+        Some(Expr::Block { statements, .. }) => Some(statements.as_slice()),
+        _ => None,
+    }
+}
+
+/// The pattern of the `let` at a place among statements.
+fn let_pat(statements: &[Statement], at: usize) -> Option<PatId> {
+    match statements.get(at) {
+        Some(Statement::Let { pat, .. }) => Some(*pat),
+        _ => None,
+    }
+}
+
+/// The binding that a pattern is.
+fn bound(store: &ExpressionStore, pat: PatId) -> Option<BindingId> {
+    match store.pat(pat) {
+        Some(Pat::Bind { id, .. }) => Some(*id),
+        _ => None,
+    }
+}
+
+/// What `self` is, and which pattern the first parameter is.
+type Received = (Option<BindingId>, Option<PatId>);
+
+/// What was written, and what the first two `let`s bind.
+fn written_and_bound(body: &Body) -> Option<(Received, Received)> {
+    let store = &body.store;
+    let lets = prelude(store)?;
+    let written = (
+        Some(body.self_param?.user_written),
+        Some(body.params.as_slice().first()?.user_written),
+    );
+    let receiver = bound(store, let_pat(lets, 0)?);
+    Some((written, (receiver, let_pat(lets, 1))))
+}
+
+/// Whether what was written is what the first two `let`s bind; none where one of these isn't there.
+fn is_bound_by_lets(alloc: Global, text: &str) -> Result<Option<bool>, ReadError> {
+    match lowered_text(alloc, text)? {
+        Some((body, source_map)) => {
+            let is_bound = match written_and_bound(&body) {
+                Some((written, bound)) => Some(written == bound),
+                None => None,
+            };
+            drop(body);
+            drop(source_map);
+            Ok(is_bound)
+        }
+        None => Ok(None),
+    }
+}
+
+#[test]
+fn what_was_written_is_bound_by_the_lets_in_front_of_the_body(rt: HostRuntime) {
+    assert_eq!(rt; is_bound_by_lets(rt.alloc(), FUNCTION), Ok(Some(true)));
+}
+
+/// The numbers of the closure that node 2 leads to, and of the coroutine in it.
+fn closure_and_coroutine(body: &Body, source_map: &BodySourceMap) -> Option<(ExprId, ExprId)> {
+    let id = source_map.store.node_expr(node(2))?;
+    match body.store.expr(id) {
+        Some(Expr::Closure { body, .. }) => Some((id, *body)),
+        _ => None,
+    }
+}
+
+/// The same of a text.
+fn numbers_in_text(alloc: Global, text: &str) -> Result<Option<(ExprId, ExprId)>, ReadError> {
+    match lowered_text(alloc, text)? {
+        Some((body, source_map)) => {
+            let found = closure_and_coroutine(&body, &source_map);
+            drop(body);
+            drop(source_map);
+            Ok(found)
+        }
+        None => Ok(None),
+    }
+}
+
+#[test]
+fn a_coroutine_is_stored_right_in_front_of_its_closure(rt: HostRuntime) {
+    let numbers = (ExprId(4), ExprId(3));
+    assert_eq!(rt; numbers_in_text(rt.alloc(), CLOSURE), Ok(Some(numbers)));
+}
