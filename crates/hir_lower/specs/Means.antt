@@ -119,7 +119,7 @@ pub record HasBody (kind : Option CoroutineKind) (store : Store) (source_map : S
   pub types_reached_once : (depth : ℕ) → length store.types ≤ depth → let l = of_types_alone (types_reached store.types depth) in
       Spread 0 (length store.types) (of_exprs l store.exprs ++ of_pats l store.pats)
 
--- the made name of this number is of two bindings, of which the formal parameters are one
+-- the made name of this number is of two bindings, of which one is a formal parameter
 pub record IsHandedTo (k : ℕ) (store : Store) (formals : List PatId) : Type 0 where
   pub formal : IsOneOf k store formals
   pub two : IsOfTwo k store.bindings store.labels
@@ -247,7 +247,7 @@ receiver_read _ = None
 unfoldable pub pats_inner_bodies : Store → List PatId → List Inside
 pats_inner_bodies store ps = all_of (all_inners store).pat ps
 
--- what the outside hands the arguments to: what was written, or, where the body is a coroutine, names, each at the node of its parameter
+-- what the outside hands the arguments to: what was written, or, where the body is a coroutine, names, each at the node of a pattern
 abbrev pub AreHandedIn : Option CoroutineKind → Store → SourceMap → List (Param PatId) → Tops → Type 0
 AreHandedIn None store source_map params ps = map (λ p. p.formal) params ≡ map (λ p. p.user_written) params
 AreHandedIn (Some kind) store source_map params ps =

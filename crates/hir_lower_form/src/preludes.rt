@@ -273,11 +273,7 @@ impl BodyBuilder {
     }
 
     /// The written name of the binding, where there is one of that number, of a pattern with this behind `@`.
-    fn own_bound(
-        &self,
-        id: BindingId,
-        subpat: Option<PatId>,
-    ) -> Result<Option<OwnName>, AllocError>
+    fn own_bound(&self, id: BindingId, subpat: Option<PatId>) -> Result<Option<OwnName>, AllocError>
         ensures { IfOk result (λ own. own ≡ spec.own_bound subpat (slice_get self.now.stored.bindings.entries id.0)) }
     {
         match self.store().binding(id) {
