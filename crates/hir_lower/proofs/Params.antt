@@ -306,9 +306,9 @@ module _ (kind : Option CoroutineKind) (skipped : Bool) (node : Pointer) (k : Op
         handed_self = handed_self read_kind (store_of now) b f.receiver read.self.handed;
       }))
 
-  pub params_if : {A E : Type 0} (body : A → Body) (store : A → Store) (source_map : A → SourceMap) (r : Result A E)
+  pub params_if : {A E : Type 0} (whole : A → Body) (store : A → Store) (source_map : A → SourceMap) (r : Result A E)
       → IfOk r (λ a. StoresFromNothing (body_of kind skipped node k f e) limit (store a) (source_map a))
-      → IfOk r (λ a. GivenFromNothing (body_of kind skipped node k f e) limit (body a))
-      → IfOk r (λ a. HasParams read_kind (store a) (source_map a) (body a).params (body a).self_param skipped f)
-  params_if body store source_map (Ok a) s g = params (body a) (store a) (source_map a) s g
-  params_if body store source_map (Err x) s g = tt
+      → IfOk r (λ a. GivenFromNothing (body_of kind skipped node k f e) limit (whole a))
+      → IfOk r (λ a. HasParams read_kind (store a) (source_map a) (whole a).params (whole a).self_param skipped f)
+  params_if whole store source_map (Ok a) s g = params (whole a) (store a) (source_map a) s g
+  params_if whole store source_map (Err x) s g = tt
