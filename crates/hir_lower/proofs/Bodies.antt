@@ -12,7 +12,6 @@ use Rattle.hir_store.specs.declared.ids.ExprId.{ExprId}
 use Rattle.hir_store.proofs.Extending.{extends_root}
 use Rattle.hir_env.specs.Answered.{Formals, OptionExpr}
 use Rattle.hir_lower_form.specs.Builder.{Builder, fresh}
-use Rattle.hir_lower_form.specs.Lower.{lower_part}
 use Rattle.hir_lower_form.specs.Lowering.{Checked, Lowering}
 use Rattle.hir_steps.specs.Keeps.{Keeps, KeepsAll, Paired}
 use Rattle.hir_steps.proofs.Frames.{frames}

@@ -1,6 +1,6 @@
 -- A name that is made up for a parameter of a function with `async` or `gen` is bound in its coroutine, and then once more by what the
 -- outside hands the argument to. Each other one stands as it stands elsewhere.
-use Rattle.std.proofs.Common.{◌≡◌, ◌∙◌, ◌⊎◌, ⊎_elim, inl, inr, refl, sym, ap, subst, ℕ, ◌+◌, ◌≤◌, arith, Bool, true, false, List, []}
+use Rattle.std.proofs.Common.{◌≡◌, ◌∙◌, ◌⊎◌, ⊎_elim, inl, inr, refl, sym, ap, subst, ℕ, ◌≤◌, arith, Bool, true, false, List, []}
 use Rattle.std.proofs.Common.{◌∷◌, ◌++◌, map, Option, Some, None, option_map}
 use Rattle.std.proofs.lemmas.Bool.{cases_lt}
 use Rattle.std.proofs.lemmas.Option.{same_Some}
@@ -19,13 +19,12 @@ use Rattle.hir_store.proofs.Extending.{extends_refl, extends_trans}
 use Rattle.hir_env.specs.Answered as tree
 use Rattle.hir_env.specs.Answered.{Formal, Formals, OptionExpr, SelfFormal, Use}
 use Rattle.hir_lower_form.specs.Forms.{push_some}
-use Rattle.hir_lower_form.specs.Lowering.{Lowering}
 use Rattle.hir_lower_form.specs.Pats.{new_binding}
 use Rattle.hir_lower_form.specs.Preludes.{let_self}
 use Rattle.hir_lower_form.specs.declared.preludes.Prelude.{Prelude}
 use Rattle.hir_steps.specs.Keeps.{IsOneOf, name_alone}
-use Rattle.hir_steps.proofs.Always.{Always, correct_always}
-use Rattle.hir_steps.proofs.Apart.{Apart, ApartIn, Once, Times, apart_of, apart_same, apart_trans, binding_apart, more_of, none_more}
+use Rattle.hir_steps.proofs.Always.{correct_always}
+use Rattle.hir_steps.proofs.Apart.{Apart, ApartIn, Once, Times, apart_of, apart_same, apart_trans, binding_apart, more_of}
 use Rattle.hir_steps.proofs.Apart.{pure_apart, report_apart, sum, then_apart, times}
 use Rattle.hir_steps.proofs.ApartForms.{some_apart}
 use Rattle.hir_steps.proofs.ApartPats.{missing_pat_apart}
@@ -34,7 +33,7 @@ use Rattle.hir_steps.proofs.ApartPreludes.{names_of, rebound_apart, times_handed
 use Rattle.hir_steps.proofs.ApartTree.{part_apart, top_apart}
 use Rattle.hir_steps.proofs.Frames.{Frame}
 use Rattle.hir_steps.proofs.Owning.{correct_owning}
-use Rattle.hir_steps.proofs.Preludes.{LetSelf, Rebound, binding_at, correct_let_self, correct_made_coroutine}
+use Rattle.hir_steps.proofs.Preludes.{Rebound, binding_at, correct_let_self, correct_made_coroutine}
 use Rattle.hir_steps.proofs.Steps.{Correct, Mark, Rel, correct_as, correct_bind, correct_both, correct_pure}
 use Rattle.hir_one_result.specs.Formals.{Given, InFunction, coroutine_body, each_formal, in_function, lower_body, lower_formal}
 use Rattle.hir_one_result.specs.Formals.{lower_formals, lower_self, plain_body}

@@ -1,6 +1,6 @@
 -- What the parameters of a function with `async` or `gen` are: as they are written, in its coroutine, and the names by which the outside
 -- hands them in.
-use Rattle.std.proofs.Common.{arith, ◌≡◌, ◌∙◌, refl, sym, ap, subst, ℕ, ◌+◌, ◌≤◌, Bool, List, [], ◌∷◌, ◌++◌, map, Option, Some, None}
+use Rattle.std.proofs.Common.{arith, ◌≡◌, ◌∙◌, refl, sym, ap, subst, ℕ, ◌+◌, ◌≤◌, Bool, List, [], ◌++◌, Option, Some, None}
 use Rattle.hir_store.specs.Bindings.{binding_id}
 use Rattle.hir_store.specs.Stored.{Stored, store_of, map_of}
 use Rattle.hir_store.specs.Storing.{Extends}
@@ -8,29 +8,26 @@ use Rattle.hir_store.specs.declared.hir.CoroutineKind.{CoroutineKind}
 use Rattle.hir_store.specs.declared.hir.CoroutineSource.TheVariants as source
 use Rattle.hir_store.specs.declared.ids.BindingId.{BindingId}
 use Rattle.hir_store.specs.declared.ids.ExprId.{ExprId}
-use Rattle.hir_store.specs.declared.ids.PatId.{PatId}
 use Rattle.hir_store.proofs.Extending.{extends_owner, extends_trans}
 use Rattle.hir_env.specs.Answered as tree
 use Rattle.hir_env.specs.Answered.{Formal, Formals, OptionExpr, SelfFormal}
 use Rattle.hir_data.specs.Data.{PatData}
 use Rattle.hir_data.specs.Preludes.{formal_patterns}
 use Rattle.hir_lower_form.specs.Lower.{lower_part}
-use Rattle.hir_lower_form.specs.Lowering.{Lowering}
 use Rattle.hir_lower_form.specs.Pats.{new_binding}
 use Rattle.hir_lower_form.specs.Preludes.{let_self}
 use Rattle.hir_lower_form.specs.declared.preludes.Prelude.{Prelude}
-use Rattle.hir_meaning.specs.Inner.{all_of, tops_bodies}
+use Rattle.hir_meaning.specs.Inner.{all_of}
 use Rattle.hir_meaning.specs.Same.{SameCoroutine}
 use Rattle.hir_read_back.proofs.Params.{pats_in}
 use Rattle.hir_read_back.proofs.Preludes.{HandIn, ReadAs, all_handed, formals_now, lets_now}
-use Rattle.hir_steps.proofs.Always.{Always, correct_always}
-use Rattle.hir_steps.proofs.Apart.{Apart}
+use Rattle.hir_steps.proofs.Always.{correct_always}
 use Rattle.hir_steps.proofs.ApartTree.{part_apart}
 use Rattle.hir_steps.proofs.Frames.{Frame}
-use Rattle.hir_steps.proofs.Owning.{correct_owning, with_owned}
+use Rattle.hir_steps.proofs.Owning.{correct_owning}
 use Rattle.hir_steps.proofs.PatSteps.{correct_alloc_binding}
-use Rattle.hir_steps.proofs.Preludes.{LetSelf, correct_let_self, correct_made_coroutine}
-use Rattle.hir_steps.proofs.Steps.{Correct, Mark, Rel, correct_as, correct_bind, correct_both, correct_in_store, correct_pure}
+use Rattle.hir_steps.proofs.Preludes.{correct_let_self, correct_made_coroutine}
+use Rattle.hir_steps.proofs.Steps.{Correct, Mark, Rel, correct_as, correct_bind, correct_both, correct_pure}
 use Rattle.hir_steps.proofs.Steps.{correct_report}
 use Rattle.hir_same_meaning.specs.Functions as meant
 use Rattle.hir_same_meaning.proofs.Functions.{ParamsAre, SelfIs, function_same}
@@ -39,7 +36,6 @@ use Rattle.hir_one_result.specs.Formals as forms
 use Rattle.hir_one_result.specs.Formals.{Given, InFunction, coroutine_body, each_formal, formals_read, lower_self}
 use Rattle.hir_one_result.specs.Room.{formals_data}
 use Rattle.hir_one_result.proofs.Formals.{each_now}
-use Rattle.hir_lower.specs.Means.{pats_inner_bodies}
 use Rattle.hir_lower.proofs.ParamBodies.{each_hold, read_bodies, self_any}
 
 -- ---- it does what is written

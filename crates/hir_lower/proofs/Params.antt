@@ -1,5 +1,5 @@
 -- The parameters of a body are read back as they are written, and handed in as the body wants them.
-use Rattle.std.proofs.Common.{arith, ◌≡◌, ◌≤◌, ◌∙◌, refl, sym, ap, subst, ℕ, suc, Bool, true, false, length, map, List, []}
+use Rattle.std.proofs.Common.{arith, ◌≡◌, ◌≤◌, ◌∙◌, refl, sym, ap, subst, ℕ, suc, Bool, length, map, List, []}
 use Rattle.std.proofs.Common.{◌∷◌, ◌++◌, Option, Some, None, option_map, slice_get, Result, Ok, Err, true≢false, is_some}
 use Rattle.std.proofs.lemmas.List.{length-map}
 use Rattle.std.specs.Prelude.{IfOk, option_and_then}
@@ -34,7 +34,7 @@ use Rattle.hir_same_meaning.proofs.Holding.{SameIn}
 use Rattle.hir_one_result.specs.Diagnostics.{Faults}
 use Rattle.hir_one_result.specs.Leads.{Way}
 use Rattle.hir_one_result.specs.Formals.{lower_body, lower_formals, plain_body}
-use Rattle.hir_one_result.specs.OneResult.{OneResult, StandsBody, StandsSelf, fresh_owing}
+use Rattle.hir_one_result.specs.OneResult.{StandsBody, StandsSelf, fresh_owing}
 use Rattle.hir_one_result.specs.Room.{formals_data}
 use Rattle.hir_one_result.specs.StandsPreludes.{StandsSelfLet}
 use Rattle.hir_one_result.proofs.AfterLowering.{after_lowering}
@@ -48,9 +48,8 @@ use Rattle.hir_lower.specs.Means.{AreHandedIn, HasParams, IsSelfHandedIn, kind_u
 use Rattle.hir_lower.specs.Means.{receiver_read, unless_skipped}
 use Rattle.hir_lower.specs.Roots.{GivenFromNothing, StoresFromNothing, body_of, both, both_if_present, fresh, given_of}
 use Rattle.hir_lower.specs.declared.body.Body.{Body}
-use Rattle.hir_lower.specs.declared.body.Param.{Param}
 use Rattle.hir_lower.proofs.Behind.{PlainSteps, Steps, answered, closed, item_is, plain_steps, rooted, steps}
-use Rattle.hir_lower.proofs.BodyTypes.{Bare, all_pats_once}
+use Rattle.hir_lower.proofs.BodyTypes.{all_pats_once}
 use Rattle.hir_lower.proofs.FunctionParams.{function_reads}
 use Rattle.hir_lower.proofs.ParamBodies.{bodies_inside, read_bodies, self_any}
 

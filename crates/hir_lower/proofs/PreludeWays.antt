@@ -1,6 +1,6 @@
 -- What stands in front of the body of a coroutine that a closure or a function has, and what it is handed its arguments by, are made of
 -- such steps.
-use Rattle.std.proofs.Common.{ℕ, ◌≤◌, Bool, true, false, nat_lt, length, List, [], ◌∷◌, ◌++◌, Option, Some, None, Ok, arith}
+use Rattle.std.proofs.Common.{Bool, true, false, nat_lt, length, List, [], ◌∷◌, ◌++◌, Option, Some, None, Ok}
 use Rattle.hir_store.specs.Pointers.{Pointer}
 use Rattle.hir_store.specs.Stored.{Stored}
 use Rattle.hir_store.specs.Storing as storing
@@ -10,7 +10,6 @@ use Rattle.hir_store.specs.declared.hir.CoroutineKind.{CoroutineKind}
 use Rattle.hir_store.specs.declared.hir.CoroutineSource.{CoroutineSource}
 use Rattle.hir_store.specs.declared.hir.CoroutineSource.TheVariants as source
 use Rattle.hir_store.specs.declared.hir.Statement.{Statement}
-use Rattle.hir_store.specs.declared.ids.BindingId.{BindingId}
 use Rattle.hir_store.specs.declared.ids.ExprId.{ExprId}
 use Rattle.hir_store.specs.declared.ids.HygieneId.{HygieneId}
 use Rattle.hir_store.specs.declared.ids.PatId.{PatId}
@@ -20,7 +19,7 @@ use Rattle.hir_store.specs.declared.name.Name.TheVariants as name
 use Rattle.hir_store.specs.declared.pat.Pat.{Pat as HirPat}
 use Rattle.hir_lower_form.specs.Builder.{Builder}
 use Rattle.hir_lower_form.specs.Forms.{ExprSteps, root_hygiene}
-use Rattle.hir_lower_form.specs.Lowering.{Lowering, ◌>>=◌, alloc_made_pat, owning}
+use Rattle.hir_lower_form.specs.Lowering.{Lowering, alloc_made_pat}
 use Rattle.hir_lower_form.specs.Preludes.{alloc_beside, coroutine_closure_form, handed_as, handed_between, handed_by_name, handed_form}
 use Rattle.hir_lower_form.specs.Preludes.{handed_in, handed_own, let_form, let_param, let_params, lower_handed, made_coroutine_form}
 use Rattle.hir_lower_form.specs.Preludes.{name_form, no_prelude, own_name_of, pat_source, two_lets_form, within_form}
@@ -28,7 +27,6 @@ use Rattle.hir_lower_form.specs.declared.closures.ClosureParams.{ClosureParams}
 use Rattle.hir_lower_form.specs.declared.preludes.Handed.{Handed}
 use Rattle.hir_lower_form.specs.declared.preludes.OwnName.{OwnName}
 use Rattle.hir_lower_form.specs.declared.preludes.Prelude.{Prelude}
-use Rattle.hir_lower_form.specs.declared.preludes.Within.{Within}
 use Rattle.hir_lower.proofs.OwnedWays.{leading_owning}
 use Rattle.hir_lower.proofs.Ways.{Goes, Leading, any, expr_place, label_place, leading_alloc, leading_alloc_binding, leading_barrier}
 use Rattle.hir_lower.proofs.Ways.{leading_close_barrier, leading_define, leading_number, leading_pure, lifetime_place, made_up, makes}
