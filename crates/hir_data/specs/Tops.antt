@@ -3,7 +3,7 @@
 use Rattle.std.specs.Prelude.{List, [], ◌∷◌, ◌++◌, Option, Some, None}
 use Rattle.hir_env.specs.Answered as tree
 use Rattle.hir_env.specs.Answered.{Expr, OptionExpr, Exprs, Fields, Spread, Block, OptionBlock, Stmts, Arms, Guard, OptionPat}
-use Rattle.hir_env.specs.Answered.{Target, Targets, TargetFields, Formal, Params}
+use Rattle.hir_env.specs.Answered.{Target, Targets, TargetFields, Params}
 use Rattle.hir_data.specs.Rule.{PathRead}
 use Rattle.hir_data.specs.Written.{path_of}
 
@@ -125,10 +125,3 @@ abbrev mutual
   -- one without a name is read, though it is no part
   target_fields_tops (tree.more_target_fields (tree.target_field at n t) fs) = target_tops t ++ target_fields_tops fs
   target_fields_tops (tree.more_target_fields f fs) = target_fields_tops fs
-
--- of parameters
-abbrev pub formals_tops : List Formal → Tops
-formals_tops [] = []
-formals_tops (tree.disabled_formal at by ∷ fs) = formals_tops fs
-formals_tops (tree.formal p ∷ fs) = p ∷ formals_tops fs
-formals_tops (tree.fault_formal at ∷ fs) = formals_tops fs
