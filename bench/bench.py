@@ -284,19 +284,24 @@ def barriers(size):
     return nodes
 
 
-def owners(size):
-    """Many chains of closures with a parameter, each the body of the one around it."""
+def closure_chains(size, closure, pattern):
+    """Many chains of closures with a parameter, each the body of the one around it; the fields are those of each closure and pattern."""
     nodes, block = body()
     while len(nodes.all) + 3 * CHAIN <= size:
         nodes.statement(block)
         for _ in range(CHAIN - 1):
-            here = nodes.add("ClosureExpr")
+            here = nodes.add("ClosureExpr", **closure)
             param = nodes.add("Param")
             nodes.all[here]["params"] = [param]
-            nodes.all[param]["pat"] = nodes.add("IdentPat", name="x")
+            nodes.all[param]["pat"] = nodes.add("IdentPat", name="x", **pattern)
             nodes.all[here]["body"] = param + 2
         nodes.add("UnderscoreExpr")
     return nodes
+
+
+def owners(size):
+    """Chains of plain closures, each of which owns its parameter."""
+    return closure_chains(size, {}, {})
 
 
 def coroutines(size):
@@ -315,19 +320,8 @@ def coroutines(size):
 
 
 def preludes(size):
-    """Many chains of `async` closures with a parameter that is handed in between, each the body of the one around it."""
-    nodes, block = body()
-    while len(nodes.all) + 3 * CHAIN <= size:
-        nodes.statement(block)
-        for _ in range(CHAIN - 1):
-            here = nodes.add("ClosureExpr")
-            nodes.all[here]["async"] = True
-            param = nodes.add("Param")
-            nodes.all[here]["params"] = [param]
-            nodes.all[param]["pat"] = nodes.add("IdentPat", name="x", ref=True)
-            nodes.all[here]["body"] = param + 2
-        nodes.add("UnderscoreExpr")
-    return nodes
+    """Chains of `async` closures, each with a parameter that is handed in between."""
+    return closure_chains(size, {"async": True}, {"ref": True})
 
 
 def handed(size):
