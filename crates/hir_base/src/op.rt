@@ -1,6 +1,6 @@
 //! Operators, and the kinds of literals.
 
-#[derive(Clone, Copy, Debug, PartialEq, Eq)]
+#[derive(Clone, Copy, PartialEq, Eq)]
 pub enum LiteralKind {
     Str,
     ByteStr,
@@ -12,32 +12,32 @@ pub enum LiteralKind {
 }
 
 /// The operator of a prefix expression.
-#[derive(Clone, Copy, Debug, PartialEq, Eq)]
+#[derive(Clone, Copy, PartialEq, Eq)]
 pub enum UnaryOp {
     Deref,
     Not,
     Neg,
 }
 
-#[derive(Clone, Copy, Debug, PartialEq, Eq)]
+#[derive(Clone, Copy, PartialEq, Eq)]
 pub enum LogicOp {
     And,
     Or,
 }
 
-#[derive(Clone, Copy, Debug, PartialEq, Eq)]
+#[derive(Clone, Copy, PartialEq, Eq)]
 pub enum Ordering {
     Less,
     Greater,
 }
 
-#[derive(Clone, Copy, Debug, PartialEq, Eq)]
+#[derive(Clone, Copy, PartialEq, Eq)]
 pub enum CmpOp {
     Eq { negated: bool },
     Ord { ordering: Ordering, strict: bool },
 }
 
-#[derive(Clone, Copy, Debug, PartialEq, Eq)]
+#[derive(Clone, Copy, PartialEq, Eq)]
 pub enum ArithOp {
     Add,
     Mul,
@@ -52,7 +52,7 @@ pub enum ArithOp {
 }
 
 /// The operator of a binary expression. The left side of `Assign` is no operand.
-#[derive(Clone, Copy, Debug, PartialEq, Eq)]
+#[derive(Clone, Copy, PartialEq, Eq)]
 pub enum BinaryOp {
     LogicOp(LogicOp),
     ArithOp(ArithOp),
@@ -62,7 +62,7 @@ pub enum BinaryOp {
 }
 
 /// The operator of a range.
-#[derive(Clone, Copy, Debug, PartialEq, Eq)]
+#[derive(Clone, Copy, PartialEq, Eq)]
 pub enum RangeOp {
     /// `..`
     Exclusive,

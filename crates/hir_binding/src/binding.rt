@@ -3,7 +3,7 @@
 ghost use Rattle.std.specs.Prelude.{◌≡◌};
 
 /// How a use of a name binds it.
-#[derive(Debug, Clone, Copy, PartialEq, Eq)]
+#[derive(Clone, Copy, PartialEq, Eq)]
 pub enum BindingAnnotation {
     Unannotated,
     Mutable,
@@ -23,7 +23,7 @@ impl BindingAnnotation {
 }
 
 /// What can be wrong with a binding.
-#[derive(Debug, Clone, Copy, PartialEq, Eq)]
+#[derive(Clone, Copy, PartialEq, Eq)]
 pub enum BindingProblems {
     /// Two parts of one product bind it.
     BoundMoreThanOnce,
@@ -34,7 +34,7 @@ pub enum BindingProblems {
 }
 
 /// Whether a set of seen names has a name, and which alternative used it last.
-#[derive(Debug, Clone, Copy, PartialEq, Eq)]
+#[derive(Clone, Copy, PartialEq, Eq)]
 pub enum Mark {
     /// None has used it.
     Unseen,

@@ -12,7 +12,7 @@ use std::alloc::{AllocError, Global};
 use std::mem;
 
 /// What is known of a name that has a use: the mode of the first one, and the problem that was found last.
-#[derive(Debug, Clone, Copy)]
+#[derive(Clone, Copy)]
 pub struct Entry {
     pub mode: BindingAnnotation,
     pub problem: Option<BindingProblems>,

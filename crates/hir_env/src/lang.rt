@@ -6,7 +6,7 @@ ghost use Rattle.hir_env.specs.Tables.{numbered_items};
 use hir_store::ids::LangItemId;
 
 /// The items that lowering puts in, none where one is not there.
-#[derive(Clone, Copy, Debug, PartialEq, Eq)]
+#[derive(Clone, Copy, PartialEq, Eq)]
 pub struct LangItems {
     pub range_full: Option<LangItemId>,
     pub range_from: Option<LangItemId>,

@@ -1,11 +1,11 @@
 //! What a path stands for.
 
 /// A type alias.
-#[derive(Clone, Copy, Debug, PartialEq, Eq)]
+#[derive(Clone, Copy, PartialEq, Eq)]
 pub struct TypeAliasId(pub u32);
 
 /// What comes before what where the language itself has a type of a name.
-#[derive(Clone, Copy, Debug, PartialEq, Eq)]
+#[derive(Clone, Copy, PartialEq, Eq)]
 pub enum Shadow {
     /// The language's own types before modules.
     Other,
@@ -16,7 +16,7 @@ pub enum Shadow {
 }
 
 /// What a path may stand for.
-#[derive(Clone, Copy, Debug, PartialEq, Eq)]
+#[derive(Clone, Copy, PartialEq, Eq)]
 pub enum Resolution {
     Module,
     Function,
@@ -33,7 +33,7 @@ pub enum Resolution {
 
 /// What a path stands for as a type and as a value. Where only the segments in front stand for something, `rest` is the
 /// place of the first of the others.
-#[derive(Clone, Copy, Debug, PartialEq, Eq)]
+#[derive(Clone, Copy, PartialEq, Eq)]
 pub struct Resolved {
     pub types: Option<Resolution>,
     pub values: Option<Resolution>,

@@ -20,7 +20,7 @@ use std::marker::Model;
 
 /// What is said of a context: the one that it was made in, the hygiene of a name of it, the definition of the macro that
 /// it came from, and the root of its crate.
-#[derive(Clone, Copy, Debug, PartialEq, Eq)]
+#[derive(Clone, Copy, PartialEq, Eq)]
 pub struct Context {
     pub parent: CtxId,
     pub opaque: HygieneId,

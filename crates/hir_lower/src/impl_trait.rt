@@ -44,11 +44,11 @@ pub trait ImplTraitLower {
 }
 
 /// An `impl` becomes an error.
-#[derive(Clone, Copy, Debug)]
+#[derive(Clone, Copy)]
 pub struct ErrorImplTrait;
 
 /// An `impl` stays one.
-#[derive(Clone, Copy, Debug)]
+#[derive(Clone, Copy)]
 pub struct OpaqueImplTrait;
 
 impl ImplTraitLower for ErrorImplTrait {

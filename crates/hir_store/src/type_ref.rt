@@ -115,7 +115,7 @@ pub fn copy_bounds(bounds: &Seq<TypeBound>) -> Result<Seq<TypeBound>, AllocError
 }
 
 /// A lowered constant.
-#[derive(Clone, Copy, Debug, PartialEq, Eq)]
+#[derive(Clone, Copy, PartialEq, Eq)]
 pub struct ConstRef {
     pub expr: ExprId,
 }

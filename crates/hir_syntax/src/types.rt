@@ -135,7 +135,7 @@ impl Drop for TypeBound {
 }
 
 /// What a bound is written as.
-#[derive(Clone, Copy, Debug, PartialEq, Eq)]
+#[derive(Clone, Copy, PartialEq, Eq)]
 pub enum BoundKind {
     Path,
     Use,

@@ -6,7 +6,7 @@ use hir_store::ids::DefWithBodyId;
 use hir_syntax::ast::{Fn, ParamList, Path, Type_};
 
 /// What the root of a document has to be.
-#[derive(Clone, Copy, Debug, PartialEq, Eq)]
+#[derive(Clone, Copy, PartialEq, Eq)]
 pub enum Root {
     Fn,
     Path,

@@ -7,7 +7,7 @@ use lower_json::document::Root;
 use std::convert::AsStr;
 
 /// What of a document is lowered.
-#[derive(Clone, Copy, Debug, PartialEq, Eq)]
+#[derive(Clone, Copy, PartialEq, Eq)]
 pub enum Mode {
     Path,
     Type_,
