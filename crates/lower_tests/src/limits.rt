@@ -122,7 +122,7 @@ fn stored(collector: ExprCollector<'_, TableEnv>) -> Stored {
 }
 
 /// What a collector answers, call by call.
-#[derive(Clone, Copy, Debug, PartialEq)]
+#[derive(Clone, Copy, PartialEq)]
 struct Answers {
     first: Option<LowerError>,
     exprs: u32,
@@ -173,7 +173,7 @@ fn a_call_of_one_takes_three_expressions(rt: HostRuntime) {
         stored: Err(LowerError::Failed),
     };
     let in_three = Ok(Some(ExprId(3)));
-    assert_eq!(rt; call_in_two_and_three(rt.alloc()), Ok((in_two, in_three)));
+    assert!(rt; call_in_two_and_three(rt.alloc()) == Ok((in_two, in_three)));
 }
 
 /// The constant `1?`.
@@ -203,10 +203,7 @@ fn a_question_of_one_takes_nine_expressions(rt: HostRuntime) {
         stored: Err(LowerError::Failed),
     };
     let in_nine = Ok(Some(ExprId(9)));
-    assert_eq!(rt;
-        question_in_eight_and_nine(rt.alloc()),
-        Ok((in_eight, in_nine))
-    );
+    assert!(rt; question_in_eight_and_nine(rt.alloc()) == Ok((in_eight, in_nine)));
 }
 
 /// The constant that is a `for` over `1`, without pattern and body.
@@ -239,10 +236,7 @@ fn a_for_over_one_takes_thirteen_expressions(rt: HostRuntime) {
         stored: Err(LowerError::Failed),
     };
     let in_thirteen = Ok(Some(ExprId(13)));
-    assert_eq!(rt;
-        for_in_twelve_and_thirteen(rt.alloc()),
-        Ok((in_twelve, in_thirteen))
-    );
+    assert!(rt; for_in_twelve_and_thirteen(rt.alloc()) == Ok((in_twelve, in_thirteen)));
 }
 
 fn literal_in_none(alloc: Global) -> Result<Answers, AllocError> {
@@ -260,5 +254,5 @@ fn a_literal_does_not_fit_where_nothing_may_be_stored(rt: HostRuntime) {
         again: Some(LowerError::Failed),
         stored: Err(LowerError::Failed),
     };
-    assert_eq!(rt; literal_in_none(rt.alloc()), Ok(answers));
+    assert!(rt; literal_in_none(rt.alloc()) == Ok(answers));
 }

@@ -108,25 +108,25 @@ fn owners_in_text(alloc: Global, text: &str) -> Result<Option<Owners>, ReadError
 #[test]
 fn a_closure_owns_its_parameters_and_what_its_body_binds(rt: HostRuntime) {
     let owners = [None, Some(ExprId(1)), Some(ExprId(1)), None];
-    assert_eq!(rt; owners_in_text(rt.alloc(), CLOSURE), Ok(Some(owners)));
+    assert!(rt; owners_in_text(rt.alloc(), CLOSURE) == Ok(Some(owners)));
 }
 
 #[test]
 fn a_coroutine_owns_what_none_in_it_owns(rt: HostRuntime) {
     let owners = [Some(ExprId(3)), Some(ExprId(1)), Some(ExprId(3)), None];
-    assert_eq!(rt; owners_in_text(rt.alloc(), COROUTINES), Ok(Some(owners)));
+    assert!(rt; owners_in_text(rt.alloc(), COROUTINES) == Ok(Some(owners)));
 }
 
 #[test]
 fn a_const_block_owns_by_itself_and_a_length_by_its_expression(rt: HostRuntime) {
     let owners = [Some(ExprId(4)), Some(ExprId(1)), None, None];
-    assert_eq!(rt; owners_in_text(rt.alloc(), CONSTANTS), Ok(Some(owners)));
+    assert!(rt; owners_in_text(rt.alloc(), CONSTANTS) == Ok(Some(owners)));
 }
 
 #[test]
 fn a_binding_that_nothing_reaches_is_owned(rt: HostRuntime) {
     let owners = [Some(ExprId(2)), None, None, None];
-    assert_eq!(rt; owners_in_text(rt.alloc(), UNREACHED), Ok(Some(owners)));
+    assert!(rt; owners_in_text(rt.alloc(), UNREACHED) == Ok(Some(owners)));
 }
 
 /// Lowers the first argument beside the path's only name, where it is a constant, and then the path.
@@ -179,5 +179,5 @@ fn a_constant_argument_owns_by_its_expression(rt: HostRuntime) {
     let first = Some(ExprId(0));
     let second = Some(ExprId(1));
     let owners = [first, first, second, second];
-    assert_eq!(rt; owners_of_arguments(rt.alloc()), Ok(Some(owners)));
+    assert!(rt; owners_of_arguments(rt.alloc()) == Ok(Some(owners)));
 }

@@ -103,7 +103,7 @@ fn error_listed(alloc: Global) -> Result<String, LowerError> {
 #[test]
 fn an_impl_without_bounds_becomes_an_error(rt: HostRuntime) -> Result<(), Fail> {
     let text = error_listed(rt.alloc())?;
-    assert_eq!(rt; text.as_str(), "type {error}\n");
+    assert!(rt; text.as_str() == "type {error}\n");
     Ok(())
 }
 
@@ -126,9 +126,9 @@ fn becomes<I: ImplTraitLower>(alloc: Global, choice: &mut I) -> Result<String, L
 #[test]
 fn an_impl_becomes_what_the_caller_chooses(rt: HostRuntime) -> Result<(), Fail> {
     let error = becomes(rt.alloc(), &mut ErrorImplTrait)?;
-    assert_eq!(rt; error.as_str(), "type {error}\n");
+    assert!(rt; error.as_str() == "type {error}\n");
     let opaque = becomes(rt.alloc(), &mut OpaqueImplTrait)?;
-    assert_eq!(rt; opaque.as_str(), "type impl\n");
+    assert!(rt; opaque.as_str() == "type impl\n");
     Ok(())
 }
 
@@ -216,5 +216,5 @@ fn absent_has_node(alloc: Global) -> Result<bool, LowerError> {
 
 #[test]
 fn an_absent_type_has_no_node(rt: HostRuntime) {
-    assert_eq!(rt; absent_has_node(rt.alloc()), Ok(false));
+    assert!(rt; absent_has_node(rt.alloc()) == Ok(false));
 }
