@@ -1,5 +1,6 @@
 //! What owns a binding, by number: also one that no listing prints, and one in a collector.
 
+use crate::documents::{path_in, with_document};
 use crate::lowered::lowered_text;
 use hir_base::node::HirFileId;
 use hir_env::place::LoweringMode;
@@ -8,9 +9,8 @@ use hir_lower::{ErrorImplTrait, ExprCollector};
 use hir_store::ids::{BindingId, ExprId, ItemContainerId, ModuleId};
 use hir_store::store::ExpressionStore;
 use hir_syntax::ast::{GenericArg, Path};
-use lower_json::document::{Root, Tree};
+use lower_json::document::{Document, Root};
 use lower_json::fault::ReadError;
-use lower_json::read::read_tree;
 use std::alloc::Global;
 
 /// `fn f(x) { |y| { let z; } }`
@@ -141,7 +141,8 @@ fn lower_both(collector: &mut ExprCollector<'_, TableEnv>, path: &Path) {
 }
 
 /// The owners behind these two calls, none where the collector hands out no store.
-fn owners_of_both(alloc: Global, path: &Path) -> Option<Owners> {
+fn owners_of_both(alloc: Global, document: &Document) -> Option<Owners> {
+    let path = path_in(document)?;
     let env = TableEnv::new(alloc, ItemContainerId::ModuleId(ModuleId(0)));
     let mut collector = ExprCollector::new(
         alloc,
@@ -165,13 +166,12 @@ fn owners_of_both(alloc: Global, path: &Path) -> Option<Owners> {
 }
 
 fn owners_of_arguments(alloc: Global) -> Result<Option<Owners>, ReadError> {
-    let document = read_tree(alloc, Root::Path, ARGUMENT.as_bytes())?;
-    let owners = match &document.tree {
-        Tree::Path(path) => owners_of_both(alloc, path),
-        Tree::Fn(_) | Tree::Type_(_) | Tree::Pat(_) => None,
-    };
-    drop(document);
-    Ok(owners)
+    with_document(
+        alloc,
+        Root::Path,
+        ARGUMENT,
+        &|document: &Document| { owners_of_both(alloc, document) },
+    )
 }
 
 #[test]
