@@ -95,34 +95,34 @@ fn two_names(
 #[test]
 fn in_a_product(rt: HostRuntime) -> Result<(), Fail> {
     let twice = in_product(rt.alloc(), BindingAnnotation::Unannotated)?;
-    assert_eq!(rt; twice, Some(BindingProblems::BoundMoreThanOnce));
+    assert!(rt; twice == Some(BindingProblems::BoundMoreThanOnce));
     let two_modes = in_product(rt.alloc(), BindingAnnotation::Ref)?;
-    assert_eq!(rt; two_modes, Some(BindingProblems::BoundMoreThanOnce));
+    assert!(rt; two_modes == Some(BindingProblems::BoundMoreThanOnce));
     Ok(())
 }
 
 #[test]
 fn in_alternatives(rt: HostRuntime) -> Result<(), Fail> {
     let one_mode = in_both(rt.alloc(), BindingAnnotation::Unannotated)?;
-    assert_eq!(rt; one_mode, None);
+    assert!(rt; one_mode.is_none());
     let two_modes = in_both(rt.alloc(), BindingAnnotation::Ref)?;
-    assert_eq!(rt; two_modes, Some(BindingProblems::BoundInconsistently));
+    assert!(rt; two_modes == Some(BindingProblems::BoundInconsistently));
     let alone = in_one(rt.alloc())?;
-    assert_eq!(rt; alone, None);
+    assert!(rt; alone.is_none());
     Ok(())
 }
 
 #[test]
 fn in_some_alternatives(rt: HostRuntime) -> Result<(), Fail> {
     let first = twice_in_the_first(rt.alloc())?;
-    assert_eq!(rt; first, Some(BindingProblems::NotBoundAcrossAll));
+    assert!(rt; first == Some(BindingProblems::NotBoundAcrossAll));
     let second = in_the_second(rt.alloc())?;
-    assert_eq!(rt; second, Some(BindingProblems::NotBoundAcrossAll));
+    assert!(rt; second == Some(BindingProblems::NotBoundAcrossAll));
     let (before, end) = left_out_twice(rt.alloc())?;
-    assert_eq!(rt; before, Some(BindingProblems::NotBoundAcrossAll));
-    assert_eq!(rt; end, Some(BindingProblems::BoundMoreThanOnce));
+    assert!(rt; before == Some(BindingProblems::NotBoundAcrossAll));
+    assert!(rt; end == Some(BindingProblems::BoundMoreThanOnce));
     let (x, y) = two_names(rt.alloc())?;
-    assert_eq!(rt; x, Some(BindingProblems::NotBoundAcrossAll));
-    assert_eq!(rt; y, None);
+    assert!(rt; x == Some(BindingProblems::NotBoundAcrossAll));
+    assert!(rt; y.is_none());
     Ok(())
 }

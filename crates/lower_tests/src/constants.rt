@@ -1,5 +1,6 @@
 //! The roots of constants in a collector, and constants for whose parts there is no room.
 
+use crate::documents::{path_in, with_document};
 use hir_base::node::HirFileId;
 use hir_env::place::LoweringMode;
 use hir_env::table::TableEnv;
@@ -8,9 +9,8 @@ use hir_store::ids::{BindingId, ExprId, ItemContainerId, ModuleId, PatId};
 use hir_store::roots::ExprRoot;
 use hir_store::store::ExpressionStore;
 use hir_syntax::ast::{ConstArg, GenericArg, Path};
-use lower_json::document::{Document, Root, Tree};
+use lower_json::document::{Document, Root};
 use lower_json::fault::ReadError;
-use lower_json::read::read_tree;
 use std::alloc::Global;
 
 /// `A<{a::<{b}>}>`, which becomes two expressions.
@@ -95,7 +95,8 @@ fn lowered(collector: &mut ExprCollector<'_, TableEnv>, path: &Path) -> Result<b
 /// What is recorded where the path's constant is lowered, and where the path is lowered behind it.
 type Recorded = (Result<Roots, LowerError>, Result<Roots, LowerError>);
 
-fn roots_of(alloc: Global, path: &Path) -> Option<Recorded> {
+fn roots_of(alloc: Global, document: &Document) -> Option<Recorded> {
+    let path = path_in(document)?;
     let constant = constant_of(path)?;
     let env = table(alloc);
     let mut alone = collector(alloc, &env, u32::MAX);
@@ -110,13 +111,12 @@ fn roots_of(alloc: Global, path: &Path) -> Option<Recorded> {
 }
 
 fn roots_in_text(alloc: Global, text: &str) -> Result<Option<Recorded>, ReadError> {
-    let document = read_tree(alloc, Root::Path, text.as_bytes())?;
-    let roots = match &document.tree {
-        Tree::Path(path) => roots_of(alloc, path),
-        Tree::Fn(_) | Tree::Type_(_) | Tree::Pat(_) => None,
-    };
-    drop(document);
-    Ok(roots)
+    with_document(
+        alloc,
+        Root::Path,
+        text,
+        &|document: &Document| { roots_of(alloc, document) },
+    )
 }
 
 #[test]
@@ -124,7 +124,7 @@ fn a_constant_in_a_constant_is_no_root_and_a_later_one_is(rt: HostRuntime) {
     let first = Some((ExprId(1), ExprId(2)));
     let second = Some((ExprId(3), ExprId(4)));
     let recorded = (Ok([first, None, None]), Ok([first, second, None]));
-    assert_eq!(rt; roots_in_text(rt.alloc(), PATH), Ok(Some(recorded)));
+    assert!(rt; roots_in_text(rt.alloc(), PATH) == Ok(Some(recorded)));
 }
 
 /// What a collector with a limit answers: to the path and to the path again, and how many expressions it has then.
@@ -143,30 +143,27 @@ fn lowered_twice(alloc: Global, path: &Path, limit: u32) -> Answers {
 
 /// In a collector for one expression, and in one for two.
 fn in_one_and_two(alloc: Global, document: &Document) -> Option<(Answers, Answers)> {
-    match &document.tree {
-        Tree::Path(path) => Some((lowered_twice(alloc, path, 1), lowered_twice(alloc, path, 2))),
-        Tree::Fn(_) | Tree::Type_(_) | Tree::Pat(_) => None,
-    }
+    let path = path_in(document)?;
+    Some((lowered_twice(alloc, path, 1), lowered_twice(alloc, path, 2)))
 }
 
 fn in_one_and_two_in_text(
     alloc: Global,
     text: &str,
 ) -> Result<Option<(Answers, Answers)>, ReadError> {
-    let document = read_tree(alloc, Root::Path, text.as_bytes())?;
-    let answers = in_one_and_two(alloc, &document);
-    drop(document);
-    Ok(answers)
+    with_document(
+        alloc,
+        Root::Path,
+        text,
+        &|document: &Document| { in_one_and_two(alloc, document) },
+    )
 }
 
 #[test]
 fn a_path_does_not_fit_where_its_constants_do_not(rt: HostRuntime) {
     let in_one = (Err(LowerError::Full), Err(LowerError::Failed), 1);
     let in_two = (Ok(true), Err(LowerError::Full), 2);
-    assert_eq!(rt;
-        in_one_and_two_in_text(rt.alloc(), PATH),
-        Ok(Some((in_one, in_two)))
-    );
+    assert!(rt; in_one_and_two_in_text(rt.alloc(), PATH) == Ok(Some((in_one, in_two))));
 }
 
 /// `A<{ let (x, y); }>`, whose constant becomes one expression, three patterns and two bindings.
@@ -216,19 +213,23 @@ fn ends_within(alloc: Global, path: &Path, limit: u32) -> Option<Bounded> {
 }
 
 /// In a collector for two of each kind, and in one for three.
-fn let_in_two_and_three(alloc: Global) -> Result<(Option<Bounded>, Option<Bounded>), ReadError> {
-    let document = read_tree(alloc, Root::Path, LET.as_bytes())?;
-    let bounded = match &document.tree {
-        Tree::Path(path) => (ends_within(alloc, path, 2), ends_within(alloc, path, 3)),
-        Tree::Fn(_) | Tree::Type_(_) | Tree::Pat(_) => (None, None),
-    };
-    drop(document);
-    Ok(bounded)
+fn in_two_and_three(alloc: Global, document: &Document) -> Option<(Bounded, Bounded)> {
+    let path = path_in(document)?;
+    Some((ends_within(alloc, path, 2)?, ends_within(alloc, path, 3)?))
+}
+
+fn let_in_two_and_three(alloc: Global) -> Result<Option<(Bounded, Bounded)>, ReadError> {
+    with_document(
+        alloc,
+        Root::Path,
+        LET,
+        &|document: &Document| { in_two_and_three(alloc, document) },
+    )
 }
 
 #[test]
 fn a_let_of_two_names_takes_three_patterns_and_two_bindings(rt: HostRuntime) {
-    let in_two = Some((Some(LowerError::Full), Err(LowerError::Failed)));
-    let in_three = Some((None, Ok(Some((ExprId(1), PatId(3), BindingId(2))))));
-    assert_eq!(rt; let_in_two_and_three(rt.alloc()), Ok((in_two, in_three)));
+    let in_two = (Some(LowerError::Full), Err(LowerError::Failed));
+    let in_three = (None, Ok(Some((ExprId(1), PatId(3), BindingId(2)))));
+    assert!(rt; let_in_two_and_three(rt.alloc()) == Ok(Some((in_two, in_three))));
 }

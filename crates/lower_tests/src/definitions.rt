@@ -65,7 +65,7 @@ fn definitions(source_map: &BodySourceMap, binding: BindingId) -> Option<Definit
 }
 
 /// The patterns of the first two bindings, and how many patterns and bindings there are.
-#[derive(Clone, Copy, Debug, PartialEq)]
+#[derive(Clone, Copy, PartialEq)]
 struct Defined {
     first: Option<Definitions>,
     second: Option<Definitions>,
@@ -102,14 +102,14 @@ fn a_name_used_twice_is_one_binding_of_two_patterns(rt: HostRuntime) {
         pats: 3,
         bindings: 1,
     };
-    assert_eq!(rt; defined_in_text(rt.alloc(), TWICE), Ok(Some(twice)));
+    assert!(rt; defined_in_text(rt.alloc(), TWICE) == Ok(Some(twice)));
     let turned = Defined {
         first: Some([Some(PatId(0)), Some(PatId(4)), None]),
         second: Some([Some(PatId(1)), Some(PatId(3)), None]),
         pats: 7,
         bindings: 2,
     };
-    assert_eq!(rt; defined_in_text(rt.alloc(), TURNED), Ok(Some(turned)));
+    assert!(rt; defined_in_text(rt.alloc(), TURNED) == Ok(Some(turned)));
 }
 
 #[test]
@@ -120,7 +120,7 @@ fn each_name_of_a_question_is_a_binding_of_one_pattern(rt: HostRuntime) {
         pats: 4,
         bindings: 2,
     };
-    assert_eq!(rt; defined_in_text(rt.alloc(), QUESTION), Ok(Some(question)));
+    assert!(rt; defined_in_text(rt.alloc(), QUESTION) == Ok(Some(question)));
 }
 
 #[test]
@@ -131,5 +131,5 @@ fn the_name_of_a_for_is_a_binding_behind_those_of_its_pattern(rt: HostRuntime) {
         pats: 4,
         bindings: 2,
     };
-    assert_eq!(rt; defined_in_text(rt.alloc(), FOR), Ok(Some(loop_)));
+    assert!(rt; defined_in_text(rt.alloc(), FOR) == Ok(Some(loop_)));
 }

@@ -14,6 +14,6 @@ fn errors_say_why(rt: HostRuntime) -> Result<(), Fail> {
         StoreFault::Memory,
         StoreFault::Full
     )?;
-    assert_eq!(rt; texts.as_str(), "memory full failed memory full");
+    assert!(rt; texts.as_str() == "memory full failed memory full");
     Ok(())
 }

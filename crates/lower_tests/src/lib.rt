@@ -10,6 +10,8 @@ mod coroutines;
 #[cfg(test)]
 mod definitions;
 #[cfg(test)]
+mod documents;
+#[cfg(test)]
 mod errors;
 #[cfg(test)]
 mod inner;

@@ -1,87 +1,50 @@
-//! Constants that a collector with a limit lowers.
+//! Constants that a collector with a limit lowers. Each is the length in the type of an array.
 
-use hir_base::node::{HirFileId, NodeId, TextRange};
-use hir_base::{Boxed, Seq, Text};
+use crate::documents::{length_in, with_document};
+use hir_base::node::HirFileId;
 use hir_env::place::LoweringMode;
 use hir_env::table::TableEnv;
 use hir_lower::{ExprCollector, LowerError};
 use hir_store::ids::{ExprId, ItemContainerId, ModuleId};
 use hir_store::store::ExpressionStore;
-use hir_syntax::ast::{
-    ConstArg, Expr, ExprKind, Literal, LiteralKind, Name, Path, PathSegment, SegmentKind,
-};
-use std::alloc::{AllocError, Global};
+use hir_syntax::ast::ConstArg;
+use lower_json::document::{Document, Root};
+use lower_json::fault::ReadError;
+use std::alloc::Global;
 
-fn range(node: u32) -> TextRange {
-    TextRange {
-        start: node,
-        end: node.saturating_add(1),
-    }
-}
+/// `[; f(1)]`
+const CALL_OF_ONE: &str = r#"{"nodes": [
+    {"k": "ArrayType", "len": 1},
+    {"k": "ConstArg", "expr": 2},
+    {"k": "CallExpr", "expr": 3, "args": [6]},
+    {"k": "PathExpr", "path": 4},
+    {"k": "Path", "segs": [5]},
+    {"k": "PathSegment", "seg": "name", "name": "f"},
+    {"k": "Literal", "lit": "int", "t": "1"}
+]}"#;
 
-fn expr(node: u32, kind: ExprKind) -> Expr {
-    Expr {
-        id: NodeId(node),
-        range: range(node),
-        kind,
-    }
-}
+/// `[; 1?]`
+const QUESTION_OF_ONE: &str = r#"{"nodes": [
+    {"k": "ArrayType", "len": 1},
+    {"k": "ConstArg", "expr": 2},
+    {"k": "TryExpr", "expr": 3},
+    {"k": "Literal", "lit": "int", "t": "1"}
+]}"#;
 
-fn constant(alloc: Global, value: Expr) -> Result<ConstArg, AllocError> {
-    Ok(Some(Boxed::new(alloc, value)?))
-}
+/// A `for` over `1`, without pattern and body.
+const FOR_OVER_ONE: &str = r#"{"nodes": [
+    {"k": "ArrayType", "len": 1},
+    {"k": "ConstArg", "expr": 2},
+    {"k": "ForExpr", "iterable": 3},
+    {"k": "Literal", "lit": "int", "t": "1"}
+]}"#;
 
-fn one(alloc: Global, node: u32) -> Result<Expr, AllocError> {
-    let literal = Literal {
-        lit: LiteralKind::Int,
-        t: Text::new(alloc, "1")?,
-        suffix: None,
-    };
-    Ok(expr(node, ExprKind::Literal(literal)))
-}
-
-/// The path `f`, whose nodes are 2, 3 and 4.
-fn path_of_f(alloc: Global) -> Result<Expr, AllocError> {
-    let name = Name {
-        id: NodeId(4),
-        range: range(4),
-        t: Text::new(alloc, "f")?,
-    };
-    let mut segs = Seq::new(alloc);
-    segs.push(Some(PathSegment {
-        id: NodeId(4),
-        range: range(4),
-        seg: Some(SegmentKind::Name),
-        name: Some(name),
-        generics: None,
-        parens: None,
-        ret: None,
-        rtn: false,
-        ty: None,
-        trait_: None,
-    }))?;
-    let path = Path {
-        id: NodeId(3),
-        range: range(3),
-        leading: false,
-        use_: None,
-        segs,
-    };
-    let path = Boxed::new(alloc, path)?;
-    Ok(expr(2, ExprKind::PathExpr { path: Some(path) }))
-}
-
-/// The constant `f(1)`.
-fn call_of_one(alloc: Global) -> Result<ConstArg, AllocError> {
-    let callee = Boxed::new(alloc, path_of_f(alloc)?)?;
-    let mut args = Seq::new(alloc);
-    args.push(one(alloc, 5)?)?;
-    let call = ExprKind::CallExpr {
-        expr: Some(callee),
-        args: Some(args),
-    };
-    constant(alloc, expr(1, call))
-}
+/// `[; 1]`
+const ONE: &str = r#"{"nodes": [
+    {"k": "ArrayType", "len": 1},
+    {"k": "ConstArg", "expr": 2},
+    {"k": "Literal", "lit": "int", "t": "1"}
+]}"#;
 
 fn table(alloc: Global) -> TableEnv {
     TableEnv::new(alloc, ItemContainerId::ModuleId(ModuleId(0)))
@@ -122,7 +85,7 @@ fn stored(collector: ExprCollector<'_, TableEnv>) -> Stored {
 }
 
 /// What a collector answers, call by call.
-#[derive(Clone, Copy, Debug, PartialEq)]
+#[derive(Clone, Copy, PartialEq)]
 struct Answers {
     first: Option<LowerError>,
     exprs: u32,
@@ -155,110 +118,63 @@ fn lowered_once(alloc: Global, constant: &ConstArg, limit: u32) -> Stored {
     stored
 }
 
-/// The call in a collector for two expressions, and in one for three.
-fn call_in_two_and_three(alloc: Global) -> Result<(Answers, Stored), AllocError> {
-    let call = call_of_one(alloc)?;
-    let in_two = lowered_twice(alloc, &call, 2);
-    let in_three = lowered_once(alloc, &call, 3);
-    drop(call);
-    Ok((in_two, in_three))
+/// What a collector answers that has room for so many expressions, and where the root ends in one with more room.
+type Bounded = (Answers, Stored);
+
+fn lowered_in_both(alloc: Global, document: &Document, less: u32, more: u32) -> Option<Bounded> {
+    let constant = length_in(document)?;
+    Some((
+        lowered_twice(alloc, constant, less),
+        lowered_once(alloc, constant, more),
+    ))
+}
+
+fn length_in_both(
+    alloc: Global,
+    text: &str,
+    less: u32,
+    more: u32,
+) -> Result<Option<Bounded>, ReadError> {
+    with_document(
+        alloc,
+        Root::Type_,
+        text,
+        &|document: &Document| { lowered_in_both(alloc, document, less, more) },
+    )
+}
+
+/// A collector is full, holds so many expressions, and hands out no store.
+fn full(exprs: u32) -> Answers {
+    Answers {
+        first: Some(LowerError::Full),
+        exprs,
+        again: Some(LowerError::Failed),
+        stored: Err(LowerError::Failed),
+    }
 }
 
 #[test]
 fn a_call_of_one_takes_three_expressions(rt: HostRuntime) {
-    let in_two = Answers {
-        first: Some(LowerError::Full),
-        exprs: 2,
-        again: Some(LowerError::Failed),
-        stored: Err(LowerError::Failed),
-    };
     let in_three = Ok(Some(ExprId(3)));
-    assert_eq!(rt; call_in_two_and_three(rt.alloc()), Ok((in_two, in_three)));
-}
-
-/// The constant `1?`.
-fn question_of_one(alloc: Global) -> Result<ConstArg, AllocError> {
-    let operand = Boxed::new(alloc, one(alloc, 2)?)?;
-    let question = ExprKind::TryExpr {
-        expr: Some(operand),
-    };
-    constant(alloc, expr(1, question))
-}
-
-/// The question in a collector for eight expressions, and in one for nine.
-fn question_in_eight_and_nine(alloc: Global) -> Result<(Answers, Stored), AllocError> {
-    let question = question_of_one(alloc)?;
-    let in_eight = lowered_twice(alloc, &question, 8);
-    let in_nine = lowered_once(alloc, &question, 9);
-    drop(question);
-    Ok((in_eight, in_nine))
+    assert!(rt; length_in_both(rt.alloc(), CALL_OF_ONE, 2, 3) == Ok(Some((full(2), in_three))));
 }
 
 #[test]
 fn a_question_of_one_takes_nine_expressions(rt: HostRuntime) {
-    let in_eight = Answers {
-        first: Some(LowerError::Full),
-        exprs: 8,
-        again: Some(LowerError::Failed),
-        stored: Err(LowerError::Failed),
-    };
     let in_nine = Ok(Some(ExprId(9)));
-    assert_eq!(rt;
-        question_in_eight_and_nine(rt.alloc()),
-        Ok((in_eight, in_nine))
-    );
-}
-
-/// The constant that is a `for` over `1`, without pattern and body.
-fn for_over_one(alloc: Global) -> Result<ConstArg, AllocError> {
-    let head = Boxed::new(alloc, one(alloc, 2)?)?;
-    let turns = ExprKind::ForExpr {
-        label: None,
-        pat: None,
-        iterable: Some(head),
-        body: None,
-    };
-    constant(alloc, expr(1, turns))
-}
-
-/// The `for` in a collector for twelve expressions, and in one for thirteen.
-fn for_in_twelve_and_thirteen(alloc: Global) -> Result<(Answers, Stored), AllocError> {
-    let turns = for_over_one(alloc)?;
-    let in_twelve = lowered_twice(alloc, &turns, 12);
-    let in_thirteen = lowered_once(alloc, &turns, 13);
-    drop(turns);
-    Ok((in_twelve, in_thirteen))
+    assert!(rt; length_in_both(rt.alloc(), QUESTION_OF_ONE, 8, 9) == Ok(Some((full(8), in_nine))));
 }
 
 #[test]
 fn a_for_over_one_takes_thirteen_expressions(rt: HostRuntime) {
-    let in_twelve = Answers {
-        first: Some(LowerError::Full),
-        exprs: 12,
-        again: Some(LowerError::Failed),
-        stored: Err(LowerError::Failed),
-    };
     let in_thirteen = Ok(Some(ExprId(13)));
-    assert_eq!(rt;
-        for_in_twelve_and_thirteen(rt.alloc()),
-        Ok((in_twelve, in_thirteen))
+    assert!(rt;
+        length_in_both(rt.alloc(), FOR_OVER_ONE, 12, 13) == Ok(Some((full(12), in_thirteen)))
     );
-}
-
-fn literal_in_none(alloc: Global) -> Result<Answers, AllocError> {
-    let literal = constant(alloc, one(alloc, 1)?)?;
-    let answers = lowered_twice(alloc, &literal, 0);
-    drop(literal);
-    Ok(answers)
 }
 
 #[test]
 fn a_literal_does_not_fit_where_nothing_may_be_stored(rt: HostRuntime) {
-    let answers = Answers {
-        first: Some(LowerError::Full),
-        exprs: 0,
-        again: Some(LowerError::Failed),
-        stored: Err(LowerError::Failed),
-    };
-    assert_eq!(rt; literal_in_none(rt.alloc()), Ok(answers));
+    let in_one = Ok(Some(ExprId(1)));
+    assert!(rt; length_in_both(rt.alloc(), ONE, 0, 1) == Ok(Some((full(0), in_one))));
 }

@@ -1,5 +1,6 @@
 //! Documents of items, lowered.
 
+use crate::documents::with_document;
 use hir_base::node::{AstPtr, HirFileId};
 use hir_env::env::LowerEnv;
 use hir_lower::{Body, BodySourceMap, lower_body};
@@ -7,7 +8,6 @@ use hir_store::ids::{DefWithBodyId, ModuleId};
 use hir_syntax::ast::Fn;
 use lower_json::document::{Document, Root, Tree};
 use lower_json::fault::ReadError;
-use lower_json::read::read_tree;
 use std::alloc::Global;
 
 /// The lowered body of an item, none where lowering answers an error.
@@ -56,10 +56,12 @@ fn lowered_by_object(alloc: Global, document: &Document) -> Option<(Body, BodySo
 
 /// The lowered body of the item in the document that a text is.
 pub fn lowered_text(alloc: Global, text: &str) -> Result<Option<(Body, BodySourceMap)>, ReadError> {
-    let document = read_tree(alloc, Root::Fn, text.as_bytes())?;
-    let lowered = lowered_document(alloc, &document);
-    drop(document);
-    Ok(lowered)
+    with_document(
+        alloc,
+        Root::Fn,
+        text,
+        &|document: &Document| { lowered_document(alloc, document) },
+    )
 }
 
 /// The same where an object answers.
@@ -67,8 +69,10 @@ pub fn lowered_text_by_object(
     alloc: Global,
     text: &str,
 ) -> Result<Option<(Body, BodySourceMap)>, ReadError> {
-    let document = read_tree(alloc, Root::Fn, text.as_bytes())?;
-    let lowered = lowered_by_object(alloc, &document);
-    drop(document);
-    Ok(lowered)
+    with_document(
+        alloc,
+        Root::Fn,
+        text,
+        &|document: &Document| { lowered_by_object(alloc, document) },
+    )
 }

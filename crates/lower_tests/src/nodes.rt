@@ -28,7 +28,7 @@ const LABEL_AND_TYPE: &str = r#"{"nodes": [
 
 /// What the nodes of the label, the reference and the lifetime lead to, their nodes, and how many labels, types, lifetimes and
 /// expressions there are.
-#[derive(Clone, Copy, Debug, PartialEq)]
+#[derive(Clone, Copy, PartialEq)]
 struct Led {
     label: Option<LabelId>,
     ty: Option<TypeRefId>,
@@ -78,5 +78,5 @@ fn labels_types_and_lifetimes_have_their_nodes(rt: HostRuntime) {
         nodes: [Some(NodeId(3)), Some(NodeId(9)), Some(NodeId(10))],
         lengths: [1, 2, 1, 5],
     };
-    assert_eq!(rt; led_in_text(rt.alloc(), LABEL_AND_TYPE), Ok(Some(led)));
+    assert!(rt; led_in_text(rt.alloc(), LABEL_AND_TYPE) == Ok(Some(led)));
 }

@@ -1,5 +1,6 @@
 //! What owns a binding, by number: also one that no listing prints, and one in a collector.
 
+use crate::documents::{path_in, with_document};
 use crate::lowered::lowered_text;
 use hir_base::node::HirFileId;
 use hir_env::place::LoweringMode;
@@ -8,9 +9,8 @@ use hir_lower::{ErrorImplTrait, ExprCollector};
 use hir_store::ids::{BindingId, ExprId, ItemContainerId, ModuleId};
 use hir_store::store::ExpressionStore;
 use hir_syntax::ast::{GenericArg, Path};
-use lower_json::document::{Root, Tree};
+use lower_json::document::{Document, Root};
 use lower_json::fault::ReadError;
-use lower_json::read::read_tree;
 use std::alloc::Global;
 
 /// `fn f(x) { |y| { let z; } }`
@@ -108,25 +108,25 @@ fn owners_in_text(alloc: Global, text: &str) -> Result<Option<Owners>, ReadError
 #[test]
 fn a_closure_owns_its_parameters_and_what_its_body_binds(rt: HostRuntime) {
     let owners = [None, Some(ExprId(1)), Some(ExprId(1)), None];
-    assert_eq!(rt; owners_in_text(rt.alloc(), CLOSURE), Ok(Some(owners)));
+    assert!(rt; owners_in_text(rt.alloc(), CLOSURE) == Ok(Some(owners)));
 }
 
 #[test]
 fn a_coroutine_owns_what_none_in_it_owns(rt: HostRuntime) {
     let owners = [Some(ExprId(3)), Some(ExprId(1)), Some(ExprId(3)), None];
-    assert_eq!(rt; owners_in_text(rt.alloc(), COROUTINES), Ok(Some(owners)));
+    assert!(rt; owners_in_text(rt.alloc(), COROUTINES) == Ok(Some(owners)));
 }
 
 #[test]
 fn a_const_block_owns_by_itself_and_a_length_by_its_expression(rt: HostRuntime) {
     let owners = [Some(ExprId(4)), Some(ExprId(1)), None, None];
-    assert_eq!(rt; owners_in_text(rt.alloc(), CONSTANTS), Ok(Some(owners)));
+    assert!(rt; owners_in_text(rt.alloc(), CONSTANTS) == Ok(Some(owners)));
 }
 
 #[test]
 fn a_binding_that_nothing_reaches_is_owned(rt: HostRuntime) {
     let owners = [Some(ExprId(2)), None, None, None];
-    assert_eq!(rt; owners_in_text(rt.alloc(), UNREACHED), Ok(Some(owners)));
+    assert!(rt; owners_in_text(rt.alloc(), UNREACHED) == Ok(Some(owners)));
 }
 
 /// Lowers the first argument beside the path's only name, where it is a constant, and then the path.
@@ -141,7 +141,8 @@ fn lower_both(collector: &mut ExprCollector<'_, TableEnv>, path: &Path) {
 }
 
 /// The owners behind these two calls, none where the collector hands out no store.
-fn owners_of_both(alloc: Global, path: &Path) -> Option<Owners> {
+fn owners_of_both(alloc: Global, document: &Document) -> Option<Owners> {
+    let path = path_in(document)?;
     let env = TableEnv::new(alloc, ItemContainerId::ModuleId(ModuleId(0)));
     let mut collector = ExprCollector::new(
         alloc,
@@ -165,13 +166,12 @@ fn owners_of_both(alloc: Global, path: &Path) -> Option<Owners> {
 }
 
 fn owners_of_arguments(alloc: Global) -> Result<Option<Owners>, ReadError> {
-    let document = read_tree(alloc, Root::Path, ARGUMENT.as_bytes())?;
-    let owners = match &document.tree {
-        Tree::Path(path) => owners_of_both(alloc, path),
-        Tree::Fn(_) | Tree::Type_(_) | Tree::Pat(_) => None,
-    };
-    drop(document);
-    Ok(owners)
+    with_document(
+        alloc,
+        Root::Path,
+        ARGUMENT,
+        &|document: &Document| { owners_of_both(alloc, document) },
+    )
 }
 
 #[test]
@@ -179,5 +179,5 @@ fn a_constant_argument_owns_by_its_expression(rt: HostRuntime) {
     let first = Some(ExprId(0));
     let second = Some(ExprId(1));
     let owners = [first, first, second, second];
-    assert_eq!(rt; owners_of_arguments(rt.alloc()), Ok(Some(owners)));
+    assert!(rt; owners_of_arguments(rt.alloc()) == Ok(Some(owners)));
 }

@@ -1,14 +1,14 @@
 //! Paths in collectors, and the way back to their segments.
 
+use crate::documents::{path_in, with_document};
 use hir_base::node::{HirFileId, NodeId};
 use hir_env::place::LoweringMode;
 use hir_env::table::TableEnv;
 use hir_lower::{ErrorImplTrait, ExprCollector, LowerError, hir_segment_to_ast_segment};
 use hir_store::ids::{ItemContainerId, ModuleId};
 use hir_syntax::ast::{ConstArg, Path};
-use lower_json::document::{Document, Root, Tree};
+use lower_json::document::{Document, Root};
 use lower_json::fault::ReadError;
-use lower_json::read::read_tree;
 use std::alloc::Global;
 
 /// `crate::A::<nothing>::Self::$crate::B`, which is refused.
@@ -27,29 +27,24 @@ fn node_of(path: &Path, segment: u32) -> Option<NodeId> {
 
 /// The nodes of the first four segments that bear names.
 fn nodes_of(document: &Document) -> Option<[Option<NodeId>; 4]> {
-    match &document.tree {
-        Tree::Path(path) => Some([
-            node_of(path, 0),
-            node_of(path, 1),
-            node_of(path, 2),
-            node_of(path, 3),
-        ]),
-        Tree::Fn(_) | Tree::Type_(_) | Tree::Pat(_) => None,
-    }
+    let path = path_in(document)?;
+    Some([
+        node_of(path, 0),
+        node_of(path, 1),
+        node_of(path, 2),
+        node_of(path, 3),
+    ])
 }
 
 fn nodes_in_text(alloc: Global, text: &str) -> Result<Option<[Option<NodeId>; 4]>, ReadError> {
-    let document = read_tree(alloc, Root::Path, text.as_bytes())?;
-    let nodes = nodes_of(&document);
-    drop(document);
-    Ok(nodes)
+    with_document(alloc, Root::Path, text, &nodes_of)
 }
 
 #[test]
 fn segments_that_bear_names_are_lent(rt: HostRuntime) {
-    assert_eq!(rt;
-        nodes_in_text(rt.alloc(), MIXED),
-        Ok(Some([Some(NodeId(2)), Some(NodeId(3)), Some(NodeId(5)), None]))
+    assert!(rt;
+        nodes_in_text(rt.alloc(), MIXED)
+            == Ok(Some([Some(NodeId(2)), Some(NodeId(3)), Some(NodeId(5)), None]))
     );
 }
 
@@ -68,7 +63,8 @@ type Answers = (
     Result<bool, LowerError>,
 );
 
-fn without_room(alloc: Global, path: &Path) -> Answers {
+fn without_room(alloc: Global, document: &Document) -> Option<Answers> {
+    let path = path_in(document)?;
     let env = TableEnv::new(alloc, ItemContainerId::ModuleId(ModuleId(0)));
     let constant: ConstArg = None;
     let mut collector = ExprCollector::with_limit(
@@ -85,24 +81,22 @@ fn without_room(alloc: Global, path: &Path) -> Answers {
     drop(collector);
     drop(constant);
     drop(env);
-    (first, error, again)
+    Some((first, error, again))
 }
 
 fn without_room_in_text(alloc: Global, text: &str) -> Result<Option<Answers>, ReadError> {
-    let document = read_tree(alloc, Root::Path, text.as_bytes())?;
-    let answers = match &document.tree {
-        Tree::Path(path) => Some(without_room(alloc, path)),
-        Tree::Fn(_) | Tree::Type_(_) | Tree::Pat(_) => None,
-    };
-    drop(document);
-    Ok(answers)
+    with_document(
+        alloc,
+        Root::Path,
+        text,
+        &|document: &Document| { without_room(alloc, document) },
+    )
 }
 
 #[test]
 fn a_path_takes_no_room_but_is_not_lowered_after_an_error(rt: HostRuntime) {
     let answers = (Ok(true), Some(LowerError::Full), Err(LowerError::Failed));
-    assert_eq!(rt;
-        without_room_in_text(rt.alloc(), r#"{"nodes": [{"k": "Path"}]}"#),
-        Ok(Some(answers))
+    assert!(rt;
+        without_room_in_text(rt.alloc(), r#"{"nodes": [{"k": "Path"}]}"#) == Ok(Some(answers))
     );
 }

@@ -48,8 +48,8 @@ fn a_read_that_fails_in_mid_stream_is_a_fault(rt: HostRuntime) {
         &mut out.as_mut_slice(),
         &mut errors.as_mut_slice(),
     );
-    assert_eq!(rt; (status, input.calls), (2, 3));
-    assert_eq!(rt; errors, *b"fault: input\n");
+    assert!(rt; (status, input.calls) == (2, 3));
+    assert!(rt; errors == *b"fault: input\n");
 }
 
 #[test]
@@ -62,5 +62,5 @@ fn errors_that_cannot_be_written_change_no_status(rt: HostRuntime) {
         &mut out.as_mut_slice(),
         &mut Closed,
     );
-    assert_eq!(rt; status, 2);
+    assert!(rt; status == 2);
 }

@@ -1,5 +1,6 @@
 //! What an `impl` becomes where the caller chooses, types for which there is no room, and one that is absent.
 
+use crate::documents::{path_in, with_document};
 use hir_base::Seq;
 use hir_base::node::{AstPtr, HirFileId, InFile, NodeId, TextRange};
 use hir_env::lang::LangItems;
@@ -13,9 +14,8 @@ use hir_store::ids::{ItemContainerId, ModuleId, TypeRefId};
 use hir_store::source_map::ExpressionStoreSourceMap;
 use hir_store::store::ExpressionStore;
 use hir_syntax::ast::Path;
-use lower_json::document::{Document, Root, Tree};
+use lower_json::document::{Document, Root};
 use lower_json::fault::ReadError;
-use lower_json::read::read_tree;
 use lower_run::listing::{Listed, path_listing, type_listing};
 use std::alloc::Global;
 use std::test::Fail;
@@ -103,7 +103,7 @@ fn error_listed(alloc: Global) -> Result<String, LowerError> {
 #[test]
 fn an_impl_without_bounds_becomes_an_error(rt: HostRuntime) -> Result<(), Fail> {
     let text = error_listed(rt.alloc())?;
-    assert_eq!(rt; text.as_str(), "type {error}\n");
+    assert!(rt; text.as_str() == "type {error}\n");
     Ok(())
 }
 
@@ -126,9 +126,9 @@ fn becomes<I: ImplTraitLower>(alloc: Global, choice: &mut I) -> Result<String, L
 #[test]
 fn an_impl_becomes_what_the_caller_chooses(rt: HostRuntime) -> Result<(), Fail> {
     let error = becomes(rt.alloc(), &mut ErrorImplTrait)?;
-    assert_eq!(rt; error.as_str(), "type {error}\n");
+    assert!(rt; error.as_str() == "type {error}\n");
     let opaque = becomes(rt.alloc(), &mut OpaqueImplTrait)?;
-    assert_eq!(rt; opaque.as_str(), "type impl\n");
+    assert!(rt; opaque.as_str() == "type impl\n");
     Ok(())
 }
 
@@ -162,10 +162,7 @@ fn opaque_listed(alloc: Global, path: &Path, limit: u32) -> Result<String, Lower
 }
 
 fn opaque_in(alloc: Global, document: &Document, limit: u32) -> Option<Result<String, LowerError>> {
-    match &document.tree {
-        Tree::Path(path) => Some(opaque_listed(alloc, path, limit)),
-        Tree::Fn(_) | Tree::Type_(_) | Tree::Pat(_) => None,
-    }
+    Some(opaque_listed(alloc, path_in(document)?, limit))
 }
 
 fn opaque_in_text(
@@ -173,10 +170,12 @@ fn opaque_in_text(
     text: &str,
     limit: u32,
 ) -> Result<Option<Result<String, LowerError>>, ReadError> {
-    let document = read_tree(alloc, Root::Path, text.as_bytes())?;
-    let listed = opaque_in(alloc, &document, limit);
-    drop(document);
-    Ok(listed)
+    with_document(
+        alloc,
+        Root::Path,
+        text,
+        &|document: &Document| { opaque_in(alloc, document, limit) },
+    )
 }
 
 #[test]
@@ -216,5 +215,5 @@ fn absent_has_node(alloc: Global) -> Result<bool, LowerError> {
 
 #[test]
 fn an_absent_type_has_no_node(rt: HostRuntime) {
-    assert_eq!(rt; absent_has_node(rt.alloc()), Ok(false));
+    assert!(rt; absent_has_node(rt.alloc()) == Ok(false));
 }

@@ -1,15 +1,15 @@
 //! The ways back from the parts of what is stored to the written nodes.
 
+use crate::documents::{path_in, with_document};
 use crate::lowered::lowered_text;
 use hir_base::node::NodeId;
 use hir_lower::{Body, BodySourceMap, hir_assoc_type_binding_to_ast, hir_generic_arg_to_ast};
 use hir_store::hir::Expr;
 use hir_store::ids::ExprId;
 use hir_store::store::ExpressionStore;
-use hir_syntax::ast::{GenericArg, GenericArgList, Path};
-use lower_json::document::{Root, Tree};
+use hir_syntax::ast::{GenericArg, GenericArgList};
+use lower_json::document::{Document, Root};
 use lower_json::fault::ReadError;
-use lower_json::read::read_tree;
 use std::alloc::Global;
 
 /// `A<T, 'x, B = u8, 3>`.
@@ -66,31 +66,22 @@ fn lent(list: &GenericArgList) -> Lent {
     (args, first_node_behind_self(list), bindings)
 }
 
-fn lent_in(path: &Path) -> Option<Lent> {
-    match path.segs.as_slice() {
+fn lent_in(document: &Document) -> Option<Lent> {
+    match path_in(document)?.segs.as_slice() {
         [Some(segment)] => Some(lent(segment.generics.as_ref()?)),
         _ => None,
     }
 }
 
 fn lent_in_text(alloc: Global, text: &str) -> Result<Option<Lent>, ReadError> {
-    let document = read_tree(alloc, Root::Path, text.as_bytes())?;
-    let lent = match &document.tree {
-        Tree::Path(path) => lent_in(path),
-        Tree::Fn(_) | Tree::Type_(_) | Tree::Pat(_) => None,
-    };
-    drop(document);
-    Ok(lent)
+    with_document(alloc, Root::Path, text, &lent_in)
 }
 
 #[test]
 fn arguments_and_bindings_are_lent(rt: HostRuntime) {
     let args = [Some(NodeId(4)), Some(NodeId(7)), Some(NodeId(13)), None];
     let bindings = [Some(NodeId(8)), None];
-    assert_eq!(rt;
-        lent_in_text(rt.alloc(), ARGUMENTS),
-        Ok(Some((args, Some(NodeId(4)), bindings)))
-    );
+    assert!(rt; lent_in_text(rt.alloc(), ARGUMENTS) == Ok(Some((args, Some(NodeId(4)), bindings))));
 }
 
 /// The constant `S { a: b }`.
@@ -134,5 +125,5 @@ fn field_node_in_text(alloc: Global, text: &str) -> Result<Option<NodeId>, ReadE
 
 #[test]
 fn a_value_comes_from_its_field(rt: HostRuntime) {
-    assert_eq!(rt; field_node_in_text(rt.alloc(), RECORD), Ok(Some(NodeId(5))));
+    assert!(rt; field_node_in_text(rt.alloc(), RECORD) == Ok(Some(NodeId(5))));
 }

@@ -1,0 +1,57 @@
+// The program of refusals-test. It copies its input and asks for memory before
+// each byte; what it does where that is refused is the word that it is given.
+#include <stdlib.h>
+#include <string.h>
+#include <unistd.h>
+
+static const char *word;
+
+static int is(const char *other) { return strcmp(word, other) == 0; }
+
+static void say(int stream, const char *text) {
+    if (write(stream, text, strlen(text)) < 0) exit(5);
+}
+
+static int fault(const char *text) {
+    say(STDERR_FILENO, text);
+    return 2;
+}
+
+// Answers the status to end with, or nothing to go on without memory.
+static int refuse(size_t at) {
+    static char block[1 << 20];
+    if (is("ignores") || ((is("spares") || is("forgets")) && at > 0)) return 0;
+    if (is("crashes")) *(volatile char *)0 = 0;
+    if (is("hangs")) pause();
+    while (is("floods"))
+        if (write(STDOUT_FILENO, block, sizeof block) < 0) return 4;
+    if (is("prints")) say(STDOUT_FILENO, "a");
+    say(STDERR_FILENO, is("mumbles") ? "refused\n" : "refused: memory\n");
+    if (is("breaks_off")) _exit(3);
+    return is("fails") ? 2 : 3;
+}
+
+int main(int count, char **words) {
+    char text[100];
+    size_t length = 0;
+    word = count == 2 ? words[1] : "";
+    for (;;) {
+        // The compiler would leave out a request that nobody looks at.
+        char *volatile byte = is("asks_nothing") ? text : malloc(1);
+        if (byte == NULL) {
+            int status = refuse(length);
+            if (status != 0) return status;
+            if (!is("spares")) return 0;
+        }
+        char *place = text + length;
+        ssize_t got = read(STDIN_FILENO, place, 1);
+        if (got == 0) break;
+        if (got < 0 || *place == '!') return fault("fault: input\n");
+        length += 1;
+        // Output and input stand in the middle while requests are refused.
+        if (is("spares") && write(STDOUT_FILENO, place, 1) != 1) return fault("fault: output\n");
+    }
+    if (is("never_ends")) pause();
+    if (!is("spares") && write(STDOUT_FILENO, text, length) != (ssize_t)length) return fault("fault: output\n");
+    return is("ends_wrongly") ? 1 : 0;
+}

@@ -1,0 +1,318 @@
+// Runs rows with each of their requests for memory refused in turn.
+//
+//   sweep LIBRARY SECONDS PROGRAM <ROWS
+//
+// LIBRARY is refuse.c as a library, and each line of ROWS is the path of a row
+// without an ending. Answers are compared here, out of the program's reach. A
+// row is given up where nothing is heard of it for so many seconds.
+#define _GNU_SOURCE
+#include <errno.h>
+#include <fcntl.h>
+#include <sched.h>
+#include <signal.h>
+#include <stdarg.h>
+#include <stdio.h>
+#include <stdlib.h>
+#include <string.h>
+#include <sys/mman.h>
+#include <sys/prctl.h>
+#include <sys/resource.h>
+#include <sys/socket.h>
+#include <sys/stat.h>
+#include <sys/wait.h>
+#include <unistd.h>
+
+#include "refuse.h"
+
+enum { MOST_WORDS = 16, MOST_WRITTEN = 1 << 24, MOST_SHOWN = 4096, MOST_PATH = 4096 };
+
+// The bytes of a file, none where there is no such file.
+struct text {
+    char *bytes;
+    size_t length;
+};
+
+// What a row gives the program, and what it wants of it.
+struct row {
+    const char *path;
+    char *words[MOST_WORDS + 2];
+    int input, output;
+    struct text mode, out, err;
+    int status;
+};
+
+// A worker's files for what a program writes.
+struct worker {
+    int out, err;
+};
+
+// What is seen of a row while it runs.
+struct seen {
+    int link;
+    unsigned long runs, refused;
+    int run_left, whole_left;
+};
+
+// What the workers share.
+struct sums {
+    size_t next;
+    unsigned long runs, wrong;
+};
+
+static char *program;
+static long seconds;
+static char **rows;
+static size_t row_count;
+static struct sums *sums;
+
+static void fail(const char *what) {
+    perror(what);
+    exit(2);
+}
+
+// Says it with what a file begins with, if any, at once, so that lines of other workers don't mix in.
+__attribute__((format(printf, 2, 3))) static void tell_wrong(int shown, const char *form, ...) {
+    char text[2 * MOST_PATH + MOST_SHOWN];
+    va_list parts;
+    va_start(parts, form);
+    int length = vsnprintf(text, 2 * MOST_PATH, form, parts);
+    va_end(parts);
+    if (shown >= 0) {
+        ssize_t more = pread(shown, text + length, MOST_SHOWN, 0);
+        if (more > 0) length += more;
+    }
+    if (write(STDOUT_FILENO, text, length) != length) fail("sweep");
+    __atomic_fetch_add(&sums->wrong, 1, __ATOMIC_RELAXED);
+}
+
+static struct text contents(const char *row, const char *ending) {
+    struct text text = {NULL, 0};
+    struct stat stat;
+    char path[MOST_PATH];
+    if (snprintf(path, sizeof path, "%s%s", row, ending) >= MOST_PATH) fail(row);
+    int file = open(path, O_RDONLY | O_CLOEXEC);
+    if (file < 0) return text;
+    if (fstat(file, &stat) != 0) fail(path);
+    text.length = stat.st_size;
+    text.bytes = malloc(text.length + 1);
+    if (text.bytes == NULL || read(file, text.bytes, text.length) != stat.st_size) fail(path);
+    text.bytes[text.length] = '\0';
+    close(file);
+    return text;
+}
+
+// Opens the file that a row's file names.
+static int open_named(struct text name, int flags) {
+    name.bytes[strcspn(name.bytes, "\n")] = '\0';
+    int file = open(name.bytes, flags | O_CLOEXEC, 0644);
+    free(name.bytes);
+    return file;
+}
+
+static int input_of(const char *path) {
+    struct text named = contents(path, ".in");
+    if (named.bytes != NULL) return open_named(named, O_RDONLY);
+    char own[MOST_PATH];
+    if (snprintf(own, sizeof own, "%s.json", path) >= MOST_PATH) fail(path);
+    return open(own, O_RDONLY | O_CLOEXEC);
+}
+
+static int output_of(const char *path, const struct worker *worker) {
+    struct text named = contents(path, ".to");
+    return named.bytes != NULL ? open_named(named, O_WRONLY | O_CREAT | O_TRUNC) : worker->out;
+}
+
+static int status_wanted(const char *path) {
+    struct text text = contents(path, ".status");
+    int status = text.bytes == NULL ? 0 : atoi(text.bytes);
+    free(text.bytes);
+    return status;
+}
+
+static void split_words(struct row *row) {
+    char *rest = row->mode.bytes;
+    int count = 0;
+    row->words[count++] = program;
+    for (char *word; (word = strtok_r(rest, " \t\n", &rest)) != NULL;) {
+        if (count > MOST_WORDS) fail(row->path);
+        row->words[count++] = word;
+    }
+}
+
+static struct row read_row(const char *path, const struct worker *worker) {
+    struct row row = {
+        .path = path,
+        .mode = contents(path, ".mode"),
+        .out = contents(path, ".out"),
+        .err = contents(path, ".err"),
+        .input = input_of(path),
+        .output = output_of(path, worker),
+        .status = status_wanted(path),
+    };
+    if (row.mode.bytes == NULL) fail(path);
+    split_words(&row);
+    return row;
+}
+
+static void let_go(struct row *row, const struct worker *worker) {
+    if (row->input >= 0) close(row->input);
+    if (row->output >= 0 && row->output != worker->out) close(row->output);
+    free(row->mode.bytes);
+    free(row->out.bytes);
+    free(row->err.bytes);
+}
+
+// Whether a file holds just these bytes.
+static int holds(int file, const char *bytes, size_t length) {
+    struct stat stat;
+    char part[1 << 14];
+    if (fstat(file, &stat) != 0 || (size_t)stat.st_size != length) return 0;
+    for (size_t at = 0; at < length;) {
+        ssize_t got = pread(file, part, sizeof part, at);
+        if (got <= 0 || (size_t)got > length - at || memcmp(part, bytes + at, got) != 0) return 0;
+        at += got;
+    }
+    return 1;
+}
+
+static int is_own_answer(const struct worker *worker, const struct row *row, int status) {
+    return status == row->status && row->out.bytes != NULL && holds(worker->out, row->out.bytes, row->out.length)
+        && holds(worker->err, row->err.bytes, row->err.length);
+}
+
+static int is_refusal(const struct worker *worker, int status) {
+    static const char memory[] = "refused: memory\n";
+    return status == 3 && holds(worker->out, NULL, 0) && holds(worker->err, memory, sizeof memory - 1);
+}
+
+// As a shell tells it.
+static int status_of(int status) { return WIFSIGNALED(status) ? 128 + WTERMSIG(status) : WEXITSTATUS(status); }
+
+static void judge(const struct worker *worker, const struct row *row, struct seen *seen, int status) {
+    seen->runs += 1;
+    if (seen->run_left && is_refusal(worker, status)) {
+        seen->refused += 1;
+    } else if (!seen->run_left || !is_own_answer(worker, row, status)) {
+        tell_wrong(worker->err, "WRONG %s: status %d with request %lu refused\n", row->path, status, seen->runs);
+    }
+    seen->run_left = 0;
+}
+
+static void hear(const struct worker *worker, const struct row *row, struct seen *seen, const struct event *event) {
+    switch (event->said) {
+    case RUN_LEAVES:
+        seen->run_left = 1;
+        break;
+    case RUN_OVER:
+        judge(worker, row, seen, status_of(event->status));
+        send(seen->link, "", 1, MSG_NOSIGNAL);
+        break;
+    case WHOLE_LEAVES:
+        seen->whole_left = event->requests == seen->runs;
+        break;
+    }
+}
+
+// The program in a process group of its own, which ends with this process.
+static void become_program(const struct worker *worker, struct row *row, int link) {
+    struct rlimit most = {MOST_WRITTEN, MOST_WRITTEN};
+    prctl(PR_SET_PDEATHSIG, SIGKILL);
+    setpgid(0, 0);
+    setrlimit(RLIMIT_FSIZE, &most);
+    dup2(row->input, STDIN_FILENO);
+    dup2(row->output, STDOUT_FILENO);
+    dup2(worker->err, STDERR_FILENO);
+    dup2(link, LINK);
+    execv(program, row->words);
+    _exit(127);
+}
+
+// Runs all of a row and answers the status of the run that no refusal met.
+static int run(const struct worker *worker, struct row *row, struct seen *seen) {
+    int ends[2];
+    struct timeval limit = {.tv_sec = seconds};
+    if (socketpair(AF_UNIX, SOCK_SEQPACKET, 0, ends) != 0) fail("socketpair");
+    fcntl(ends[0], F_SETFD, FD_CLOEXEC);
+    setsockopt(ends[0], SOL_SOCKET, SO_RCVTIMEO, &limit, sizeof limit);
+    seen->link = ends[0];
+    pid_t whole = fork();
+    if (whole < 0) fail("fork");
+    if (whole == 0) become_program(worker, row, ends[1]);
+    close(ends[1]);
+    struct event event;
+    ssize_t got;
+    while ((got = recv(seen->link, &event, sizeof event, 0)) == sizeof event) hear(worker, row, seen, &event);
+    if (got < 0 && errno == EAGAIN)
+        tell_wrong(-1, "WRONG %s: no end with request %lu or none refused\n", row->path, seen->runs + 1);
+    // Whatever still runs of it goes: a run without end, with the one that waits for it.
+    kill(-whole, SIGKILL);
+    int status;
+    if (waitpid(whole, &status, 0) != whole) fail("waitpid");
+    while (waitpid(-1, NULL, 0) > 0) continue;
+    close(seen->link);
+    return status_of(status);
+}
+
+static void sweep_row(const char *path, const struct worker *worker) {
+    struct row row = read_row(path, worker);
+    struct seen seen = {0};
+    int status = 127;
+    if (ftruncate(worker->out, 0) != 0 || ftruncate(worker->err, 0) != 0) fail("ftruncate");
+    lseek(worker->out, 0, SEEK_SET);
+    lseek(worker->err, 0, SEEK_SET);
+    if (row.input >= 0 && row.output >= 0) status = run(worker, &row, &seen);
+    // The run that no refusal met must answer as the row says, and one request at least must have been refused.
+    if (!seen.whole_left || !is_own_answer(worker, &row, status) || seen.refused == 0)
+        tell_wrong(-1, "WRONG %s: %lu of %lu requests refused, then status %d\n", path, seen.refused, seen.runs, status);
+    __atomic_fetch_add(&sums->runs, seen.runs, __ATOMIC_RELAXED);
+    let_go(&row, worker);
+}
+
+// Takes rows until there are no more.
+static void work(void) {
+    struct worker worker = {memfd_create("out", MFD_CLOEXEC), memfd_create("err", MFD_CLOEXEC)};
+    if (worker.out < 0 || worker.err < 0) fail("memfd_create");
+    prctl(PR_SET_PDEATHSIG, SIGKILL);
+    // What a program leaves behind is waited for here.
+    prctl(PR_SET_CHILD_SUBREAPER, 1);
+    size_t at;
+    while ((at = __atomic_fetch_add(&sums->next, 1, __ATOMIC_RELAXED)) < row_count) sweep_row(rows[at], &worker);
+    exit(0);
+}
+
+static void read_rows(void) {
+    char *line = NULL;
+    size_t room = 0;
+    for (ssize_t length; (length = getline(&line, &room, stdin)) > 0; row_count++) {
+        if (line[length - 1] == '\n') line[length - 1] = '\0';
+        rows = realloc(rows, (row_count + 1) * sizeof *rows);
+        if (rows == NULL || (rows[row_count] = strdup(line)) == NULL) fail("sweep");
+    }
+    free(line);
+}
+
+int main(int count, char **words) {
+    if (count != 4) {
+        fputs("usage: sweep LIBRARY SECONDS PROGRAM <ROWS\n", stderr);
+        return 2;
+    }
+    setenv("LD_PRELOAD", words[1], 1);
+    // Else each run looks up the library's functions that it comes upon first.
+    setenv("LD_BIND_NOW", "1", 1);
+    seconds = atol(words[2]);
+    program = words[3];
+    prctl(PR_SET_PDEATHSIG, SIGKILL);
+    read_rows();
+    sums = mmap(NULL, sizeof *sums, PROT_READ | PROT_WRITE, MAP_SHARED | MAP_ANONYMOUS, -1, 0);
+    cpu_set_t cores;
+    if (sums == MAP_FAILED || sched_getaffinity(0, sizeof cores, &cores) != 0) fail("sweep");
+    for (int worker = CPU_COUNT(&cores); worker > 0; worker--) {
+        pid_t pid = fork();
+        if (pid < 0) fail("fork");
+        if (pid == 0) work();
+    }
+    for (int status; wait(&status) > 0;)
+        if (status != 0) sums->wrong += 1;
+    printf("%lu runs, %lu wrong\n", sums->runs, sums->wrong);
+    return sums->wrong == 0 && sums->runs > 0 ? 0 : 1;
+}
