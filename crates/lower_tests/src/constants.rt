@@ -111,12 +111,7 @@ fn roots_of(alloc: Global, document: &Document) -> Option<Recorded> {
 }
 
 fn roots_in_text(alloc: Global, text: &str) -> Result<Option<Recorded>, ReadError> {
-    with_document(
-        alloc,
-        Root::Path,
-        text,
-        &|document: &Document| { roots_of(alloc, document) },
-    )
+    with_document(alloc, Root::Path, text, &roots_of)
 }
 
 #[test]
@@ -151,12 +146,7 @@ fn in_one_and_two_in_text(
     alloc: Global,
     text: &str,
 ) -> Result<Option<(Answers, Answers)>, ReadError> {
-    with_document(
-        alloc,
-        Root::Path,
-        text,
-        &|document: &Document| { in_one_and_two(alloc, document) },
-    )
+    with_document(alloc, Root::Path, text, &in_one_and_two)
 }
 
 #[test]
@@ -219,12 +209,7 @@ fn in_two_and_three(alloc: Global, document: &Document) -> Option<(Bounded, Boun
 }
 
 fn let_in_two_and_three(alloc: Global) -> Result<Option<(Bounded, Bounded)>, ReadError> {
-    with_document(
-        alloc,
-        Root::Path,
-        LET,
-        &|document: &Document| { in_two_and_three(alloc, document) },
-    )
+    with_document(alloc, Root::Path, LET, &in_two_and_three)
 }
 
 #[test]

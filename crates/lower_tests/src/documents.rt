@@ -8,7 +8,7 @@ use std::alloc::Global;
 
 /// What is answered of the document that a text is. No other function owns a document, since it is dear to prove that one is
 /// dropped.
-pub fn with_document<R, F: Fn(&Document) -> R>(
+pub fn with_document<R, F: Fn(Global, &Document) -> R>(
     alloc: Global,
     want: Root,
     text: &str,
@@ -17,7 +17,7 @@ pub fn with_document<R, F: Fn(&Document) -> R>(
     requires { F.IsAlwaysCallable ask.now }
 {
     let document = read_tree(alloc, want, text.as_bytes())?;
-    let answer = ask(&document);
+    let answer = ask(alloc, &document);
     drop(document);
     Ok(answer)
 }

@@ -1,8 +1,9 @@
 //! Listings that no document leads to yet, as paths of several generated names, nodes of other files, and faults behind a
 //! border or outside of a body; and a minus in front of an integer.
 
+use crate::documents::{length_in, with_document};
 use hir_base::node::{AstPtr, HirFileId, InFile, NodeId, TextRange};
-use hir_base::{Boxed, Seq, Text};
+use hir_base::{Seq, Text};
 use hir_env::lang::LangItems;
 use hir_env::place::LoweringMode;
 use hir_env::table::TableEnv;
@@ -14,7 +15,9 @@ use hir_store::hir::{Expr, Literal};
 use hir_store::ids::{HygieneId, ItemContainerId, ModuleId};
 use hir_store::name::Name;
 use hir_store::path::{ModPath, Path, PathKind};
-use hir_syntax::ast::{self, ConstArg, ExprKind, LiteralKind};
+use hir_syntax::ast::LiteralKind;
+use lower_json::document::{Document, Root};
+use lower_json::fault::ReadError;
 use lower_run::listing::{Listed, body_listing};
 use std::alloc::{AllocError, Global};
 use std::test::Fail;
@@ -132,14 +135,12 @@ fn a_label_behind_a_border_is_told(rt: HostRuntime) -> Result<(), Fail> {
     Ok(())
 }
 
-fn awaiting(alloc: Global) -> Result<ConstArg, AllocError> {
-    let expr = ast::Expr {
-        id: NodeId(1),
-        range: TextRange { start: 1, end: 2 },
-        kind: ExprKind::AwaitExpr { expr: None },
-    };
-    Ok(Some(Boxed::new(alloc, expr)?))
-}
+/// An array type whose length is an `await` of nothing.
+const AWAIT: &str = r#"{"nodes": [
+    {"k": "ArrayType", "len": 1},
+    {"k": "ConstArg", "expr": 2},
+    {"k": "AwaitExpr"}
+]}"#;
 
 /// The listing of what a collector holds, with sources.
 fn collected(alloc: Global, collector: ExprCollector<'_, TableEnv>) -> Result<String, LowerError> {
@@ -161,9 +162,9 @@ fn collected(alloc: Global, collector: ExprCollector<'_, TableEnv>) -> Result<St
     }
 }
 
-/// The listing of an `await` in a constant that stands in no body.
-fn await_in_no_body(alloc: Global) -> Result<String, LowerError> {
-    let constant = awaiting(alloc).map_err(|_| LowerError::Memory)?;
+/// The listing of a length that stands in no body.
+fn length_in_no_body(alloc: Global, document: &Document) -> Option<Result<String, LowerError>> {
+    let length = length_in(document)?;
     let env = TableEnv::new(alloc, ItemContainerId::ModuleId(ModuleId(0)));
     let mut collector = ExprCollector::new(
         alloc,
@@ -172,17 +173,23 @@ fn await_in_no_body(alloc: Global) -> Result<String, LowerError> {
         HirFileId(0),
         LoweringMode::Analysis,
     );
-    let _lowered = collector.lower_const_arg(&constant);
+    let _lowered = collector.lower_const_arg(length);
     let listed = collected(alloc, collector);
-    drop(constant);
     drop(env);
-    listed
+    Some(listed)
+}
+
+fn listed_length(
+    alloc: Global,
+    text: &str,
+) -> Result<Option<Result<String, LowerError>>, ReadError> {
+    with_document(alloc, Root::Type_, text, &length_in_no_body)
 }
 
 #[test]
 fn an_await_in_no_body_stands_in_the_unknown(rt: HostRuntime) -> Result<(), Fail> {
-    let text = await_in_no_body(rt.alloc())?;
-    let listed = "body r0=(Await@1 (Missing))\ndiag AwaitOutsideOfAsync unknown @1\n";
-    assert!(rt; text.as_str() == listed);
+    let listed = listed_length(rt.alloc(), AWAIT)?;
+    let text = "body r0=(Await@2 (Missing))\ndiag AwaitOutsideOfAsync unknown @2\n";
+    assert!(rt; matches!(&listed, Some(Ok(found)) if found.as_str() == text));
     Ok(())
 }

@@ -56,12 +56,7 @@ fn lowered_by_object(alloc: Global, document: &Document) -> Option<(Body, BodySo
 
 /// The lowered body of the item in the document that a text is.
 pub fn lowered_text(alloc: Global, text: &str) -> Result<Option<(Body, BodySourceMap)>, ReadError> {
-    with_document(
-        alloc,
-        Root::Fn,
-        text,
-        &|document: &Document| { lowered_document(alloc, document) },
-    )
+    with_document(alloc, Root::Fn, text, &lowered_document)
 }
 
 /// The same where an object answers.
@@ -69,10 +64,5 @@ pub fn lowered_text_by_object(
     alloc: Global,
     text: &str,
 ) -> Result<Option<(Body, BodySourceMap)>, ReadError> {
-    with_document(
-        alloc,
-        Root::Fn,
-        text,
-        &|document: &Document| { lowered_by_object(alloc, document) },
-    )
+    with_document(alloc, Root::Fn, text, &lowered_by_object)
 }

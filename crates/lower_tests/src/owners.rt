@@ -166,12 +166,7 @@ fn owners_of_both(alloc: Global, document: &Document) -> Option<Owners> {
 }
 
 fn owners_of_arguments(alloc: Global) -> Result<Option<Owners>, ReadError> {
-    with_document(
-        alloc,
-        Root::Path,
-        ARGUMENT,
-        &|document: &Document| { owners_of_both(alloc, document) },
-    )
+    with_document(alloc, Root::Path, ARGUMENT, &owners_of_both)
 }
 
 #[test]

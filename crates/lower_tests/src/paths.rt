@@ -37,7 +37,12 @@ fn nodes_of(document: &Document) -> Option<[Option<NodeId>; 4]> {
 }
 
 fn nodes_in_text(alloc: Global, text: &str) -> Result<Option<[Option<NodeId>; 4]>, ReadError> {
-    with_document(alloc, Root::Path, text, &nodes_of)
+    with_document(
+        alloc,
+        Root::Path,
+        text,
+        &|_alloc: Global, document: &Document| nodes_of(document),
+    )
 }
 
 #[test]
@@ -85,12 +90,7 @@ fn without_room(alloc: Global, document: &Document) -> Option<Answers> {
 }
 
 fn without_room_in_text(alloc: Global, text: &str) -> Result<Option<Answers>, ReadError> {
-    with_document(
-        alloc,
-        Root::Path,
-        text,
-        &|document: &Document| { without_room(alloc, document) },
-    )
+    with_document(alloc, Root::Path, text, &without_room)
 }
 
 #[test]

@@ -174,7 +174,7 @@ fn opaque_in_text(
         alloc,
         Root::Path,
         text,
-        &|document: &Document| { opaque_in(alloc, document, limit) },
+        &|alloc: Global, document: &Document| opaque_in(alloc, document, limit),
     )
 }
 

@@ -74,7 +74,12 @@ fn lent_in(document: &Document) -> Option<Lent> {
 }
 
 fn lent_in_text(alloc: Global, text: &str) -> Result<Option<Lent>, ReadError> {
-    with_document(alloc, Root::Path, text, &lent_in)
+    with_document(
+        alloc,
+        Root::Path,
+        text,
+        &|_alloc: Global, document: &Document| lent_in(document),
+    )
 }
 
 #[test]
