@@ -29,8 +29,9 @@ use Rattle.hir_syntax.specs.declared.ast.Lifetime.{Lifetime}
 use Rattle.hir_syntax.specs.declared.ast.Name.{Name}
 use Rattle.hir_syntax.specs.declared.types.UseArg.{UseArg}
 use Rattle.hir_syntax.specs.declared.types.UseArg.TheVariants as used
-use Rattle.json_nodes.specs.declared.part.AnyPart.{AnyPart}
-use Rattle.json_nodes.specs.declared.part.AnyPart.TheVariants as part
+use Rattle.json_nodes.specs.Any.{AnyPart}
+use Rattle.json_nodes.specs.declared.part.AnyOf.{AnyOf}
+use Rattle.json_nodes.specs.declared.part.AnyOf.TheVariants as part
 use Rattle.json_nodes.specs.declared.code_parts.ExprPart.{ExprPart}
 use Rattle.json_nodes.specs.declared.code_parts.ExprPart.TheVariants as expr_part
 use Rattle.json_nodes.specs.declared.code_parts.CodePart.{CodePart}
@@ -47,31 +48,31 @@ use Rattle.json_nodes.specs.declared.name_parts.NamePart.{NamePart}
 use Rattle.json_nodes.specs.declared.name_parts.NamePart.TheVariants as name_part
 
 -- a part where it is of the sort
-abbrev pub expr_in : AnyPart → Option ExprPart
+abbrev pub expr_in : {C P M T H N : Type 0} → AnyOf ExprPart C P M T H N → Option ExprPart
 expr_in (part.Expr x) = Some x
 expr_in _ = None
 
-abbrev pub code_in : AnyPart → Option CodePart
+abbrev pub code_in : {E P M T H N : Type 0} → AnyOf E CodePart P M T H N → Option CodePart
 code_in (part.Code x) = Some x
 code_in _ = None
 
-abbrev pub pat_in : AnyPart → Option PatPart
+abbrev pub pat_in : {E C M T H N : Type 0} → AnyOf E C PatPart M T H N → Option PatPart
 pat_in (part.Pat x) = Some x
 pat_in _ = None
 
-abbrev pub param_in : AnyPart → Option ParamPart
+abbrev pub param_in : {E C P T H N : Type 0} → AnyOf E C P ParamPart T H N → Option ParamPart
 param_in (part.Param x) = Some x
 param_in _ = None
 
-abbrev pub type_in : AnyPart → Option TypePart
+abbrev pub type_in : {E C P M H N : Type 0} → AnyOf E C P M TypePart H N → Option TypePart
 type_in (part.Type_ x) = Some x
 type_in _ = None
 
-abbrev pub path_in : AnyPart → Option PathPart
+abbrev pub path_in : {E C P M T N : Type 0} → AnyOf E C P M T PathPart N → Option PathPart
 path_in (part.Path x) = Some x
 path_in _ = None
 
-abbrev pub name_in : AnyPart → Option NamePart
+abbrev pub name_in : {E C P M T H : Type 0} → AnyOf E C P M T H NamePart → Option NamePart
 name_in (part.Name x) = Some x
 name_in _ = None
 

@@ -1,9 +1,12 @@
 //! Expressions, statements, and their parts.
 
 ghost use Rattle.json_nodes.specs.Groups.{arm_of, block_of, code_in, else_of, expr_in, expr_of, guard_of, let_else_of};
+ghost use Rattle.std.specs.Prelude.{◌≡◌, Some};
+ghost use Rattle.json_nodes.specs.Kept.{Kept};
+ghost use Rattle.json_nodes.specs.Exprs.{expr_at};
 ghost use Rattle.json_nodes.specs.Groups.{pat_literal_of, record_field_of, record_list_of, stmt_of};
 
-use crate::part::{AnyPart, BoxedGroup, PartSort, ReadParts, SortGroup};
+use crate::part::{AnyOf, BoxedGroup, KindGroup, PartSort, SortGroup, in_box};
 use hir_base::Boxed;
 use hir_base::node::{NodeId, TextRange};
 use hir_syntax::ast::{
@@ -62,28 +65,32 @@ pub struct RecordLists;
 /// Fields of a record.
 pub struct RecordFields;
 
-impl PartSort for ExprPart {
+impl<C, P, M, T, H, N> PartSort<AnyOf<ExprPart, C, P, M, T, H, N>> for ExprPart {
     ghost in_part = { expr_in };
 
-    fn served<G: SortGroup<Sort = ExprPart>>(part: AnyPart) -> Result<G::Part, AnyPart> {
+    fn served<G: SortGroup<Sort = ExprPart>>(
+        part: AnyOf<ExprPart, C, P, M, T, H, N>,
+    ) -> Result<G::Part, AnyOf<ExprPart, C, P, M, T, H, N>> {
         match part {
-            AnyPart::Expr(part) => match G::from_sort(part) {
+            AnyOf::Expr(part) => match G::from_sort(part) {
                 Ok(part) => Ok(part),
-                Err(part) => Err(AnyPart::Expr(part)),
+                Err(part) => Err(AnyOf::Expr(part)),
             },
             other => Err(other),
         }
     }
 }
 
-impl PartSort for CodePart {
+impl<E, P, M, T, H, N> PartSort<AnyOf<E, CodePart, P, M, T, H, N>> for CodePart {
     ghost in_part = { code_in };
 
-    fn served<G: SortGroup<Sort = CodePart>>(part: AnyPart) -> Result<G::Part, AnyPart> {
+    fn served<G: SortGroup<Sort = CodePart>>(
+        part: AnyOf<E, CodePart, P, M, T, H, N>,
+    ) -> Result<G::Part, AnyOf<E, CodePart, P, M, T, H, N>> {
         match part {
-            AnyPart::Code(part) => match G::from_sort(part) {
+            AnyOf::Code(part) => match G::from_sort(part) {
                 Ok(part) => Ok(part),
-                Err(part) => Err(AnyPart::Code(part)),
+                Err(part) => Err(AnyOf::Code(part)),
             },
             other => Err(other),
         }
@@ -116,13 +123,14 @@ impl SortGroup for Exprs {
 }
 
 impl BoxedGroup for Exprs {
-    fn in_box<P: ReadParts>(
-        parts: &P,
-        alloc: Global,
-        refused: &mut bool,
-        part: Expr,
-    ) -> Option<Boxed<Expr>> {
-        parts.boxed_expr(alloc, refused, part)
+    fn boxed(alloc: Global, refused: &mut bool, part: Expr) -> Option<Boxed<Expr>> {
+        match Boxed::new(alloc, part) {
+            Ok(part) => Some(part),
+            Err(_) => {
+                *refused = true;
+                None
+            }
+        }
     }
 }
 
@@ -258,6 +266,38 @@ impl SortGroup for RecordFields {
         match part {
             CodePart::RecordField(field) => Ok(field),
             other => Err(other),
+        }
+    }
+}
+
+impl KindGroup for Exprs {
+    type Kind = ExprKind;
+
+    type Whole = ExprPart;
+
+    ghost made = { expr_at };
+
+    fn make(
+        alloc: Global,
+        refused: &mut bool,
+        id: NodeId,
+        range: TextRange,
+        kind: ExprKind,
+    ) -> Option<ExprPart> {
+        let expr = in_box::<Exprs>(alloc, refused, Expr { id, range, kind })?;
+        Some(ExprPart::Expr(expr))
+    }
+}
+
+/// A block in a box. Where memory is refused it sets `refused` and answers none.
+pub fn block_in_box(alloc: Global, refused: &mut bool, block: BlockExpr) -> Option<Boxed<BlockExpr>>
+    ensures { Kept refused.old refused.new (result ≡ Some block) }
+{
+    match Boxed::new(alloc, block) {
+        Ok(block) => Some(block),
+        Err(_) => {
+            *refused = true;
+            None
         }
     }
 }

@@ -4,7 +4,7 @@ ghost use Rattle.std.specs.Prelude.{◌≡◌, Some};
 ghost use Rattle.json_nodes.specs.Groups.{is_quoted, label_of, lifetime_of, name_in, name_of, use_arg_of};
 ghost use Rattle.json_nodes.specs.declared.name_parts.NamePart.TheVariants as name_part;
 
-use crate::part::{AnyPart, PartSort, SortGroup};
+use crate::part::{AnyOf, PartSort, SortGroup};
 use hir_base::Text;
 use hir_base::node::{NodeId, TextRange};
 use hir_syntax::ast::{Label, Lifetime, Name, UseArg};
@@ -51,14 +51,16 @@ fn use_arg(id: NodeId, range: TextRange, t: Text) -> UseArg
     }
 }
 
-impl PartSort for NamePart {
+impl<E, C, P, M, T, H> PartSort<AnyOf<E, C, P, M, T, H, NamePart>> for NamePart {
     ghost in_part = { name_in };
 
-    fn served<G: SortGroup<Sort = NamePart>>(part: AnyPart) -> Result<G::Part, AnyPart> {
+    fn served<G: SortGroup<Sort = NamePart>>(
+        part: AnyOf<E, C, P, M, T, H, NamePart>,
+    ) -> Result<G::Part, AnyOf<E, C, P, M, T, H, NamePart>> {
         match part {
-            AnyPart::Name(part) => match G::from_sort(part) {
+            AnyOf::Name(part) => match G::from_sort(part) {
                 Ok(part) => Ok(part),
-                Err(part) => Err(AnyPart::Name(part)),
+                Err(part) => Err(AnyOf::Name(part)),
             },
             other => Err(other),
         }

@@ -1,10 +1,12 @@
 //! Patterns and parameters.
 
+ghost use Rattle.json_nodes.specs.Pats.{pat_at};
 ghost use Rattle.json_nodes.specs.Groups.{param_in, param_list_of, param_of, pat_field_of, pat_in, pat_of, self_param_of};
 
-use crate::part::{AnyPart, BoxedGroup, PartSort, ReadParts, SortGroup};
+use crate::part::{AnyOf, BoxedGroup, KindGroup, PartSort, SortGroup, in_box};
 use hir_base::Boxed;
-use hir_syntax::ast::{Param, ParamList, Pat, RecordPatField, SelfParam};
+use hir_base::node::{NodeId, TextRange};
+use hir_syntax::ast::{Param, ParamList, Pat, PatKind, RecordPatField, SelfParam};
 use std::alloc::Global;
 
 /// A pattern, or a field of one.
@@ -35,28 +37,32 @@ pub struct SelfParams;
 /// All parameters of a function.
 pub struct ParamLists;
 
-impl PartSort for PatPart {
+impl<E, C, M, T, H, N> PartSort<AnyOf<E, C, PatPart, M, T, H, N>> for PatPart {
     ghost in_part = { pat_in };
 
-    fn served<G: SortGroup<Sort = PatPart>>(part: AnyPart) -> Result<G::Part, AnyPart> {
+    fn served<G: SortGroup<Sort = PatPart>>(
+        part: AnyOf<E, C, PatPart, M, T, H, N>,
+    ) -> Result<G::Part, AnyOf<E, C, PatPart, M, T, H, N>> {
         match part {
-            AnyPart::Pat(part) => match G::from_sort(part) {
+            AnyOf::Pat(part) => match G::from_sort(part) {
                 Ok(part) => Ok(part),
-                Err(part) => Err(AnyPart::Pat(part)),
+                Err(part) => Err(AnyOf::Pat(part)),
             },
             other => Err(other),
         }
     }
 }
 
-impl PartSort for ParamPart {
+impl<E, C, P, T, H, N> PartSort<AnyOf<E, C, P, ParamPart, T, H, N>> for ParamPart {
     ghost in_part = { param_in };
 
-    fn served<G: SortGroup<Sort = ParamPart>>(part: AnyPart) -> Result<G::Part, AnyPart> {
+    fn served<G: SortGroup<Sort = ParamPart>>(
+        part: AnyOf<E, C, P, ParamPart, T, H, N>,
+    ) -> Result<G::Part, AnyOf<E, C, P, ParamPart, T, H, N>> {
         match part {
-            AnyPart::Param(part) => match G::from_sort(part) {
+            AnyOf::Param(part) => match G::from_sort(part) {
                 Ok(part) => Ok(part),
-                Err(part) => Err(AnyPart::Param(part)),
+                Err(part) => Err(AnyOf::Param(part)),
             },
             other => Err(other),
         }
@@ -79,13 +85,14 @@ impl SortGroup for Pats {
 }
 
 impl BoxedGroup for Pats {
-    fn in_box<P: ReadParts>(
-        parts: &P,
-        alloc: Global,
-        refused: &mut bool,
-        part: Pat,
-    ) -> Option<Boxed<Pat>> {
-        parts.boxed_pat(alloc, refused, part)
+    fn boxed(alloc: Global, refused: &mut bool, part: Pat) -> Option<Boxed<Pat>> {
+        match Boxed::new(alloc, part) {
+            Ok(part) => Some(part),
+            Err(_) => {
+                *refused = true;
+                None
+            }
+        }
     }
 }
 
@@ -146,5 +153,24 @@ impl SortGroup for ParamLists {
             ParamPart::ParamList(params) => Ok(params),
             other => Err(other),
         }
+    }
+}
+
+impl KindGroup for Pats {
+    type Kind = PatKind;
+
+    type Whole = PatPart;
+
+    ghost made = { pat_at };
+
+    fn make(
+        alloc: Global,
+        refused: &mut bool,
+        id: NodeId,
+        range: TextRange,
+        kind: PatKind,
+    ) -> Option<PatPart> {
+        let part = in_box::<Pats>(alloc, refused, Pat { id, range, kind })?;
+        Some(PatPart::Pat(part))
     }
 }

@@ -3,7 +3,7 @@
 ghost use Rattle.json_nodes.specs.Groups.{const_arg_of, generic_arg_of, generic_args_of, paren_args_of, path_in};
 ghost use Rattle.json_nodes.specs.Groups.{path_of, segment_of, type_arg_of};
 
-use crate::part::{AnyPart, BoxedGroup, PartSort, ReadParts, SortGroup};
+use crate::part::{AnyOf, BoxedGroup, PartSort, SortGroup};
 use hir_base::Boxed;
 use hir_syntax::ast::{
     ConstArg, GenericArg, GenericArgList, ParenArgs, Path, PathSegment, TypeArg,
@@ -44,14 +44,16 @@ pub struct ParenArgLists;
 /// Arguments of a name.
 pub struct GenericArgs;
 
-impl PartSort for PathPart {
+impl<E, C, P, M, T, N> PartSort<AnyOf<E, C, P, M, T, PathPart, N>> for PathPart {
     ghost in_part = { path_in };
 
-    fn served<G: SortGroup<Sort = PathPart>>(part: AnyPart) -> Result<G::Part, AnyPart> {
+    fn served<G: SortGroup<Sort = PathPart>>(
+        part: AnyOf<E, C, P, M, T, PathPart, N>,
+    ) -> Result<G::Part, AnyOf<E, C, P, M, T, PathPart, N>> {
         match part {
-            AnyPart::Path(part) => match G::from_sort(part) {
+            AnyOf::Path(part) => match G::from_sort(part) {
                 Ok(part) => Ok(part),
-                Err(part) => Err(AnyPart::Path(part)),
+                Err(part) => Err(AnyOf::Path(part)),
             },
             other => Err(other),
         }
@@ -74,13 +76,14 @@ impl SortGroup for Paths {
 }
 
 impl BoxedGroup for Paths {
-    fn in_box<P: ReadParts>(
-        parts: &P,
-        alloc: Global,
-        refused: &mut bool,
-        part: Path,
-    ) -> Option<Boxed<Path>> {
-        parts.boxed_path(alloc, refused, part)
+    fn boxed(alloc: Global, refused: &mut bool, part: Path) -> Option<Boxed<Path>> {
+        match Boxed::new(alloc, part) {
+            Ok(part) => Some(part),
+            Err(_) => {
+                *refused = true;
+                None
+            }
+        }
     }
 }
 

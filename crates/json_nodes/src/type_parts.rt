@@ -1,9 +1,11 @@
 //! Types, and what stands beside them.
 
+ghost use Rattle.json_nodes.specs.Types.{type_at};
 ghost use Rattle.json_nodes.specs.Groups.{binder_of, bound_of, path_type_of, ret_of, type_in, type_of};
 
-use crate::part::{AnyPart, BoxedGroup, PartSort, ReadParts, SortGroup};
+use crate::part::{AnyOf, BoxedGroup, KindGroup, PartSort, SortGroup, in_box};
 use hir_base::Boxed;
+use hir_base::node::{NodeId, TextRange};
 use hir_syntax::ast::{ForBinder, PathType, RetType, Type_, TypeBound, TypeKind};
 use std::alloc::Global;
 
@@ -32,14 +34,16 @@ pub struct Binders;
 /// Types that are returned.
 pub struct Rets;
 
-impl PartSort for TypePart {
+impl<E, C, P, M, H, N> PartSort<AnyOf<E, C, P, M, TypePart, H, N>> for TypePart {
     ghost in_part = { type_in };
 
-    fn served<G: SortGroup<Sort = TypePart>>(part: AnyPart) -> Result<G::Part, AnyPart> {
+    fn served<G: SortGroup<Sort = TypePart>>(
+        part: AnyOf<E, C, P, M, TypePart, H, N>,
+    ) -> Result<G::Part, AnyOf<E, C, P, M, TypePart, H, N>> {
         match part {
-            AnyPart::Type_(part) => match G::from_sort(part) {
+            AnyOf::Type_(part) => match G::from_sort(part) {
                 Ok(part) => Ok(part),
-                Err(part) => Err(AnyPart::Type_(part)),
+                Err(part) => Err(AnyOf::Type_(part)),
             },
             other => Err(other),
         }
@@ -67,13 +71,14 @@ impl SortGroup for Types {
 }
 
 impl BoxedGroup for Types {
-    fn in_box<P: ReadParts>(
-        parts: &P,
-        alloc: Global,
-        refused: &mut bool,
-        part: Type_,
-    ) -> Option<Boxed<Type_>> {
-        parts.boxed_type(alloc, refused, part)
+    fn boxed(alloc: Global, refused: &mut bool, part: Type_) -> Option<Boxed<Type_>> {
+        match Boxed::new(alloc, part) {
+            Ok(part) => Some(part),
+            Err(_) => {
+                *refused = true;
+                None
+            }
+        }
     }
 }
 
@@ -134,5 +139,24 @@ impl SortGroup for Rets {
             TypePart::Ret(ret) => Ok(ret),
             other => Err(other),
         }
+    }
+}
+
+impl KindGroup for Types {
+    type Kind = TypeKind;
+
+    type Whole = TypePart;
+
+    ghost made = { type_at };
+
+    fn make(
+        alloc: Global,
+        refused: &mut bool,
+        id: NodeId,
+        range: TextRange,
+        kind: TypeKind,
+    ) -> Option<TypePart> {
+        let part = in_box::<Types>(alloc, refused, Type_ { id, range, kind })?;
+        Some(TypePart::Type_(part))
     }
 }

@@ -13,7 +13,7 @@ use crate::document::{Root, Tree};
 use crate::letting_go::let_go;
 use hir_base::Boxed;
 use hir_base::node::{NodeId, TextRange};
-use hir_syntax::ast::{BlockExpr, Expr, Param, ParamList, Pat, Path, Type_};
+use hir_syntax::ast::{Param, ParamList, Pat};
 use json_faults::kinds::kind_at;
 use json_faults::value::item_at;
 use json_kinds::kind::{ExprNode, Kind, PartNode, PathNode};
@@ -31,7 +31,7 @@ use json_nodes::operations::operation;
 use json_nodes::others::{function, of_block, of_stmt, other};
 use json_nodes::param_parts::Pats;
 use json_nodes::params::of_param;
-use json_nodes::part::{AnyPart, Group, ReadParts};
+use json_nodes::part::{AnyOf, AnyPart, Group, LetsGo, ReadParts, in_box, served};
 use json_nodes::partless::partless;
 use json_nodes::path_parts::PathPart;
 use json_nodes::paths::{of_path, path};
@@ -72,64 +72,11 @@ where
     fn part_at(&self, alloc: Global, at: u32) -> Result<Option<AnyPart>, AllocError> {
         (self.read)(alloc, self.kinds, self.nodes, self.levels, at)
     }
+}
 
+impl<F> LetsGo<AnyPart> for Level<'_, '_, F> {
     fn let_go(&self, part: AnyPart) {
         let_go(part);
-    }
-
-    fn boxed_expr(&self, alloc: Global, refused: &mut bool, expr: Expr) -> Option<Boxed<Expr>> {
-        match Boxed::new(alloc, expr) {
-            Ok(boxed) => Some(boxed),
-            Err(_) => {
-                *refused = true;
-                None
-            }
-        }
-    }
-
-    fn boxed_block(
-        &self,
-        alloc: Global,
-        refused: &mut bool,
-        block: BlockExpr,
-    ) -> Option<Boxed<BlockExpr>> {
-        match Boxed::new(alloc, block) {
-            Ok(boxed) => Some(boxed),
-            Err(_) => {
-                *refused = true;
-                None
-            }
-        }
-    }
-
-    fn boxed_pat(&self, alloc: Global, refused: &mut bool, pat: Pat) -> Option<Boxed<Pat>> {
-        match Boxed::new(alloc, pat) {
-            Ok(boxed) => Some(boxed),
-            Err(_) => {
-                *refused = true;
-                None
-            }
-        }
-    }
-
-    fn boxed_type(&self, alloc: Global, refused: &mut bool, ty: Type_) -> Option<Boxed<Type_>> {
-        match Boxed::new(alloc, ty) {
-            Ok(boxed) => Some(boxed),
-            Err(_) => {
-                *refused = true;
-                None
-            }
-        }
-    }
-
-    fn boxed_path(&self, alloc: Global, refused: &mut bool, path: Path) -> Option<Boxed<Path>> {
-        match Boxed::new(alloc, path) {
-            Ok(boxed) => Some(boxed),
-            Err(_) => {
-                *refused = true;
-                None
-            }
-        }
     }
 }
 
@@ -179,21 +126,21 @@ fn of_part<F: Fields>(node: &F, refused: &mut bool, kind: PartNode) -> Option<An
     ensures { Kept refused.old refused.new (result ≡ spec.of_part (F.here node.now) kind) }
 {
     if let Some(part) = of_bound(node, refused, kind) {
-        return Some(AnyPart::Type_(part));
+        return Some(AnyOf::Type_(part));
     }
     if let Some(part) = of_branch(node, refused, kind) {
-        return Some(AnyPart::Code(part));
+        return Some(AnyOf::Code(part));
     }
     if let Some(part) = of_record(node, refused, kind) {
-        return Some(AnyPart::Code(part));
+        return Some(AnyOf::Code(part));
     }
     if let Some(part) = of_pat_field(node, refused, kind) {
-        return Some(AnyPart::Pat(part));
+        return Some(AnyOf::Pat(part));
     }
     if let Some(part) = of_param(node, refused, kind) {
-        return Some(AnyPart::Param(part));
+        return Some(AnyOf::Param(part));
     }
-    Some(AnyPart::Name(other(node, refused, kind)?))
+    Some(AnyOf::Name(other(node, refused, kind)?))
 }
 
 /// What stands at a node of a kind.
@@ -203,15 +150,15 @@ fn of_kind<F: Fields>(node: &F, refused: &mut bool, kind: Kind) -> Option<AnyPar
     ensures { Kept refused.old refused.new (result ≡ of_kind (F.here node.now) kind) }
 {
     match kind {
-        Kind::IfExpr => Some(AnyPart::Expr(of_if(node, refused)?)),
-        Kind::BlockExpr => Some(AnyPart::Expr(of_block(node, refused)?)),
-        Kind::Literal => Some(AnyPart::Expr(of_literal(node, refused)?)),
-        Kind::PathType => Some(AnyPart::Type_(of_path_type(node, refused)?)),
-        Kind::Expr(kind) => Some(AnyPart::Expr(of_expr(node, refused, kind)?)),
-        Kind::Stmt(kind) => Some(AnyPart::Code(of_stmt(node, refused, kind)?)),
-        Kind::Pat(kind) => Some(AnyPart::Pat(of_pat(node, refused, kind)?)),
-        Kind::Type_(kind) => Some(AnyPart::Type_(of_type(node, refused, kind)?)),
-        Kind::Path(kind) => Some(AnyPart::Path(of_path_part(node, refused, kind)?)),
+        Kind::IfExpr => Some(AnyOf::Expr(of_if(node, refused)?)),
+        Kind::BlockExpr => Some(AnyOf::Expr(of_block(node, refused)?)),
+        Kind::Literal => Some(AnyOf::Expr(of_literal(node, refused)?)),
+        Kind::PathType => Some(AnyOf::Type_(of_path_type(node, refused)?)),
+        Kind::Expr(kind) => Some(AnyOf::Expr(of_expr(node, refused, kind)?)),
+        Kind::Stmt(kind) => Some(AnyOf::Code(of_stmt(node, refused, kind)?)),
+        Kind::Pat(kind) => Some(AnyOf::Pat(of_pat(node, refused, kind)?)),
+        Kind::Type_(kind) => Some(AnyOf::Type_(of_type(node, refused, kind)?)),
+        Kind::Path(kind) => Some(AnyOf::Path(of_path_part(node, refused, kind)?)),
         Kind::Part(kind) => of_part(node, refused, kind),
     }
 }
@@ -281,7 +228,7 @@ fn read_part(
 }
 
 /// What of a group stands at a node, if anything does.
-fn one_of<G: Group, P: ReadParts>(
+fn one_of<G: Group<AnyPart>, P: ReadParts>(
     node: &Node<'_, P>,
     refused: &mut bool,
     kind: Option<Kind>,
@@ -291,7 +238,7 @@ fn one_of<G: Group, P: ReadParts>(
         (result ≡ option_and_then G.as_group (option_and_then (of_kind (here P.parts node.now)) kind)) }
 {
     let part = of_kind(node, refused, kind?)?;
-    node.served::<G>(part)
+    served::<AnyPart, G, P>(node.parts, part)
 }
 
 /// The pattern at a node in a box, if one stands there.
@@ -305,7 +252,7 @@ fn boxed_pat<P: ReadParts>(
         (result ≡ option_and_then as_pat (option_and_then (of_kind (here P.parts node.now)) kind)) }
 {
     let pat = one_of::<Pats, P>(node, refused, kind)?;
-    node.boxed_pat(refused, pat)
+    in_box::<Pats>(node.alloc, refused, pat)
 }
 
 /// A pattern as the only parameter of a function.
