@@ -12,8 +12,8 @@ use Rattle.hir_base.specs.declared.node.TextRange.{TextRange}
 use Rattle.json_nodes.specs.Fields.{flag_of, text_in}
 use Rattle.json_nodes.specs.Groups.{as_type, as_pat, as_path, as_lifetime, as_const_arg, as_param, as_ret, as_binder, as_bound}
 use Rattle.json_nodes.specs.Parts.{Here, part_in, list_in, list_if_there}
-use Rattle.json_nodes.specs.declared.type_parts.TypePart.{TypePart}
-use Rattle.json_nodes.specs.declared.type_parts.TypePart.TheVariants as type_part
+use Rattle.json_nodes.specs.Any.{TypePart}
+use Rattle.json_nodes.specs.declared.type_parts.TypeOf.TheVariants as type_part
 
 -- a type of a kind
 abbrev pub type_at : NodeId → TextRange → TypeKind → TypePart

@@ -1,12 +1,13 @@
 //! Expressions, statements, and their parts.
 
-ghost use Rattle.json_nodes.specs.Groups.{arm_of, block_of, code_in, else_of, expr_in, expr_of, guard_of, let_else_of};
+ghost use Rattle.json_nodes.specs.Groups.{arm_of, block_of, else_of, expr_of, guard_of, let_else_of};
 ghost use Rattle.std.specs.Prelude.{◌≡◌, Some};
 ghost use Rattle.json_nodes.specs.Kept.{Kept};
 ghost use Rattle.json_nodes.specs.Exprs.{expr_at};
 ghost use Rattle.json_nodes.specs.Groups.{pat_literal_of, record_field_of, record_list_of, stmt_of};
 
-use crate::part::{AnyOf, BoxedGroup, KindGroup, PartSort, SortGroup, in_box};
+use crate::part::{BoxedGroup, KindGroup, SortGroup, Sorted, in_box};
+use crate::sorts::{CodeSort, ExprSort};
 use hir_base::Boxed;
 use hir_base::node::{NodeId, TextRange};
 use hir_syntax::ast::{
@@ -25,15 +26,18 @@ pub enum ExprPart {
     Literal(NodeId, TextRange, Literal),
 }
 
-/// A part of expressions and statements.
-pub enum CodePart {
-    Stmt(Stmt),
-    LetElse(LetElse),
-    Arm(MatchArm),
-    Guard(Guard),
-    RecordList(RecordExprFieldList),
-    RecordField(RecordExprField),
+/// A part of expressions and statements, whichever types they have.
+pub enum CodeOf<S, L, A, D, R, F> {
+    Stmt(S),
+    LetElse(L),
+    Arm(A),
+    Guard(D),
+    RecordList(R),
+    RecordField(F),
 }
+
+/// A part of expressions and statements.
+pub type CodePart = CodeOf<Stmt, LetElse, MatchArm, Guard, RecordExprFieldList, RecordExprField>;
 
 /// Expressions.
 pub struct Exprs;
@@ -65,41 +69,11 @@ pub struct RecordLists;
 /// Fields of a record.
 pub struct RecordFields;
 
-impl<C, P, M, T, H, N> PartSort<AnyOf<ExprPart, C, P, M, T, H, N>> for ExprPart {
-    ghost in_part = { expr_in };
-
-    fn served<G: SortGroup<Sort = ExprPart>>(
-        part: AnyOf<ExprPart, C, P, M, T, H, N>,
-    ) -> Result<G::Part, AnyOf<ExprPart, C, P, M, T, H, N>> {
-        match part {
-            AnyOf::Expr(part) => match G::from_sort(part) {
-                Ok(part) => Ok(part),
-                Err(part) => Err(AnyOf::Expr(part)),
-            },
-            other => Err(other),
-        }
-    }
+impl Sorted for Exprs {
+    type Sort = ExprSort;
 }
 
-impl<E, P, M, T, H, N> PartSort<AnyOf<E, CodePart, P, M, T, H, N>> for CodePart {
-    ghost in_part = { code_in };
-
-    fn served<G: SortGroup<Sort = CodePart>>(
-        part: AnyOf<E, CodePart, P, M, T, H, N>,
-    ) -> Result<G::Part, AnyOf<E, CodePart, P, M, T, H, N>> {
-        match part {
-            AnyOf::Code(part) => match G::from_sort(part) {
-                Ok(part) => Ok(part),
-                Err(part) => Err(AnyOf::Code(part)),
-            },
-            other => Err(other),
-        }
-    }
-}
-
-impl SortGroup for Exprs {
-    type Sort = ExprPart;
-
+impl SortGroup<ExprPart> for Exprs {
     type Part = Expr;
 
     ghost of_sort = { expr_of };
@@ -134,9 +108,11 @@ impl BoxedGroup for Exprs {
     }
 }
 
-impl SortGroup for Elses {
-    type Sort = ExprPart;
+impl Sorted for Elses {
+    type Sort = ExprSort;
+}
 
+impl SortGroup<ExprPart> for Elses {
     type Part = ElseBranch;
 
     ghost of_sort = { else_of };
@@ -150,9 +126,11 @@ impl SortGroup for Elses {
     }
 }
 
-impl SortGroup for Blocks {
-    type Sort = ExprPart;
+impl Sorted for Blocks {
+    type Sort = ExprSort;
+}
 
+impl SortGroup<ExprPart> for Blocks {
     type Part = Boxed<BlockExpr>;
 
     ghost of_sort = { block_of };
@@ -165,9 +143,11 @@ impl SortGroup for Blocks {
     }
 }
 
-impl SortGroup for PatLiterals {
-    type Sort = ExprPart;
+impl Sorted for PatLiterals {
+    type Sort = ExprSort;
+}
 
+impl SortGroup<ExprPart> for PatLiterals {
     type Part = PatLiteral;
 
     ghost of_sort = { pat_literal_of };
@@ -180,91 +160,103 @@ impl SortGroup for PatLiterals {
     }
 }
 
-impl SortGroup for Stmts {
-    type Sort = CodePart;
+impl Sorted for Stmts {
+    type Sort = CodeSort;
+}
 
-    type Part = Stmt;
+impl<S, L, A, D, R, F> SortGroup<CodeOf<S, L, A, D, R, F>> for Stmts {
+    type Part = S;
 
     ghost of_sort = { stmt_of };
 
-    fn from_sort(part: CodePart) -> Result<Stmt, CodePart> {
+    fn from_sort(part: CodeOf<S, L, A, D, R, F>) -> Result<S, CodeOf<S, L, A, D, R, F>> {
         match part {
-            CodePart::Stmt(stmt) => Ok(stmt),
+            CodeOf::Stmt(stmt) => Ok(stmt),
             other => Err(other),
         }
     }
 }
 
-impl SortGroup for LetElses {
-    type Sort = CodePart;
+impl Sorted for LetElses {
+    type Sort = CodeSort;
+}
 
-    type Part = LetElse;
+impl<S, L, A, D, R, F> SortGroup<CodeOf<S, L, A, D, R, F>> for LetElses {
+    type Part = L;
 
     ghost of_sort = { let_else_of };
 
-    fn from_sort(part: CodePart) -> Result<LetElse, CodePart> {
+    fn from_sort(part: CodeOf<S, L, A, D, R, F>) -> Result<L, CodeOf<S, L, A, D, R, F>> {
         match part {
-            CodePart::LetElse(let_else) => Ok(let_else),
+            CodeOf::LetElse(let_else) => Ok(let_else),
             other => Err(other),
         }
     }
 }
 
-impl SortGroup for Arms {
-    type Sort = CodePart;
+impl Sorted for Arms {
+    type Sort = CodeSort;
+}
 
-    type Part = MatchArm;
+impl<S, L, A, D, R, F> SortGroup<CodeOf<S, L, A, D, R, F>> for Arms {
+    type Part = A;
 
     ghost of_sort = { arm_of };
 
-    fn from_sort(part: CodePart) -> Result<MatchArm, CodePart> {
+    fn from_sort(part: CodeOf<S, L, A, D, R, F>) -> Result<A, CodeOf<S, L, A, D, R, F>> {
         match part {
-            CodePart::Arm(arm) => Ok(arm),
+            CodeOf::Arm(arm) => Ok(arm),
             other => Err(other),
         }
     }
 }
 
-impl SortGroup for Guards {
-    type Sort = CodePart;
+impl Sorted for Guards {
+    type Sort = CodeSort;
+}
 
-    type Part = Guard;
+impl<S, L, A, D, R, F> SortGroup<CodeOf<S, L, A, D, R, F>> for Guards {
+    type Part = D;
 
     ghost of_sort = { guard_of };
 
-    fn from_sort(part: CodePart) -> Result<Guard, CodePart> {
+    fn from_sort(part: CodeOf<S, L, A, D, R, F>) -> Result<D, CodeOf<S, L, A, D, R, F>> {
         match part {
-            CodePart::Guard(guard) => Ok(guard),
+            CodeOf::Guard(guard) => Ok(guard),
             other => Err(other),
         }
     }
 }
 
-impl SortGroup for RecordLists {
-    type Sort = CodePart;
+impl Sorted for RecordLists {
+    type Sort = CodeSort;
+}
 
-    type Part = RecordExprFieldList;
+impl<S, L, A, D, R, F> SortGroup<CodeOf<S, L, A, D, R, F>> for RecordLists {
+    type Part = R;
 
     ghost of_sort = { record_list_of };
 
-    fn from_sort(part: CodePart) -> Result<RecordExprFieldList, CodePart> {
+    fn from_sort(part: CodeOf<S, L, A, D, R, F>) -> Result<R, CodeOf<S, L, A, D, R, F>> {
         match part {
-            CodePart::RecordList(list) => Ok(list),
+            CodeOf::RecordList(list) => Ok(list),
             other => Err(other),
         }
     }
 }
 
-impl SortGroup for RecordFields {
-    type Sort = CodePart;
+impl Sorted for RecordFields {
+    type Sort = CodeSort;
+}
 
-    type Part = RecordExprField;
+impl<S, L, A, D, R, F> SortGroup<CodeOf<S, L, A, D, R, F>> for RecordFields {
+    type Part = F;
 
     ghost of_sort = { record_field_of };
 
-    fn from_sort(part: CodePart) -> Result<RecordExprField, CodePart> {
+    fn from_sort(part: CodeOf<S, L, A, D, R, F>) -> Result<F, CodeOf<S, L, A, D, R, F>> {
         match part {
-            CodePart::RecordField(field) => Ok(field),
+            CodeOf::RecordField(field) => Ok(field),
             other => Err(other),
         }
     }

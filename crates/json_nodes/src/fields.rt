@@ -8,7 +8,7 @@ ghost use Rattle.json_nodes.specs.Parts.{list_if_there, list_in, list_with_nulls
 
 use crate::node::{Each, Node, OrNull};
 use crate::param_parts::ParamPart;
-use crate::part::{AnyOf, AnyPart, BoxedGroup, Group, ReadParts};
+use crate::part::{AnyPart, BoxedGroup, Group, ReadParts};
 use hir_base::node::{NodeId, TextRange};
 use hir_base::{Boxed, Seq, Text};
 use hir_syntax::ast::Param;
@@ -191,7 +191,7 @@ impl<P: ReadParts> Fields for Node<'_, P> {
             Ok(()) => params.push_reserved(param),
             Err(_) => {
                 *refused = true;
-                self.parts.let_go(AnyOf::Param(ParamPart::Param(param)));
+                self.parts.let_go(AnyPart::Param(ParamPart::Param(param)));
             }
         }
         Seq::from_vec(params)

@@ -9,7 +9,7 @@ ghost use Rattle.json_nodes.specs.Nodes.{here};
 
 use crate::field::own_text;
 use crate::name_parts::NamePart;
-use crate::part::{AnyOf, AnyPart, BoxedGroup, Group, ReadParts, in_box, served};
+use crate::part::{AnyPart, BoxedGroup, Group, ReadParts, in_box, served};
 use hir_base::node::{NodeId, TextRange};
 use hir_base::{Boxed, Seq, Text};
 use json_faults::value::small;
@@ -102,7 +102,7 @@ impl<P: ReadParts> Node<'_, P> {
     {
         match Text::new(self.alloc, text) {
             Ok(text) => {
-                let part = AnyOf::Name(NamePart::Text(self.id, self.range, text));
+                let part = AnyPart::Name(NamePart::Text(self.id, self.range, text));
                 served::<AnyPart, G, P>(self.parts, part)
             }
             Err(_) => {

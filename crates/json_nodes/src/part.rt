@@ -66,19 +66,22 @@ pub trait Group<A> {
         ensures { result_ok result ≡ as_group part };
 }
 
-/// A group of parts of one sort.
-pub trait SortGroup {
-    ghost use Rattle.std.specs.Prelude.{Option};
-
+/// The groups of one sort of parts.
+pub trait Sorted {
     type Sort;
+}
+
+/// A group of parts of one sort, whose type is `S`.
+pub trait SortGroup<S> {
+    ghost use Rattle.std.specs.Prelude.{Option};
 
     type Part;
 
     /// What a part of the sort is in a field for this group, if it serves there.
-    ghost of_sort: { Self.Sort → Option Self.Part };
+    ghost of_sort: { S → Option Self.Part };
 
     /// The part as one of this group, or as it was where it is of another.
-    fn from_sort(part: Self::Sort) -> Result<Self::Part, Self::Sort>
+    fn from_sort(part: S) -> Result<Self::Part, S>
         ensures { result_ok result ≡ of_sort part };
 }
 
@@ -86,23 +89,27 @@ pub trait SortGroup {
 pub trait PartSort<A> {
     ghost use Rattle.std.specs.Prelude.{Option};
 
+    /// The type of its parts.
+    type Held;
+
     /// A part where it is of this sort.
-    ghost in_part: { A → Option Self };
+    ghost in_part: { A → Option Self.Held };
 
     /// The part as one of a group of this sort, or as it was where it is of another.
-    fn served<G: SortGroup<Sort = Self>>(part: A) -> Result<G::Part, A>
+    fn served<G: SortGroup<Self::Held>>(part: A) -> Result<G::Part, A>
         ensures { result_ok result ≡ option_and_then G.of_sort (in_part part) };
 }
 
-impl<A, G: SortGroup> Group<A> for G
+impl<A, G: Sorted> Group<A> for G
 where
     G::Sort: PartSort<A>,
+    G: SortGroup<<<G as Sorted>::Sort as PartSort<A>>::Held>,
 {
-    type Part = G::Part;
+    type Part = <G as SortGroup<<<G as Sorted>::Sort as PartSort<A>>::Held>>::Part;
 
     ghost as_group = { λ part. option_and_then G.of_sort (G.Sort.in_part part) };
 
-    fn from_part(part: A) -> Result<G::Part, A> {
+    fn from_part(part: A) -> Result<Self::Part, A> {
         G::Sort::served::<G>(part)
     }
 }

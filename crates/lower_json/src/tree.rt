@@ -31,7 +31,7 @@ use json_nodes::operations::operation;
 use json_nodes::others::{function, of_block, of_stmt, other};
 use json_nodes::param_parts::Pats;
 use json_nodes::params::of_param;
-use json_nodes::part::{AnyOf, AnyPart, Group, LetsGo, ReadParts, in_box, served};
+use json_nodes::part::{AnyPart, Group, LetsGo, ReadParts, in_box, served};
 use json_nodes::partless::partless;
 use json_nodes::path_parts::PathPart;
 use json_nodes::paths::{of_path, path};
@@ -126,21 +126,21 @@ fn of_part<F: Fields>(node: &F, refused: &mut bool, kind: PartNode) -> Option<An
     ensures { Kept refused.old refused.new (result ≡ spec.of_part (F.here node.now) kind) }
 {
     if let Some(part) = of_bound(node, refused, kind) {
-        return Some(AnyOf::Type_(part));
+        return Some(AnyPart::Type_(part));
     }
     if let Some(part) = of_branch(node, refused, kind) {
-        return Some(AnyOf::Code(part));
+        return Some(AnyPart::Code(part));
     }
     if let Some(part) = of_record(node, refused, kind) {
-        return Some(AnyOf::Code(part));
+        return Some(AnyPart::Code(part));
     }
     if let Some(part) = of_pat_field(node, refused, kind) {
-        return Some(AnyOf::Pat(part));
+        return Some(AnyPart::Pat(part));
     }
     if let Some(part) = of_param(node, refused, kind) {
-        return Some(AnyOf::Param(part));
+        return Some(AnyPart::Param(part));
     }
-    Some(AnyOf::Name(other(node, refused, kind)?))
+    Some(AnyPart::Name(other(node, refused, kind)?))
 }
 
 /// What stands at a node of a kind.
@@ -150,15 +150,15 @@ fn of_kind<F: Fields>(node: &F, refused: &mut bool, kind: Kind) -> Option<AnyPar
     ensures { Kept refused.old refused.new (result ≡ of_kind (F.here node.now) kind) }
 {
     match kind {
-        Kind::IfExpr => Some(AnyOf::Expr(of_if(node, refused)?)),
-        Kind::BlockExpr => Some(AnyOf::Expr(of_block(node, refused)?)),
-        Kind::Literal => Some(AnyOf::Expr(of_literal(node, refused)?)),
-        Kind::PathType => Some(AnyOf::Type_(of_path_type(node, refused)?)),
-        Kind::Expr(kind) => Some(AnyOf::Expr(of_expr(node, refused, kind)?)),
-        Kind::Stmt(kind) => Some(AnyOf::Code(of_stmt(node, refused, kind)?)),
-        Kind::Pat(kind) => Some(AnyOf::Pat(of_pat(node, refused, kind)?)),
-        Kind::Type_(kind) => Some(AnyOf::Type_(of_type(node, refused, kind)?)),
-        Kind::Path(kind) => Some(AnyOf::Path(of_path_part(node, refused, kind)?)),
+        Kind::IfExpr => Some(AnyPart::Expr(of_if(node, refused)?)),
+        Kind::BlockExpr => Some(AnyPart::Expr(of_block(node, refused)?)),
+        Kind::Literal => Some(AnyPart::Expr(of_literal(node, refused)?)),
+        Kind::PathType => Some(AnyPart::Type_(of_path_type(node, refused)?)),
+        Kind::Expr(kind) => Some(AnyPart::Expr(of_expr(node, refused, kind)?)),
+        Kind::Stmt(kind) => Some(AnyPart::Code(of_stmt(node, refused, kind)?)),
+        Kind::Pat(kind) => Some(AnyPart::Pat(of_pat(node, refused, kind)?)),
+        Kind::Type_(kind) => Some(AnyPart::Type_(of_type(node, refused, kind)?)),
+        Kind::Path(kind) => Some(AnyPart::Path(of_path_part(node, refused, kind)?)),
         Kind::Part(kind) => of_part(node, refused, kind),
     }
 }
