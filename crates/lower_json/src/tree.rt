@@ -10,7 +10,6 @@ ghost use Rattle.lower_json.specs.Reading as spec;
 ghost use Rattle.lower_json.specs.Reading.{of_kind, node_at, tree_of, tree_at};
 
 use crate::document::{Root, Tree};
-use crate::letting_go::let_go;
 use hir_base::Boxed;
 use hir_base::node::{NodeId, TextRange};
 use hir_syntax::ast::{Param, ParamList, Pat};
@@ -31,7 +30,7 @@ use json_nodes::operations::operation;
 use json_nodes::others::{function, of_block, of_stmt, other};
 use json_nodes::param_parts::Pats;
 use json_nodes::params::of_param;
-use json_nodes::part::{AnyPart, Group, LetsGo, ReadParts, in_box, served};
+use json_nodes::part::{AnyPart, Group, ReadParts, in_box, served};
 use json_nodes::partless::partless;
 use json_nodes::path_parts::PathPart;
 use json_nodes::paths::{of_path, path};
@@ -71,12 +70,6 @@ where
 
     fn part_at(&self, alloc: Global, at: u32) -> Result<Option<AnyPart>, AllocError> {
         (self.read)(alloc, self.kinds, self.nodes, self.levels, at)
-    }
-}
-
-impl<F> LetsGo<AnyPart> for Level<'_, '_, F> {
-    fn let_go(&self, part: AnyPart) {
-        let_go(part);
     }
 }
 
