@@ -9,8 +9,8 @@ use Rattle.json_kinds.specs.declared.kind.PathNode.TheVariants as kind
 use Rattle.json_nodes.specs.Fields.{flag_of}
 use Rattle.json_nodes.specs.Groups.{as_expr, as_type, as_name, as_lifetime, as_generic_args, as_generic_arg, as_type_arg, as_bound}
 use Rattle.json_nodes.specs.Parts.{Here, part_in, list_in}
-use Rattle.json_nodes.specs.declared.path_parts.PathPart.{PathPart}
-use Rattle.json_nodes.specs.declared.path_parts.PathPart.TheVariants as path_part
+use Rattle.json_nodes.specs.Any.{PathPart}
+use Rattle.json_nodes.specs.declared.path_parts.PathOf.TheVariants as path_part
 
 unfoldable pub assoc_arg : Here → AssocTypeArg
 assoc_arg h = roll-AssocTypeArg (record {

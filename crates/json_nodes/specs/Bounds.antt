@@ -10,8 +10,8 @@ use Rattle.json_kinds.specs.declared.kind.PartNode.TheVariants as kind
 use Rattle.json_nodes.specs.Fields.{flag_of, text_in}
 use Rattle.json_nodes.specs.Groups.{as_type, as_path_type, as_binder, as_lifetime, as_use_arg}
 use Rattle.json_nodes.specs.Parts.{Here, part_in, list_in, list_with_nulls_in}
-use Rattle.json_nodes.specs.declared.type_parts.TypePart.{TypePart}
-use Rattle.json_nodes.specs.declared.type_parts.TypePart.TheVariants as type_part
+use Rattle.json_nodes.specs.Any.{TypePart}
+use Rattle.json_nodes.specs.declared.type_parts.TypeOf.TheVariants as type_part
 
 -- the word of a kind of bounds
 abbrev pub bound_word : BoundKind → List ℕ

@@ -9,8 +9,8 @@ use Rattle.json_kinds.specs.declared.kind.PartNode.TheVariants as part_kind
 use Rattle.json_nodes.specs.Exprs.{whole_expr}
 use Rattle.json_nodes.specs.Groups.{as_expr, as_block, as_pat, as_arm, as_guard}
 use Rattle.json_nodes.specs.Parts.{Here, part_in, list_if_there}
-use Rattle.json_nodes.specs.declared.code_parts.CodePart.{CodePart}
-use Rattle.json_nodes.specs.declared.code_parts.CodePart.TheVariants as code_part
+use Rattle.json_nodes.specs.Any.{CodePart}
+use Rattle.json_nodes.specs.declared.code_parts.CodeOf.TheVariants as code_part
 use Rattle.json_nodes.specs.declared.code_parts.ExprPart.{ExprPart}
 
 -- what tests a pattern, or some in order

@@ -8,6 +8,8 @@ use Rattle.hir_base.specs.declared.node.PredId.{PredId}
 use Rattle.json_faults.specs.Values.{small_of}
 use Rattle.json_kinds.specs.declared.kind.ExprNode.{ExprNode}
 use Rattle.json_kinds.specs.declared.kind.ExprNode.TheVariants as kind
+use Rattle.hir_base.specs.declared.node.NodeId.{NodeId}
+use Rattle.hir_base.specs.declared.node.TextRange.{TextRange}
 use Rattle.json_nodes.specs.Groups.{as_expr, as_block, as_else, as_pat, as_path, as_label, as_lifetime, as_name, as_generic_args}
 use Rattle.json_nodes.specs.Fields.{flag_of}
 use Rattle.json_nodes.specs.Literals.{literal_of}
@@ -16,8 +18,12 @@ use Rattle.json_nodes.specs.Parts.{Here, part_in, list_in, list_if_there}
 use Rattle.json_nodes.specs.declared.code_parts.ExprPart.{ExprPart}
 use Rattle.json_nodes.specs.declared.code_parts.ExprPart.TheVariants as expr_part
 
+-- an expression of a kind
+abbrev pub expr_at : NodeId → TextRange → ExprKind → ExprPart
+expr_at id range x = expr_part.Expr (record { id = id; range = range; kind = x })
+
 abbrev pub whole_expr : Here → ExprKind → ExprPart
-whole_expr h x = expr_part.Expr (record { id = h.id; range = h.range; kind = x })
+whole_expr h x = expr_at h.id h.range x
 
 unfoldable pub if_expr : Here → ExprKind
 if_expr h = expr.IfExpr

@@ -29,49 +29,50 @@ use Rattle.hir_syntax.specs.declared.ast.Lifetime.{Lifetime}
 use Rattle.hir_syntax.specs.declared.ast.Name.{Name}
 use Rattle.hir_syntax.specs.declared.types.UseArg.{UseArg}
 use Rattle.hir_syntax.specs.declared.types.UseArg.TheVariants as used
-use Rattle.json_nodes.specs.declared.part.AnyPart.{AnyPart}
-use Rattle.json_nodes.specs.declared.part.AnyPart.TheVariants as part
+use Rattle.json_nodes.specs.Any.{AnyPart}
+use Rattle.json_nodes.specs.declared.part.AnyOf.{AnyOf}
+use Rattle.json_nodes.specs.declared.part.AnyOf.TheVariants as part
 use Rattle.json_nodes.specs.declared.code_parts.ExprPart.{ExprPart}
 use Rattle.json_nodes.specs.declared.code_parts.ExprPart.TheVariants as expr_part
-use Rattle.json_nodes.specs.declared.code_parts.CodePart.{CodePart}
-use Rattle.json_nodes.specs.declared.code_parts.CodePart.TheVariants as code_part
+use Rattle.json_nodes.specs.declared.code_parts.CodeOf.{CodeOf}
+use Rattle.json_nodes.specs.declared.code_parts.CodeOf.TheVariants as code_part
 use Rattle.json_nodes.specs.declared.param_parts.PatPart.{PatPart}
 use Rattle.json_nodes.specs.declared.param_parts.PatPart.TheVariants as pat_part
-use Rattle.json_nodes.specs.declared.param_parts.ParamPart.{ParamPart}
-use Rattle.json_nodes.specs.declared.param_parts.ParamPart.TheVariants as param_part
-use Rattle.json_nodes.specs.declared.type_parts.TypePart.{TypePart}
-use Rattle.json_nodes.specs.declared.type_parts.TypePart.TheVariants as type_part
-use Rattle.json_nodes.specs.declared.path_parts.PathPart.{PathPart}
-use Rattle.json_nodes.specs.declared.path_parts.PathPart.TheVariants as path_part
+use Rattle.json_nodes.specs.declared.param_parts.ParamOf.{ParamOf}
+use Rattle.json_nodes.specs.declared.param_parts.ParamOf.TheVariants as param_part
+use Rattle.json_nodes.specs.declared.type_parts.TypeOf.{TypeOf}
+use Rattle.json_nodes.specs.declared.type_parts.TypeOf.TheVariants as type_part
+use Rattle.json_nodes.specs.declared.path_parts.PathOf.{PathOf}
+use Rattle.json_nodes.specs.declared.path_parts.PathOf.TheVariants as path_part
 use Rattle.json_nodes.specs.declared.name_parts.NamePart.{NamePart}
 use Rattle.json_nodes.specs.declared.name_parts.NamePart.TheVariants as name_part
 
 -- a part where it is of the sort
-abbrev pub expr_in : AnyPart → Option ExprPart
+abbrev pub expr_in : {E C P M T H N : Type 0} → AnyOf E C P M T H N → Option E
 expr_in (part.Expr x) = Some x
 expr_in _ = None
 
-abbrev pub code_in : AnyPart → Option CodePart
+abbrev pub code_in : {E C P M T H N : Type 0} → AnyOf E C P M T H N → Option C
 code_in (part.Code x) = Some x
 code_in _ = None
 
-abbrev pub pat_in : AnyPart → Option PatPart
+abbrev pub pat_in : {E C P M T H N : Type 0} → AnyOf E C P M T H N → Option P
 pat_in (part.Pat x) = Some x
 pat_in _ = None
 
-abbrev pub param_in : AnyPart → Option ParamPart
+abbrev pub param_in : {E C P M T H N : Type 0} → AnyOf E C P M T H N → Option M
 param_in (part.Param x) = Some x
 param_in _ = None
 
-abbrev pub type_in : AnyPart → Option TypePart
+abbrev pub type_in : {E C P M T H N : Type 0} → AnyOf E C P M T H N → Option T
 type_in (part.Type_ x) = Some x
 type_in _ = None
 
-abbrev pub path_in : AnyPart → Option PathPart
+abbrev pub path_in : {E C P M T H N : Type 0} → AnyOf E C P M T H N → Option H
 path_in (part.Path x) = Some x
 path_in _ = None
 
-abbrev pub name_in : AnyPart → Option NamePart
+abbrev pub name_in : {E C P M T H N : Type 0} → AnyOf E C P M T H N → Option N
 name_in (part.Name x) = Some x
 name_in _ = None
 
@@ -96,27 +97,27 @@ abbrev pub pat_literal_of : ExprPart → Option PatLiteral
 pat_literal_of (expr_part.Literal id range l) = Some (record { id = id; range = range; literal = l })
 pat_literal_of _ = None
 
-abbrev pub stmt_of : CodePart → Option Stmt
+abbrev pub stmt_of : {S L A D R F : Type 0} → CodeOf S L A D R F → Option S
 stmt_of (code_part.Stmt x) = Some x
 stmt_of _ = None
 
-abbrev pub let_else_of : CodePart → Option (Option BlockExpr)
+abbrev pub let_else_of : {S L A D R F : Type 0} → CodeOf S L A D R F → Option L
 let_else_of (code_part.LetElse x) = Some x
 let_else_of _ = None
 
-abbrev pub arm_of : CodePart → Option MatchArm
+abbrev pub arm_of : {S L A D R F : Type 0} → CodeOf S L A D R F → Option A
 arm_of (code_part.Arm x) = Some x
 arm_of _ = None
 
-abbrev pub guard_of : CodePart → Option (Option Expr)
+abbrev pub guard_of : {S L A D R F : Type 0} → CodeOf S L A D R F → Option D
 guard_of (code_part.Guard x) = Some x
 guard_of _ = None
 
-abbrev pub record_list_of : CodePart → Option RecordExprFieldList
+abbrev pub record_list_of : {S L A D R F : Type 0} → CodeOf S L A D R F → Option R
 record_list_of (code_part.RecordList x) = Some x
 record_list_of _ = None
 
-abbrev pub record_field_of : CodePart → Option RecordExprField
+abbrev pub record_field_of : {S L A D R F : Type 0} → CodeOf S L A D R F → Option F
 record_field_of (code_part.RecordField x) = Some x
 record_field_of _ = None
 
@@ -128,67 +129,67 @@ abbrev pub pat_field_of : PatPart → Option RecordPatField
 pat_field_of (pat_part.PatField x) = Some x
 pat_field_of _ = None
 
-abbrev pub param_of : ParamPart → Option Param
+abbrev pub param_of : {P S L : Type 0} → ParamOf P S L → Option P
 param_of (param_part.Param x) = Some x
 param_of _ = None
 
-abbrev pub self_param_of : ParamPart → Option SelfParam
+abbrev pub self_param_of : {P S L : Type 0} → ParamOf P S L → Option S
 self_param_of (param_part.SelfParam x) = Some x
 self_param_of _ = None
 
-abbrev pub param_list_of : ParamPart → Option ParamList
+abbrev pub param_list_of : {P S L : Type 0} → ParamOf P S L → Option L
 param_list_of (param_part.ParamList x) = Some x
 param_list_of _ = None
 
 -- a path serves as a type
-abbrev pub type_of : TypePart → Option Type_
+abbrev pub type_of : {B F R : Type 0} → TypeOf Type_ PathType B F R → Option Type_
 type_of (type_part.Type_ t) = Some t
 type_of (type_part.PathType t) =
     Some (record { id = (out-PathType t).id; range = (out-PathType t).range; kind = type_kind.PathType (out-PathType t).path })
 type_of _ = None
 
-abbrev pub path_type_of : TypePart → Option PathType
+abbrev pub path_type_of : {T P B F R : Type 0} → TypeOf T P B F R → Option P
 path_type_of (type_part.PathType x) = Some x
 path_type_of _ = None
 
-abbrev pub bound_of : TypePart → Option TypeBound
+abbrev pub bound_of : {T P B F R : Type 0} → TypeOf T P B F R → Option B
 bound_of (type_part.Bound x) = Some x
 bound_of _ = None
 
-abbrev pub binder_of : TypePart → Option ForBinder
+abbrev pub binder_of : {T P B F R : Type 0} → TypeOf T P B F R → Option F
 binder_of (type_part.Binder x) = Some x
 binder_of _ = None
 
-abbrev pub ret_of : TypePart → Option (Option Type_)
+abbrev pub ret_of : {T P B F R : Type 0} → TypeOf T P B F R → Option R
 ret_of (type_part.Ret x) = Some x
 ret_of _ = None
 
-abbrev pub path_of : PathPart → Option Path
+abbrev pub path_of : {P S A T C G R : Type 0} → PathOf P S A T C G R → Option P
 path_of (path_part.Path x) = Some x
 path_of _ = None
 
-abbrev pub segment_of : PathPart → Option PathSegment
+abbrev pub segment_of : {P S A T C G R : Type 0} → PathOf P S A T C G R → Option S
 segment_of (path_part.Segment x) = Some x
 segment_of _ = None
 
-abbrev pub generic_args_of : PathPart → Option (List GenericArg)
+abbrev pub generic_args_of : {P S A T C G R : Type 0} → PathOf P S A T C G R → Option A
 generic_args_of (path_part.GenericArgs x) = Some x
 generic_args_of _ = None
 
-abbrev pub type_arg_of : PathPart → Option (Option Type_)
+abbrev pub type_arg_of : {P S A T C G R : Type 0} → PathOf P S A T C G R → Option T
 type_arg_of (path_part.TypeArg x) = Some x
 type_arg_of _ = None
 
-abbrev pub const_arg_of : PathPart → Option (Option Expr)
+abbrev pub const_arg_of : {P S A T C G R : Type 0} → PathOf P S A T C G R → Option C
 const_arg_of (path_part.ConstArg x) = Some x
 const_arg_of _ = None
 
-abbrev pub paren_args_of : PathPart → Option (List (Option Type_))
+abbrev pub paren_args_of : {P S A T C G R : Type 0} → PathOf P S A T C G R → Option R
 paren_args_of (path_part.ParenArgs x) = Some x
 paren_args_of _ = None
 
 -- a type and a constant serve as arguments
-abbrev pub generic_arg_of : PathPart → Option GenericArg
+abbrev pub generic_arg_of : {P S A R : Type 0} → PathOf P S A (Option Type_) (Option Expr) GenericArg R → Option GenericArg
 generic_arg_of (path_part.GenericArg a) = Some a
 generic_arg_of (path_part.TypeArg a) = Some (arg.TypeArg a)
 generic_arg_of (path_part.ConstArg a) = Some (arg.ConstArg a)

@@ -1,5 +1,6 @@
 pub mod Fields
 pub mod Literals
+pub mod Any
 pub mod Groups
 pub mod Kept
 pub mod Parts

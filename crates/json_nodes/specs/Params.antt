@@ -8,8 +8,8 @@ use Rattle.json_kinds.specs.declared.kind.PartNode.TheVariants as kind
 use Rattle.json_nodes.specs.Fields.{flag_of}
 use Rattle.json_nodes.specs.Groups.{as_name, as_lifetime, as_pat, as_type, as_param, as_self_param}
 use Rattle.json_nodes.specs.Parts.{Here, part_in, list_in}
-use Rattle.json_nodes.specs.declared.param_parts.ParamPart.{ParamPart}
-use Rattle.json_nodes.specs.declared.param_parts.ParamPart.TheVariants as param_part
+use Rattle.json_nodes.specs.Any.{ParamPart}
+use Rattle.json_nodes.specs.declared.param_parts.ParamOf.TheVariants as param_part
 
 unfoldable pub self_param : Here → SelfParam
 self_param h = record {

@@ -6,8 +6,8 @@ use Rattle.json_faults.specs.Values.{small_of}
 use Rattle.json_nodes.specs.Fields.{text_in}
 use Rattle.hir_base.specs.declared.node.NodeId.{NodeId}
 use Rattle.hir_base.specs.declared.node.TextRange.{TextRange}
-use Rattle.json_nodes.specs.declared.part.AnyPart.{AnyPart}
-use Rattle.json_nodes.specs.declared.part.AnyPart.TheVariants as part
+use Rattle.json_nodes.specs.Any.{AnyPart}
+use Rattle.json_nodes.specs.declared.part.AnyOf.TheVariants as part
 use Rattle.json_nodes.specs.declared.name_parts.NamePart.TheVariants as name_part
 
 -- a node, with what stands at each node

@@ -11,8 +11,8 @@ use Rattle.json_kinds.specs.declared.kind.PathNode.TheVariants as kind
 use Rattle.json_nodes.specs.Fields.{flag_of, text_in}
 use Rattle.json_nodes.specs.Groups.{as_path, as_segment, as_name, as_generic_args, as_paren_args, as_ret, as_type, as_path_type}
 use Rattle.json_nodes.specs.Parts.{Here, part_in, list_with_nulls_in}
-use Rattle.json_nodes.specs.declared.path_parts.PathPart.{PathPart}
-use Rattle.json_nodes.specs.declared.path_parts.PathPart.TheVariants as path_part
+use Rattle.json_nodes.specs.Any.{PathPart}
+use Rattle.json_nodes.specs.declared.path_parts.PathOf.TheVariants as path_part
 
 -- the word of a kind of segments
 abbrev pub segment_word : SegmentKind → List ℕ

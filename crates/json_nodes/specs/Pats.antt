@@ -6,6 +6,8 @@ use Rattle.hir_syntax.specs.declared.pats.PatKind.TheVariants as pat
 use Rattle.json_kinds.specs.ByWord.{or_else}
 use Rattle.json_kinds.specs.declared.kind.PatNode.{PatNode}
 use Rattle.json_kinds.specs.declared.kind.PatNode.TheVariants as kind
+use Rattle.hir_base.specs.declared.node.NodeId.{NodeId}
+use Rattle.hir_base.specs.declared.node.TextRange.{TextRange}
 use Rattle.json_nodes.specs.Exprs.{pred_in}
 use Rattle.json_nodes.specs.Fields.{flag_of}
 use Rattle.json_nodes.specs.Groups.{as_pat, as_name, as_path, as_pat_field, as_pat_literal}
@@ -14,8 +16,12 @@ use Rattle.json_nodes.specs.Parts.{Here, part_in, list_in}
 use Rattle.json_nodes.specs.declared.param_parts.PatPart.{PatPart}
 use Rattle.json_nodes.specs.declared.param_parts.PatPart.TheVariants as pat_part
 
+-- a pattern of a kind
+abbrev pub pat_at : NodeId → TextRange → PatKind → PatPart
+pat_at id range x = pat_part.Pat (record { id = id; range = range; kind = x })
+
 abbrev pub whole_pat : Here → PatKind → PatPart
-whole_pat h x = pat_part.Pat (record { id = h.id; range = h.range; kind = x })
+whole_pat h x = pat_at h.id h.range x
 
 -- names and paths, and tuples behind a path or without one
 unfoldable pub named : Here → PatNode → Option PatPart

@@ -14,8 +14,8 @@ use Rattle.json_nodes.specs.Fields.{flag_of}
 use Rattle.json_nodes.specs.Exprs.{whole_expr}
 use Rattle.json_nodes.specs.Groups.{as_expr, as_name, as_param, as_pat, as_path, as_ret, as_type, as_record_list, as_record_field}
 use Rattle.json_nodes.specs.Parts.{Here, part_in, list_in, list_if_there}
-use Rattle.json_nodes.specs.declared.code_parts.CodePart.{CodePart}
-use Rattle.json_nodes.specs.declared.code_parts.CodePart.TheVariants as code_part
+use Rattle.json_nodes.specs.Any.{CodePart}
+use Rattle.json_nodes.specs.declared.code_parts.CodeOf.TheVariants as code_part
 use Rattle.json_nodes.specs.declared.param_parts.PatPart.{PatPart}
 use Rattle.json_nodes.specs.declared.param_parts.PatPart.TheVariants as pat_part
 use Rattle.json_nodes.specs.declared.code_parts.ExprPart.{ExprPart}

@@ -7,14 +7,20 @@ use Rattle.hir_syntax.specs.declared.types.PathType.{roll-PathType}
 use Rattle.json_kinds.specs.ByWord.{or_else}
 use Rattle.json_kinds.specs.declared.kind.TypeNode.{TypeNode}
 use Rattle.json_kinds.specs.declared.kind.TypeNode.TheVariants as kind
+use Rattle.hir_base.specs.declared.node.NodeId.{NodeId}
+use Rattle.hir_base.specs.declared.node.TextRange.{TextRange}
 use Rattle.json_nodes.specs.Fields.{flag_of, text_in}
 use Rattle.json_nodes.specs.Groups.{as_type, as_pat, as_path, as_lifetime, as_const_arg, as_param, as_ret, as_binder, as_bound}
 use Rattle.json_nodes.specs.Parts.{Here, part_in, list_in, list_if_there}
-use Rattle.json_nodes.specs.declared.type_parts.TypePart.{TypePart}
-use Rattle.json_nodes.specs.declared.type_parts.TypePart.TheVariants as type_part
+use Rattle.json_nodes.specs.Any.{TypePart}
+use Rattle.json_nodes.specs.declared.type_parts.TypeOf.TheVariants as type_part
+
+-- a type of a kind
+abbrev pub type_at : NodeId → TextRange → TypeKind → TypePart
+type_at id range x = type_part.Type_ (record { id = id; range = range; kind = x })
 
 abbrev pub whole_type : Here → TypeKind → TypePart
-whole_type h x = type_part.Type_ (record { id = h.id; range = h.range; kind = x })
+whole_type h x = type_at h.id h.range x
 
 -- what is made of other types
 unfoldable pub over_types : Here → TypeNode → Option TypePart

@@ -5,9 +5,9 @@ ghost use Rattle.json_nodes.specs.Kept.{Kept};
 ghost use Rattle.json_nodes.specs.Branches as spec;
 
 use crate::code_parts::{Arms, Blocks, CodePart, ExprPart, Exprs, Guards};
-use crate::exprs::whole_expr;
 use crate::fields::{AllIfThere, Fields, InBox, One};
 use crate::param_parts::Pats;
+use crate::part::whole;
 use hir_syntax::ast::{ExprKind, MatchArm};
 use json_kinds::kind::{ExprNode, PartNode};
 
@@ -21,12 +21,12 @@ pub fn branching<F: Fields>(node: &F, refused: &mut bool, kind: ExprNode) -> Opt
         ExprNode::LetExpr => {
             let pat = node.field::<InBox<Pats>>(refused, "pat");
             let expr = node.field::<InBox<Exprs>>(refused, "expr");
-            whole_expr(node, refused, ExprKind::LetExpr { pat, expr })
+            whole::<Exprs, F>(node, refused, ExprKind::LetExpr { pat, expr })
         }
         ExprNode::MatchExpr => {
             let expr = node.field::<InBox<Exprs>>(refused, "expr");
             let arms = node.field::<AllIfThere<Arms>>(refused, "arms");
-            whole_expr(node, refused, ExprKind::MatchExpr { expr, arms })
+            whole::<Exprs, F>(node, refused, ExprKind::MatchExpr { expr, arms })
         }
         _ => None,
     }

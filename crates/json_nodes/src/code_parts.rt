@@ -1,9 +1,13 @@
 //! Expressions, statements, and their parts.
 
-ghost use Rattle.json_nodes.specs.Groups.{arm_of, block_of, code_in, else_of, expr_in, expr_of, guard_of, let_else_of};
+ghost use Rattle.json_nodes.specs.Groups.{arm_of, block_of, else_of, expr_of, guard_of, let_else_of};
+ghost use Rattle.std.specs.Prelude.{◌≡◌, Some};
+ghost use Rattle.json_nodes.specs.Kept.{Kept};
+ghost use Rattle.json_nodes.specs.Exprs.{expr_at};
 ghost use Rattle.json_nodes.specs.Groups.{pat_literal_of, record_field_of, record_list_of, stmt_of};
 
-use crate::part::{AnyPart, BoxedGroup, PartSort, ReadParts, SortGroup};
+use crate::part::{BoxedGroup, KindGroup, SortGroup, Sorted, in_box};
+use crate::sorts::{CodeSort, ExprSort};
 use hir_base::Boxed;
 use hir_base::node::{NodeId, TextRange};
 use hir_syntax::ast::{
@@ -22,15 +26,18 @@ pub enum ExprPart {
     Literal(NodeId, TextRange, Literal),
 }
 
-/// A part of expressions and statements.
-pub enum CodePart {
-    Stmt(Stmt),
-    LetElse(LetElse),
-    Arm(MatchArm),
-    Guard(Guard),
-    RecordList(RecordExprFieldList),
-    RecordField(RecordExprField),
+/// A part of expressions and statements, whichever types they have.
+pub enum CodeOf<S, L, A, D, R, F> {
+    Stmt(S),
+    LetElse(L),
+    Arm(A),
+    Guard(D),
+    RecordList(R),
+    RecordField(F),
 }
+
+/// A part of expressions and statements.
+pub type CodePart = CodeOf<Stmt, LetElse, MatchArm, Guard, RecordExprFieldList, RecordExprField>;
 
 /// Expressions.
 pub struct Exprs;
@@ -62,37 +69,11 @@ pub struct RecordLists;
 /// Fields of a record.
 pub struct RecordFields;
 
-impl PartSort for ExprPart {
-    ghost in_part = { expr_in };
-
-    fn served<G: SortGroup<Sort = ExprPart>>(part: AnyPart) -> Result<G::Part, AnyPart> {
-        match part {
-            AnyPart::Expr(part) => match G::from_sort(part) {
-                Ok(part) => Ok(part),
-                Err(part) => Err(AnyPart::Expr(part)),
-            },
-            other => Err(other),
-        }
-    }
+impl Sorted for Exprs {
+    type Sort = ExprSort;
 }
 
-impl PartSort for CodePart {
-    ghost in_part = { code_in };
-
-    fn served<G: SortGroup<Sort = CodePart>>(part: AnyPart) -> Result<G::Part, AnyPart> {
-        match part {
-            AnyPart::Code(part) => match G::from_sort(part) {
-                Ok(part) => Ok(part),
-                Err(part) => Err(AnyPart::Code(part)),
-            },
-            other => Err(other),
-        }
-    }
-}
-
-impl SortGroup for Exprs {
-    type Sort = ExprPart;
-
+impl SortGroup<ExprPart> for Exprs {
     type Part = Expr;
 
     ghost of_sort = { expr_of };
@@ -116,19 +97,22 @@ impl SortGroup for Exprs {
 }
 
 impl BoxedGroup for Exprs {
-    fn in_box<P: ReadParts>(
-        parts: &P,
-        alloc: Global,
-        refused: &mut bool,
-        part: Expr,
-    ) -> Option<Boxed<Expr>> {
-        parts.boxed_expr(alloc, refused, part)
+    fn boxed(alloc: Global, refused: &mut bool, part: Expr) -> Option<Boxed<Expr>> {
+        match Boxed::new(alloc, part) {
+            Ok(part) => Some(part),
+            Err(_) => {
+                *refused = true;
+                None
+            }
+        }
     }
 }
 
-impl SortGroup for Elses {
-    type Sort = ExprPart;
+impl Sorted for Elses {
+    type Sort = ExprSort;
+}
 
+impl SortGroup<ExprPart> for Elses {
     type Part = ElseBranch;
 
     ghost of_sort = { else_of };
@@ -142,9 +126,11 @@ impl SortGroup for Elses {
     }
 }
 
-impl SortGroup for Blocks {
-    type Sort = ExprPart;
+impl Sorted for Blocks {
+    type Sort = ExprSort;
+}
 
+impl SortGroup<ExprPart> for Blocks {
     type Part = Boxed<BlockExpr>;
 
     ghost of_sort = { block_of };
@@ -157,9 +143,11 @@ impl SortGroup for Blocks {
     }
 }
 
-impl SortGroup for PatLiterals {
-    type Sort = ExprPart;
+impl Sorted for PatLiterals {
+    type Sort = ExprSort;
+}
 
+impl SortGroup<ExprPart> for PatLiterals {
     type Part = PatLiteral;
 
     ghost of_sort = { pat_literal_of };
@@ -172,92 +160,136 @@ impl SortGroup for PatLiterals {
     }
 }
 
-impl SortGroup for Stmts {
-    type Sort = CodePart;
+impl Sorted for Stmts {
+    type Sort = CodeSort;
+}
 
-    type Part = Stmt;
+impl<S, L, A, D, R, F> SortGroup<CodeOf<S, L, A, D, R, F>> for Stmts {
+    type Part = S;
 
     ghost of_sort = { stmt_of };
 
-    fn from_sort(part: CodePart) -> Result<Stmt, CodePart> {
+    fn from_sort(part: CodeOf<S, L, A, D, R, F>) -> Result<S, CodeOf<S, L, A, D, R, F>> {
         match part {
-            CodePart::Stmt(stmt) => Ok(stmt),
+            CodeOf::Stmt(stmt) => Ok(stmt),
             other => Err(other),
         }
     }
 }
 
-impl SortGroup for LetElses {
-    type Sort = CodePart;
+impl Sorted for LetElses {
+    type Sort = CodeSort;
+}
 
-    type Part = LetElse;
+impl<S, L, A, D, R, F> SortGroup<CodeOf<S, L, A, D, R, F>> for LetElses {
+    type Part = L;
 
     ghost of_sort = { let_else_of };
 
-    fn from_sort(part: CodePart) -> Result<LetElse, CodePart> {
+    fn from_sort(part: CodeOf<S, L, A, D, R, F>) -> Result<L, CodeOf<S, L, A, D, R, F>> {
         match part {
-            CodePart::LetElse(let_else) => Ok(let_else),
+            CodeOf::LetElse(let_else) => Ok(let_else),
             other => Err(other),
         }
     }
 }
 
-impl SortGroup for Arms {
-    type Sort = CodePart;
+impl Sorted for Arms {
+    type Sort = CodeSort;
+}
 
-    type Part = MatchArm;
+impl<S, L, A, D, R, F> SortGroup<CodeOf<S, L, A, D, R, F>> for Arms {
+    type Part = A;
 
     ghost of_sort = { arm_of };
 
-    fn from_sort(part: CodePart) -> Result<MatchArm, CodePart> {
+    fn from_sort(part: CodeOf<S, L, A, D, R, F>) -> Result<A, CodeOf<S, L, A, D, R, F>> {
         match part {
-            CodePart::Arm(arm) => Ok(arm),
+            CodeOf::Arm(arm) => Ok(arm),
             other => Err(other),
         }
     }
 }
 
-impl SortGroup for Guards {
-    type Sort = CodePart;
+impl Sorted for Guards {
+    type Sort = CodeSort;
+}
 
-    type Part = Guard;
+impl<S, L, A, D, R, F> SortGroup<CodeOf<S, L, A, D, R, F>> for Guards {
+    type Part = D;
 
     ghost of_sort = { guard_of };
 
-    fn from_sort(part: CodePart) -> Result<Guard, CodePart> {
+    fn from_sort(part: CodeOf<S, L, A, D, R, F>) -> Result<D, CodeOf<S, L, A, D, R, F>> {
         match part {
-            CodePart::Guard(guard) => Ok(guard),
+            CodeOf::Guard(guard) => Ok(guard),
             other => Err(other),
         }
     }
 }
 
-impl SortGroup for RecordLists {
-    type Sort = CodePart;
+impl Sorted for RecordLists {
+    type Sort = CodeSort;
+}
 
-    type Part = RecordExprFieldList;
+impl<S, L, A, D, R, F> SortGroup<CodeOf<S, L, A, D, R, F>> for RecordLists {
+    type Part = R;
 
     ghost of_sort = { record_list_of };
 
-    fn from_sort(part: CodePart) -> Result<RecordExprFieldList, CodePart> {
+    fn from_sort(part: CodeOf<S, L, A, D, R, F>) -> Result<R, CodeOf<S, L, A, D, R, F>> {
         match part {
-            CodePart::RecordList(list) => Ok(list),
+            CodeOf::RecordList(list) => Ok(list),
             other => Err(other),
         }
     }
 }
 
-impl SortGroup for RecordFields {
-    type Sort = CodePart;
+impl Sorted for RecordFields {
+    type Sort = CodeSort;
+}
 
-    type Part = RecordExprField;
+impl<S, L, A, D, R, F> SortGroup<CodeOf<S, L, A, D, R, F>> for RecordFields {
+    type Part = F;
 
     ghost of_sort = { record_field_of };
 
-    fn from_sort(part: CodePart) -> Result<RecordExprField, CodePart> {
+    fn from_sort(part: CodeOf<S, L, A, D, R, F>) -> Result<F, CodeOf<S, L, A, D, R, F>> {
         match part {
-            CodePart::RecordField(field) => Ok(field),
+            CodeOf::RecordField(field) => Ok(field),
             other => Err(other),
+        }
+    }
+}
+
+impl KindGroup for Exprs {
+    type Kind = ExprKind;
+
+    type Whole = ExprPart;
+
+    ghost made = { expr_at };
+
+    fn make(
+        alloc: Global,
+        refused: &mut bool,
+        id: NodeId,
+        range: TextRange,
+        kind: ExprKind,
+    ) -> Option<ExprPart> {
+        let expr = in_box::<Exprs>(alloc, refused, Expr { id, range, kind })?;
+        Some(ExprPart::Expr(expr))
+    }
+}
+
+/// A block in a box. Where memory is refused it sets `refused` and answers none.
+pub fn block_in_box(alloc: Global, refused: &mut bool, block: BlockExpr) -> Option<Boxed<BlockExpr>>
+    ensures { Kept refused.old refused.new (result ≡ Some block) }
+{
+    match Boxed::new(alloc, block) {
+        Ok(block) => Some(block),
+        Err(_) => {
+            *refused = true;
+            None
         }
     }
 }

@@ -1,6 +1,6 @@
 //! Expressions of the core, by their kind.
 
-ghost use Rattle.std.specs.Prelude.{◌≡◌, Some};
+ghost use Rattle.std.specs.Prelude.{◌≡◌};
 ghost use Rattle.json_nodes.specs.Kept.{Kept};
 ghost use Rattle.json_nodes.specs.Exprs as spec;
 
@@ -10,22 +10,10 @@ use crate::literal::literal;
 use crate::name_parts::{Labels, Lifetimes};
 use crate::operators::range_op;
 use crate::param_parts::Pats;
+use crate::part::{in_box, whole};
 use crate::path_parts::Paths;
 use hir_syntax::ast::{Expr, ExprKind};
 use json_kinds::kind::ExprNode;
-
-/// An expression of a kind, in a box.
-pub fn whole_expr<F: Fields>(node: &F, refused: &mut bool, kind: ExprKind) -> Option<ExprPart>
-    ensures { Kept refused.old refused.new (result ≡ Some (spec.whole_expr (F.here node.now) kind)) }
-{
-    let expr = Expr {
-        id: node.id(),
-        range: node.range(),
-        kind,
-    };
-    let expr = node.boxed_expr(refused, expr)?;
-    Some(ExprPart::Expr(expr))
-}
 
 #[tactic(auto, unfolding(crate::specs::Exprs::if_expr))]
 fn if_expr<F: Fields>(node: &F, refused: &mut bool) -> ExprKind
@@ -52,7 +40,7 @@ pub fn of_if<F: Fields>(node: &F, refused: &mut bool) -> Option<ExprPart>
         range: node.range(),
         kind: if_expr(node, refused),
     };
-    let expr = node.boxed_expr(refused, expr)?;
+    let expr = in_box::<Exprs>(node.alloc(), refused, expr)?;
     Some(ExprPart::If(expr))
 }
 
@@ -80,13 +68,13 @@ pub fn flow<F: Fields>(node: &F, refused: &mut bool, kind: ExprNode) -> Option<E
         ExprNode::LoopExpr => {
             let label = node.field::<One<Labels>>(refused, "label");
             let body = node.field::<One<Blocks>>(refused, "body");
-            whole_expr(node, refused, ExprKind::LoopExpr { label, body })
+            whole::<Exprs, F>(node, refused, ExprKind::LoopExpr { label, body })
         }
         ExprNode::WhileExpr => {
             let label = node.field::<One<Labels>>(refused, "label");
             let condition = node.field::<InBox<Exprs>>(refused, "condition");
             let body = node.field::<One<Blocks>>(refused, "body");
-            whole_expr(
+            whole::<Exprs, F>(
                 node,
                 refused,
                 ExprKind::WhileExpr {
@@ -101,7 +89,7 @@ pub fn flow<F: Fields>(node: &F, refused: &mut bool, kind: ExprNode) -> Option<E
             let pat = node.field::<InBox<Pats>>(refused, "pat");
             let iterable = node.field::<InBox<Exprs>>(refused, "iterable");
             let body = node.field::<One<Blocks>>(refused, "body");
-            whole_expr(
+            whole::<Exprs, F>(
                 node,
                 refused,
                 ExprKind::ForExpr {
@@ -114,16 +102,16 @@ pub fn flow<F: Fields>(node: &F, refused: &mut bool, kind: ExprNode) -> Option<E
         }
         ExprNode::TryExpr => {
             let expr = node.field::<InBox<Exprs>>(refused, "expr");
-            whole_expr(node, refused, ExprKind::TryExpr { expr })
+            whole::<Exprs, F>(node, refused, ExprKind::TryExpr { expr })
         }
         ExprNode::ContinueExpr => {
             let lifetime = node.field::<One<Lifetimes>>(refused, "lifetime");
-            whole_expr(node, refused, ExprKind::ContinueExpr { lifetime })
+            whole::<Exprs, F>(node, refused, ExprKind::ContinueExpr { lifetime })
         }
         ExprNode::BreakExpr => {
             let lifetime = node.field::<One<Lifetimes>>(refused, "lifetime");
             let expr = node.field::<InBox<Exprs>>(refused, "expr");
-            whole_expr(node, refused, ExprKind::BreakExpr { lifetime, expr })
+            whole::<Exprs, F>(node, refused, ExprKind::BreakExpr { lifetime, expr })
         }
         _ => None,
     }
@@ -139,21 +127,21 @@ pub fn plain<F: Fields>(node: &F, refused: &mut bool, kind: ExprNode) -> Option<
         ExprNode::CallExpr => {
             let expr = node.field::<InBox<Exprs>>(refused, "expr");
             let args = node.field::<AllIfThere<Exprs>>(refused, "args");
-            whole_expr(node, refused, ExprKind::CallExpr { expr, args })
+            whole::<Exprs, F>(node, refused, ExprKind::CallExpr { expr, args })
         }
         ExprNode::PathExpr => {
             let path = node.field::<InBox<Paths>>(refused, "path");
-            whole_expr(node, refused, ExprKind::PathExpr { path })
+            whole::<Exprs, F>(node, refused, ExprKind::PathExpr { path })
         }
         ExprNode::ParenExpr => {
             let expr = node.field::<InBox<Exprs>>(refused, "expr");
-            whole_expr(node, refused, ExprKind::ParenExpr { expr })
+            whole::<Exprs, F>(node, refused, ExprKind::ParenExpr { expr })
         }
         ExprNode::RangeExpr => {
             let start = node.field::<InBox<Exprs>>(refused, "start");
             let end = node.field::<InBox<Exprs>>(refused, "end");
             let op = range_op(node.value());
-            whole_expr(node, refused, ExprKind::RangeExpr { op, start, end })
+            whole::<Exprs, F>(node, refused, ExprKind::RangeExpr { op, start, end })
         }
         _ => None,
     }

@@ -1,6 +1,6 @@
 //! A node as what reads its kind sees it: through a type parameter, so that none of the functions of kinds may drop a tree.
 
-ghost use Rattle.std.specs.Prelude.{◌≡◌, [], ◌∷◌, Some};
+ghost use Rattle.std.specs.Prelude.{◌≡◌, [], ◌∷◌};
 ghost use Rattle.serde_json.specs.View.{view};
 ghost use Rattle.json_nodes.specs.Kept.{Kept};
 ghost use Rattle.json_nodes.specs.Nodes.{here};
@@ -11,7 +11,7 @@ use crate::param_parts::ParamPart;
 use crate::part::{AnyPart, BoxedGroup, Group, ReadParts};
 use hir_base::node::{NodeId, TextRange};
 use hir_base::{Boxed, Seq, Text};
-use hir_syntax::ast::{BlockExpr, Expr, Param, Pat, Type_};
+use hir_syntax::ast::Param;
 use serde_json::Value;
 use std::alloc::Global;
 use std::marker::PhantomData;
@@ -59,7 +59,7 @@ pub struct AllOrNulls<G> {
 /// A text.
 pub struct Written;
 
-impl<G: Group> Field for One<G> {
+impl<G: Group<AnyPart>> Field for One<G> {
     type Held = Option<G::Part>;
 
     ghost said = { λ h name. part_in h G.as_group name };
@@ -83,7 +83,7 @@ impl<G: BoxedGroup> Field for InBox<G> {
     }
 }
 
-impl<G: Group> Field for All<G> {
+impl<G: Group<AnyPart>> Field for All<G> {
     type Held = Seq<G::Part>;
 
     ghost said = { λ h name. list_in h G.as_group name };
@@ -93,7 +93,7 @@ impl<G: Group> Field for All<G> {
     }
 }
 
-impl<G: Group> Field for AllIfThere<G> {
+impl<G: Group<AnyPart>> Field for AllIfThere<G> {
     type Held = Option<Seq<G::Part>>;
 
     ghost said = { λ h name. list_if_there h G.as_group name };
@@ -107,7 +107,7 @@ impl<G: Group> Field for AllIfThere<G> {
     }
 }
 
-impl<G: Group> Field for AllOrNulls<G> {
+impl<G: Group<AnyPart>> Field for AllOrNulls<G> {
     type Held = Seq<Option<G::Part>>;
 
     ghost said = { λ h name. list_with_nulls_in h G.as_group name };
@@ -158,18 +158,6 @@ pub trait Fields {
     /// A parameter as the only one of a list.
     fn only_param(&self, refused: &mut bool, param: Param) -> Seq<Param>
         ensures { Kept refused.old refused.new (result ≡ param ∷ []) };
-
-    fn boxed_expr(&self, refused: &mut bool, expr: Expr) -> Option<Boxed<Expr>>
-        ensures { Kept refused.old refused.new (result ≡ Some expr) };
-
-    fn boxed_block(&self, refused: &mut bool, block: BlockExpr) -> Option<Boxed<BlockExpr>>
-        ensures { Kept refused.old refused.new (result ≡ Some block) };
-
-    fn boxed_pat(&self, refused: &mut bool, pat: Pat) -> Option<Boxed<Pat>>
-        ensures { Kept refused.old refused.new (result ≡ Some pat) };
-
-    fn boxed_type(&self, refused: &mut bool, ty: Type_) -> Option<Boxed<Type_>>
-        ensures { Kept refused.old refused.new (result ≡ Some ty) };
 }
 
 impl<P: ReadParts> Fields for Node<'_, P> {
@@ -207,21 +195,5 @@ impl<P: ReadParts> Fields for Node<'_, P> {
             }
         }
         Seq::from_vec(params)
-    }
-
-    fn boxed_expr(&self, refused: &mut bool, expr: Expr) -> Option<Boxed<Expr>> {
-        self.parts.boxed_expr(self.alloc, refused, expr)
-    }
-
-    fn boxed_block(&self, refused: &mut bool, block: BlockExpr) -> Option<Boxed<BlockExpr>> {
-        self.parts.boxed_block(self.alloc, refused, block)
-    }
-
-    fn boxed_pat(&self, refused: &mut bool, pat: Pat) -> Option<Boxed<Pat>> {
-        self.parts.boxed_pat(self.alloc, refused, pat)
-    }
-
-    fn boxed_type(&self, refused: &mut bool, ty: Type_) -> Option<Boxed<Type_>> {
-        self.parts.boxed_type(self.alloc, refused, ty)
     }
 }

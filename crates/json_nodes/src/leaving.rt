@@ -5,8 +5,8 @@ ghost use Rattle.json_nodes.specs.Kept.{Kept};
 ghost use Rattle.json_nodes.specs.Exprs as spec;
 
 use crate::code_parts::{ExprPart, Exprs};
-use crate::exprs::whole_expr;
 use crate::fields::{Fields, InBox};
+use crate::part::whole;
 use hir_syntax::ast::ExprKind;
 use json_kinds::kind::ExprNode;
 
@@ -19,23 +19,23 @@ pub fn leaving<F: Fields>(node: &F, refused: &mut bool, kind: ExprNode) -> Optio
     match kind {
         ExprNode::ReturnExpr => {
             let expr = node.field::<InBox<Exprs>>(refused, "expr");
-            whole_expr(node, refused, ExprKind::ReturnExpr { expr })
+            whole::<Exprs, F>(node, refused, ExprKind::ReturnExpr { expr })
         }
         ExprNode::BecomeExpr => {
             let expr = node.field::<InBox<Exprs>>(refused, "expr");
-            whole_expr(node, refused, ExprKind::BecomeExpr { expr })
+            whole::<Exprs, F>(node, refused, ExprKind::BecomeExpr { expr })
         }
         ExprNode::YieldExpr => {
             let expr = node.field::<InBox<Exprs>>(refused, "expr");
-            whole_expr(node, refused, ExprKind::YieldExpr { expr })
+            whole::<Exprs, F>(node, refused, ExprKind::YieldExpr { expr })
         }
         ExprNode::YeetExpr => {
             let expr = node.field::<InBox<Exprs>>(refused, "expr");
-            whole_expr(node, refused, ExprKind::YeetExpr { expr })
+            whole::<Exprs, F>(node, refused, ExprKind::YeetExpr { expr })
         }
         ExprNode::AwaitExpr => {
             let expr = node.field::<InBox<Exprs>>(refused, "expr");
-            whole_expr(node, refused, ExprKind::AwaitExpr { expr })
+            whole::<Exprs, F>(node, refused, ExprKind::AwaitExpr { expr })
         }
         _ => None,
     }

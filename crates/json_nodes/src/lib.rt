@@ -23,6 +23,7 @@ pub mod partless;
 pub mod path_parts;
 pub mod paths;
 pub mod pats;
+pub mod sorts;
 pub mod type_parts;
 pub mod typed;
 pub mod types;

@@ -5,10 +5,10 @@ ghost use Rattle.json_nodes.specs.Kept.{Kept};
 ghost use Rattle.json_nodes.specs.Exprs as spec;
 
 use crate::code_parts::{ExprPart, Exprs};
-use crate::exprs::whole_expr;
 use crate::field::flag;
 use crate::fields::{All, AllIfThere, Fields, InBox, One};
 use crate::name_parts::Names;
+use crate::part::whole;
 use crate::path_parts::GenericArgLists;
 use hir_syntax::ast::ExprKind;
 use json_kinds::kind::ExprNode;
@@ -41,7 +41,7 @@ pub fn member<F: Fields>(node: &F, refused: &mut bool, kind: ExprNode) -> Option
             let name = node.field::<One<Names>>(refused, "name");
             let generics = node.field::<One<GenericArgLists>>(refused, "generics");
             let args = node.field::<AllIfThere<Exprs>>(refused, "args");
-            whole_expr(
+            whole::<Exprs, F>(
                 node,
                 refused,
                 ExprKind::MethodCallExpr {
@@ -55,11 +55,11 @@ pub fn member<F: Fields>(node: &F, refused: &mut bool, kind: ExprNode) -> Option
         ExprNode::FieldExpr => {
             let expr = node.field::<InBox<Exprs>>(refused, "expr");
             let name = node.field::<One<Names>>(refused, "name");
-            whole_expr(node, refused, ExprKind::FieldExpr { expr, name })
+            whole::<Exprs, F>(node, refused, ExprKind::FieldExpr { expr, name })
         }
         ExprNode::TupleExpr => {
             let fields = node.field::<All<Exprs>>(refused, "fields");
-            whole_expr(
+            whole::<Exprs, F>(
                 node,
                 refused,
                 ExprKind::TupleExpr {
@@ -70,7 +70,7 @@ pub fn member<F: Fields>(node: &F, refused: &mut bool, kind: ExprNode) -> Option
         }
         ExprNode::ArrayExpr => {
             let kind = array(node, refused);
-            whole_expr(node, refused, kind)
+            whole::<Exprs, F>(node, refused, kind)
         }
         _ => None,
     }

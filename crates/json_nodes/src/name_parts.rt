@@ -1,10 +1,11 @@
 //! Names, lifetimes and labels.
 
 ghost use Rattle.std.specs.Prelude.{◌≡◌, Some};
-ghost use Rattle.json_nodes.specs.Groups.{is_quoted, label_of, lifetime_of, name_in, name_of, use_arg_of};
+ghost use Rattle.json_nodes.specs.Groups.{is_quoted, label_of, lifetime_of, name_of, use_arg_of};
 ghost use Rattle.json_nodes.specs.declared.name_parts.NamePart.TheVariants as name_part;
 
-use crate::part::{AnyPart, PartSort, SortGroup};
+use crate::part::{SortGroup, Sorted};
+use crate::sorts::NameSort;
 use hir_base::Text;
 use hir_base::node::{NodeId, TextRange};
 use hir_syntax::ast::{Label, Lifetime, Name, UseArg};
@@ -51,23 +52,11 @@ fn use_arg(id: NodeId, range: TextRange, t: Text) -> UseArg
     }
 }
 
-impl PartSort for NamePart {
-    ghost in_part = { name_in };
-
-    fn served<G: SortGroup<Sort = NamePart>>(part: AnyPart) -> Result<G::Part, AnyPart> {
-        match part {
-            AnyPart::Name(part) => match G::from_sort(part) {
-                Ok(part) => Ok(part),
-                Err(part) => Err(AnyPart::Name(part)),
-            },
-            other => Err(other),
-        }
-    }
+impl Sorted for Labels {
+    type Sort = NameSort;
 }
 
-impl SortGroup for Labels {
-    type Sort = NamePart;
-
+impl SortGroup<NamePart> for Labels {
     type Part = Label;
 
     ghost of_sort = { label_of };
@@ -80,9 +69,11 @@ impl SortGroup for Labels {
     }
 }
 
-impl SortGroup for Lifetimes {
-    type Sort = NamePart;
+impl Sorted for Lifetimes {
+    type Sort = NameSort;
+}
 
+impl SortGroup<NamePart> for Lifetimes {
     type Part = Lifetime;
 
     ghost of_sort = { lifetime_of };
@@ -96,9 +87,11 @@ impl SortGroup for Lifetimes {
     }
 }
 
-impl SortGroup for Names {
-    type Sort = NamePart;
+impl Sorted for Names {
+    type Sort = NameSort;
+}
 
+impl SortGroup<NamePart> for Names {
     type Part = Name;
 
     ghost of_sort = { name_of };
@@ -112,9 +105,11 @@ impl SortGroup for Names {
     }
 }
 
-impl SortGroup for UseArgs {
-    type Sort = NamePart;
+impl Sorted for UseArgs {
+    type Sort = NameSort;
+}
 
+impl SortGroup<NamePart> for UseArgs {
     type Part = UseArg;
 
     ghost of_sort = { use_arg_of };

@@ -9,7 +9,7 @@ ghost use Rattle.json_nodes.specs.Nodes.{here};
 
 use crate::field::own_text;
 use crate::name_parts::NamePart;
-use crate::part::{AnyPart, BoxedGroup, Group, ReadParts};
+use crate::part::{AnyPart, BoxedGroup, Group, ReadParts, in_box, served};
 use hir_base::node::{NodeId, TextRange};
 use hir_base::{Boxed, Seq, Text};
 use json_faults::value::small;
@@ -60,7 +60,7 @@ pub struct OrNull<G> {
     group: PhantomData<G>,
 }
 
-impl<G: Group> Item for Each<G> {
+impl<G: Group<AnyPart>> Item for Each<G> {
     type Held = G::Part;
 
     ghost said = { λ h d. spec.child h G.as_group d };
@@ -74,7 +74,7 @@ impl<G: Group> Item for Each<G> {
     }
 }
 
-impl<G: Group> Item for OrNull<G> {
+impl<G: Group<AnyPart>> Item for OrNull<G> {
     type Held = Option<G::Part>;
 
     ghost said = { λ h d. or_null (spec.child h G.as_group) d };
@@ -95,26 +95,16 @@ impl<G: Group> Item for OrNull<G> {
 }
 
 impl<P: ReadParts> Node<'_, P> {
-    /// A part in a group, if it serves there.
-    pub fn served<G: Group>(&self, part: AnyPart) -> Option<G::Part>
-        ensures { result ≡ G.as_group part }
-    {
-        match G::from_part(part) {
-            Ok(part) => Some(part),
-            Err(part) => {
-                self.parts.let_go(part);
-                None
-            }
-        }
-    }
-
     /// A text as a part.
-    fn written<G: Group>(&self, refused: &mut bool, text: &str) -> Option<G::Part>
+    fn written<G: Group<AnyPart>>(&self, refused: &mut bool, text: &str) -> Option<G::Part>
         ensures { Kept refused.old refused.new
             (result ≡ option_and_then G.as_group (spec.text_part (here P.parts self.now) text.now)) }
     {
         match Text::new(self.alloc, text) {
-            Ok(text) => self.served::<G>(AnyPart::Name(NamePart::Text(self.id, self.range, text))),
+            Ok(text) => {
+                let part = AnyPart::Name(NamePart::Text(self.id, self.range, text));
+                served::<AnyPart, G, P>(self.parts, part)
+            }
             Err(_) => {
                 *refused = true;
                 None
@@ -123,13 +113,13 @@ impl<P: ReadParts> Node<'_, P> {
     }
 
     /// The part that stands at an index.
-    fn part_at<G: Group>(&self, refused: &mut bool, at: u32) -> Option<G::Part>
+    fn part_at<G: Group<AnyPart>>(&self, refused: &mut bool, at: u32) -> Option<G::Part>
         requires { P.can self.now.parts.now }
         ensures { Kept refused.old refused.new
             (result ≡ option_and_then G.as_group ((here P.parts self.now).part at)) }
     {
         match self.parts.part_at(self.alloc, at) {
-            Ok(Some(part)) => self.served::<G>(part),
+            Ok(Some(part)) => served::<AnyPart, G, P>(self.parts, part),
             Ok(None) => None,
             Err(_) => {
                 *refused = true;
@@ -139,7 +129,7 @@ impl<P: ReadParts> Node<'_, P> {
     }
 
     /// The part that a value is, as a text, or names, by its index.
-    pub fn child<G: Group>(&self, refused: &mut bool, value: &Value) -> Option<G::Part>
+    pub fn child<G: Group<AnyPart>>(&self, refused: &mut bool, value: &Value) -> Option<G::Part>
         requires { P.can self.now.parts.now }
         ensures { Kept refused.old refused.new (result ≡ spec.child (here P.parts self.now) G.as_group (view value.now)) }
     {
@@ -153,7 +143,7 @@ impl<P: ReadParts> Node<'_, P> {
     }
 
     /// The part in a field.
-    pub fn part<G: Group>(&self, refused: &mut bool, field: &str) -> Option<G::Part>
+    pub fn part<G: Group<AnyPart>>(&self, refused: &mut bool, field: &str) -> Option<G::Part>
         requires { P.can self.now.parts.now }
         ensures { Kept refused.old refused.new (result ≡ spec.part_in (here P.parts self.now) G.as_group field.now) }
     {
@@ -169,7 +159,7 @@ impl<P: ReadParts> Node<'_, P> {
         ensures { Kept refused.old refused.new (result ≡ spec.part_in (here P.parts self.now) G.as_group field.now) }
     {
         match self.part::<G>(refused, field) {
-            Some(part) => G::in_box(self.parts, self.alloc, refused, part),
+            Some(part) => in_box::<G>(self.alloc, refused, part),
             None => None,
         }
     }

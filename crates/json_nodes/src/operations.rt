@@ -5,10 +5,10 @@ ghost use Rattle.json_nodes.specs.Kept.{Kept};
 ghost use Rattle.json_nodes.specs.Exprs as spec;
 
 use crate::code_parts::{ExprPart, Exprs};
-use crate::exprs::whole_expr;
 use crate::field::flag;
 use crate::fields::{Fields, InBox};
 use crate::operators::{binary_op, unary_op};
+use crate::part::whole;
 use hir_syntax::ast::ExprKind;
 use json_kinds::kind::ExprNode;
 
@@ -22,22 +22,22 @@ pub fn operation<F: Fields>(node: &F, refused: &mut bool, kind: ExprNode) -> Opt
         ExprNode::PrefixExpr => {
             let expr = node.field::<InBox<Exprs>>(refused, "expr");
             let op = unary_op(node.value());
-            whole_expr(node, refused, ExprKind::PrefixExpr { op, expr })
+            whole::<Exprs, F>(node, refused, ExprKind::PrefixExpr { op, expr })
         }
         ExprNode::BinExpr => {
             let lhs = node.field::<InBox<Exprs>>(refused, "lhs");
             let rhs = node.field::<InBox<Exprs>>(refused, "rhs");
             let op = binary_op(node.value());
-            whole_expr(node, refused, ExprKind::BinExpr { op, lhs, rhs })
+            whole::<Exprs, F>(node, refused, ExprKind::BinExpr { op, lhs, rhs })
         }
         ExprNode::IndexExpr => {
             let base = node.field::<InBox<Exprs>>(refused, "base");
             let index = node.field::<InBox<Exprs>>(refused, "index");
-            whole_expr(node, refused, ExprKind::IndexExpr { base, index })
+            whole::<Exprs, F>(node, refused, ExprKind::IndexExpr { base, index })
         }
         ExprNode::RefExpr => {
             let expr = node.field::<InBox<Exprs>>(refused, "expr");
-            whole_expr(
+            whole::<Exprs, F>(
                 node,
                 refused,
                 ExprKind::RefExpr {

@@ -6,7 +6,7 @@ ghost use Rattle.json_nodes.specs.Kept.{Kept};
 ghost use Rattle.json_nodes.specs.Fields.{text_in};
 ghost use Rattle.json_nodes.specs.Others as spec;
 
-use crate::code_parts::{CodePart, ExprPart, Exprs, LetElses, Stmts};
+use crate::code_parts::{CodePart, ExprPart, Exprs, LetElses, Stmts, block_in_box};
 use crate::field::{flag, text};
 use crate::fields::{All, Fields, InBox, One, Written};
 use crate::name_parts::{Labels, Lifetimes, NamePart};
@@ -96,7 +96,7 @@ pub fn of_block<F: Fields>(node: &F, refused: &mut bool) -> Option<ExprPart>
         stmts,
         tail,
     };
-    let block = node.boxed_block(refused, block)?;
+    let block = block_in_box(node.alloc(), refused, block)?;
     Some(ExprPart::Block(block))
 }
 

@@ -1,10 +1,13 @@
 //! Patterns and parameters.
 
-ghost use Rattle.json_nodes.specs.Groups.{param_in, param_list_of, param_of, pat_field_of, pat_in, pat_of, self_param_of};
+ghost use Rattle.json_nodes.specs.Pats.{pat_at};
+ghost use Rattle.json_nodes.specs.Groups.{param_list_of, param_of, pat_field_of, pat_of, self_param_of};
 
-use crate::part::{AnyPart, BoxedGroup, PartSort, ReadParts, SortGroup};
+use crate::part::{BoxedGroup, KindGroup, SortGroup, Sorted, in_box};
+use crate::sorts::{ParamSort, PatSort};
 use hir_base::Boxed;
-use hir_syntax::ast::{Param, ParamList, Pat, RecordPatField, SelfParam};
+use hir_base::node::{NodeId, TextRange};
+use hir_syntax::ast::{Param, ParamList, Pat, PatKind, RecordPatField, SelfParam};
 use std::alloc::Global;
 
 /// A pattern, or a field of one.
@@ -13,12 +16,15 @@ pub enum PatPart {
     PatField(RecordPatField),
 }
 
-/// What parameters are made of.
-pub enum ParamPart {
-    Param(Param),
-    SelfParam(SelfParam),
-    ParamList(ParamList),
+/// What parameters are made of, whichever types they have.
+pub enum ParamOf<P, S, L> {
+    Param(P),
+    SelfParam(S),
+    ParamList(L),
 }
+
+/// What parameters are made of.
+pub type ParamPart = ParamOf<Param, SelfParam, ParamList>;
 
 /// Patterns.
 pub struct Pats;
@@ -35,37 +41,11 @@ pub struct SelfParams;
 /// All parameters of a function.
 pub struct ParamLists;
 
-impl PartSort for PatPart {
-    ghost in_part = { pat_in };
-
-    fn served<G: SortGroup<Sort = PatPart>>(part: AnyPart) -> Result<G::Part, AnyPart> {
-        match part {
-            AnyPart::Pat(part) => match G::from_sort(part) {
-                Ok(part) => Ok(part),
-                Err(part) => Err(AnyPart::Pat(part)),
-            },
-            other => Err(other),
-        }
-    }
+impl Sorted for Pats {
+    type Sort = PatSort;
 }
 
-impl PartSort for ParamPart {
-    ghost in_part = { param_in };
-
-    fn served<G: SortGroup<Sort = ParamPart>>(part: AnyPart) -> Result<G::Part, AnyPart> {
-        match part {
-            AnyPart::Param(part) => match G::from_sort(part) {
-                Ok(part) => Ok(part),
-                Err(part) => Err(AnyPart::Param(part)),
-            },
-            other => Err(other),
-        }
-    }
-}
-
-impl SortGroup for Pats {
-    type Sort = PatPart;
-
+impl SortGroup<PatPart> for Pats {
     type Part = Pat;
 
     ghost of_sort = { pat_of };
@@ -79,19 +59,22 @@ impl SortGroup for Pats {
 }
 
 impl BoxedGroup for Pats {
-    fn in_box<P: ReadParts>(
-        parts: &P,
-        alloc: Global,
-        refused: &mut bool,
-        part: Pat,
-    ) -> Option<Boxed<Pat>> {
-        parts.boxed_pat(alloc, refused, part)
+    fn boxed(alloc: Global, refused: &mut bool, part: Pat) -> Option<Boxed<Pat>> {
+        match Boxed::new(alloc, part) {
+            Ok(part) => Some(part),
+            Err(_) => {
+                *refused = true;
+                None
+            }
+        }
     }
 }
 
-impl SortGroup for PatFields {
-    type Sort = PatPart;
+impl Sorted for PatFields {
+    type Sort = PatSort;
+}
 
+impl SortGroup<PatPart> for PatFields {
     type Part = RecordPatField;
 
     ghost of_sort = { pat_field_of };
@@ -104,47 +87,72 @@ impl SortGroup for PatFields {
     }
 }
 
-impl SortGroup for Params {
-    type Sort = ParamPart;
+impl Sorted for Params {
+    type Sort = ParamSort;
+}
 
-    type Part = Param;
+impl<P, S, L> SortGroup<ParamOf<P, S, L>> for Params {
+    type Part = P;
 
     ghost of_sort = { param_of };
 
-    fn from_sort(part: ParamPart) -> Result<Param, ParamPart> {
+    fn from_sort(part: ParamOf<P, S, L>) -> Result<P, ParamOf<P, S, L>> {
         match part {
-            ParamPart::Param(param) => Ok(param),
+            ParamOf::Param(param) => Ok(param),
             other => Err(other),
         }
     }
 }
 
-impl SortGroup for SelfParams {
-    type Sort = ParamPart;
+impl Sorted for SelfParams {
+    type Sort = ParamSort;
+}
 
-    type Part = SelfParam;
+impl<P, S, L> SortGroup<ParamOf<P, S, L>> for SelfParams {
+    type Part = S;
 
     ghost of_sort = { self_param_of };
 
-    fn from_sort(part: ParamPart) -> Result<SelfParam, ParamPart> {
+    fn from_sort(part: ParamOf<P, S, L>) -> Result<S, ParamOf<P, S, L>> {
         match part {
-            ParamPart::SelfParam(param) => Ok(param),
+            ParamOf::SelfParam(param) => Ok(param),
             other => Err(other),
         }
     }
 }
 
-impl SortGroup for ParamLists {
-    type Sort = ParamPart;
+impl Sorted for ParamLists {
+    type Sort = ParamSort;
+}
 
-    type Part = ParamList;
+impl<P, S, L> SortGroup<ParamOf<P, S, L>> for ParamLists {
+    type Part = L;
 
     ghost of_sort = { param_list_of };
 
-    fn from_sort(part: ParamPart) -> Result<ParamList, ParamPart> {
+    fn from_sort(part: ParamOf<P, S, L>) -> Result<L, ParamOf<P, S, L>> {
         match part {
-            ParamPart::ParamList(params) => Ok(params),
+            ParamOf::ParamList(params) => Ok(params),
             other => Err(other),
         }
+    }
+}
+
+impl KindGroup for Pats {
+    type Kind = PatKind;
+
+    type Whole = PatPart;
+
+    ghost made = { pat_at };
+
+    fn make(
+        alloc: Global,
+        refused: &mut bool,
+        id: NodeId,
+        range: TextRange,
+        kind: PatKind,
+    ) -> Option<PatPart> {
+        let part = in_box::<Pats>(alloc, refused, Pat { id, range, kind })?;
+        Some(PatPart::Pat(part))
     }
 }

@@ -3,36 +3,44 @@
 ghost use Rattle.std.specs.Prelude.{◌≡◌, ℕ, IfOk, Option, Some, option_and_then};
 ghost use Rattle.std.specs.Result.{result_ok};
 ghost use Rattle.json_nodes.specs.Kept.{Kept};
-ghost use Rattle.json_nodes.specs.declared.part.AnyPart.{AnyPart};
+ghost use Rattle.json_nodes.specs.Any.{AnyPart};
 
 use crate::code_parts::{CodePart, ExprPart};
+use crate::fields::Fields;
 use crate::name_parts::NamePart;
 use crate::param_parts::{ParamPart, PatPart};
 use crate::path_parts::PathPart;
 use crate::type_parts::TypePart;
 use hir_base::Boxed;
-use hir_syntax::ast::{BlockExpr, Expr, Pat, Path, Type_};
+use hir_base::node::{NodeId, TextRange};
 use std::alloc::{AllocError, Global};
 
-/// A part of a tree, by its sort.
+/// A part of a tree, by its sort, whichever types the sorts have.
 ///
-/// It can't be dropped but by what reads parts, since whatever may drop a tree is dear to check. Expressions, patterns and
-/// types are in boxes for the same reason: an enum is dear to take apart that holds one by value.
-pub enum AnyPart {
-    Expr(ExprPart),
+/// It can't be dropped but by what reads parts, since whatever may drop a tree is dear to check. A part of any sort is handed on
+/// through type parameters, since a function whose signature names all sorts is dear, and so is each that calls one.
+pub enum AnyOf<E, C, P, M, T, H, N> {
+    Expr(E),
     /// A part of expressions and statements.
-    Code(CodePart),
-    Pat(PatPart),
-    Param(ParamPart),
-    Type_(TypePart),
-    Path(PathPart),
-    Name(NamePart),
+    Code(C),
+    Pat(P),
+    Param(M),
+    Type_(T),
+    Path(H),
+    Name(N),
+}
+
+/// A part of a tree. Expressions, patterns and types are in boxes: an enum is dear to take apart that holds one by value.
+pub type AnyPart = AnyOf<ExprPart, CodePart, PatPart, ParamPart, TypePart, PathPart, NamePart>;
+
+/// What lets parts go.
+pub trait LetsGo<A> {
+    /// Lets a part go.
+    fn let_go(&self, part: A);
 }
 
 /// What reads the parts of a node, and does with them what may drop one.
-///
-/// What it does in a box sets `refused` and answers none where memory is refused.
-pub trait ReadParts {
+pub trait ReadParts: LetsGo<AnyPart> {
     /// It may be asked.
     ghost can: { Self → Type 0 };
     /// What stands at each node.
@@ -42,97 +50,133 @@ pub trait ReadParts {
     fn part_at(&self, alloc: Global, at: u32) -> Result<Option<AnyPart>, AllocError>
         requires { can self.now }
         ensures { IfOk result (λ part. part ≡ parts self.now at) };
-
-    /// Lets a part go.
-    fn let_go(&self, part: AnyPart);
-
-    fn boxed_expr(&self, alloc: Global, refused: &mut bool, expr: Expr) -> Option<Boxed<Expr>>
-        ensures { Kept refused.old refused.new (result ≡ Some expr) };
-
-    fn boxed_block(
-        &self,
-        alloc: Global,
-        refused: &mut bool,
-        block: BlockExpr,
-    ) -> Option<Boxed<BlockExpr>>
-        ensures { Kept refused.old refused.new (result ≡ Some block) };
-
-    fn boxed_pat(&self, alloc: Global, refused: &mut bool, pat: Pat) -> Option<Boxed<Pat>>
-        ensures { Kept refused.old refused.new (result ≡ Some pat) };
-
-    fn boxed_type(&self, alloc: Global, refused: &mut bool, ty: Type_) -> Option<Boxed<Type_>>
-        ensures { Kept refused.old refused.new (result ≡ Some ty) };
-
-    fn boxed_path(&self, alloc: Global, refused: &mut bool, path: Path) -> Option<Boxed<Path>>
-        ensures { Kept refused.old refused.new (result ≡ Some path) };
 }
 
 /// A group of parts: what a field for one may hold.
-pub trait Group {
+pub trait Group<A> {
     ghost use Rattle.std.specs.Prelude.{Option};
-    ghost use Rattle.json_nodes.specs.declared.part.AnyPart.{AnyPart};
 
     type Part;
 
     /// What a part is in such a field, if it serves there.
-    ghost as_group: { AnyPart → Option Self.Part };
+    ghost as_group: { A → Option Self.Part };
 
     /// The part as one of this group, or as it was where it is of another.
-    fn from_part(part: AnyPart) -> Result<Self::Part, AnyPart>
+    fn from_part(part: A) -> Result<Self::Part, A>
         ensures { result_ok result ≡ as_group part };
 }
 
-/// A group of parts of one sort.
-pub trait SortGroup {
-    ghost use Rattle.std.specs.Prelude.{Option};
-
+/// The groups of one sort of parts.
+pub trait Sorted {
     type Sort;
+}
+
+/// A group of parts of one sort, whose type is `S`.
+pub trait SortGroup<S> {
+    ghost use Rattle.std.specs.Prelude.{Option};
 
     type Part;
 
     /// What a part of the sort is in a field for this group, if it serves there.
-    ghost of_sort: { Self.Sort → Option Self.Part };
+    ghost of_sort: { S → Option Self.Part };
 
     /// The part as one of this group, or as it was where it is of another.
-    fn from_sort(part: Self::Sort) -> Result<Self::Part, Self::Sort>
+    fn from_sort(part: S) -> Result<Self::Part, S>
         ensures { result_ok result ≡ of_sort part };
 }
 
 /// A sort of parts.
-///
-/// Each function that is handed a part of any sort is dear to check, so that one is taken apart here, once a sort.
-pub trait PartSort {
+pub trait PartSort<A> {
     ghost use Rattle.std.specs.Prelude.{Option};
-    ghost use Rattle.json_nodes.specs.declared.part.AnyPart.{AnyPart};
+
+    /// The type of its parts.
+    type Held;
 
     /// A part where it is of this sort.
-    ghost in_part: { AnyPart → Option Self };
+    ghost in_part: { A → Option Self.Held };
 
     /// The part as one of a group of this sort, or as it was where it is of another.
-    fn served<G: SortGroup<Sort = Self>>(part: AnyPart) -> Result<G::Part, AnyPart>
+    fn served<G: SortGroup<Self::Held>>(part: A) -> Result<G::Part, A>
         ensures { result_ok result ≡ option_and_then G.of_sort (in_part part) };
 }
 
-impl<G: SortGroup> Group for G
+impl<A, G: Sorted> Group<A> for G
 where
-    G::Sort: PartSort,
+    G::Sort: PartSort<A>,
+    G: SortGroup<<<G as Sorted>::Sort as PartSort<A>>::Held>,
 {
-    type Part = G::Part;
+    type Part = <G as SortGroup<<<G as Sorted>::Sort as PartSort<A>>::Held>>::Part;
 
     ghost as_group = { λ part. option_and_then G.of_sort (G.Sort.in_part part) };
 
-    fn from_part(part: AnyPart) -> Result<G::Part, AnyPart> {
+    fn from_part(part: A) -> Result<Self::Part, A> {
         G::Sort::served::<G>(part)
     }
 }
 
+/// The part as one of a group, if it serves there.
+pub fn served<A, G: Group<A>, P: LetsGo<A>>(parts: &P, part: A) -> Option<G::Part>
+    ensures { result ≡ G.as_group part }
+{
+    match G::from_part(part) {
+        Ok(part) => Some(part),
+        Err(part) => {
+            parts.let_go(part);
+            None
+        }
+    }
+}
+
 /// A group of which trees hold parts in boxes.
-pub trait BoxedGroup: Group {
-    fn in_box<P: ReadParts>(
-        parts: &P,
+pub trait BoxedGroup: Group<AnyPart> {
+    /// The part in a box. Where memory is refused it sets `refused` and answers none.
+    fn boxed(alloc: Global, refused: &mut bool, part: Self::Part) -> Option<Boxed<Self::Part>>
+        ensures { Kept refused.old refused.new (result ≡ Some part) };
+}
+
+/// The same, where the type of the part stands in no signature.
+pub fn in_box<G: BoxedGroup>(
+    alloc: Global,
+    refused: &mut bool,
+    part: G::Part,
+) -> Option<Boxed<G::Part>>
+    ensures { Kept refused.old refused.new (result ≡ Some part) }
+{
+    G::boxed(alloc, refused, part)
+}
+
+/// A group whose parts have a number, a range and a kind.
+pub trait KindGroup {
+    ghost use Rattle.hir_base.specs.declared.node.NodeId.{NodeId};
+    ghost use Rattle.hir_base.specs.declared.node.TextRange.{TextRange};
+
+    type Kind;
+
+    type Whole;
+
+    /// The part.
+    ghost made: { NodeId → TextRange → Self.Kind → Self.Whole };
+
+    fn make(
         alloc: Global,
         refused: &mut bool,
-        part: Self::Part,
-    ) -> Option<Boxed<Self::Part>>
-        ensures { Kept refused.old refused.new (result ≡ Some part) };
+        id: NodeId,
+        range: TextRange,
+        kind: Self::Kind,
+    ) -> Option<Self::Whole>
+        ensures { Kept refused.old refused.new (result ≡ Some (made id range kind)) };
+}
+
+/// A part of a kind.
+///
+/// A kind is handed on through a type parameter: a function whose signature names it is dear, and so is each that calls one.
+pub fn whole<G: KindGroup, F: Fields>(
+    node: &F,
+    refused: &mut bool,
+    kind: G::Kind,
+) -> Option<G::Whole>
+    ensures { Kept refused.old refused.new
+        (result ≡ Some (G.made (F.here node.now).id (F.here node.now).range kind)) }
+{
+    G::make(node.alloc(), refused, node.id(), node.range(), kind)
 }

@@ -6,9 +6,9 @@ ghost use Rattle.serde_json.specs.Find.{get};
 ghost use Rattle.json_nodes.specs.Kept.{Kept};
 ghost use Rattle.json_nodes.specs.Exprs as spec;
 
-use crate::code_parts::ExprPart;
-use crate::exprs::whole_expr;
+use crate::code_parts::{ExprPart, Exprs};
 use crate::fields::Fields;
+use crate::part::whole;
 use hir_base::node::PredId;
 use hir_syntax::ast::ExprKind;
 use json_faults::value::small;
@@ -28,17 +28,17 @@ pub fn partless<F: Fields>(node: &F, refused: &mut bool, kind: ExprNode) -> Opti
     ensures { Kept refused.old refused.new (result ≡ spec.partless (F.here node.now) kind) }
 {
     match kind {
-        ExprNode::CfgPredExpr => whole_expr(
+        ExprNode::CfgPredExpr => whole::<Exprs, F>(
             node,
             refused,
             ExprKind::CfgPredExpr {
                 pred: pred(node.value()),
             },
         ),
-        ExprNode::UnderscoreExpr => whole_expr(node, refused, ExprKind::UnderscoreExpr),
-        ExprNode::IncludeBytesExpr => whole_expr(node, refused, ExprKind::IncludeBytesExpr),
-        ExprNode::AsmExpr => whole_expr(node, refused, ExprKind::AsmExpr),
-        ExprNode::FormatArgsExpr => whole_expr(node, refused, ExprKind::FormatArgsExpr),
+        ExprNode::UnderscoreExpr => whole::<Exprs, F>(node, refused, ExprKind::UnderscoreExpr),
+        ExprNode::IncludeBytesExpr => whole::<Exprs, F>(node, refused, ExprKind::IncludeBytesExpr),
+        ExprNode::AsmExpr => whole::<Exprs, F>(node, refused, ExprKind::AsmExpr),
+        ExprNode::FormatArgsExpr => whole::<Exprs, F>(node, refused, ExprKind::FormatArgsExpr),
         _ => None,
     }
 }

@@ -1,27 +1,39 @@
 //! Paths, segments and arguments.
 
-ghost use Rattle.json_nodes.specs.Groups.{const_arg_of, generic_arg_of, generic_args_of, paren_args_of, path_in};
+ghost use Rattle.json_nodes.specs.Groups.{const_arg_of, generic_arg_of, generic_args_of, paren_args_of};
 ghost use Rattle.json_nodes.specs.Groups.{path_of, segment_of, type_arg_of};
 
-use crate::part::{AnyPart, BoxedGroup, PartSort, ReadParts, SortGroup};
+use crate::part::{BoxedGroup, SortGroup, Sorted};
+use crate::sorts::PathSort;
 use hir_base::Boxed;
 use hir_syntax::ast::{
     ConstArg, GenericArg, GenericArgList, ParenArgs, Path, PathSegment, TypeArg,
 };
 use std::alloc::Global;
 
-/// A path, or what stands beside a name.
-pub enum PathPart {
-    Path(Path),
-    Segment(PathSegment),
-    GenericArgs(GenericArgList),
+/// A path, or what stands beside a name, whichever types they have.
+pub enum PathOf<P, S, A, T, C, G, R> {
+    Path(P),
+    Segment(S),
+    GenericArgs(A),
     /// A type as an argument, which may also stand in parentheses.
-    TypeArg(TypeArg),
+    TypeArg(T),
     /// A constant as an argument, which may also be the length of an array.
-    ConstArg(ConstArg),
-    GenericArg(GenericArg),
-    ParenArgs(ParenArgs),
+    ConstArg(C),
+    GenericArg(G),
+    ParenArgs(R),
 }
+
+/// A path, or what stands beside a name.
+pub type PathPart = PathOf<
+    Path,
+    PathSegment,
+    GenericArgList,
+    TypeArg,
+    ConstArg,
+    GenericArg,
+    ParenArgs,
+>;
 
 /// Paths.
 pub struct Paths;
@@ -44,133 +56,136 @@ pub struct ParenArgLists;
 /// Arguments of a name.
 pub struct GenericArgs;
 
-impl PartSort for PathPart {
-    ghost in_part = { path_in };
-
-    fn served<G: SortGroup<Sort = PathPart>>(part: AnyPart) -> Result<G::Part, AnyPart> {
-        match part {
-            AnyPart::Path(part) => match G::from_sort(part) {
-                Ok(part) => Ok(part),
-                Err(part) => Err(AnyPart::Path(part)),
-            },
-            other => Err(other),
-        }
-    }
+impl Sorted for Paths {
+    type Sort = PathSort;
 }
 
-impl SortGroup for Paths {
-    type Sort = PathPart;
-
-    type Part = Path;
+impl<P, S, A, T, C, G, R> SortGroup<PathOf<P, S, A, T, C, G, R>> for Paths {
+    type Part = P;
 
     ghost of_sort = { path_of };
 
-    fn from_sort(part: PathPart) -> Result<Path, PathPart> {
+    fn from_sort(part: PathOf<P, S, A, T, C, G, R>) -> Result<P, PathOf<P, S, A, T, C, G, R>> {
         match part {
-            PathPart::Path(path) => Ok(path),
+            PathOf::Path(path) => Ok(path),
             other => Err(other),
         }
     }
 }
 
 impl BoxedGroup for Paths {
-    fn in_box<P: ReadParts>(
-        parts: &P,
-        alloc: Global,
-        refused: &mut bool,
-        part: Path,
-    ) -> Option<Boxed<Path>> {
-        parts.boxed_path(alloc, refused, part)
+    fn boxed(alloc: Global, refused: &mut bool, part: Path) -> Option<Boxed<Path>> {
+        match Boxed::new(alloc, part) {
+            Ok(part) => Some(part),
+            Err(_) => {
+                *refused = true;
+                None
+            }
+        }
     }
 }
 
-impl SortGroup for Segments {
-    type Sort = PathPart;
+impl Sorted for Segments {
+    type Sort = PathSort;
+}
 
-    type Part = PathSegment;
+impl<P, S, A, T, C, G, R> SortGroup<PathOf<P, S, A, T, C, G, R>> for Segments {
+    type Part = S;
 
     ghost of_sort = { segment_of };
 
-    fn from_sort(part: PathPart) -> Result<PathSegment, PathPart> {
+    fn from_sort(part: PathOf<P, S, A, T, C, G, R>) -> Result<S, PathOf<P, S, A, T, C, G, R>> {
         match part {
-            PathPart::Segment(segment) => Ok(segment),
+            PathOf::Segment(segment) => Ok(segment),
             other => Err(other),
         }
     }
 }
 
-impl SortGroup for GenericArgLists {
-    type Sort = PathPart;
+impl Sorted for GenericArgLists {
+    type Sort = PathSort;
+}
 
-    type Part = GenericArgList;
+impl<P, S, A, T, C, G, R> SortGroup<PathOf<P, S, A, T, C, G, R>> for GenericArgLists {
+    type Part = A;
 
     ghost of_sort = { generic_args_of };
 
-    fn from_sort(part: PathPart) -> Result<GenericArgList, PathPart> {
+    fn from_sort(part: PathOf<P, S, A, T, C, G, R>) -> Result<A, PathOf<P, S, A, T, C, G, R>> {
         match part {
-            PathPart::GenericArgs(args) => Ok(args),
+            PathOf::GenericArgs(args) => Ok(args),
             other => Err(other),
         }
     }
 }
 
-impl SortGroup for TypeArgs {
-    type Sort = PathPart;
+impl Sorted for TypeArgs {
+    type Sort = PathSort;
+}
 
-    type Part = TypeArg;
+impl<P, S, A, T, C, G, R> SortGroup<PathOf<P, S, A, T, C, G, R>> for TypeArgs {
+    type Part = T;
 
     ghost of_sort = { type_arg_of };
 
-    fn from_sort(part: PathPart) -> Result<TypeArg, PathPart> {
+    fn from_sort(part: PathOf<P, S, A, T, C, G, R>) -> Result<T, PathOf<P, S, A, T, C, G, R>> {
         match part {
-            PathPart::TypeArg(arg) => Ok(arg),
+            PathOf::TypeArg(arg) => Ok(arg),
             other => Err(other),
         }
     }
 }
 
-impl SortGroup for ConstArgs {
-    type Sort = PathPart;
+impl Sorted for ConstArgs {
+    type Sort = PathSort;
+}
 
-    type Part = ConstArg;
+impl<P, S, A, T, C, G, R> SortGroup<PathOf<P, S, A, T, C, G, R>> for ConstArgs {
+    type Part = C;
 
     ghost of_sort = { const_arg_of };
 
-    fn from_sort(part: PathPart) -> Result<ConstArg, PathPart> {
+    fn from_sort(part: PathOf<P, S, A, T, C, G, R>) -> Result<C, PathOf<P, S, A, T, C, G, R>> {
         match part {
-            PathPart::ConstArg(arg) => Ok(arg),
+            PathOf::ConstArg(arg) => Ok(arg),
             other => Err(other),
         }
     }
 }
 
-impl SortGroup for ParenArgLists {
-    type Sort = PathPart;
+impl Sorted for ParenArgLists {
+    type Sort = PathSort;
+}
 
-    type Part = ParenArgs;
+impl<P, S, A, T, C, G, R> SortGroup<PathOf<P, S, A, T, C, G, R>> for ParenArgLists {
+    type Part = R;
 
     ghost of_sort = { paren_args_of };
 
-    fn from_sort(part: PathPart) -> Result<ParenArgs, PathPart> {
+    fn from_sort(part: PathOf<P, S, A, T, C, G, R>) -> Result<R, PathOf<P, S, A, T, C, G, R>> {
         match part {
-            PathPart::ParenArgs(args) => Ok(args),
+            PathOf::ParenArgs(args) => Ok(args),
             other => Err(other),
         }
     }
 }
 
-impl SortGroup for GenericArgs {
-    type Sort = PathPart;
+impl Sorted for GenericArgs {
+    type Sort = PathSort;
+}
 
+impl<P, S, A, R> SortGroup<PathOf<P, S, A, TypeArg, ConstArg, GenericArg, R>> for GenericArgs {
     type Part = GenericArg;
 
     ghost of_sort = { generic_arg_of };
 
-    fn from_sort(part: PathPart) -> Result<GenericArg, PathPart> {
+    fn from_sort(
+        part: PathOf<P, S, A, TypeArg, ConstArg, GenericArg, R>,
+    ) -> Result<GenericArg, PathOf<P, S, A, TypeArg, ConstArg, GenericArg, R>> {
         match part {
-            PathPart::GenericArg(arg) => Ok(arg),
-            PathPart::TypeArg(arg) => Ok(GenericArg::TypeArg(arg)),
-            PathPart::ConstArg(arg) => Ok(GenericArg::ConstArg(arg)),
+            PathOf::GenericArg(arg) => Ok(arg),
+            PathOf::TypeArg(arg) => Ok(GenericArg::TypeArg(arg)),
+            PathOf::ConstArg(arg) => Ok(GenericArg::ConstArg(arg)),
             other => Err(other),
         }
     }

@@ -1,6 +1,6 @@
 //! Patterns.
 
-ghost use Rattle.std.specs.Prelude.{◌≡◌, Some};
+ghost use Rattle.std.specs.Prelude.{◌≡◌};
 ghost use Rattle.json_nodes.specs.Kept.{Kept};
 ghost use Rattle.json_nodes.specs.Pats as spec;
 
@@ -10,23 +10,11 @@ use crate::fields::{All, Fields, InBox, One};
 use crate::name_parts::Names;
 use crate::operators::range_op;
 use crate::param_parts::{PatFields, PatPart, Pats};
+use crate::part::whole;
 use crate::partless::pred;
 use crate::path_parts::Paths;
-use hir_syntax::ast::{Pat, PatKind};
+use hir_syntax::ast::PatKind;
 use json_kinds::kind::PatNode;
-
-/// A pattern of a kind, in a box.
-fn whole_pat<F: Fields>(node: &F, refused: &mut bool, kind: PatKind) -> Option<PatPart>
-    ensures { Kept refused.old refused.new (result ≡ Some (spec.whole_pat (F.here node.now) kind)) }
-{
-    let pat = Pat {
-        id: node.id(),
-        range: node.range(),
-        kind,
-    };
-    let pat = node.boxed_pat(refused, pat)?;
-    Some(PatPart::Pat(pat))
-}
 
 /// Names and paths, and tuples behind a path or without one.
 #[tactic(auto, unfolding(crate::specs::Pats::named))]
@@ -44,7 +32,7 @@ fn named<F: Fields>(node: &F, refused: &mut bool, kind: PatNode) -> Option<PatPa
                 mut_: flag(node.value(), "mut"),
                 pat,
             };
-            whole_pat(node, refused, kind)
+            whole::<Pats, F>(node, refused, kind)
         }
         PatNode::TupleStructPat => {
             let path = node.field::<InBox<Paths>>(refused, "path");
@@ -54,7 +42,7 @@ fn named<F: Fields>(node: &F, refused: &mut bool, kind: PatNode) -> Option<PatPa
                 leading_comma: flag(node.value(), "leading_comma"),
                 fields,
             };
-            whole_pat(node, refused, kind)
+            whole::<Pats, F>(node, refused, kind)
         }
         PatNode::TuplePat => {
             let fields = node.field::<All<Pats>>(refused, "fields");
@@ -62,11 +50,11 @@ fn named<F: Fields>(node: &F, refused: &mut bool, kind: PatNode) -> Option<PatPa
                 leading_comma: flag(node.value(), "leading_comma"),
                 fields,
             };
-            whole_pat(node, refused, kind)
+            whole::<Pats, F>(node, refused, kind)
         }
         PatNode::PathPat => {
             let path = node.field::<InBox<Paths>>(refused, "path");
-            whole_pat(node, refused, PatKind::PathPat { path })
+            whole::<Pats, F>(node, refused, PatKind::PathPat { path })
         }
         _ => None,
     }
@@ -82,23 +70,23 @@ fn around<F: Fields>(node: &F, refused: &mut bool, kind: PatNode) -> Option<PatP
         PatNode::RefPat => {
             let pat = node.field::<InBox<Pats>>(refused, "pat");
             let mut_ = flag(node.value(), "mut");
-            whole_pat(node, refused, PatKind::RefPat { mut_, pat })
+            whole::<Pats, F>(node, refused, PatKind::RefPat { mut_, pat })
         }
         PatNode::OrPat => {
             let pats = node.field::<All<Pats>>(refused, "pats");
-            whole_pat(node, refused, PatKind::OrPat { pats })
+            whole::<Pats, F>(node, refused, PatKind::OrPat { pats })
         }
         PatNode::ParenPat => {
             let pat = node.field::<InBox<Pats>>(refused, "pat");
-            whole_pat(node, refused, PatKind::ParenPat { pat })
+            whole::<Pats, F>(node, refused, PatKind::ParenPat { pat })
         }
         PatNode::BoxPat => {
             let pat = node.field::<InBox<Pats>>(refused, "pat");
-            whole_pat(node, refused, PatKind::BoxPat { pat })
+            whole::<Pats, F>(node, refused, PatKind::BoxPat { pat })
         }
         PatNode::DerefPat => {
             let pat = node.field::<InBox<Pats>>(refused, "pat");
-            whole_pat(node, refused, PatKind::DerefPat { pat })
+            whole::<Pats, F>(node, refused, PatKind::DerefPat { pat })
         }
         _ => None,
     }
@@ -115,13 +103,13 @@ fn pieces<F: Fields>(node: &F, refused: &mut bool, kind: PatNode) -> Option<PatP
             let path = node.field::<InBox<Paths>>(refused, "path");
             let fields = node.field::<All<PatFields>>(refused, "fields");
             let rest = flag(node.value(), "rest");
-            whole_pat(node, refused, PatKind::RecordPat { path, fields, rest })
+            whole::<Pats, F>(node, refused, PatKind::RecordPat { path, fields, rest })
         }
         PatNode::SlicePat => {
             let prefix = node.field::<All<Pats>>(refused, "prefix");
             let slice = node.field::<InBox<Pats>>(refused, "slice");
             let suffix = node.field::<All<Pats>>(refused, "suffix");
-            whole_pat(
+            whole::<Pats, F>(
                 node,
                 refused,
                 PatKind::SlicePat {
@@ -145,13 +133,13 @@ fn values<F: Fields>(node: &F, refused: &mut bool, kind: PatNode) -> Option<PatP
         PatNode::LiteralPat => {
             let lit = node.field::<One<PatLiterals>>(refused, "lit");
             let minus = flag(node.value(), "minus");
-            whole_pat(node, refused, PatKind::LiteralPat { lit, minus })
+            whole::<Pats, F>(node, refused, PatKind::LiteralPat { lit, minus })
         }
         PatNode::RangePat => {
             let start = node.field::<InBox<Pats>>(refused, "start");
             let end = node.field::<InBox<Pats>>(refused, "end");
             let op = range_op(node.value());
-            whole_pat(node, refused, PatKind::RangePat { op, start, end })
+            whole::<Pats, F>(node, refused, PatKind::RangePat { op, start, end })
         }
         _ => None,
     }
@@ -163,17 +151,17 @@ fn partless_pat<F: Fields>(node: &F, refused: &mut bool, kind: PatNode) -> Optio
     ensures { Kept refused.old refused.new (result ≡ spec.partless_pat (F.here node.now) kind) }
 {
     match kind {
-        PatNode::CfgPredPat => whole_pat(
+        PatNode::CfgPredPat => whole::<Pats, F>(
             node,
             refused,
             PatKind::CfgPredPat {
                 pred: pred(node.value()),
             },
         ),
-        PatNode::WildcardPat => whole_pat(node, refused, PatKind::WildcardPat),
-        PatNode::RestPat => whole_pat(node, refused, PatKind::RestPat),
-        PatNode::NotNullPat => whole_pat(node, refused, PatKind::NotNullPat),
-        PatNode::ConstBlockPat => whole_pat(node, refused, PatKind::ConstBlockPat),
+        PatNode::WildcardPat => whole::<Pats, F>(node, refused, PatKind::WildcardPat),
+        PatNode::RestPat => whole::<Pats, F>(node, refused, PatKind::RestPat),
+        PatNode::NotNullPat => whole::<Pats, F>(node, refused, PatKind::NotNullPat),
+        PatNode::ConstBlockPat => whole::<Pats, F>(node, refused, PatKind::ConstBlockPat),
         _ => None,
     }
 }

@@ -1,21 +1,27 @@
 //! Types, and what stands beside them.
 
-ghost use Rattle.json_nodes.specs.Groups.{binder_of, bound_of, path_type_of, ret_of, type_in, type_of};
+ghost use Rattle.json_nodes.specs.Types.{type_at};
+ghost use Rattle.json_nodes.specs.Groups.{binder_of, bound_of, path_type_of, ret_of, type_of};
 
-use crate::part::{AnyPart, BoxedGroup, PartSort, ReadParts, SortGroup};
+use crate::part::{BoxedGroup, KindGroup, SortGroup, Sorted, in_box};
+use crate::sorts::TypeSort;
 use hir_base::Boxed;
+use hir_base::node::{NodeId, TextRange};
 use hir_syntax::ast::{ForBinder, PathType, RetType, Type_, TypeBound, TypeKind};
 use std::alloc::Global;
 
-/// A type, or what stands beside one.
-pub enum TypePart {
-    Type_(Boxed<Type_>),
+/// A type, or what stands beside one, whichever types they have.
+pub enum TypeOf<T, P, B, F, R> {
+    Type_(T),
     /// A path as a type, which may also name a trait.
-    PathType(PathType),
-    Bound(TypeBound),
-    Binder(ForBinder),
-    Ret(RetType),
+    PathType(P),
+    Bound(B),
+    Binder(F),
+    Ret(R),
 }
+
+/// A type, or what stands beside one.
+pub type TypePart = TypeOf<Boxed<Type_>, PathType, TypeBound, ForBinder, RetType>;
 
 /// Types.
 pub struct Types;
@@ -32,31 +38,21 @@ pub struct Binders;
 /// Types that are returned.
 pub struct Rets;
 
-impl PartSort for TypePart {
-    ghost in_part = { type_in };
-
-    fn served<G: SortGroup<Sort = TypePart>>(part: AnyPart) -> Result<G::Part, AnyPart> {
-        match part {
-            AnyPart::Type_(part) => match G::from_sort(part) {
-                Ok(part) => Ok(part),
-                Err(part) => Err(AnyPart::Type_(part)),
-            },
-            other => Err(other),
-        }
-    }
+impl Sorted for Types {
+    type Sort = TypeSort;
 }
 
-impl SortGroup for Types {
-    type Sort = TypePart;
-
+impl<B, F, R> SortGroup<TypeOf<Boxed<Type_>, PathType, B, F, R>> for Types {
     type Part = Type_;
 
     ghost of_sort = { type_of };
 
-    fn from_sort(part: TypePart) -> Result<Type_, TypePart> {
+    fn from_sort(
+        part: TypeOf<Boxed<Type_>, PathType, B, F, R>,
+    ) -> Result<Type_, TypeOf<Boxed<Type_>, PathType, B, F, R>> {
         match part {
-            TypePart::Type_(ty) => Ok(ty.into_inner()),
-            TypePart::PathType(PathType { id, range, path }) => Ok(Type_ {
+            TypeOf::Type_(ty) => Ok(ty.into_inner()),
+            TypeOf::PathType(PathType { id, range, path }) => Ok(Type_ {
                 id,
                 range,
                 kind: TypeKind::PathType { path },
@@ -67,72 +63,100 @@ impl SortGroup for Types {
 }
 
 impl BoxedGroup for Types {
-    fn in_box<P: ReadParts>(
-        parts: &P,
-        alloc: Global,
-        refused: &mut bool,
-        part: Type_,
-    ) -> Option<Boxed<Type_>> {
-        parts.boxed_type(alloc, refused, part)
+    fn boxed(alloc: Global, refused: &mut bool, part: Type_) -> Option<Boxed<Type_>> {
+        match Boxed::new(alloc, part) {
+            Ok(part) => Some(part),
+            Err(_) => {
+                *refused = true;
+                None
+            }
+        }
     }
 }
 
-impl SortGroup for PathTypes {
-    type Sort = TypePart;
+impl Sorted for PathTypes {
+    type Sort = TypeSort;
+}
 
-    type Part = PathType;
+impl<T, P, B, F, R> SortGroup<TypeOf<T, P, B, F, R>> for PathTypes {
+    type Part = P;
 
     ghost of_sort = { path_type_of };
 
-    fn from_sort(part: TypePart) -> Result<PathType, TypePart> {
+    fn from_sort(part: TypeOf<T, P, B, F, R>) -> Result<P, TypeOf<T, P, B, F, R>> {
         match part {
-            TypePart::PathType(ty) => Ok(ty),
+            TypeOf::PathType(ty) => Ok(ty),
             other => Err(other),
         }
     }
 }
 
-impl SortGroup for Bounds {
-    type Sort = TypePart;
+impl Sorted for Bounds {
+    type Sort = TypeSort;
+}
 
-    type Part = TypeBound;
+impl<T, P, B, F, R> SortGroup<TypeOf<T, P, B, F, R>> for Bounds {
+    type Part = B;
 
     ghost of_sort = { bound_of };
 
-    fn from_sort(part: TypePart) -> Result<TypeBound, TypePart> {
+    fn from_sort(part: TypeOf<T, P, B, F, R>) -> Result<B, TypeOf<T, P, B, F, R>> {
         match part {
-            TypePart::Bound(bound) => Ok(bound),
+            TypeOf::Bound(bound) => Ok(bound),
             other => Err(other),
         }
     }
 }
 
-impl SortGroup for Binders {
-    type Sort = TypePart;
+impl Sorted for Binders {
+    type Sort = TypeSort;
+}
 
-    type Part = ForBinder;
+impl<T, P, B, F, R> SortGroup<TypeOf<T, P, B, F, R>> for Binders {
+    type Part = F;
 
     ghost of_sort = { binder_of };
 
-    fn from_sort(part: TypePart) -> Result<ForBinder, TypePart> {
+    fn from_sort(part: TypeOf<T, P, B, F, R>) -> Result<F, TypeOf<T, P, B, F, R>> {
         match part {
-            TypePart::Binder(binder) => Ok(binder),
+            TypeOf::Binder(binder) => Ok(binder),
             other => Err(other),
         }
     }
 }
 
-impl SortGroup for Rets {
-    type Sort = TypePart;
+impl Sorted for Rets {
+    type Sort = TypeSort;
+}
 
-    type Part = RetType;
+impl<T, P, B, F, R> SortGroup<TypeOf<T, P, B, F, R>> for Rets {
+    type Part = R;
 
     ghost of_sort = { ret_of };
 
-    fn from_sort(part: TypePart) -> Result<RetType, TypePart> {
+    fn from_sort(part: TypeOf<T, P, B, F, R>) -> Result<R, TypeOf<T, P, B, F, R>> {
         match part {
-            TypePart::Ret(ret) => Ok(ret),
+            TypeOf::Ret(ret) => Ok(ret),
             other => Err(other),
         }
+    }
+}
+
+impl KindGroup for Types {
+    type Kind = TypeKind;
+
+    type Whole = TypePart;
+
+    ghost made = { type_at };
+
+    fn make(
+        alloc: Global,
+        refused: &mut bool,
+        id: NodeId,
+        range: TextRange,
+        kind: TypeKind,
+    ) -> Option<TypePart> {
+        let part = in_box::<Types>(alloc, refused, Type_ { id, range, kind })?;
+        Some(TypePart::Type_(part))
     }
 }

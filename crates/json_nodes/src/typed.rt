@@ -5,11 +5,11 @@ ghost use Rattle.json_nodes.specs.Kept.{Kept};
 ghost use Rattle.json_nodes.specs.Typed as spec;
 
 use crate::code_parts::{CodePart, ExprPart, Exprs, RecordFields, RecordLists};
-use crate::exprs::whole_expr;
 use crate::field::flag;
 use crate::fields::{All, AllIfThere, Fields, InBox, One};
 use crate::name_parts::Names;
 use crate::param_parts::{Params, PatPart, Pats};
+use crate::part::whole;
 use crate::path_parts::Paths;
 use crate::type_parts::{Rets, Types};
 use hir_syntax::ast::{ExprKind, RecordExprField, RecordExprFieldList, RecordPatField};
@@ -44,21 +44,21 @@ pub fn typed<F: Fields>(node: &F, refused: &mut bool, kind: ExprNode) -> Option<
         ExprNode::CastExpr => {
             let expr = node.field::<InBox<Exprs>>(refused, "expr");
             let ty = node.field::<InBox<Types>>(refused, "ty");
-            whole_expr(node, refused, ExprKind::CastExpr { expr, ty })
+            whole::<Exprs, F>(node, refused, ExprKind::CastExpr { expr, ty })
         }
         ExprNode::RecordExpr => {
             let path = node.field::<InBox<Paths>>(refused, "path");
             let list = node.field::<One<RecordLists>>(refused, "list");
-            whole_expr(node, refused, ExprKind::RecordExpr { path, list })
+            whole::<Exprs, F>(node, refused, ExprKind::RecordExpr { path, list })
         }
         ExprNode::OffsetOfExpr => {
             let ty = node.field::<InBox<Types>>(refused, "ty");
             let fields = node.field::<All<Names>>(refused, "fields");
-            whole_expr(node, refused, ExprKind::OffsetOfExpr { ty, fields })
+            whole::<Exprs, F>(node, refused, ExprKind::OffsetOfExpr { ty, fields })
         }
         ExprNode::ClosureExpr => {
             let kind = closure(node, refused);
-            whole_expr(node, refused, kind)
+            whole::<Exprs, F>(node, refused, kind)
         }
         _ => None,
     }

@@ -1,6 +1,6 @@
 //! Types.
 
-ghost use Rattle.std.specs.Prelude.{◌≡◌, Some};
+ghost use Rattle.std.specs.Prelude.{◌≡◌};
 ghost use Rattle.json_nodes.specs.Kept.{Kept};
 ghost use Rattle.json_nodes.specs.Types as spec;
 
@@ -8,23 +8,11 @@ use crate::field::flag;
 use crate::fields::{All, AllIfThere, Fields, InBox, One, Written};
 use crate::name_parts::Lifetimes;
 use crate::param_parts::{Params, Pats};
+use crate::part::whole;
 use crate::path_parts::{ConstArgs, Paths};
 use crate::type_parts::{Binders, Bounds, Rets, TypePart, Types};
-use hir_syntax::ast::{PathType, Type_, TypeKind};
+use hir_syntax::ast::{PathType, TypeKind};
 use json_kinds::kind::TypeNode;
-
-/// A type of a kind, in a box.
-fn whole_type<F: Fields>(node: &F, refused: &mut bool, kind: TypeKind) -> Option<TypePart>
-    ensures { Kept refused.old refused.new (result ≡ Some (spec.whole_type (F.here node.now) kind)) }
-{
-    let ty = Type_ {
-        id: node.id(),
-        range: node.range(),
-        kind,
-    };
-    let ty = node.boxed_type(refused, ty)?;
-    Some(TypePart::Type_(ty))
-}
 
 #[tactic(auto, unfolding(crate::specs::Types::over_types))]
 fn over_types<F: Fields>(node: &F, refused: &mut bool, kind: TypeNode) -> Option<TypePart>
@@ -34,20 +22,20 @@ fn over_types<F: Fields>(node: &F, refused: &mut bool, kind: TypeNode) -> Option
     match kind {
         TypeNode::ParenType => {
             let ty = node.field::<InBox<Types>>(refused, "ty");
-            whole_type(node, refused, TypeKind::ParenType { ty })
+            whole::<Types, F>(node, refused, TypeKind::ParenType { ty })
         }
         TypeNode::SliceType => {
             let ty = node.field::<InBox<Types>>(refused, "ty");
-            whole_type(node, refused, TypeKind::SliceType { ty })
+            whole::<Types, F>(node, refused, TypeKind::SliceType { ty })
         }
         TypeNode::TupleType => {
             let fields = node.field::<All<Types>>(refused, "fields");
-            whole_type(node, refused, TypeKind::TupleType { fields })
+            whole::<Types, F>(node, refused, TypeKind::TupleType { fields })
         }
         TypeNode::PtrType => {
             let ty = node.field::<InBox<Types>>(refused, "ty");
             let mut_ = flag(node.value(), "mut");
-            whole_type(node, refused, TypeKind::PtrType { mut_, ty })
+            whole::<Types, F>(node, refused, TypeKind::PtrType { mut_, ty })
         }
         _ => None,
     }
@@ -80,26 +68,26 @@ fn beside_types<F: Fields>(node: &F, refused: &mut bool, kind: TypeNode) -> Opti
             let lifetime = node.field::<One<Lifetimes>>(refused, "lifetime");
             let ty = node.field::<InBox<Types>>(refused, "ty");
             let mut_ = flag(node.value(), "mut");
-            whole_type(node, refused, TypeKind::RefType { lifetime, mut_, ty })
+            whole::<Types, F>(node, refused, TypeKind::RefType { lifetime, mut_, ty })
         }
         TypeNode::ArrayType => {
             let ty = node.field::<InBox<Types>>(refused, "ty");
             let len = node.field::<One<ConstArgs>>(refused, "len");
-            whole_type(node, refused, TypeKind::ArrayType { ty, len })
+            whole::<Types, F>(node, refused, TypeKind::ArrayType { ty, len })
         }
         TypeNode::FnPtrType => {
             let kind = function_pointer(node, refused);
-            whole_type(node, refused, kind)
+            whole::<Types, F>(node, refused, kind)
         }
         TypeNode::ForType => {
             let binder = node.field::<One<Binders>>(refused, "binder");
             let ty = node.field::<InBox<Types>>(refused, "ty");
-            whole_type(node, refused, TypeKind::ForType { binder, ty })
+            whole::<Types, F>(node, refused, TypeKind::ForType { binder, ty })
         }
         TypeNode::PatternType => {
             let ty = node.field::<InBox<Types>>(refused, "ty");
             let pat = node.field::<InBox<Pats>>(refused, "pat");
-            whole_type(node, refused, TypeKind::PatternType { ty, pat })
+            whole::<Types, F>(node, refused, TypeKind::PatternType { ty, pat })
         }
         _ => None,
     }
@@ -113,14 +101,14 @@ fn bounded<F: Fields>(node: &F, refused: &mut bool, kind: TypeNode) -> Option<Ty
     match kind {
         TypeNode::ImplTraitType => {
             let bounds = node.field::<All<Bounds>>(refused, "bounds");
-            whole_type(node, refused, TypeKind::ImplTraitType { bounds })
+            whole::<Types, F>(node, refused, TypeKind::ImplTraitType { bounds })
         }
         TypeNode::DynTraitType => {
             let bounds = node.field::<All<Bounds>>(refused, "bounds");
-            whole_type(node, refused, TypeKind::DynTraitType { bounds })
+            whole::<Types, F>(node, refused, TypeKind::DynTraitType { bounds })
         }
-        TypeNode::NeverType => whole_type(node, refused, TypeKind::NeverType),
-        TypeNode::InferType => whole_type(node, refused, TypeKind::InferType),
+        TypeNode::NeverType => whole::<Types, F>(node, refused, TypeKind::NeverType),
+        TypeNode::InferType => whole::<Types, F>(node, refused, TypeKind::InferType),
         _ => None,
     }
 }

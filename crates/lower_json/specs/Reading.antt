@@ -28,9 +28,9 @@ use Rattle.json_nodes.specs.Groups.{as_pat, as_type}
 use Rattle.json_nodes.specs.Parts.{Here}
 use Rattle.json_kinds.specs.ByWord.{or_else}
 use Rattle.json_nodes.specs.declared.code_parts.ExprPart.{ExprPart}
-use Rattle.json_nodes.specs.declared.path_parts.PathPart.{PathPart}
-use Rattle.json_nodes.specs.declared.part.AnyPart.{AnyPart}
-use Rattle.json_nodes.specs.declared.part.AnyPart.TheVariants as part
+use Rattle.json_nodes.specs.Any.{PathPart}
+use Rattle.json_nodes.specs.Any.{AnyPart}
+use Rattle.json_nodes.specs.declared.part.AnyOf.TheVariants as part
 use Rattle.lower_json.specs.declared.document.Root.{Root}
 use Rattle.lower_json.specs.declared.document.Root.TheVariants as root
 use Rattle.lower_json.specs.declared.document.Tree.{Tree}

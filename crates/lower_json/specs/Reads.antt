@@ -7,7 +7,7 @@ use Rattle.serde_json.specs.View.{items_view}
 use Rattle.serde_json.specs.declared.value.Value.{Value}
 use Rattle.json_kinds.specs.declared.kind.Kind.{Kind}
 use Rattle.lower_json.specs.Reading.{part_at}
-use Rattle.json_nodes.specs.declared.part.AnyPart.{AnyPart}
+use Rattle.json_nodes.specs.Any.{AnyPart}
 
 -- of such a function, with the kinds of the nodes, the nodes, levels and an index
 abbrev Pre : Type 1

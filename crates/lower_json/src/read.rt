@@ -87,11 +87,11 @@ fn read_document(
     requires { kinds.now ≡ kinds_of (nodes (view document.now)) }
     ensures { IfOk result (λ d. d ≡ document_of want (view document.now)) }
 {
-    let tree = tree(alloc, want, kinds, document)?;
+    // The tree comes last, since each `?` behind it would have to let go of it.
     let mut env = tables(alloc, document, container(document))?;
     env.set_skip(skip(document));
     Ok(Document {
-        tree,
+        tree: tree(alloc, want, kinds, document)?,
         owner: owner(document),
         sources: flag(document, "sources"),
         mode: mode(document),

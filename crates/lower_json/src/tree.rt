@@ -10,10 +10,9 @@ ghost use Rattle.lower_json.specs.Reading as spec;
 ghost use Rattle.lower_json.specs.Reading.{of_kind, node_at, tree_of, tree_at};
 
 use crate::document::{Root, Tree};
-use crate::letting_go::let_go;
 use hir_base::Boxed;
 use hir_base::node::{NodeId, TextRange};
-use hir_syntax::ast::{BlockExpr, Expr, Param, ParamList, Pat, Path, Type_};
+use hir_syntax::ast::{Param, ParamList, Pat};
 use json_faults::kinds::kind_at;
 use json_faults::value::item_at;
 use json_kinds::kind::{ExprNode, Kind, PartNode, PathNode};
@@ -31,7 +30,7 @@ use json_nodes::operations::operation;
 use json_nodes::others::{function, of_block, of_stmt, other};
 use json_nodes::param_parts::Pats;
 use json_nodes::params::of_param;
-use json_nodes::part::{AnyPart, Group, ReadParts};
+use json_nodes::part::{AnyPart, Group, ReadParts, in_box, served};
 use json_nodes::partless::partless;
 use json_nodes::path_parts::PathPart;
 use json_nodes::paths::{of_path, path};
@@ -71,65 +70,6 @@ where
 
     fn part_at(&self, alloc: Global, at: u32) -> Result<Option<AnyPart>, AllocError> {
         (self.read)(alloc, self.kinds, self.nodes, self.levels, at)
-    }
-
-    fn let_go(&self, part: AnyPart) {
-        let_go(part);
-    }
-
-    fn boxed_expr(&self, alloc: Global, refused: &mut bool, expr: Expr) -> Option<Boxed<Expr>> {
-        match Boxed::new(alloc, expr) {
-            Ok(boxed) => Some(boxed),
-            Err(_) => {
-                *refused = true;
-                None
-            }
-        }
-    }
-
-    fn boxed_block(
-        &self,
-        alloc: Global,
-        refused: &mut bool,
-        block: BlockExpr,
-    ) -> Option<Boxed<BlockExpr>> {
-        match Boxed::new(alloc, block) {
-            Ok(boxed) => Some(boxed),
-            Err(_) => {
-                *refused = true;
-                None
-            }
-        }
-    }
-
-    fn boxed_pat(&self, alloc: Global, refused: &mut bool, pat: Pat) -> Option<Boxed<Pat>> {
-        match Boxed::new(alloc, pat) {
-            Ok(boxed) => Some(boxed),
-            Err(_) => {
-                *refused = true;
-                None
-            }
-        }
-    }
-
-    fn boxed_type(&self, alloc: Global, refused: &mut bool, ty: Type_) -> Option<Boxed<Type_>> {
-        match Boxed::new(alloc, ty) {
-            Ok(boxed) => Some(boxed),
-            Err(_) => {
-                *refused = true;
-                None
-            }
-        }
-    }
-
-    fn boxed_path(&self, alloc: Global, refused: &mut bool, path: Path) -> Option<Boxed<Path>> {
-        match Boxed::new(alloc, path) {
-            Ok(boxed) => Some(boxed),
-            Err(_) => {
-                *refused = true;
-                None
-            }
-        }
     }
 }
 
@@ -281,7 +221,7 @@ fn read_part(
 }
 
 /// What of a group stands at a node, if anything does.
-fn one_of<G: Group, P: ReadParts>(
+fn one_of<G: Group<AnyPart>, P: ReadParts>(
     node: &Node<'_, P>,
     refused: &mut bool,
     kind: Option<Kind>,
@@ -291,7 +231,7 @@ fn one_of<G: Group, P: ReadParts>(
         (result ≡ option_and_then G.as_group (option_and_then (of_kind (here P.parts node.now)) kind)) }
 {
     let part = of_kind(node, refused, kind?)?;
-    node.served::<G>(part)
+    served::<AnyPart, G, P>(node.parts, part)
 }
 
 /// The pattern at a node in a box, if one stands there.
@@ -305,7 +245,7 @@ fn boxed_pat<P: ReadParts>(
         (result ≡ option_and_then as_pat (option_and_then (of_kind (here P.parts node.now)) kind)) }
 {
     let pat = one_of::<Pats, P>(node, refused, kind)?;
-    node.boxed_pat(refused, pat)
+    in_box::<Pats>(node.alloc, refused, pat)
 }
 
 /// A pattern as the only parameter of a function.
