@@ -12,7 +12,7 @@ ghost use Rattle.hir_lower_pat.specs.Bindings.{HasNames, LowersNamed};
 ghost use Rattle.hir_lower_pat.specs.Methods.{LowersLater, LowersPat};
 
 use crate::bindings::Bindings;
-use crate::part::{PatPart, PatsPart};
+use crate::part::{PatNode, PatPart, PatsPart};
 use crate::parts::{Here, PatParts};
 use hir_base::node::{AstPtr, InFile};
 use hir_lower_form::builder::BodyBuilder;
@@ -52,19 +52,19 @@ pub(crate) fn slice_form<S: PatParts, L: PatsPart, E: PatPart>(
 }
 
 /// The alternative, once the one before has ended.
-fn next<S: PatParts>(
+fn next<S: PatParts, N: PatNode>(
     parts: &S,
     state: &mut BodyBuilder,
     bindings: &mut Bindings,
-    node: &ast::Pat,
+    node: &N,
 ) -> Result<PatId, StoreFault>
-    requires part { S.can_pat parts.now node.now }
+    requires part { N.can (S.can_pat parts.now) node.now }
     requires names { HasNames state.old.stored bindings.old }
-    ensures { let read = answered_pat (S.spot parts.now) node.now in
+    ensures { let read = N.read (S.spot parts.now) node.now in
         LowersNamed HasPat (λ t. lower_pat read (spec.next_alternative t)) bindings.old state.old result bindings.new state.new }
 {
     bindings.next_alternative();
-    parts.lower_pat(state, bindings, node)
+    node.lower_node(parts, state, bindings)
 }
 
 /// The alternatives behind the first.

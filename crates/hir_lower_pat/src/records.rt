@@ -7,7 +7,7 @@ ghost use Rattle.hir_store.specs.Range.{HasPat, HasPath};
 ghost use Rattle.hir_env.specs.Answered as tree;
 ghost use Rattle.hir_env.specs.Answered.{PatFields};
 ghost use Rattle.hir_env.specs.Spot.{Spot};
-ghost use Rattle.hir_env.specs.Whole.{answered_pat, answered_pat_field, pat_field_level, pat_fields_part};
+ghost use Rattle.hir_env.specs.Whole.{answered_pat_field, pat_field_level, pat_fields_part};
 ghost use Rattle.hir_lower_form.specs.Lower.{lower_pat, lower_pat_fields};
 ghost use Rattle.hir_lower_form.specs.Lowering.{Lowers};
 ghost use Rattle.hir_lower_form.specs.Nests.{IfPresent, KidsPatFields};
@@ -16,6 +16,7 @@ ghost use Rattle.hir_lower_pat.specs.Bindings.{HasNames, LowersNamed};
 ghost use Rattle.hir_lower_pat.specs.Methods.{HasPatField, LowersPat, LowersPatField, LowersPatFields, field_name};
 
 use crate::bindings::Bindings;
+use crate::part::PatNode;
 use crate::parts::{Here, PatParts};
 use crate::paths::PathPart;
 use hir_base::node::{AstPtr, InFile};
@@ -52,21 +53,21 @@ fn named_part(
 
 /// A field with its part.
 #[tactic(auto, unfolding(hir_lower_form::specs::Pats::pat_field_form))]
-fn present_field<S: PatParts>(
+fn present_field<S: PatParts, N: PatNode>(
     parts: &S,
     state: &mut BodyBuilder,
     bindings: &mut Bindings,
     at: InFile<AstPtr>,
     name: &Option<ast::Name>,
-    part: &ast::Pat,
+    part: &N,
 ) -> Result<Option<RecordFieldPat>, StoreFault>
-    requires part { S.can_pat parts.now part.now }
+    requires part { N.can (S.can_pat parts.now) part.now }
     requires names { HasNames state.old.stored bindings.old }
-    ensures { let read = answered_pat (S.spot parts.now) part.now in
+    ensures { let read = N.read (S.spot parts.now) part.now in
         LowersNamed HasPatField (spec.pat_field_form at (field_name name.now) (lower_pat read))
         bindings.old state.old result bindings.new state.new }
 {
-    let pat = parts.lower_pat(state, bindings, part)?;
+    let pat = part.lower_node(parts, state, bindings)?;
     named_part(state, at, name, pat)
 }
 

@@ -124,7 +124,13 @@ impl TargetsPart for Seq<ast::Expr> {
         parts: &T,
         state: &mut BodyBuilder,
     ) -> Result<(Seq<PatId>, Option<InFile<AstPtr>>, Seq<PatId>), StoreFault> {
-        each_of_array(parts, state, self.as_slice())
+        let mut done = (Seq::new(parts.alloc()), None, Seq::new(parts.alloc()));
+        let mut left = self.as_slice();
+        while let [one, rest @ ..] = left {
+            done = array_element(parts, state, done, one)?;
+            left = rest;
+        }
+        Ok(done)
     }
 }
 
@@ -246,24 +252,6 @@ fn array_element<T: TargetParts, N: TargetNode>(
             Ok((prefix, Some(at), suffix))
         }
     }
-}
-
-/// One part after another.
-fn each_of_array<T: TargetParts>(
-    parts: &T,
-    state: &mut BodyBuilder,
-    mut left: &[ast::Expr],
-) -> Result<(Seq<PatId>, Option<InFile<AstPtr>>, Seq<PatId>), StoreFault>
-    requires { Each (T.can_target parts.now) left.now }
-    ensures { let spot = T.spot parts.now in
-        Lowers HasArrayParts (array_read (found_at spot) ([], None, []) (exprs_part spot left.entry.now)) state.old result state.new }
-{
-    let mut done = (Seq::new(parts.alloc()), None, Seq::new(parts.alloc()));
-    while let [one, rest @ ..] = left {
-        done = array_element(parts, state, done, one)?;
-        left = rest;
-    }
-    Ok(done)
 }
 
 /// The two dots, where it has such.

@@ -3,7 +3,6 @@
 ghost use Rattle.std.specs.Prelude.{◌≡◌, ◌∷◌, IfOk, Some};
 ghost use Rattle.hir_store.specs.Range.{HasPat, HasPath, HasPats};
 ghost use Rattle.hir_env.specs.Answered as tree;
-ghost use Rattle.hir_env.specs.Whole.{answered_pat};
 ghost use Rattle.hir_syntax.specs.declared.pats.PatKind.{out-PatKind};
 ghost use Rattle.hir_lower_form.specs.Lower.{lower_elements, lower_pat};
 ghost use Rattle.hir_lower_form.specs.Lowering.{Lowers};
@@ -13,7 +12,7 @@ ghost use Rattle.hir_lower_pat.specs.Bindings.{HasNames, LowersNamed};
 ghost use Rattle.hir_lower_pat.specs.Methods.{HasCounted, HasDots, HasElements, LowersPat, is_rest};
 
 use crate::bindings::Bindings;
-use crate::part::PatsPart;
+use crate::part::{PatNode, PatsPart};
 use crate::parts::{Here, PatParts};
 use crate::paths::PathPart;
 use hir_base::node::{AstPtr, InFile};
@@ -27,37 +26,36 @@ use hir_syntax::{Seq, ast};
 use std::alloc::{AllocError, Global};
 
 /// Whether a pattern is two dots.
-fn stands_for_rest(node: &ast::Pat) -> bool
+pub(crate) fn stands_for_rest(node: &ast::Pat) -> bool
     ensures { result ≡ is_rest (out-PatKind node.now.kind) }
 {
     matches!(&node.kind, ast::PatKind::RestPat)
 }
 
 /// One part more. Two dots are none, and of several the first count.
-#[tactic(auto, using(crate::proofs::KindLemmas::dots_are))]
-pub(crate) fn element<S: PatParts>(
+pub(crate) fn element<S: PatParts, N: PatNode>(
     parts: &S,
     state: &mut BodyBuilder,
     bindings: &mut Bindings,
     done: (Seq<PatId>, Option<usize>),
-    node: &ast::Pat,
+    node: &N,
 ) -> Result<(Seq<PatId>, Option<usize>), StoreFault>
-    requires part { S.can_pat parts.now node.now }
+    requires part { N.can (S.can_pat parts.now) node.now }
     requires names { HasNames state.old.stored bindings.old }
     requires done { HasPats state.old.stored done.0 }
-    ensures { let read = answered_pat (S.spot parts.now) node.now in
+    ensures { let read = N.read (S.spot parts.now) node.now in
         LowersNamed HasElements (spec.element_form (is_dots read) done (lower_pat read))
         bindings.old state.old result bindings.new state.new }
 {
     let (mut ids, dots) = done;
-    if stands_for_rest(node) {
+    if node.is_rest(parts) {
         let first = match dots {
             Some(place) => place,
             None => ids.len(),
         };
         return Ok((ids, Some(first)));
     }
-    let id = parts.lower_pat(state, bindings, node)?;
+    let id = node.lower_node(parts, state, bindings)?;
     push_pat(&mut ids, id)?;
     Ok((ids, dots))
 }

@@ -1,7 +1,7 @@
 //! Types, constants and patterns as parts of a form. A form that hands one on has it as a type parameter, so that no tree is among the
 //! form's types, each of which a check would lay out with all that it leads to.
 
-ghost use Rattle.std.specs.Prelude.{Option, []};
+ghost use Rattle.std.specs.Prelude.{Option};
 ghost use Rattle.hir_syntax.specs.declared.ast.Expr.{Expr as AstExpr};
 ghost use Rattle.hir_syntax.specs.declared.pats.Pat.{Pat as AstPat};
 ghost use Rattle.hir_syntax.specs.declared.types.Type_.{Type_ as AstType};
