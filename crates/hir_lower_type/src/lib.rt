@@ -5,7 +5,6 @@ pub mod args;
 mod bounds;
 mod functions;
 mod lifetimes;
-mod part;
 pub mod places;
 mod simple;
 pub mod types;
