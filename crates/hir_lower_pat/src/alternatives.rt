@@ -3,64 +3,46 @@
 ghost use Rattle.std.specs.Prelude.{◌∷◌, []};
 ghost use Rattle.hir_store.specs.Range.{HasPat, HasPats};
 ghost use Rattle.hir_env.specs.Answered as tree;
-ghost use Rattle.hir_env.specs.Whole.{answered_pat, pat_part, pats_part};
+ghost use Rattle.hir_env.specs.Whole.{answered_pat, pats_part};
 ghost use Rattle.hir_lower_form.specs.Lower.{lower_later, lower_pat};
 ghost use Rattle.hir_lower_form.specs.Lowering.{Lowers};
-ghost use Rattle.hir_lower_form.specs.Nests.{Each, IfPresent};
+ghost use Rattle.hir_lower_form.specs.Nests.{Each};
 ghost use Rattle.hir_lower_form.specs.Pats as spec;
 ghost use Rattle.hir_lower_pat.specs.Bindings.{HasNames, LowersNamed};
-ghost use Rattle.hir_lower_pat.specs.Methods.{LowersLater, LowersPat, LowersPats};
+ghost use Rattle.hir_lower_pat.specs.Methods.{LowersLater, LowersPat};
 
 use crate::bindings::Bindings;
-use crate::parts::{PatParts, pat_if_present};
+use crate::part::{PatNode, PatPart, PatsPart};
+use crate::parts::{Here, PatParts};
 use hir_base::node::{AstPtr, InFile};
 use hir_lower_form::builder::BodyBuilder;
 use hir_store::fault::StoreFault;
 use hir_store::hir::Pat;
 use hir_store::ids::PatId;
 use hir_store::lists::push_pat;
-use hir_syntax::{Boxed, Seq, ast};
-
-fn pats<S: PatParts>(
-    parts: &S,
-    state: &mut BodyBuilder,
-    bindings: &mut Bindings,
-    mut left: &[ast::Pat],
-) -> Result<Seq<PatId>, StoreFault>
-    requires parts { Each (S.can_pat parts.now) left.now }
-    requires names { HasNames state.old.stored bindings.old }
-    ensures { LowersPats (pats_part (S.spot parts.now) left.entry.now) bindings.old state.old result bindings.new state.new }
-{
-    let mut done = Seq::new(parts.alloc());
-    while let [one, rest @ ..] = left {
-        let id = parts.lower_pat(state, bindings, one)?;
-        push_pat(&mut done, id)?;
-        left = rest;
-    }
-    Ok(done)
-}
+use hir_syntax::{Seq, ast};
 
 #[tactic(auto, unfolding(hir_lower_form::specs::Pats::slice_pat_form))]
-pub(crate) fn slice_form<S: PatParts>(
+pub(crate) fn slice_form<S: PatParts, L: PatsPart, E: PatPart>(
     parts: &S,
     state: &mut BodyBuilder,
     bindings: &mut Bindings,
     at: InFile<AstPtr>,
-    before: &Seq<ast::Pat>,
-    middle: &Option<Boxed<ast::Pat>>,
-    after: &Seq<ast::Pat>,
+    before: &L,
+    middle: &E,
+    after: &L,
 ) -> Result<PatId, StoreFault>
-    requires before { Each (S.can_pat parts.now) before.now }
-    requires middle { IfPresent (S.can_pat parts.now) middle.now }
-    requires after { Each (S.can_pat parts.now) after.now }
+    requires before { L.can (S.can_pat parts.now) before.now }
+    requires middle { E.can (S.can_pat parts.now) middle.now }
+    requires after { L.can (S.can_pat parts.now) after.now }
     requires names { HasNames state.old.stored bindings.old }
     ensures { let here = S.spot parts.now in
-        LowersPat (tree.slice_pat at (pats_part here before.now) (pat_part here middle.now) (pats_part here after.now))
+        LowersPat (tree.slice_pat at (L.read here before.now) (E.read here middle.now) (L.read here after.now))
         bindings.old state.old result bindings.new state.new }
 {
-    let prefix = pats(parts, state, bindings, before.as_slice())?;
-    let slice = pat_if_present(parts, state, bindings, middle)?;
-    let suffix = pats(parts, state, bindings, after.as_slice())?;
+    let prefix = before.lower_each(parts, state, bindings)?;
+    let slice = middle.lower_if_present(parts, state, bindings)?;
+    let suffix = after.lower_each(parts, state, bindings)?;
     let pat = Pat::Slice {
         prefix,
         slice,
@@ -70,19 +52,19 @@ pub(crate) fn slice_form<S: PatParts>(
 }
 
 /// The alternative, once the one before has ended.
-fn next<S: PatParts>(
+fn next<S: PatParts, N: PatNode>(
     parts: &S,
     state: &mut BodyBuilder,
     bindings: &mut Bindings,
-    node: &ast::Pat,
+    node: &N,
 ) -> Result<PatId, StoreFault>
-    requires part { S.can_pat parts.now node.now }
+    requires part { N.can (S.can_pat parts.now) node.now }
     requires names { HasNames state.old.stored bindings.old }
-    ensures { let read = answered_pat (S.spot parts.now) node.now in
+    ensures { let read = N.read (S.spot parts.now) node.now in
         LowersNamed HasPat (λ t. lower_pat read (spec.next_alternative t)) bindings.old state.old result bindings.new state.new }
 {
     bindings.next_alternative();
-    parts.lower_pat(state, bindings, node)
+    node.lower_node(parts, state, bindings)
 }
 
 /// The alternatives behind the first.

@@ -1,23 +1,27 @@
 //! The ends of a range in a type: each is a constant, which is a body of its own.
 
 ghost use Rattle.std.specs.Prelude.{◌≡◌, ◌∷◌, [], Ok, Some, IfOk};
+ghost use Rattle.hir_syntax.specs.declared.ast.Path.{Path as AstPath};
 ghost use Rattle.hir_syntax.specs.declared.pats.PatKind.{out-PatKind};
 ghost use Rattle.hir_store.specs.Range.{HasExpr};
 ghost use Rattle.hir_env.specs.Answered as tree;
+ghost use Rattle.hir_env.specs.Answered.{Pat as AnsweredPat, Side};
 ghost use Rattle.hir_env.specs.Answering.{name_or_missing};
 ghost use Rattle.hir_env.specs.Pats.{side_of};
+ghost use Rattle.hir_env.specs.Spot.{Spot};
 ghost use Rattle.hir_env.specs.TypePats as of;
-ghost use Rattle.hir_env.specs.Whole.{answered_pat, pat_level, pat_part, path_part};
+ghost use Rattle.hir_env.specs.Whole.{answered_pat, pat_level, pat_part};
 ghost use Rattle.hir_lower_form.specs.Lowering.{Lowers};
 ghost use Rattle.hir_lower_form.specs.Lowering as step;
 ghost use Rattle.hir_lower_form.specs.Lower as steps;
 ghost use Rattle.hir_lower_form.specs.Methods.{LowersLimit, at_place};
-ghost use Rattle.hir_lower_form.specs.Nests.{IfPresent, KidsSide, KidsSidePart};
+ghost use Rattle.hir_lower_form.specs.Nests.{KidsSide, KidsSidePart};
 ghost use Rattle.hir_lower_form.specs.Ranges as spec;
 ghost use Rattle.hir_lower_pat.specs.TypePats as bodies;
 
 use crate::items::item_expr;
 use crate::names::path_of_name;
+use crate::paths::PathPart;
 use crate::sides::{minus_fits, signed};
 use hir_base::node::{AstPtr, InFile};
 use hir_env::place::Place;
@@ -84,18 +88,18 @@ fn name_side(
 
 /// A path that is absent or refused is missing.
 #[tactic(auto, unfolding(hir_lower_form::specs::Ranges::path_limit_form))]
-fn path_side<P: LowerParts>(
+fn path_side<P: LowerParts, W: PathPart>(
     lowerer: &Lowerer<P>,
     state: &mut BodyBuilder,
     place: Place,
     at: InFile<AstPtr>,
-    path: &Option<Boxed<ast::Path>>,
+    path: &W,
 ) -> Result<ExprId, StoreFault>
-    requires { IfPresent ((P.can lowerer.now.parts).path place) path.now }
-    ensures { let read = path_part (at_place (P.spot lowerer.now.parts) place) path.now in
+    requires { W.can ((P.can lowerer.now.parts).path place) path.now }
+    ensures { let read = W.read (at_place (P.spot lowerer.now.parts) place) path.now in
         Lowers HasExpr (steps.limit_side (tree.path_side at read)) state.old result state.new }
 {
-    match lowerer.path_if_present(state, place, path)? {
+    match path.lower(lowerer, state, place)? {
         None => state.alloc_expr(Expr::Missing, Some(at)),
         Some(path) => {
             let hygiene = HygieneId::ROOT;
@@ -139,17 +143,38 @@ fn side_form<P: LowerParts>(
     }
 }
 
-fn side<P: LowerParts>(
-    lowerer: &Lowerer<P>,
-    state: &mut BodyBuilder,
-    place: Place,
-    node: &ast::Pat,
-) -> Result<ExprId, StoreFault>
-    requires { KidsSide ((P.can lowerer.now.parts).path place) (out-PatKind node.now.kind) }
-    ensures { let here = at_place (P.spot lowerer.now.parts) place in
-        Lowers HasExpr (steps.limit_side (side_of (tree.some_pat (answered_pat here node.now)))) state.old result state.new }
-{
-    side_form(lowerer, state, place, node)
+/// A pattern as an end of a range in a type. A form that hands one on has it as a type parameter, so that no tree is among the form's
+/// types.
+pub trait LimitNode {
+    ghost can: { (AstPath → Type 0) → Self → Type 0 };
+
+    ghost read: { Spot → Self → AnsweredPat };
+
+    /// What the pattern is as a side, missing where it is another pattern.
+    fn side<P: LowerParts>(
+        &self,
+        lowerer: &Lowerer<P>,
+        state: &mut BodyBuilder,
+        place: Place,
+    ) -> Result<ExprId, StoreFault>
+        requires { can ((P.can lowerer.now.parts).path place) self.now }
+        ensures { let here = at_place (P.spot lowerer.now.parts) place in
+            Lowers HasExpr (steps.limit_side (side_of (tree.some_pat (read here self.now)))) state.old result state.new };
+}
+
+impl LimitNode for ast::Pat {
+    ghost can = { λ path p. KidsSide path (out-PatKind p.kind) };
+
+    ghost read = { answered_pat };
+
+    fn side<P: LowerParts>(
+        &self,
+        lowerer: &Lowerer<P>,
+        state: &mut BodyBuilder,
+        place: Place,
+    ) -> Result<ExprId, StoreFault> {
+        side_form(lowerer, state, place, self)
+    }
 }
 
 /// The item that stands for an absent end.
@@ -164,18 +189,18 @@ fn item_limit(state: &mut BodyBuilder, item: Option<LangItemId>) -> Result<ExprI
 
 /// The side itself.
 #[tactic(auto, unfolding(hir_lower_form::specs::Ranges::inner_form))]
-fn side_limit<P: LowerParts>(
+fn side_limit<P: LowerParts, N: LimitNode>(
     lowerer: &Lowerer<P>,
     state: &mut BodyBuilder,
     place: Place,
-    node: &ast::Pat,
+    node: &N,
 ) -> Result<ExprId, StoreFault>
-    requires { KidsSide ((P.can lowerer.now.parts).path place) (out-PatKind node.now.kind) }
+    requires { N.can ((P.can lowerer.now.parts).path place) node.now }
     ensures { let here = at_place (P.spot lowerer.now.parts) place in
-        LowersLimit (tree.side_limit (side_of (tree.some_pat (answered_pat here node.now)))) state.old result state.new }
+        LowersLimit (tree.side_limit (side_of (tree.some_pat (N.read here node.now)))) state.old result state.new }
 {
     let around = open(state)?;
-    let id = side(lowerer, state, place, node)?;
+    let id = node.side(lowerer, state, place)?;
     shut(state, around, id)
 }
 
@@ -196,19 +221,19 @@ fn item_callee(state: &mut BodyBuilder, item: Option<LangItemId>) -> Result<Expr
 
 /// A call of the item with the side, both from no node.
 #[tactic(auto, unfolding(hir_lower_form::specs::Ranges::before_form))]
-fn before<P: LowerParts>(
+fn before<P: LowerParts, N: LimitNode>(
     lowerer: &Lowerer<P>,
     state: &mut BodyBuilder,
     place: Place,
     item: Option<LangItemId>,
-    node: &ast::Pat,
+    node: &N,
 ) -> Result<ExprId, StoreFault>
-    requires { KidsSide ((P.can lowerer.now.parts).path place) (out-PatKind node.now.kind) }
+    requires { N.can ((P.can lowerer.now.parts).path place) node.now }
     ensures { let here = at_place (P.spot lowerer.now.parts) place in
-        let read = steps.limit_side (side_of (tree.some_pat (answered_pat here node.now))) in
+        let read = steps.limit_side (side_of (tree.some_pat (N.read here node.now))) in
         Lowers HasExpr (spec.before_form item read) state.old result state.new }
 {
-    let excluded = side(lowerer, state, place, node)?;
+    let excluded = node.side(lowerer, state, place)?;
     let callee = item_callee(state, item)?;
     let args = operand(lowerer.alloc, excluded)?;
     state.alloc_expr(Expr::Call { callee, args }, None)
@@ -216,52 +241,34 @@ fn before<P: LowerParts>(
 
 /// The last before the side.
 #[tactic(auto, unfolding(hir_lower_form::specs::Ranges::inner_form))]
-fn before_limit<P: LowerParts>(
+fn before_limit<P: LowerParts, N: LimitNode>(
     lowerer: &Lowerer<P>,
     state: &mut BodyBuilder,
     place: Place,
     item: Option<LangItemId>,
-    node: &ast::Pat,
+    node: &N,
 ) -> Result<ExprId, StoreFault>
-    requires { KidsSide ((P.can lowerer.now.parts).path place) (out-PatKind node.now.kind) }
+    requires { N.can ((P.can lowerer.now.parts).path place) node.now }
     ensures { let here = at_place (P.spot lowerer.now.parts) place in
-        LowersLimit (tree.before_limit item (side_of (tree.some_pat (answered_pat here node.now)))) state.old result state.new }
+        LowersLimit (tree.before_limit item (side_of (tree.some_pat (N.read here node.now)))) state.old result state.new }
 {
     let around = open(state)?;
     let id = before(lowerer, state, place, item, node)?;
     shut(state, around, id)
 }
 
-/// The least value of the type where no start is written.
-#[tactic(auto, using(crate::proofs::TypePats::start_is_side))]
-pub(crate) fn start_limit<P: LowerParts>(
-    lowerer: &Lowerer<P>,
-    state: &mut BodyBuilder,
-    place: Place,
-    part: &Option<Boxed<ast::Pat>>,
-) -> Result<ExprId, StoreFault>
-    requires { KidsSidePart ((P.can lowerer.now.parts).path place) part.now }
-    ensures { let here = at_place (P.spot lowerer.now.parts) place in
-        LowersLimit (of.start_limit here.answers.lang_items (side_of (pat_part here part.now))) state.old result state.new }
-{
-    match part {
-        None => item_limit(state, lowerer.parts.lang_items().range_min),
-        Some(part) => side_limit(lowerer, state, place, part.get()),
-    }
-}
-
 /// An end that is written is part of the range, unless it is excluded.
 #[tactic(auto, using(crate::proofs::TypePats::end_is_side))]
-fn written_end<P: LowerParts>(
+fn written_end<P: LowerParts, N: LimitNode>(
     lowerer: &Lowerer<P>,
     state: &mut BodyBuilder,
     place: Place,
     op: Option<RangeOp>,
-    node: &ast::Pat,
+    node: &N,
 ) -> Result<ExprId, StoreFault>
-    requires { KidsSide ((P.can lowerer.now.parts).path place) (out-PatKind node.now.kind) }
+    requires { N.can ((P.can lowerer.now.parts).path place) node.now }
     ensures { let here = at_place (P.spot lowerer.now.parts) place in
-        let side = side_of (tree.some_pat (answered_pat here node.now)) in
+        let side = side_of (tree.some_pat (N.read here node.now)) in
         LowersLimit (of.end_limit here.answers.lang_items op side) state.old result state.new }
 {
     match op {
@@ -273,20 +280,64 @@ fn written_end<P: LowerParts>(
     }
 }
 
-/// The greatest value of the type where no end is written.
-pub(crate) fn end_limit<P: LowerParts>(
-    lowerer: &Lowerer<P>,
-    state: &mut BodyBuilder,
-    place: Place,
-    op: Option<RangeOp>,
-    part: &Option<Boxed<ast::Pat>>,
-) -> Result<ExprId, StoreFault>
-    requires { KidsSidePart ((P.can lowerer.now.parts).path place) part.now }
-    ensures { let here = at_place (P.spot lowerer.now.parts) place in
-        LowersLimit (of.end_limit here.answers.lang_items op (side_of (pat_part here part.now))) state.old result state.new }
-{
-    match part {
-        None => item_limit(state, lowerer.parts.lang_items().range_max),
-        Some(part) => written_end(lowerer, state, place, op, part.get()),
+/// An end of a range in a type, that is there or isn't.
+pub trait LimitPart {
+    ghost can: { (AstPath → Type 0) → Self → Type 0 };
+
+    ghost read: { Spot → Self → Side };
+
+    /// The least value of the type where no start is written.
+    fn start_limit<P: LowerParts>(
+        &self,
+        lowerer: &Lowerer<P>,
+        state: &mut BodyBuilder,
+        place: Place,
+    ) -> Result<ExprId, StoreFault>
+        requires { can ((P.can lowerer.now.parts).path place) self.now }
+        ensures { let here = at_place (P.spot lowerer.now.parts) place in
+            LowersLimit (of.start_limit here.answers.lang_items (read here self.now)) state.old result state.new };
+
+    /// The greatest value of the type where no end is written.
+    fn end_limit<P: LowerParts>(
+        &self,
+        lowerer: &Lowerer<P>,
+        state: &mut BodyBuilder,
+        place: Place,
+        op: Option<RangeOp>,
+    ) -> Result<ExprId, StoreFault>
+        requires { can ((P.can lowerer.now.parts).path place) self.now }
+        ensures { let here = at_place (P.spot lowerer.now.parts) place in
+            LowersLimit (of.end_limit here.answers.lang_items op (read here self.now)) state.old result state.new };
+}
+
+impl LimitPart for Option<Boxed<ast::Pat>> {
+    ghost can = { λ path. KidsSidePart path };
+
+    ghost read = { λ at p. side_of (pat_part at p) };
+
+    #[tactic(auto, using(crate::proofs::TypePats::start_is_side))]
+    fn start_limit<P: LowerParts>(
+        &self,
+        lowerer: &Lowerer<P>,
+        state: &mut BodyBuilder,
+        place: Place,
+    ) -> Result<ExprId, StoreFault> {
+        match self {
+            None => item_limit(state, lowerer.parts.lang_items().range_min),
+            Some(part) => side_limit(lowerer, state, place, part.get()),
+        }
+    }
+
+    fn end_limit<P: LowerParts>(
+        &self,
+        lowerer: &Lowerer<P>,
+        state: &mut BodyBuilder,
+        place: Place,
+        op: Option<RangeOp>,
+    ) -> Result<ExprId, StoreFault> {
+        match self {
+            None => item_limit(state, lowerer.parts.lang_items().range_max),
+            Some(part) => written_end(lowerer, state, place, op, part.get()),
+        }
     }
 }

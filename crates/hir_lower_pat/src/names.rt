@@ -15,7 +15,8 @@ ghost use Rattle.hir_lower_pat.specs.Bindings.{HasNames, LowersNamed};
 ghost use Rattle.hir_lower_pat.specs.Methods.{LowersPat, use_with};
 
 use crate::bindings::Bindings;
-use crate::parts::{PatParts, pat_if_present};
+use crate::part::PatPart;
+use crate::parts::{Here, PatParts};
 use hir_base::node::{AstPtr, InFile};
 use hir_binding::binding::BindingAnnotation;
 use hir_env::resolved::{Resolution, Shadow};
@@ -53,8 +54,8 @@ pub(crate) fn is_without_words(mode: BindingAnnotation) -> bool
 }
 
 /// The hygiene of a name is that of its node, or the root's where it is absent.
-pub(crate) fn hygiene_of<S: PatParts>(parts: &S, name: &Option<ast::Name>) -> HygieneId
-    ensures { let at = S.spot parts.now in result ≡ of.name_hygiene at.answers at.place name.now }
+pub(crate) fn hygiene_of<H: Here>(parts: &H, name: &Option<ast::Name>) -> HygieneId
+    ensures { let at = H.spot parts.now in result ≡ of.name_hygiene at.answers at.place name.now }
 {
     match name {
         None => HygieneId::ROOT,
@@ -84,8 +85,8 @@ fn is_constant(values: Option<Resolution>) -> bool
 }
 
 /// Whether a plain name stands for a constant, a variant or a struct, so that it doesn't bind.
-fn is_found<S: PatParts>(parts: &S, name: &Name) -> Result<bool, AllocError>
-    ensures { let at = S.spot parts.now in IfOk result (λ found. found ≡ of.is_found at.answers at.place name.now) }
+fn is_found<H: Here>(parts: &H, name: &Name) -> Result<bool, AllocError>
+    ensures { let at = H.spot parts.now in IfOk result (λ found. found ≡ of.is_found at.answers at.place name.now) }
 {
     let path = path_of_name(parts.alloc(), name.clone()?)?;
     Ok(is_constant(parts.resolve(&path, Shadow::Other).values))
@@ -107,7 +108,7 @@ fn name_form(
 
 /// A name that binds, behind what stands after its `@`.
 #[tactic(auto, unfolding(hir_lower_form::specs::Pats::bind_form))]
-fn bind_form<S: PatParts>(
+fn bind_form<S: PatParts, E: PatPart>(
     parts: &S,
     state: &mut BodyBuilder,
     bindings: &mut Bindings,
@@ -115,15 +116,15 @@ fn bind_form<S: PatParts>(
     name: Name,
     hygiene: HygieneId,
     mode: BindingAnnotation,
-    part: &Option<Boxed<ast::Pat>>,
+    part: &E,
 ) -> Result<PatId, StoreFault>
-    requires part { IfPresent (S.can_pat parts.now) part.now }
+    requires part { E.can (S.can_pat parts.now) part.now }
     requires names { HasNames state.old.stored bindings.old }
-    ensures { let inner = present_pat (pat_part (S.spot parts.now) part.now) in
+    ensures { let inner = present_pat (E.read (S.spot parts.now) part.now) in
         LowersNamed HasPat (steps_of.bind_form at (record { name = name; hygiene = hygiene; mode = mode }) inner)
         bindings.old state.old result bindings.new state.new }
 {
-    let subpat = pat_if_present(parts, state, bindings, part)?;
+    let subpat = part.lower_if_present(parts, state, bindings)?;
     let id = bindings.use_name(state, name, hygiene, mode)?;
     let pat = state.alloc_pat(Pat::Bind { id, subpat }, Some(at))?;
     state.define(id, pat)?;

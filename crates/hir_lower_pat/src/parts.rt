@@ -1,18 +1,22 @@
-//! What a form of patterns needs: the questions, and what lowers the patterns and paths inside of it. It is a parameter, so that
-//! each form is proved by itself.
+//! What a form of patterns or of targets needs: the questions, and what lowers the patterns, targets and paths inside of it. It is a
+//! parameter, so that each form is proved by itself.
 
 ghost use Rattle.std.specs.Prelude.{◌≡◌};
+ghost use Rattle.hir_syntax.specs.declared.ast.Expr.{Expr as AstExpr};
 ghost use Rattle.hir_syntax.specs.declared.ast.Path.{Path as AstPath};
 ghost use Rattle.hir_syntax.specs.declared.pats.Pat.{Pat as AstPat};
 ghost use Rattle.hir_env.specs.Spot.{Spot};
-ghost use Rattle.hir_env.specs.Whole.{answered_pat, pat_part, path_part, pointer_at};
+ghost use Rattle.hir_env.specs.Whole.{answered, answered_pat, pointer_at};
+ghost use Rattle.hir_lower_form.specs.Lowering.{Lowers};
 ghost use Rattle.hir_lower_form.specs.Methods.{LowersPath};
-ghost use Rattle.hir_lower_form.specs.Nests.{IfPresent};
+ghost use Rattle.hir_lower_pat.specs.Aims.{Aims, HandlesTarget, HasAim, placed};
 ghost use Rattle.hir_lower_pat.specs.Bindings.{HasNames};
 ghost use Rattle.hir_lower_pat.specs.Handlers.{HandlesPat};
-ghost use Rattle.hir_lower_pat.specs.Methods.{LowersPat, LowersPatIfPresent, LowersPatOpt};
+ghost use Rattle.hir_lower_pat.specs.Methods.{LowersPat};
 
+use crate::aims::Aim;
 use crate::bindings::Bindings;
+use crate::paths::PathPart;
 use hir_base::node::{AstPtr, InFile, NodeId, PredId, TextRange};
 use hir_env::resolved::{Resolved, Shadow};
 use hir_lower_form::builder::BodyBuilder;
@@ -20,14 +24,12 @@ use hir_lower_form::parts::{LowerParts, Lowerer};
 use hir_store::fault::StoreFault;
 use hir_store::ids::{CfgId, HygieneId, PatId};
 use hir_store::path::{ModPath, Path};
-use hir_syntax::{Boxed, ast};
+use hir_syntax::ast;
 use std::alloc::Global;
 
-/// What lowers the parts of a pattern at one place, and answers its questions there.
-pub trait PatParts {
-    /// The patterns and the paths that may be handed in.
-    ghost can_pat: { Self → AstPat → Type 0 };
-
+/// The questions of a form at one place, and the paths there.
+pub trait Here {
+    /// The paths that may be handed in.
     ghost can_path: { Self → AstPath → Type 0 };
     /// Where the parts are read.
     ghost spot: { Self → Spot };
@@ -54,13 +56,19 @@ pub trait PatParts {
         ensures { let at = spot self.now in result ≡ at.answers.resolve at.place.module_id path.now shadow };
 
     /// The path, or none where it is absent or refused.
-    fn path(
+    fn path<W: PathPart>(
         &self,
         state: &mut BodyBuilder,
-        part: &Option<Boxed<ast::Path>>,
+        part: &W,
     ) -> Result<Option<Path>, StoreFault>
-        requires { IfPresent (can_path self.now) part.now }
-        ensures { LowersPath (path_part (spot self.now) part.now) state.old result state.new };
+        requires { W.can (can_path self.now) part.now }
+        ensures { LowersPath (W.read (spot self.now) part.now) state.old result state.new };
+}
+
+/// What lowers the parts of a pattern at one place.
+pub trait PatParts: Here {
+    /// The patterns that may be handed in.
+    ghost can_pat: { Self → AstPat → Type 0 };
 
     /// The pattern, with the names of its top pattern that were used before.
     fn lower_pat(
@@ -71,23 +79,35 @@ pub trait PatParts {
     ) -> Result<PatId, StoreFault>
         requires part { can_pat self.now node.now }
         requires names { HasNames state.old.stored bindings.old }
-        ensures { LowersPat (answered_pat (spot self.now) node.now) bindings.old state.old result bindings.new state.new };
+        ensures { LowersPat (answered_pat (Self.spot self.now) node.now) bindings.old state.old result bindings.new state.new };
 }
 
-/// The parts of a pattern are lowered by a function.
+/// What lowers the parts of what is assigned to at one place.
+pub trait TargetParts: Here {
+    /// What may be handed in as a target, and as a place.
+    ghost can_target: { Self → AstExpr → Type 0 };
+
+    ghost can_place: { Self → AstExpr → Type 0 };
+
+    /// The expression as it stands.
+    fn place(&self, state: &mut BodyBuilder, node: &ast::Expr) -> Result<Aim, StoreFault>
+        requires { can_place self.now node.now }
+        ensures { Lowers HasAim (placed (answered (Self.spot self.now) node.now)) state.old result state.new };
+
+    /// What comes of an expression, in whatever parentheses it stands.
+    fn aim(&self, state: &mut BodyBuilder, node: &ast::Expr) -> Result<Aim, StoreFault>
+        requires { can_target self.now node.now }
+        ensures { Aims (Self.spot self.now) (answered (Self.spot self.now) node.now) state.old result state.new };
+}
+
+/// The parts of a pattern or of a target are lowered by a function.
 #[derive_where(Clone, Copy; F)]
 pub struct Inside<'l, P, F> {
     pub lowerer: &'l Lowerer<P>,
-    pub pat: F,
+    pub by: F,
 }
 
-impl<
-    'l,
-    P: LowerParts,
-    F: Fn(&Lowerer<P>, &mut BodyBuilder, &mut Bindings, &ast::Pat) -> Result<PatId, StoreFault>,
-> PatParts for Inside<'l, P, F> {
-    ghost can_pat = { λ it. HandlesPat P.spot (F.pre it.pat) (F.post it.pat) it.lowerer.now };
-
+impl<'l, P: LowerParts, F> Here for Inside<'l, P, F> {
     ghost can_path = { λ it. (P.can it.lowerer.now.parts).path (P.spot it.lowerer.now.parts).place };
 
     ghost spot = { λ it. P.spot it.lowerer.now.parts };
@@ -116,14 +136,21 @@ impl<
         self.lowerer.parts.resolve(path, shadow)
     }
 
-    fn path(
+    fn path<W: PathPart>(
         &self,
         state: &mut BodyBuilder,
-        part: &Option<Boxed<ast::Path>>,
+        part: &W,
     ) -> Result<Option<Path>, StoreFault> {
-        self.lowerer
-            .path_if_present(state, self.lowerer.parts.place(), part)
+        part.lower(self.lowerer, state, self.lowerer.parts.place())
     }
+}
+
+impl<
+    'l,
+    P: LowerParts,
+    F: Fn(&Lowerer<P>, &mut BodyBuilder, &mut Bindings, &ast::Pat) -> Result<PatId, StoreFault>,
+> PatParts for Inside<'l, P, F> {
+    ghost can_pat = { λ it. HandlesPat P.spot (F.pre it.by) (F.post it.by) it.lowerer.now };
 
     fn lower_pat(
         &self,
@@ -131,40 +158,24 @@ impl<
         bindings: &mut Bindings,
         node: &ast::Pat,
     ) -> Result<PatId, StoreFault> {
-        (self.pat)(self.lowerer, state, bindings, node)
+        (self.by)(self.lowerer, state, bindings, node)
     }
 }
 
-/// The pattern, missing where it is absent.
-pub(crate) fn pat_or_missing<S: PatParts>(
-    parts: &S,
-    state: &mut BodyBuilder,
-    bindings: &mut Bindings,
-    part: &Option<Boxed<ast::Pat>>,
-) -> Result<PatId, StoreFault>
-    requires part { IfPresent (S.can_pat parts.now) part.now }
-    requires names { HasNames state.old.stored bindings.old }
-    ensures { LowersPatOpt (pat_part (S.spot parts.now) part.now) bindings.old state.old result bindings.new state.new }
-{
-    match part {
-        None => state.missing_pat(),
-        Some(part) => parts.lower_pat(state, bindings, part.get()),
-    }
-}
+impl<
+    'l,
+    P: LowerParts,
+    F: Fn(&Lowerer<P>, &mut BodyBuilder, &ast::Expr) -> Result<Aim, StoreFault>,
+> TargetParts for Inside<'l, P, F> {
+    ghost can_target = { λ it. HandlesTarget P.spot (F.pre it.by) (F.post it.by) it.lowerer.now };
 
-/// The pattern, or none where it is absent.
-pub(crate) fn pat_if_present<S: PatParts>(
-    parts: &S,
-    state: &mut BodyBuilder,
-    bindings: &mut Bindings,
-    part: &Option<Boxed<ast::Pat>>,
-) -> Result<Option<PatId>, StoreFault>
-    requires part { IfPresent (S.can_pat parts.now) part.now }
-    requires names { HasNames state.old.stored bindings.old }
-    ensures { LowersPatIfPresent (pat_part (S.spot parts.now) part.now) bindings.old state.old result bindings.new state.new }
-{
-    match part {
-        None => Ok(None),
-        Some(part) => Ok(Some(parts.lower_pat(state, bindings, part.get())?)),
+    ghost can_place = { λ it. (P.can it.lowerer.now.parts).expr };
+
+    fn place(&self, state: &mut BodyBuilder, node: &ast::Expr) -> Result<Aim, StoreFault> {
+        Ok(Aim::Place(self.lowerer.collect_expr(state, node)?))
+    }
+
+    fn aim(&self, state: &mut BodyBuilder, node: &ast::Expr) -> Result<Aim, StoreFault> {
+        (self.by)(self.lowerer, state, node)
     }
 }

@@ -3,15 +3,16 @@
 ghost use Rattle.hir_syntax.specs.declared.pats.PatKind.{out-PatKind};
 ghost use Rattle.hir_env.specs.Answered as tree;
 ghost use Rattle.hir_env.specs.Paths.{mutability};
-ghost use Rattle.hir_env.specs.Whole.{answered_pat, pat_level, pat_part};
-ghost use Rattle.hir_lower_form.specs.Nests.{IfPresent, KidsOfPat};
+ghost use Rattle.hir_env.specs.Whole.{answered_pat, pat_level};
+ghost use Rattle.hir_lower_form.specs.Nests.{KidsOfPat};
 ghost use Rattle.hir_lower_pat.specs.Bindings.{HasNames};
 ghost use Rattle.hir_lower_pat.specs.Methods.{LowersPat};
 
 use crate::alternatives::{or_form, slice_form};
 use crate::bindings::Bindings;
 use crate::names::{ident_form, mode_of};
-use crate::parts::{Inside, PatParts, pat_or_missing};
+use crate::part::PatPart;
+use crate::parts::{Here, Inside, PatParts};
 use crate::plain::plain_kind;
 use crate::records::record_form;
 use crate::tuples::{tuple_form, tuple_struct_form};
@@ -21,23 +22,23 @@ use hir_lower_form::parts::{LowerParts, Lowerer};
 use hir_store::fault::StoreFault;
 use hir_store::hir::{Mutability, Pat};
 use hir_store::ids::PatId;
-use hir_syntax::{Boxed, ast};
+use hir_syntax::ast;
 
 #[tactic(auto, unfolding(hir_lower_form::specs::Pats::over_pat_form))]
-fn ref_form<S: PatParts>(
+fn ref_form<S: PatParts, E: PatPart>(
     parts: &S,
     state: &mut BodyBuilder,
     bindings: &mut Bindings,
     at: InFile<AstPtr>,
     is_mut: bool,
-    part: &Option<Boxed<ast::Pat>>,
+    part: &E,
 ) -> Result<PatId, StoreFault>
-    requires part { IfPresent (S.can_pat parts.now) part.now }
+    requires part { E.can (S.can_pat parts.now) part.now }
     requires names { HasNames state.old.stored bindings.old }
-    ensures { LowersPat (tree.over_pat at (tree.ref_to (mutability is_mut)) (pat_part (S.spot parts.now) part.now))
+    ensures { LowersPat (tree.over_pat at (tree.ref_to (mutability is_mut)) (E.read (S.spot parts.now) part.now))
         bindings.old state.old result bindings.new state.new }
 {
-    let pat = pat_or_missing(parts, state, bindings, part)?;
+    let pat = part.lower(parts, state, bindings)?;
     let mutability = if is_mut {
         Mutability::Mut
     } else {
@@ -47,36 +48,36 @@ fn ref_form<S: PatParts>(
 }
 
 #[tactic(auto, unfolding(hir_lower_form::specs::Pats::over_pat_form))]
-fn box_form<S: PatParts>(
+fn box_form<S: PatParts, E: PatPart>(
     parts: &S,
     state: &mut BodyBuilder,
     bindings: &mut Bindings,
     at: InFile<AstPtr>,
-    part: &Option<Boxed<ast::Pat>>,
+    part: &E,
 ) -> Result<PatId, StoreFault>
-    requires part { IfPresent (S.can_pat parts.now) part.now }
+    requires part { E.can (S.can_pat parts.now) part.now }
     requires names { HasNames state.old.stored bindings.old }
-    ensures { LowersPat (tree.over_pat at tree.box_of (pat_part (S.spot parts.now) part.now))
+    ensures { LowersPat (tree.over_pat at tree.box_of (E.read (S.spot parts.now) part.now))
         bindings.old state.old result bindings.new state.new }
 {
-    let inner = pat_or_missing(parts, state, bindings, part)?;
+    let inner = part.lower(parts, state, bindings)?;
     state.alloc_pat(Pat::Box { inner }, Some(at))
 }
 
 #[tactic(auto, unfolding(hir_lower_form::specs::Pats::over_pat_form))]
-fn deref_form<S: PatParts>(
+fn deref_form<S: PatParts, E: PatPart>(
     parts: &S,
     state: &mut BodyBuilder,
     bindings: &mut Bindings,
     at: InFile<AstPtr>,
-    part: &Option<Boxed<ast::Pat>>,
+    part: &E,
 ) -> Result<PatId, StoreFault>
-    requires part { IfPresent (S.can_pat parts.now) part.now }
+    requires part { E.can (S.can_pat parts.now) part.now }
     requires names { HasNames state.old.stored bindings.old }
-    ensures { LowersPat (tree.over_pat at tree.deref_of (pat_part (S.spot parts.now) part.now))
+    ensures { LowersPat (tree.over_pat at tree.deref_of (E.read (S.spot parts.now) part.now))
         bindings.old state.old result bindings.new state.new }
 {
-    let inner = pat_or_missing(parts, state, bindings, part)?;
+    let inner = part.lower(parts, state, bindings)?;
     state.alloc_pat(Pat::Deref { inner }, Some(at))
 }
 
@@ -113,7 +114,7 @@ pub(crate) fn pat_form<S: PatParts>(
             record_form(parts, state, bindings, at, path, fields, *rest)
         }
         ast::PatKind::OrPat { pats } => or_form(parts, state, bindings, at, pats),
-        ast::PatKind::ParenPat { pat } => pat_or_missing(parts, state, bindings, pat),
+        ast::PatKind::ParenPat { pat } => pat.lower(parts, state, bindings),
         ast::PatKind::SlicePat {
             prefix,
             slice,
@@ -149,7 +150,7 @@ pub fn lower_pat<P: LowerParts>(
 {
     let parts = Inside {
         lowerer,
-        pat: lower_pat::<P>,
+        by: lower_pat::<P>,
     };
     pat_form(&parts, state, bindings, node)
 }

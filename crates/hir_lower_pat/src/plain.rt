@@ -2,32 +2,32 @@
 
 ghost use Rattle.hir_syntax.specs.declared.pats.PatKind.{out-PatKind};
 ghost use Rattle.hir_store.specs.Range.{HasPat};
-ghost use Rattle.hir_env.specs.Whole.{path_part};
 ghost use Rattle.hir_lower_form.specs.Lower.{lower_path};
 ghost use Rattle.hir_lower_form.specs.Lowering.{Lowers};
-ghost use Rattle.hir_lower_form.specs.Nests.{IfPresent, KidsOfPat};
+ghost use Rattle.hir_lower_form.specs.Nests.{KidsOfPat};
 ghost use Rattle.hir_lower_form.specs.Pats as spec;
 ghost use Rattle.hir_lower_pat.specs.Methods.{IsPlain, kind_at, lower_plain};
 
-use crate::parts::PatParts;
+use crate::parts::{Here, PatParts};
+use crate::paths::PathPart;
 use crate::sides::{literal_form, predicate_form, range_form};
 use hir_base::node::{AstPtr, InFile};
 use hir_lower_form::builder::BodyBuilder;
 use hir_store::fault::StoreFault;
 use hir_store::hir::Pat;
 use hir_store::ids::{HygieneId, PatId};
-use hir_syntax::{Boxed, ast};
+use hir_syntax::ast;
 
 /// A path that is absent or refused is missing.
 #[tactic(auto, unfolding(hir_lower_form::specs::Pats::path_pat_form))]
-fn path_form<S: PatParts>(
-    parts: &S,
+fn path_form<H: Here, W: PathPart>(
+    parts: &H,
     state: &mut BodyBuilder,
     at: InFile<AstPtr>,
-    path: &Option<Boxed<ast::Path>>,
+    path: &W,
 ) -> Result<PatId, StoreFault>
-    requires { IfPresent (S.can_path parts.now) path.now }
-    ensures { Lowers HasPat (spec.path_pat_form at (lower_path (path_part (S.spot parts.now) path.now))) state.old result state.new }
+    requires { W.can (H.can_path parts.now) path.now }
+    ensures { Lowers HasPat (spec.path_pat_form at (lower_path (W.read (H.spot parts.now) path.now))) state.old result state.new }
 {
     match parts.path(state, path)? {
         None => state.alloc_pat(Pat::Missing, Some(at)),

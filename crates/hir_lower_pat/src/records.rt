@@ -1,10 +1,13 @@
 //! Records.
 
 ghost use Rattle.std.specs.Prelude.{[], Some};
+ghost use Rattle.hir_syntax.specs.declared.pats.Pat.{Pat as AstPat};
 ghost use Rattle.hir_syntax.specs.declared.pats.RecordPatField.{out-RecordPatField};
 ghost use Rattle.hir_store.specs.Range.{HasPat, HasPath};
 ghost use Rattle.hir_env.specs.Answered as tree;
-ghost use Rattle.hir_env.specs.Whole.{answered_pat, answered_pat_field, pat_field_level, pat_fields_part, path_part};
+ghost use Rattle.hir_env.specs.Answered.{PatFields};
+ghost use Rattle.hir_env.specs.Spot.{Spot};
+ghost use Rattle.hir_env.specs.Whole.{answered_pat_field, pat_field_level, pat_fields_part};
 ghost use Rattle.hir_lower_form.specs.Lower.{lower_pat, lower_pat_fields};
 ghost use Rattle.hir_lower_form.specs.Lowering.{Lowers};
 ghost use Rattle.hir_lower_form.specs.Nests.{IfPresent, KidsPatFields};
@@ -13,7 +16,9 @@ ghost use Rattle.hir_lower_pat.specs.Bindings.{HasNames, LowersNamed};
 ghost use Rattle.hir_lower_pat.specs.Methods.{HasPatField, LowersPat, LowersPatField, LowersPatFields, field_name};
 
 use crate::bindings::Bindings;
-use crate::parts::PatParts;
+use crate::part::PatNode;
+use crate::parts::{Here, PatParts};
+use crate::paths::PathPart;
 use hir_base::node::{AstPtr, InFile};
 use hir_lower_form::builder::BodyBuilder;
 use hir_lower_form::parts::site;
@@ -24,7 +29,7 @@ use hir_store::ids::PatId;
 use hir_store::lists::push_pat_field;
 use hir_store::name::Name;
 use hir_store::path::Path;
-use hir_syntax::{Boxed, Seq, ast};
+use hir_syntax::{Seq, ast};
 
 /// A field with a name, whose part leads to it. One without is no part of the record.
 fn named_part(
@@ -48,21 +53,21 @@ fn named_part(
 
 /// A field with its part.
 #[tactic(auto, unfolding(hir_lower_form::specs::Pats::pat_field_form))]
-fn present_field<S: PatParts>(
+fn present_field<S: PatParts, N: PatNode>(
     parts: &S,
     state: &mut BodyBuilder,
     bindings: &mut Bindings,
     at: InFile<AstPtr>,
     name: &Option<ast::Name>,
-    part: &ast::Pat,
+    part: &N,
 ) -> Result<Option<RecordFieldPat>, StoreFault>
-    requires part { S.can_pat parts.now part.now }
+    requires part { N.can (S.can_pat parts.now) part.now }
     requires names { HasNames state.old.stored bindings.old }
-    ensures { let read = answered_pat (S.spot parts.now) part.now in
+    ensures { let read = N.read (S.spot parts.now) part.now in
         LowersNamed HasPatField (spec.pat_field_form at (field_name name.now) (lower_pat read))
         bindings.old state.old result bindings.new state.new }
 {
-    let pat = parts.lower_pat(state, bindings, part)?;
+    let pat = part.lower_node(parts, state, bindings)?;
     named_part(state, at, name, pat)
 }
 
@@ -103,43 +108,64 @@ fn field<S: PatParts>(
     field_form(parts, state, bindings, node)
 }
 
-fn fields<S: PatParts>(
-    parts: &S,
-    state: &mut BodyBuilder,
-    bindings: &mut Bindings,
-    mut left: &[ast::RecordPatField],
-) -> Result<Seq<RecordFieldPat>, StoreFault>
-    requires parts { KidsPatFields (S.can_pat parts.now) left.now }
-    requires names { HasNames state.old.stored bindings.old }
-    ensures { LowersPatFields (pat_fields_part (S.spot parts.now) left.entry.now) bindings.old state.old result bindings.new state.new }
-{
-    let mut done = Seq::new(parts.alloc());
-    while let [one, rest @ ..] = left {
-        if let Some(field) = field(parts, state, bindings, one)? {
-            push_pat_field(&mut done, field)?;
+/// The fields of a record. A form that hands them on has them as a type parameter.
+pub trait PatFieldsPart {
+    ghost can: { (AstPat → Type 0) → Self → Type 0 };
+
+    ghost read: { Spot → Self → PatFields };
+
+    /// The fields that no condition disables and that have a name and a part.
+    fn lower_fields<S: PatParts>(
+        &self,
+        parts: &S,
+        state: &mut BodyBuilder,
+        bindings: &mut Bindings,
+    ) -> Result<Seq<RecordFieldPat>, StoreFault>
+        requires parts { can (S.can_pat parts.now) self.now }
+        requires names { HasNames state.old.stored bindings.old }
+        ensures { LowersPatFields (read (S.spot parts.now) self.now) bindings.old state.old result bindings.new state.new };
+}
+
+impl PatFieldsPart for Seq<ast::RecordPatField> {
+    ghost can = { λ pattern. KidsPatFields pattern };
+
+    ghost read = { pat_fields_part };
+
+    fn lower_fields<S: PatParts>(
+        &self,
+        parts: &S,
+        state: &mut BodyBuilder,
+        bindings: &mut Bindings,
+    ) -> Result<Seq<RecordFieldPat>, StoreFault> {
+        let mut done = Seq::new(parts.alloc());
+        let mut left = self.as_slice();
+        while let [one, rest @ ..] = left {
+            if let Some(field) = field(parts, state, bindings, one)? {
+                push_pat_field(&mut done, field)?;
+            }
+            left = rest;
         }
-        left = rest;
+        Ok(done)
     }
-    Ok(done)
 }
 
 /// A record of this path.
-fn record_of<S: PatParts>(
+fn record_of<S: PatParts, L: PatFieldsPart>(
     parts: &S,
     state: &mut BodyBuilder,
     bindings: &mut Bindings,
     at: InFile<AstPtr>,
     path: Path,
-    written: &Seq<ast::RecordPatField>,
+    written: &L,
     ellipsis: bool,
 ) -> Result<PatId, StoreFault>
     requires path { HasPath state.old.stored path }
-    requires parts { KidsPatFields (S.can_pat parts.now) written.now }
+    requires parts { L.can (S.can_pat parts.now) written.now }
     requires names { HasNames state.old.stored bindings.old }
-    ensures { let read = lower_pat_fields [] (pat_fields_part (S.spot parts.now) written.now) in
+    ensures { let read = lower_pat_fields [] (L.read (S.spot parts.now) written.now) in
         LowersNamed HasPat (spec.record_pat_of at ellipsis read (Some path)) bindings.old state.old result bindings.new state.new }
 {
-    let args = fields(parts, state, bindings, written.as_slice())?;
+    let args = written.lower_fields(parts, state, bindings)?;
     let pat = Pat::Record {
         path,
         args,
@@ -150,20 +176,20 @@ fn record_of<S: PatParts>(
 
 /// Where the path is absent or refused the record is missing, and nothing else of it is read.
 #[tactic(auto, unfolding(hir_lower_form::specs::Pats::record_pat_form))]
-pub(crate) fn record_form<S: PatParts>(
+pub(crate) fn record_form<S: PatParts, W: PathPart, L: PatFieldsPart>(
     parts: &S,
     state: &mut BodyBuilder,
     bindings: &mut Bindings,
     at: InFile<AstPtr>,
-    path: &Option<Boxed<ast::Path>>,
-    written: &Seq<ast::RecordPatField>,
+    path: &W,
+    written: &L,
     rest: bool,
 ) -> Result<PatId, StoreFault>
-    requires path { IfPresent (S.can_path parts.now) path.now }
-    requires parts { KidsPatFields (S.can_pat parts.now) written.now }
+    requires path { W.can (S.can_path parts.now) path.now }
+    requires parts { L.can (S.can_pat parts.now) written.now }
     requires names { HasNames state.old.stored bindings.old }
     ensures { let here = S.spot parts.now in
-        LowersPat (tree.record_pat at (path_part here path.now) (pat_fields_part here written.now) rest)
+        LowersPat (tree.record_pat at (W.read here path.now) (L.read here written.now) rest)
         bindings.old state.old result bindings.new state.new }
 {
     match parts.path(state, path)? {

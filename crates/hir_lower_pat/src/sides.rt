@@ -1,21 +1,25 @@
 //! Literals of patterns, and the sides of ranges.
 
 ghost use Rattle.std.specs.Prelude.{◌≡◌, IfOk, None};
+ghost use Rattle.hir_syntax.specs.declared.ast.Path.{Path as AstPath};
 ghost use Rattle.hir_syntax.specs.declared.pats.PatKind.{out-PatKind};
 ghost use Rattle.hir_store.specs.Range.{HasExprOption, HasPat};
 ghost use Rattle.hir_env.specs.Answered as tree;
+ghost use Rattle.hir_env.specs.Answered.{Side};
 ghost use Rattle.hir_env.specs.Answering.{name_or_missing, name_written};
 ghost use Rattle.hir_env.specs.Pats.{ident_pat, literal_or_broken, minus_fits, side_of};
-ghost use Rattle.hir_env.specs.Whole.{answered_pat, pat_level, pat_part, path_part};
+ghost use Rattle.hir_env.specs.Spot.{Spot};
+ghost use Rattle.hir_env.specs.Whole.{answered_pat, pat_level, pat_part};
 ghost use Rattle.hir_lower_form.specs.Lower.{lower_side};
 ghost use Rattle.hir_lower_form.specs.Lowering.{Lowers};
 ghost use Rattle.hir_lower_form.specs.Methods.{LowersSide};
-ghost use Rattle.hir_lower_form.specs.Nests.{IfPresent, KidsSide, KidsSidePart};
+ghost use Rattle.hir_lower_form.specs.Nests.{KidsSide, KidsSidePart};
 ghost use Rattle.hir_lower_form.specs.Pats as spec;
 ghost use Rattle.hir_lower_pat.specs.Methods.{lower_plain, plain_truth, use_with};
 
 use crate::names::{is_without_words, mode_of, path_of_name};
-use crate::parts::PatParts;
+use crate::parts::Here;
+use crate::paths::PathPart;
 use hir_base::node::{AstPtr, InFile, PredId};
 use hir_binding::binding::BindingAnnotation;
 use hir_lower_form::builder::BodyBuilder;
@@ -52,14 +56,14 @@ pub(crate) fn signed(written: &ast::Literal, minus: bool) -> Result<Literal, All
 
 /// A literal pattern, missing where its literal is absent or takes no minus.
 #[tactic(auto, unfolding(hir_lower_form::specs::Pats::literal_pat_form))]
-pub(crate) fn literal_form<S: PatParts>(
-    parts: &S,
+pub(crate) fn literal_form<H: Here>(
+    parts: &H,
     state: &mut BodyBuilder,
     at: InFile<AstPtr>,
     lit: &Option<ast::PatLiteral>,
     minus: bool,
 ) -> Result<PatId, StoreFault>
-    ensures { Lowers HasPat (lower_plain (literal_or_broken (S.spot parts.now).place at lit.now minus)) state.old result state.new }
+    ensures { Lowers HasPat (lower_plain (literal_or_broken (H.spot parts.now).place at lit.now minus)) state.old result state.new }
 {
     match lit {
         None => state.alloc_pat(Pat::Missing, Some(at)),
@@ -77,13 +81,13 @@ pub(crate) fn literal_form<S: PatParts>(
 
 /// A predicate is a literal, which is true unless it is known not to be.
 #[tactic(auto, unfolding(hir_lower_form::specs::Pats::literal_pat_form))]
-pub(crate) fn predicate_form<S: PatParts>(
-    parts: &S,
+pub(crate) fn predicate_form<H: Here>(
+    parts: &H,
     state: &mut BodyBuilder,
     at: InFile<AstPtr>,
     pred: Option<PredId>,
 ) -> Result<PatId, StoreFault>
-    ensures { let answers = (S.spot parts.now).answers in
+    ensures { let answers = (H.spot parts.now).answers in
         Lowers HasPat (spec.literal_pat_form at None (plain_truth (answers.cfg_pred pred))) state.old result state.new }
 {
     let written = Expr::Literal(truth_literal(parts.alloc(), parts.cfg_pred(pred))?);
@@ -126,14 +130,14 @@ fn name_side(
 
 /// A path as a side, none where it is absent or refused.
 #[tactic(auto, unfolding(hir_lower_form::specs::Pats::path_side_form))]
-fn path_side<S: PatParts>(
-    parts: &S,
+fn path_side<H: Here, W: PathPart>(
+    parts: &H,
     state: &mut BodyBuilder,
     at: InFile<AstPtr>,
-    path: &Option<Boxed<ast::Path>>,
+    path: &W,
 ) -> Result<Option<ExprId>, StoreFault>
-    requires { IfPresent (S.can_path parts.now) path.now }
-    ensures { LowersSide (tree.path_side at (path_part (S.spot parts.now) path.now)) state.old result state.new }
+    requires { W.can (H.can_path parts.now) path.now }
+    ensures { LowersSide (tree.path_side at (W.read (H.spot parts.now) path.now)) state.old result state.new }
 {
     match parts.path(state, path)? {
         None => Ok(None),
@@ -146,15 +150,15 @@ fn path_side<S: PatParts>(
 
 /// A name as a side, none where it isn't plain.
 #[tactic(auto, using(crate::proofs::KindLemmas::named_side))]
-fn plain_side<S: PatParts>(
-    parts: &S,
+fn plain_side<H: Here>(
+    parts: &H,
     state: &mut BodyBuilder,
     at: InFile<AstPtr>,
     name: &Option<ast::Name>,
     mode: BindingAnnotation,
     part: &Option<Boxed<ast::Pat>>,
 ) -> Result<Option<ExprId>, StoreFault>
-    ensures { let here = S.spot parts.now in
+    ensures { let here = H.spot parts.now in
         let use_ = use_with here name.now mode in
         let read = ident_pat here.answers here.place at use_ (name_written name.now) (pat_part here part.now) in
         LowersSide (side_of (tree.some_pat read)) state.old result state.new }
@@ -172,13 +176,13 @@ fn plain_side<S: PatParts>(
 }
 
 /// What a pattern is as a side, none where it is another pattern.
-fn side_form<S: PatParts>(
-    parts: &S,
+fn side_form<H: Here>(
+    parts: &H,
     state: &mut BodyBuilder,
     node: &ast::Pat,
 ) -> Result<Option<ExprId>, StoreFault>
-    requires { KidsSide (S.can_path parts.now) (out-PatKind node.now.kind) }
-    ensures { LowersSide (side_of (tree.some_pat (pat_level (S.spot parts.now) node.now))) state.old result state.new }
+    requires { KidsSide (H.can_path parts.now) (out-PatKind node.now.kind) }
+    ensures { LowersSide (side_of (tree.some_pat (pat_level (H.spot parts.now) node.now))) state.old result state.new }
 {
     let at = parts.pointer(node.id, node.range);
     match &node.kind {
@@ -217,50 +221,69 @@ fn side_form<S: PatParts>(
     }
 }
 
-fn present_side<S: PatParts>(
-    parts: &S,
+fn present_side<H: Here>(
+    parts: &H,
     state: &mut BodyBuilder,
     node: &ast::Pat,
 ) -> Result<Option<ExprId>, StoreFault>
-    requires { KidsSide (S.can_path parts.now) (out-PatKind node.now.kind) }
-    ensures { LowersSide (side_of (tree.some_pat (answered_pat (S.spot parts.now) node.now))) state.old result state.new }
+    requires { KidsSide (H.can_path parts.now) (out-PatKind node.now.kind) }
+    ensures { LowersSide (side_of (tree.some_pat (answered_pat (H.spot parts.now) node.now))) state.old result state.new }
 {
     side_form(parts, state, node)
 }
 
-fn side<S: PatParts>(
-    parts: &S,
-    state: &mut BodyBuilder,
-    part: &Option<Boxed<ast::Pat>>,
-) -> Result<Option<ExprId>, StoreFault>
-    requires { KidsSidePart (S.can_path parts.now) part.now }
-    ensures { LowersSide (side_of (pat_part (S.spot parts.now) part.now)) state.old result state.new }
-{
-    match part {
-        None => Ok(None),
-        Some(part) => present_side(parts, state, part.get()),
+/// A side of a range, that is there or isn't. A form that hands one on has it as a type parameter.
+pub trait SidePart {
+    ghost can: { (AstPath → Type 0) → Self → Type 0 };
+
+    ghost read: { Spot → Self → Side };
+
+    /// What the pattern is as a side, none where it is absent or another pattern.
+    fn lower_side<H: Here>(
+        &self,
+        parts: &H,
+        state: &mut BodyBuilder,
+    ) -> Result<Option<ExprId>, StoreFault>
+        requires { can (H.can_path parts.now) self.now }
+        ensures { LowersSide (read (H.spot parts.now) self.now) state.old result state.new };
+}
+
+impl SidePart for Option<Boxed<ast::Pat>> {
+    ghost can = { λ path. KidsSidePart path };
+
+    ghost read = { λ at p. side_of (pat_part at p) };
+
+    fn lower_side<H: Here>(
+        &self,
+        parts: &H,
+        state: &mut BodyBuilder,
+    ) -> Result<Option<ExprId>, StoreFault> {
+        match self {
+            None => Ok(None),
+            Some(part) => present_side(parts, state, part.get()),
+        }
     }
 }
 
 /// Without its operator a range is missing, and its sides are read all the same.
 #[tactic(auto, unfolding(hir_lower_form::specs::Pats::range_pat_form))]
-pub(crate) fn range_form<S: PatParts>(
-    parts: &S,
+pub(crate) fn range_form<H: Here, E: SidePart>(
+    parts: &H,
     state: &mut BodyBuilder,
     at: InFile<AstPtr>,
     op: Option<RangeOp>,
-    low: &Option<Boxed<ast::Pat>>,
-    high: &Option<Boxed<ast::Pat>>,
+    low: &E,
+    high: &E,
 ) -> Result<PatId, StoreFault>
-    requires low { KidsSidePart (S.can_path parts.now) low.now }
-    requires high { KidsSidePart (S.can_path parts.now) high.now }
-    ensures { let here = S.spot parts.now in
-        let start = lower_side (side_of (pat_part here low.now)) in
-        let end = lower_side (side_of (pat_part here high.now)) in
+    requires low { E.can (H.can_path parts.now) low.now }
+    requires high { E.can (H.can_path parts.now) high.now }
+    ensures { let here = H.spot parts.now in
+        let start = lower_side (E.read here low.now) in
+        let end = lower_side (E.read here high.now) in
         Lowers HasPat (spec.range_pat_form at op start end) state.old result state.new }
 {
-    let start = side(parts, state, low)?;
-    let end = side(parts, state, high)?;
+    let start = low.lower_side(parts, state)?;
+    let end = high.lower_side(parts, state)?;
     match op {
         None => state.alloc_pat(Pat::Missing, Some(at)),
         Some(op) => state.alloc_pat(Pat::Range { op, start, end }, Some(at)),

@@ -1,11 +1,14 @@
 //! Tuples, calls and arrays that are assigned to.
 
 ghost use Rattle.std.specs.Prelude.{◌≡◌, None, Some, [], is_some, option_copied};
+ghost use Rattle.hir_syntax.specs.declared.ast.Expr.{Expr as AstExpr};
 ghost use Rattle.hir_syntax.specs.declared.ast.ExprKind.{out-ExprKind};
 ghost use Rattle.hir_store.specs.Range.{HasPat, HasPatOption, HasPath, HasPats};
 ghost use Rattle.hir_env.specs.Answered as tree;
+ghost use Rattle.hir_env.specs.Answered.{Exprs};
+ghost use Rattle.hir_env.specs.Spot.{Spot};
 ghost use Rattle.hir_env.specs.Targets as of;
-ghost use Rattle.hir_env.specs.Whole.{answered, args_part, expr_part, exprs_part, path_part, target_part};
+ghost use Rattle.hir_env.specs.Whole.{answered, args_part, expr_part, exprs_part};
 ghost use Rattle.hir_lower_form.specs.Lowering.{Lowers};
 ghost use Rattle.hir_lower_form.specs.Lower as spec;
 ghost use Rattle.hir_lower_form.specs.Methods.{LowersTarget};
@@ -16,7 +19,9 @@ ghost use Rattle.hir_lower_pat.specs.Aims.{Aims, HasAim, HasArrayParts, KidsOfCa
 ghost use Rattle.hir_lower_pat.specs.Aims.{array_steps, element_steps, elements_read, found_at, is_first, path_of_callee, patterned};
 ghost use Rattle.hir_lower_pat.specs.Methods.{HasElements};
 
-use crate::aims::{Aim, TargetParts, is_dots, place, pointer_of, target};
+use crate::aims::{Aim, TargetNode, target};
+use crate::parts::{Here, TargetParts};
+use crate::paths::PathPart;
 use crate::tuples::stored_elements;
 use hir_base::node::{AstPtr, InFile};
 use hir_lower_form::builder::BodyBuilder;
@@ -29,20 +34,21 @@ use hir_syntax::{Boxed, Seq, ast};
 use std::alloc::Global;
 
 /// One part more. Two dots are none, and of several the first count.
-fn element<T: TargetParts>(
+fn element<T: TargetParts, N: TargetNode>(
     parts: &T,
     state: &mut BodyBuilder,
     done: (Seq<PatId>, Option<usize>),
-    node: &ast::Expr,
+    node: &N,
 ) -> Result<(Seq<PatId>, Option<usize>), StoreFault>
-    requires part { T.can_target parts.now node.now }
+    requires part { N.can (T.can_target parts.now) node.now }
     requires done { HasPats state.old.stored done.0 }
     ensures { let spot = T.spot parts.now in
-        let part = spec.lower_target (target_part spot (Some node.now)) in
-        Lowers HasElements (element_steps (of.is_dots (answered spot node.now)) done part) state.old result state.new }
+        let read = N.read spot node.now in
+        let part = spec.lower_target (of.target_of (found_at spot) (tree.some_expr read)) in
+        Lowers HasElements (element_steps (of.is_dots read) done part) state.old result state.new }
 {
     let (mut ids, dots) = done;
-    if is_dots(parts, node) {
+    if node.is_dots(parts) {
         let first = match dots {
             Some(place) => place,
             None => ids.len(),
@@ -72,53 +78,95 @@ fn each_element<T: TargetParts>(
     Ok(done)
 }
 
-/// The parts, and how many stand in front of the first two dots.
-fn elements<T: TargetParts>(
-    parts: &T,
-    state: &mut BodyBuilder,
-    all: &[ast::Expr],
-) -> Result<(Seq<PatId>, Option<usize>), StoreFault>
-    requires { Each (T.can_target parts.now) all.now }
-    ensures { let spot = T.spot parts.now in
-        let read = of.elements (found_at spot) (exprs_part spot all.now) in
-        Lowers HasElements (spec.lower_targets no_elements read) state.old result state.new }
-{
-    each_element(parts, state, all)
+/// Expressions that are assigned to, one after another. A form that hands them on has them as a type parameter.
+pub trait TargetsPart {
+    ghost can: { (AstExpr → Type 0) → Self → Type 0 };
+
+    ghost read: { Spot → Self → Exprs };
+
+    /// The parts, and how many stand in front of the first two dots.
+    fn elements<T: TargetParts>(
+        &self,
+        parts: &T,
+        state: &mut BodyBuilder,
+    ) -> Result<(Seq<PatId>, Option<usize>), StoreFault>
+        requires { can (T.can_target parts.now) self.now }
+        ensures { let spot = T.spot parts.now in
+            let read = of.elements (found_at spot) (read spot self.now) in
+            Lowers HasElements (spec.lower_targets no_elements read) state.old result state.new };
+
+    /// The parts in front of the first two dots, the node of these, and the parts behind them.
+    fn around_dots<T: TargetParts>(
+        &self,
+        parts: &T,
+        state: &mut BodyBuilder,
+    ) -> Result<(Seq<PatId>, Option<InFile<AstPtr>>, Seq<PatId>), StoreFault>
+        requires { can (T.can_target parts.now) self.now }
+        ensures { let spot = T.spot parts.now in
+            Lowers HasArrayParts (array_read (found_at spot) ([], None, []) (read spot self.now)) state.old result state.new };
+}
+
+impl TargetsPart for Seq<ast::Expr> {
+    ghost can = { λ target. Each target };
+
+    ghost read = { exprs_part };
+
+    fn elements<T: TargetParts>(
+        &self,
+        parts: &T,
+        state: &mut BodyBuilder,
+    ) -> Result<(Seq<PatId>, Option<usize>), StoreFault> {
+        each_element(parts, state, self.as_slice())
+    }
+
+    fn around_dots<T: TargetParts>(
+        &self,
+        parts: &T,
+        state: &mut BodyBuilder,
+    ) -> Result<(Seq<PatId>, Option<InFile<AstPtr>>, Seq<PatId>), StoreFault> {
+        let mut done = (Seq::new(parts.alloc()), None, Seq::new(parts.alloc()));
+        let mut left = self.as_slice();
+        while let [one, rest @ ..] = left {
+            done = array_element(parts, state, done, one)?;
+            left = rest;
+        }
+        Ok(done)
+    }
 }
 
 /// A leading comma adds nothing.
 #[tactic(auto, unfolding(hir_lower_form::specs::Targets::tuple_target_form))]
-fn tuple_form<T: TargetParts>(
+fn tuple_form<T: TargetParts, L: TargetsPart>(
     parts: &T,
     state: &mut BodyBuilder,
     at: InFile<AstPtr>,
-    fields: &Seq<ast::Expr>,
+    fields: &L,
 ) -> Result<PatId, StoreFault>
-    requires { Each (T.can_target parts.now) fields.now }
+    requires { L.can (T.can_target parts.now) fields.now }
     ensures { let spot = T.spot parts.now in
-        let read = of.elements (found_at spot) (exprs_part spot fields.now) in
+        let read = of.elements (found_at spot) (L.read spot fields.now) in
         LowersTarget (tree.tuple_target at read) state.old result state.new }
 {
-    let read = elements(parts, state, fields.as_slice())?;
+    let read = fields.elements(parts, state)?;
     let (ellipsis, args) = stored_elements(parts.alloc(), state, false, read)?;
     state.alloc_pat(Pat::Tuple { ellipsis, args }, Some(at))
 }
 
 /// A call of this path.
-fn call_of<T: TargetParts>(
+fn call_of<T: TargetParts, L: TargetsPart>(
     parts: &T,
     state: &mut BodyBuilder,
     at: InFile<AstPtr>,
     path: Path,
-    args: &Seq<ast::Expr>,
+    args: &L,
 ) -> Result<PatId, StoreFault>
     requires path { HasPath state.old.stored path }
-    requires args { Each (T.can_target parts.now) args.now }
+    requires args { L.can (T.can_target parts.now) args.now }
     ensures { let spot = T.spot parts.now in
-        let read = spec.lower_targets no_elements (of.elements (found_at spot) (exprs_part spot args.now)) in
+        let read = spec.lower_targets no_elements (of.elements (found_at spot) (L.read spot args.now)) in
         Lowers HasPat (steps.call_target_of at read (Some path)) state.old result state.new }
 {
-    let read = elements(parts, state, args.as_slice())?;
+    let read = args.elements(parts, state)?;
     let (ellipsis, args) = stored_elements(parts.alloc(), state, false, read)?;
     let pat = Pat::TupleStruct {
         path,
@@ -130,18 +178,18 @@ fn call_of<T: TargetParts>(
 
 /// Where the path is absent or refused the call is missing, and nothing else of it is read.
 #[tactic(auto, unfolding(hir_lower_form::specs::Targets::call_target_form))]
-fn call_form<T: TargetParts>(
+fn call_form<T: TargetParts, W: PathPart, L: TargetsPart>(
     parts: &T,
     state: &mut BodyBuilder,
     at: InFile<AstPtr>,
-    path: &Option<Boxed<ast::Path>>,
-    args: &Seq<ast::Expr>,
+    path: &W,
+    args: &L,
 ) -> Result<PatId, StoreFault>
-    requires path { IfPresent (T.can_path parts.now) path.now }
-    requires args { Each (T.can_target parts.now) args.now }
+    requires path { W.can (T.can_path parts.now) path.now }
+    requires args { L.can (T.can_target parts.now) args.now }
     ensures { let spot = T.spot parts.now in
-        let read = of.elements (found_at spot) (exprs_part spot args.now) in
-        LowersTarget (tree.call_target at (path_part spot path.now) read) state.old result state.new }
+        let read = of.elements (found_at spot) (L.read spot args.now) in
+        LowersTarget (tree.call_target at (W.read spot path.now) read) state.old result state.new }
 {
     match parts.path(state, path)? {
         None => state.missing_pat(),
@@ -166,39 +214,32 @@ pub(crate) fn dots_alone(
 }
 
 /// Whether it is the first two dots.
-fn are_first_dots<T: TargetParts>(parts: &T, dots: Option<InFile<AstPtr>>, node: &ast::Expr) -> bool
-    ensures { result ≡ is_first dots (of.is_dots (answered (T.spot parts.now) node.now)) }
+fn are_first_dots<H: Here, N: TargetNode>(parts: &H, dots: Option<InFile<AstPtr>>, node: &N) -> bool
+    ensures { result ≡ is_first dots (of.is_dots (N.read (H.spot parts.now) node.now)) }
 {
     match dots {
-        None => is_dots(parts, node),
+        None => node.is_dots(parts),
         Some(_) => false,
     }
 }
 
-/// The node of an expression, whatever disables it.
-fn node_of<T: TargetParts>(parts: &T, node: &ast::Expr) -> InFile<AstPtr>
-    ensures { result ≡ of.pointer_of (answered (T.spot parts.now) node.now) }
-{
-    pointer_of(parts, node)
-}
-
 /// The parts with one more, or with the node of the first two dots.
-fn array_element<T: TargetParts>(
+fn array_element<T: TargetParts, N: TargetNode>(
     parts: &T,
     state: &mut BodyBuilder,
     done: (Seq<PatId>, Option<InFile<AstPtr>>, Seq<PatId>),
-    node: &ast::Expr,
+    node: &N,
 ) -> Result<(Seq<PatId>, Option<InFile<AstPtr>>, Seq<PatId>), StoreFault>
-    requires part { T.can_target parts.now node.now }
+    requires part { N.can (T.can_target parts.now) node.now }
     requires done { HasArrayParts state.old.stored done }
     ensures { let spot = T.spot parts.now in
-        let part = spec.lower_target (target_part spot (Some node.now)) in
-        let read = answered spot node.now in
+        let read = N.read spot node.now in
+        let part = spec.lower_target (of.target_of (found_at spot) (tree.some_expr read)) in
         Lowers HasArrayParts (array_steps (is_first done.1 (of.is_dots read)) done (of.pointer_of read) part) state.old result state.new }
 {
     let (mut prefix, dots, mut suffix) = done;
     if are_first_dots(parts, dots, node) {
-        return Ok((prefix, Some(node_of(parts, node)), suffix));
+        return Ok((prefix, Some(node.pointer(parts)), suffix));
     }
     let id = target(parts, state, node)?;
     match dots {
@@ -213,24 +254,6 @@ fn array_element<T: TargetParts>(
     }
 }
 
-/// One part after another.
-fn each_of_array<T: TargetParts>(
-    parts: &T,
-    state: &mut BodyBuilder,
-    mut left: &[ast::Expr],
-) -> Result<(Seq<PatId>, Option<InFile<AstPtr>>, Seq<PatId>), StoreFault>
-    requires { Each (T.can_target parts.now) left.now }
-    ensures { let spot = T.spot parts.now in
-        Lowers HasArrayParts (array_read (found_at spot) ([], None, []) (exprs_part spot left.entry.now)) state.old result state.new }
-{
-    let mut done = (Seq::new(parts.alloc()), None, Seq::new(parts.alloc()));
-    while let [one, rest @ ..] = left {
-        done = array_element(parts, state, done, one)?;
-        left = rest;
-    }
-    Ok(done)
-}
-
 /// The two dots, where it has such.
 fn rest(state: &mut BodyBuilder, dots: Option<InFile<AstPtr>>) -> Result<Option<PatId>, StoreFault>
     ensures { Lowers HasPatOption (steps.rest_target dots) state.old result state.new }
@@ -242,17 +265,17 @@ fn rest(state: &mut BodyBuilder, dots: Option<InFile<AstPtr>>) -> Result<Option<
 }
 
 /// The dots come behind the parts on both sides of them.
-fn array_of<T: TargetParts>(
+fn array_of<T: TargetParts, L: TargetsPart>(
     parts: &T,
     state: &mut BodyBuilder,
     at: InFile<AstPtr>,
-    elems: &[ast::Expr],
+    elems: &L,
 ) -> Result<PatId, StoreFault>
-    requires { Each (T.can_target parts.now) elems.now }
+    requires { L.can (T.can_target parts.now) elems.now }
     ensures { let spot = T.spot parts.now in
-        Lowers HasPat (array_made (found_at spot) at (exprs_part spot elems.now)) state.old result state.new }
+        Lowers HasPat (array_made (found_at spot) at (L.read spot elems.now)) state.old result state.new }
 {
-    let (prefix, dots, suffix) = each_of_array(parts, state, elems)?;
+    let (prefix, dots, suffix) = elems.around_dots(parts, state)?;
     let slice = rest(state, dots)?;
     let pat = Pat::Slice {
         prefix,
@@ -263,46 +286,46 @@ fn array_of<T: TargetParts>(
 }
 
 /// The parts in front of the first two dots, the node of these, and the parts behind them.
-fn array_form<T: TargetParts>(
+fn array_form<T: TargetParts, L: TargetsPart>(
     parts: &T,
     state: &mut BodyBuilder,
     at: InFile<AstPtr>,
-    elems: &[ast::Expr],
+    elems: &L,
 ) -> Result<PatId, StoreFault>
-    requires { Each (T.can_target parts.now) elems.now }
+    requires { L.can (T.can_target parts.now) elems.now }
     ensures { let spot = T.spot parts.now in
-        let read = exprs_part spot elems.now in
+        let read = L.read spot elems.now in
         let before = of.before_dots (found_at spot) read in
         LowersTarget (tree.array_target at before (of.dots_pointer read) (of.behind_dots (found_at spot) read)) state.old result state.new }
 {
     array_of(parts, state, at, elems)
 }
 
-pub(crate) fn tuple_aim<T: TargetParts>(
+pub(crate) fn tuple_aim<T: TargetParts, L: TargetsPart>(
     parts: &T,
     state: &mut BodyBuilder,
     at: InFile<AstPtr>,
     leading_comma: bool,
-    fields: &Seq<ast::Expr>,
+    fields: &L,
 ) -> Result<Aim, StoreFault>
-    requires { Each (T.can_target parts.now) fields.now }
+    requires { L.can (T.can_target parts.now) fields.now }
     ensures { let spot = T.spot parts.now in
-        Aims spot (tree.list_expr at (tree.tuple_of leading_comma) (exprs_part spot fields.now)) state.old result state.new }
+        Aims spot (tree.list_expr at (tree.tuple_of leading_comma) (L.read spot fields.now)) state.old result state.new }
 {
     Ok(Aim::Pat(tuple_form(parts, state, at, fields)?))
 }
 
-pub(crate) fn array_aim<T: TargetParts>(
+pub(crate) fn array_aim<T: TargetParts, L: TargetsPart>(
     parts: &T,
     state: &mut BodyBuilder,
     at: InFile<AstPtr>,
-    elems: &Seq<ast::Expr>,
+    elems: &L,
 ) -> Result<Aim, StoreFault>
-    requires { Each (T.can_target parts.now) elems.now }
+    requires { L.can (T.can_target parts.now) elems.now }
     ensures { let spot = T.spot parts.now in
-        Aims spot (tree.list_expr at tree.array_of (exprs_part spot elems.now)) state.old result state.new }
+        Aims spot (tree.list_expr at tree.array_of (L.read spot elems.now)) state.old result state.new }
 {
-    Ok(Aim::Pat(array_form(parts, state, at, elems.as_slice())?))
+    Ok(Aim::Pat(array_form(parts, state, at, elems)?))
 }
 
 /// The path of a callee that is a path as it stands.
@@ -316,18 +339,18 @@ fn callee_path(callee: &ast::Expr) -> Option<&Option<Boxed<ast::Path>>>
 }
 
 /// A call whose callee is a path.
-fn called_aim<T: TargetParts>(
+fn called_aim<T: TargetParts, W: PathPart, L: TargetsPart>(
     parts: &T,
     state: &mut BodyBuilder,
     at: InFile<AstPtr>,
-    path: &Option<Boxed<ast::Path>>,
-    args: &Seq<ast::Expr>,
+    path: &W,
+    args: &L,
 ) -> Result<Aim, StoreFault>
-    requires path { IfPresent (T.can_path parts.now) path.now }
-    requires args { Each (T.can_target parts.now) args.now }
+    requires path { W.can (T.can_path parts.now) path.now }
+    requires args { L.can (T.can_target parts.now) args.now }
     ensures { let spot = T.spot parts.now in
-        let read = of.elements (found_at spot) (exprs_part spot args.now) in
-        Lowers HasAim (patterned (tree.call_target at (path_part spot path.now) read)) state.old result state.new }
+        let read = of.elements (found_at spot) (L.read spot args.now) in
+        Lowers HasAim (patterned (tree.call_target at (W.read spot path.now) read)) state.old result state.new }
 {
     Ok(Aim::Pat(call_form(parts, state, at, path, args)?))
 }
@@ -349,11 +372,11 @@ pub(crate) fn call_aim<T: TargetParts>(
     ensures { let spot = T.spot parts.now in Aims spot (answered spot node.now) state.old result state.new }
 {
     match callee {
-        None => place(parts, state, node),
+        None => parts.place(state, node),
         Some(callee) => match args {
-            None => place(parts, state, node),
+            None => parts.place(state, node),
             Some(args) => match callee_path(callee.get()) {
-                None => place(parts, state, node),
+                None => parts.place(state, node),
                 Some(path) => called_aim(parts, state, at, path, args),
             },
         },

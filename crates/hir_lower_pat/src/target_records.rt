@@ -1,24 +1,30 @@
 //! Records that are assigned to.
 
-ghost use Rattle.std.specs.Prelude.{◌≡◌, Some, []};
+ghost use Rattle.std.specs.Prelude.{◌≡◌, Bool, Option, Some, []};
+ghost use Rattle.hir_syntax.specs.declared.ast.Expr.{Expr as AstExpr};
 ghost use Rattle.hir_syntax.specs.declared.ast.RecordExprField.{out-RecordExprField};
 ghost use Rattle.hir_syntax.specs.declared.ast.RecordExprFieldList.{out-RecordExprFieldList};
+ghost use Rattle.hir_store.specs.Pointers.{Pointer};
 ghost use Rattle.hir_store.specs.Range.{HasNone, HasPat, HasPatFields, HasPath};
 ghost use Rattle.hir_env.specs.Answered as tree;
+ghost use Rattle.hir_env.specs.Answered.{TargetFields};
+ghost use Rattle.hir_env.specs.Spot.{Spot};
 ghost use Rattle.hir_env.specs.Targets as of;
 ghost use Rattle.hir_env.specs.Answering.{field_of};
 ghost use Rattle.hir_env.specs.Whole.{answered, answered_field, expr_part, field_level, fields_part, path_part, record_part};
-ghost use Rattle.hir_env.specs.Whole.{spread_part, target_part};
+ghost use Rattle.hir_env.specs.Whole.{spread_part};
 ghost use Rattle.hir_lower_form.specs.Lowering.{Lowers};
 ghost use Rattle.hir_lower_form.specs.Lower as spec;
 ghost use Rattle.hir_lower_form.specs.Methods.{LowersTarget};
 ghost use Rattle.hir_lower_form.specs.Nests.{IfPresent};
 ghost use Rattle.hir_lower_form.specs.Pats as forms;
 ghost use Rattle.hir_lower_form.specs.Targets as steps;
-ghost use Rattle.hir_lower_pat.specs.Aims.{Aims, HasAim, KidsOfFields, found_at, patterned, record_with};
+ghost use Rattle.hir_lower_pat.specs.Aims.{Aims, HasAim, KidsOfFields, found_at, patterned};
 ghost use Rattle.hir_lower_pat.specs.Methods.{HasPatField, field_name};
 
-use crate::aims::{Aim, TargetParts, place, pointer_of, target};
+use crate::aims::{Aim, TargetNode, pointer_of, target};
+use crate::parts::{Here, TargetParts};
+use crate::paths::PathPart;
 use hir_base::node::{AstPtr, InFile};
 use hir_lower_form::builder::BodyBuilder;
 use hir_lower_form::parts::site;
@@ -53,16 +59,17 @@ fn named_part(
 
 /// A field with an expression. Without a name it is no part of the record.
 #[tactic(auto, unfolding(hir_lower_form::specs::Targets::target_field_form))]
-fn present_field<T: TargetParts>(
+fn present_field<T: TargetParts, N: TargetNode>(
     parts: &T,
     state: &mut BodyBuilder,
     at: InFile<AstPtr>,
     name: &Option<ast::Name>,
-    expr: &ast::Expr,
+    expr: &N,
 ) -> Result<Option<RecordFieldPat>, StoreFault>
-    requires { T.can_target parts.now expr.now }
-    ensures { let read = tree.target_field at (field_name name.now) (target_part (T.spot parts.now) (Some expr.now)) in
-        Lowers HasPatField (spec.lower_target_field read) state.old result state.new }
+    requires { N.can (T.can_target parts.now) expr.now }
+    ensures { let spot = T.spot parts.now in
+        let part = of.target_of (found_at spot) (tree.some_expr (N.read spot expr.now)) in
+        Lowers HasPatField (spec.lower_target_field (tree.target_field at (field_name name.now) part)) state.old result state.new }
 {
     let pat = target(parts, state, expr)?;
     named_part(state, at, name, pat)
@@ -144,13 +151,13 @@ fn fields<T: TargetParts>(
 
 /// An expression behind the two dots of a record is a fault.
 #[tactic(auto, using(hir_env::proofs::Pointers::pointer_is_own))]
-fn report_spread<T: TargetParts>(
-    parts: &T,
+fn report_spread<H: Here>(
+    parts: &H,
     state: &mut BodyBuilder,
     spread: &Option<Boxed<ast::Expr>>,
     dots: bool,
 ) -> Result<(), StoreFault>
-    ensures { let read = spread_part (T.spot parts.now) spread.now dots in
+    ensures { let read = spread_part (H.spot parts.now) spread.now dots in
         Lowers HasNone (steps.report_spread (of.spread_pointer read)) state.old result state.new }
 {
     match spread {
@@ -162,64 +169,91 @@ fn report_spread<T: TargetParts>(
     }
 }
 
-/// A record of this path. The fault of a spread comes before those of the fields.
-fn record_of<T: TargetParts>(
-    parts: &T,
-    state: &mut BodyBuilder,
-    at: InFile<AstPtr>,
-    path: Path,
-    list: &ast::RecordExprFieldList,
-) -> Result<PatId, StoreFault>
-    requires path { HasPath state.old.stored path }
-    requires list { KidsOfFields (T.can_target parts.now) (out-RecordExprFieldList list.now).fields }
-    ensures { let spot = T.spot parts.now in
-        let level = out-RecordExprFieldList list.now in
-        let fields = spec.lower_target_fields [] (of.target_fields (found_at spot) (fields_part spot level.fields)) in
-        let spread = of.spread_pointer (spread_part spot level.spread level.dotdot) in
-        Lowers HasPat (steps.record_target_of at level.dotdot spread fields (Some path)) state.old result state.new }
-{
-    report_spread(parts, state, &list.spread, list.dotdot)?;
-    let args = fields(parts, state, list.fields.as_slice())?;
-    let pat = Pat::Record {
-        path,
-        args,
-        ellipsis: list.dotdot,
-    };
-    state.alloc_pat(pat, Some(at))
+/// The contents of a record that is assigned to. A form that hands them on has them as a type parameter.
+pub trait TargetRecord {
+    ghost can: { (AstExpr → Type 0) → Self → Type 0 };
+
+    ghost fields: { Spot → Self → TargetFields };
+
+    ghost spread: { Spot → Self → Option Pointer };
+
+    ghost has_dots: { Self → Bool };
+
+    /// A record of this path. The fault of a spread comes before those of the fields.
+    fn record<T: TargetParts>(
+        &self,
+        parts: &T,
+        state: &mut BodyBuilder,
+        at: InFile<AstPtr>,
+        path: Path,
+    ) -> Result<PatId, StoreFault>
+        requires path { HasPath state.old.stored path }
+        requires list { can (T.can_target parts.now) self.now }
+        ensures { let spot = T.spot parts.now in
+            let read = spec.lower_target_fields [] (fields spot self.now) in
+            Lowers HasPat (steps.record_target_of at (has_dots self.now) (spread spot self.now) read (Some path))
+            state.old result state.new };
+}
+
+impl TargetRecord for ast::RecordExprFieldList {
+    ghost can = { λ target l. KidsOfFields target (out-RecordExprFieldList l).fields };
+
+    ghost fields = { λ at l. of.target_fields (found_at at) (fields_part at (out-RecordExprFieldList l).fields) };
+
+    ghost spread = { λ at l. let level = out-RecordExprFieldList l in of.spread_pointer (spread_part at level.spread level.dotdot) };
+
+    ghost has_dots = { λ l. (out-RecordExprFieldList l).dotdot };
+
+    fn record<T: TargetParts>(
+        &self,
+        parts: &T,
+        state: &mut BodyBuilder,
+        at: InFile<AstPtr>,
+        path: Path,
+    ) -> Result<PatId, StoreFault> {
+        report_spread(parts, state, &self.spread, self.dotdot)?;
+        let args = fields(parts, state, self.fields.as_slice())?;
+        let pat = Pat::Record {
+            path,
+            args,
+            ellipsis: self.dotdot,
+        };
+        state.alloc_pat(pat, Some(at))
+    }
 }
 
 /// Where the path is absent or refused the record is missing, and nothing else of it is read.
 #[tactic(auto, unfolding(hir_lower_form::specs::Targets::record_target_form))]
-fn record_form<T: TargetParts>(
+fn record_form<T: TargetParts, W: PathPart, L: TargetRecord>(
     parts: &T,
     state: &mut BodyBuilder,
     at: InFile<AstPtr>,
-    path: &Option<Boxed<ast::Path>>,
-    list: &ast::RecordExprFieldList,
+    path: &W,
+    list: &L,
 ) -> Result<PatId, StoreFault>
-    requires path { IfPresent (T.can_path parts.now) path.now }
-    requires list { KidsOfFields (T.can_target parts.now) (out-RecordExprFieldList list.now).fields }
+    requires path { W.can (T.can_path parts.now) path.now }
+    requires list { L.can (T.can_target parts.now) list.now }
     ensures { let spot = T.spot parts.now in
-        LowersTarget (record_with spot at path.now list.now) state.old result state.new }
+        LowersTarget (tree.record_target at (W.read spot path.now) (L.fields spot list.now) (L.has_dots list.now) (L.spread spot list.now)) state.old result state.new }
 {
     match parts.path(state, path)? {
         None => state.missing_pat(),
-        Some(path) => record_of(parts, state, at, path, list),
+        Some(path) => list.record(parts, state, at, path),
     }
 }
 
 /// A record with a list of fields.
-fn listed_aim<T: TargetParts>(
+fn listed_aim<T: TargetParts, W: PathPart, L: TargetRecord>(
     parts: &T,
     state: &mut BodyBuilder,
     at: InFile<AstPtr>,
-    path: &Option<Boxed<ast::Path>>,
-    list: &ast::RecordExprFieldList,
+    path: &W,
+    list: &L,
 ) -> Result<Aim, StoreFault>
-    requires path { IfPresent (T.can_path parts.now) path.now }
-    requires list { KidsOfFields (T.can_target parts.now) (out-RecordExprFieldList list.now).fields }
+    requires path { W.can (T.can_path parts.now) path.now }
+    requires list { L.can (T.can_target parts.now) list.now }
     ensures { let spot = T.spot parts.now in
-        Lowers HasAim (patterned (record_with spot at path.now list.now)) state.old result state.new }
+        Lowers HasAim (patterned (tree.record_target at (W.read spot path.now) (L.fields spot list.now) (L.has_dots list.now) (L.spread spot list.now))) state.old result state.new }
 {
     Ok(Aim::Pat(record_form(parts, state, at, path, list)?))
 }
@@ -241,7 +275,7 @@ pub(crate) fn record_aim<T: TargetParts>(
     ensures { let spot = T.spot parts.now in Aims spot (answered spot node.now) state.old result state.new }
 {
     match list {
-        None => place(parts, state, node),
+        None => parts.place(state, node),
         Some(list) => listed_aim(parts, state, at, path, list),
     }
 }

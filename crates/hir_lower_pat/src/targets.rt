@@ -11,7 +11,8 @@ ghost use Rattle.hir_lower_form.specs.Nests.{IfPresent};
 ghost use Rattle.hir_lower_pat.specs.Aims.{Aims, HasAim, IsPlace, KidsOfTarget, aimed, dots_tuple, found_at, landing, patterned, placed};
 ghost use Rattle.hir_lower_pat.specs.Aims.{through_parens};
 
-use crate::aims::{Aim, Aiming, TargetParts, is_dots, land, parens, path_aim, place, pointer_of};
+use crate::aims::{Aim, TargetNode, land, parens, path_aim, pointer_of};
+use crate::parts::{Here, Inside, TargetParts};
 use crate::target_lists::{array_aim, call_aim, dots_alone, tuple_aim};
 use crate::target_records::record_aim;
 use hir_base::node::{AstPtr, InFile};
@@ -38,32 +39,32 @@ fn dots_aim(alloc: Global, state: &mut BodyBuilder, at: InFile<AstPtr>) -> Resul
 }
 
 /// What stands in parentheses, which lead to the expression of a place.
-fn parens_around<T: TargetParts>(
+fn parens_around<T: TargetParts, N: TargetNode>(
     parts: &T,
     state: &mut BodyBuilder,
     at: InFile<AstPtr>,
-    inner: &ast::Expr,
+    inner: &N,
 ) -> Result<Aim, StoreFault>
-    requires { T.can_target parts.now inner.now }
+    requires { N.can (T.can_target parts.now) inner.now }
     ensures { let spot = T.spot parts.now in
-        Lowers HasAim (through_parens (found_at spot) at (answered spot inner.now)) state.old result state.new }
+        Lowers HasAim (through_parens (found_at spot) at (N.read spot inner.now)) state.old result state.new }
 {
-    let inner = parts.aim(state, inner)?;
+    let inner = inner.aim(parts, state)?;
     parens(state, at, inner)
 }
 
 /// Two dots in parentheses are a tuple.
-fn paren_around<T: TargetParts>(
+fn paren_around<T: TargetParts, N: TargetNode>(
     parts: &T,
     state: &mut BodyBuilder,
     at: InFile<AstPtr>,
-    inner: &ast::Expr,
+    inner: &N,
 ) -> Result<Aim, StoreFault>
-    requires { T.can_target parts.now inner.now }
+    requires { N.can (T.can_target parts.now) inner.now }
     ensures { let spot = T.spot parts.now in
-        Aims spot (tree.paren_expr at (tree.some_expr (answered spot inner.now))) state.old result state.new }
+        Aims spot (tree.paren_expr at (tree.some_expr (N.read spot inner.now))) state.old result state.new }
 {
-    if is_dots(parts, inner) {
+    if inner.is_dots(parts) {
         dots_aim(parts.alloc(), state, at)
     } else {
         parens_around(parts, state, at, inner)
@@ -108,7 +109,7 @@ fn other_aim<T: TargetParts>(
     requires kind { IsPlace (out-ExprKind node.now.kind) }
     ensures { let spot = T.spot parts.now in Aims spot (answered spot node.now) state.old result state.new }
 {
-    place(parts, state, node)
+    parts.place(state, node)
 }
 
 /// An expression that no condition disables.
@@ -155,7 +156,7 @@ pub(crate) fn aim_node<T: TargetParts>(
 {
     let at = parts.pointer(node.id, node.range);
     match parts.cfg(site(at)) {
-        Err(_) => place(parts, state, node),
+        Err(_) => parts.place(state, node),
         Ok(()) => kept_aim(parts, state, at, node),
     }
 }
@@ -169,9 +170,9 @@ pub(crate) fn aim<P: LowerParts>(
     requires { (P.can lowerer.now.parts).target (P.spot lowerer.now.parts).place node.now }
     ensures { let spot = P.spot lowerer.now.parts in Aims spot (answered spot node.now) state.old result state.new }
 {
-    let parts = Aiming {
+    let parts = Inside {
         lowerer,
-        aim: aim::<P>,
+        by: aim::<P>,
     };
     aim_node(&parts, state, node)
 }
@@ -187,9 +188,9 @@ fn whole_target<P: LowerParts>(
         Lowers HasPat (landing (found_at spot) (own_pointer spot node.now) (answered spot node.now)) state.old result state.new }
 {
     let found = aim(lowerer, state, node)?;
-    let parts = Aiming {
+    let parts = Inside {
         lowerer,
-        aim: aim::<P>,
+        by: aim::<P>,
     };
     land(state, pointer_of(&parts, node), found)
 }

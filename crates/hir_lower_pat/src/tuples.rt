@@ -3,18 +3,18 @@
 ghost use Rattle.std.specs.Prelude.{◌≡◌, ◌∷◌, IfOk, Some};
 ghost use Rattle.hir_store.specs.Range.{HasPat, HasPath, HasPats};
 ghost use Rattle.hir_env.specs.Answered as tree;
-ghost use Rattle.hir_env.specs.Whole.{answered_pat, path_part, pats_part};
 ghost use Rattle.hir_syntax.specs.declared.pats.PatKind.{out-PatKind};
 ghost use Rattle.hir_lower_form.specs.Lower.{lower_elements, lower_pat};
 ghost use Rattle.hir_lower_form.specs.Lowering.{Lowers};
-ghost use Rattle.hir_lower_form.specs.Nests.{Each, IfPresent};
 ghost use Rattle.hir_lower_form.specs.Pats as spec;
 ghost use Rattle.hir_lower_form.specs.Pats.{is_dots};
 ghost use Rattle.hir_lower_pat.specs.Bindings.{HasNames, LowersNamed};
-ghost use Rattle.hir_lower_pat.specs.Methods.{HasCounted, HasDots, HasElements, LowersElements, LowersPat, is_rest};
+ghost use Rattle.hir_lower_pat.specs.Methods.{HasCounted, HasDots, HasElements, LowersPat, is_rest};
 
 use crate::bindings::Bindings;
-use crate::parts::PatParts;
+use crate::part::{PatNode, PatsPart};
+use crate::parts::{Here, PatParts};
+use crate::paths::PathPart;
 use hir_base::node::{AstPtr, InFile};
 use hir_lower_form::builder::BodyBuilder;
 use hir_store::fault::StoreFault;
@@ -22,62 +22,42 @@ use hir_store::hir::Pat;
 use hir_store::ids::PatId;
 use hir_store::lists::push_pat;
 use hir_store::path::Path;
-use hir_syntax::{Boxed, Seq, ast};
+use hir_syntax::{Seq, ast};
 use std::alloc::{AllocError, Global};
 
 /// Whether a pattern is two dots.
-fn stands_for_rest(node: &ast::Pat) -> bool
+pub(crate) fn stands_for_rest(node: &ast::Pat) -> bool
     ensures { result ≡ is_rest (out-PatKind node.now.kind) }
 {
     matches!(&node.kind, ast::PatKind::RestPat)
 }
 
 /// One part more. Two dots are none, and of several the first count.
-#[tactic(auto, using(crate::proofs::KindLemmas::dots_are))]
-fn element<S: PatParts>(
+pub(crate) fn element<S: PatParts, N: PatNode>(
     parts: &S,
     state: &mut BodyBuilder,
     bindings: &mut Bindings,
     done: (Seq<PatId>, Option<usize>),
-    node: &ast::Pat,
+    node: &N,
 ) -> Result<(Seq<PatId>, Option<usize>), StoreFault>
-    requires part { S.can_pat parts.now node.now }
+    requires part { N.can (S.can_pat parts.now) node.now }
     requires names { HasNames state.old.stored bindings.old }
     requires done { HasPats state.old.stored done.0 }
-    ensures { let read = answered_pat (S.spot parts.now) node.now in
+    ensures { let read = N.read (S.spot parts.now) node.now in
         LowersNamed HasElements (spec.element_form (is_dots read) done (lower_pat read))
         bindings.old state.old result bindings.new state.new }
 {
     let (mut ids, dots) = done;
-    if stands_for_rest(node) {
+    if node.is_rest(parts) {
         let first = match dots {
             Some(place) => place,
             None => ids.len(),
         };
         return Ok((ids, Some(first)));
     }
-    let id = parts.lower_pat(state, bindings, node)?;
+    let id = node.lower_node(parts, state, bindings)?;
     push_pat(&mut ids, id)?;
     Ok((ids, dots))
-}
-
-/// The parts, and how many stand in front of the first two dots.
-pub(crate) fn elements<S: PatParts>(
-    parts: &S,
-    state: &mut BodyBuilder,
-    bindings: &mut Bindings,
-    mut left: &[ast::Pat],
-) -> Result<(Seq<PatId>, Option<usize>), StoreFault>
-    requires parts { Each (S.can_pat parts.now) left.now }
-    requires names { HasNames state.old.stored bindings.old }
-    ensures { LowersElements (pats_part (S.spot parts.now) left.entry.now) bindings.old state.old result bindings.new state.new }
-{
-    let mut done = (Seq::new(parts.alloc()), None);
-    while let [one, rest @ ..] = left {
-        done = element(parts, state, bindings, done, one)?;
-        left = rest;
-    }
-    Ok(done)
 }
 
 /// The place of the dots, behind a comma in front one further, where it is counted.
@@ -160,41 +140,41 @@ pub(crate) fn stored_elements(
 }
 
 #[tactic(auto, unfolding(hir_lower_form::specs::Pats::tuple_pat_form))]
-pub(crate) fn tuple_form<S: PatParts>(
+pub(crate) fn tuple_form<S: PatParts, L: PatsPart>(
     parts: &S,
     state: &mut BodyBuilder,
     bindings: &mut Bindings,
     at: InFile<AstPtr>,
     leading_comma: bool,
-    fields: &Seq<ast::Pat>,
+    fields: &L,
 ) -> Result<PatId, StoreFault>
-    requires parts { Each (S.can_pat parts.now) fields.now }
+    requires parts { L.can (S.can_pat parts.now) fields.now }
     requires names { HasNames state.old.stored bindings.old }
-    ensures { LowersPat (tree.tuple_pat at leading_comma (pats_part (S.spot parts.now) fields.now))
+    ensures { LowersPat (tree.tuple_pat at leading_comma (L.read (S.spot parts.now) fields.now))
         bindings.old state.old result bindings.new state.new }
 {
-    let done = elements(parts, state, bindings, fields.as_slice())?;
+    let done = fields.elements(parts, state, bindings)?;
     let (ellipsis, args) = stored_elements(parts.alloc(), state, leading_comma, done)?;
     state.alloc_pat(Pat::Tuple { ellipsis, args }, Some(at))
 }
 
 /// A call of this path.
-fn tuple_struct_of<S: PatParts>(
+fn tuple_struct_of<S: PatParts, L: PatsPart>(
     parts: &S,
     state: &mut BodyBuilder,
     bindings: &mut Bindings,
     at: InFile<AstPtr>,
     path: Path,
     leading_comma: bool,
-    fields: &Seq<ast::Pat>,
+    fields: &L,
 ) -> Result<PatId, StoreFault>
     requires path { HasPath state.old.stored path }
-    requires parts { Each (S.can_pat parts.now) fields.now }
+    requires parts { L.can (S.can_pat parts.now) fields.now }
     requires names { HasNames state.old.stored bindings.old }
-    ensures { let read = lower_elements spec.no_elements (pats_part (S.spot parts.now) fields.now) in
+    ensures { let read = lower_elements spec.no_elements (L.read (S.spot parts.now) fields.now) in
         LowersNamed HasPat (spec.tuple_struct_of at leading_comma read (Some path)) bindings.old state.old result bindings.new state.new }
 {
-    let done = elements(parts, state, bindings, fields.as_slice())?;
+    let done = fields.elements(parts, state, bindings)?;
     let (ellipsis, args) = stored_elements(parts.alloc(), state, leading_comma, done)?;
     let pat = Pat::TupleStruct {
         path,
@@ -206,20 +186,20 @@ fn tuple_struct_of<S: PatParts>(
 
 /// Where the path is absent or refused the call is missing, and nothing else of it is read.
 #[tactic(auto, unfolding(hir_lower_form::specs::Pats::tuple_struct_form))]
-pub(crate) fn tuple_struct_form<S: PatParts>(
+pub(crate) fn tuple_struct_form<S: PatParts, W: PathPart, L: PatsPart>(
     parts: &S,
     state: &mut BodyBuilder,
     bindings: &mut Bindings,
     at: InFile<AstPtr>,
-    path: &Option<Boxed<ast::Path>>,
+    path: &W,
     leading_comma: bool,
-    fields: &Seq<ast::Pat>,
+    fields: &L,
 ) -> Result<PatId, StoreFault>
-    requires path { IfPresent (S.can_path parts.now) path.now }
-    requires parts { Each (S.can_pat parts.now) fields.now }
+    requires path { W.can (S.can_path parts.now) path.now }
+    requires parts { L.can (S.can_pat parts.now) fields.now }
     requires names { HasNames state.old.stored bindings.old }
     ensures { let here = S.spot parts.now in
-        LowersPat (tree.tuple_struct_pat at (path_part here path.now) leading_comma (pats_part here fields.now))
+        LowersPat (tree.tuple_struct_pat at (W.read here path.now) leading_comma (L.read here fields.now))
         bindings.old state.old result bindings.new state.new }
 {
     match parts.path(state, path)? {

@@ -4,17 +4,17 @@ ghost use Rattle.std.specs.Prelude.{[]};
 ghost use Rattle.hir_syntax.specs.declared.pats.PatKind.{out-PatKind};
 ghost use Rattle.hir_store.specs.Range.{HasPat, HasPats};
 ghost use Rattle.hir_env.specs.Answered as tree;
-ghost use Rattle.hir_env.specs.Pats.{side_of};
 ghost use Rattle.hir_env.specs.Spot.{in_file, ptr};
 ghost use Rattle.hir_env.specs.TypePats as of;
-ghost use Rattle.hir_env.specs.Whole.{answered_pat, pat_level, pat_part, pats_part, type_pat_part};
+ghost use Rattle.hir_env.specs.Whole.{answered_pat, pat_level, pats_part, type_pat_part};
 ghost use Rattle.hir_lower_form.specs.Lowering.{Lowers};
 ghost use Rattle.hir_lower_form.specs.Lower as steps;
 ghost use Rattle.hir_lower_form.specs.Methods.{LowersTypePat, at_place};
-ghost use Rattle.hir_lower_form.specs.Nests.{Each, IfPresent, KidsSidePart};
+ghost use Rattle.hir_lower_form.specs.Nests.{Each, IfPresent};
 ghost use Rattle.hir_lower_pat.specs.TypePats.{IsOther};
 
-use crate::limits::{end_limit, start_limit};
+use crate::limits::LimitPart;
+use hir_base::node::{AstPtr, InFile};
 use hir_env::place::Place;
 use hir_lower_form::builder::BodyBuilder;
 use hir_lower_form::parts::{LowerParts, Lowerer, pointer_in};
@@ -26,41 +26,33 @@ use hir_syntax::ast::RangeOp;
 use hir_syntax::{Boxed, Seq, ast};
 
 /// What is never null.
-fn not_null_form(
-    state: &mut BodyBuilder,
-    place: Place,
-    node: &ast::Pat,
-) -> Result<PatId, StoreFault>
-    ensures { let at = in_file place (ptr node.now.id node.now.range) in
-        Lowers HasPat (steps.lower_type_pat (tree.not_null_type_pat at)) state.old result state.new }
+fn not_null_form(state: &mut BodyBuilder, at: InFile<AstPtr>) -> Result<PatId, StoreFault>
+    ensures { Lowers HasPat (steps.lower_type_pat (tree.not_null_type_pat at)) state.old result state.new }
 {
-    let at = pointer_in(place, node.id, node.range);
     state.alloc_pat(Pat::NotNull, Some(at))
 }
 
 /// Both ends are part of the range as it is stored.
 #[tactic(auto, unfolding(hir_lower_form::specs::Ranges::limits_form))]
-fn range_form<P: LowerParts>(
+fn range_form<P: LowerParts, E: LimitPart>(
     lowerer: &Lowerer<P>,
     state: &mut BodyBuilder,
     place: Place,
-    node: &ast::Pat,
+    at: InFile<AstPtr>,
     op: Option<RangeOp>,
-    start: &Option<Boxed<ast::Pat>>,
-    end: &Option<Boxed<ast::Pat>>,
+    start: &E,
+    end: &E,
 ) -> Result<PatId, StoreFault>
-    requires start { KidsSidePart ((P.can lowerer.now.parts).path place) start.now }
-    requires end { KidsSidePart ((P.can lowerer.now.parts).path place) end.now }
+    requires start { E.can ((P.can lowerer.now.parts).path place) start.now }
+    requires end { E.can ((P.can lowerer.now.parts).path place) end.now }
     ensures { let here = at_place (P.spot lowerer.now.parts) place in
         let items = here.answers.lang_items in
-        let at = in_file place (ptr node.now.id node.now.range) in
-        let low = of.start_limit items (side_of (pat_part here start.now)) in
-        let high = of.end_limit items op (side_of (pat_part here end.now)) in
+        let low = of.start_limit items (E.read here start.now) in
+        let high = of.end_limit items op (E.read here end.now) in
         Lowers HasPat (steps.lower_type_pat (tree.range_type_pat at low high)) state.old result state.new }
 {
-    let at = pointer_in(place, node.id, node.range);
-    let start = Some(start_limit(lowerer, state, place, start)?);
-    let end = Some(end_limit(lowerer, state, place, op, end)?);
+    let start = Some(start.start_limit(lowerer, state, place)?);
+    let end = Some(end.end_limit(lowerer, state, place, op)?);
     let op = RangeOp::Inclusive;
     state.alloc_pat(Pat::Range { op, start, end }, Some(at))
 }
@@ -136,11 +128,12 @@ fn type_pat<P: LowerParts>(
         let read = of.type_pat_of here.answers.lang_items (answered_pat here node.now) in
         Lowers HasPat (steps.lower_type_pat read) state.old result state.new }
 {
+    let at = pointer_in(place, node.id, node.range);
     match &node.kind {
-        ast::PatKind::NotNullPat => not_null_form(state, place, node),
+        ast::PatKind::NotNullPat => not_null_form(state, at),
         ast::PatKind::OrPat { pats } => alternatives_form(lowerer, state, place, node, pats),
         ast::PatKind::RangePat { op, start, end } => {
-            range_form(lowerer, state, place, node, *op, start, end)
+            range_form(lowerer, state, place, at, *op, start, end)
         }
         _ => other_form(lowerer, state, place, node),
     }

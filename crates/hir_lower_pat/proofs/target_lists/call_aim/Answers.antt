@@ -4,24 +4,24 @@ use Rattle.hir_lower_pat.proofs.target_lists.call_aim.Goals as goal
 
 pub returns-in-None : goal.returns-in-None
 returns-in-None g c =
-    let spot = g.T.TargetParts.spot c.args.parts.now in
+    let spot = g.T.Here.spot c.args.parts.now in
     calleeless_lowers spot c.args.at (answered spot c.args.node.now) c.args.callee.now c.args.args.now c.args.state.now _ _
     c.requires.is c.in-None.is c.place.ensures
 
 pub returns-in-None-args : goal.returns-in-None-args
 returns-in-None-args g c =
-    let spot = g.T.TargetParts.spot c.args.parts.now in
+    let spot = g.T.Here.spot c.args.parts.now in
     argless_lowers spot c.args.at (answered spot c.args.node.now) c.args.callee.now c.args.args.now c.args.state.now _ _
     c.requires.is c.in-None-args.is c.place-in-None-args.ensures
 
 pub returns-in-None-callee_path : goal.returns-in-None-callee_path
 returns-in-None-callee_path g c =
-    let spot = g.T.TargetParts.spot c.args.parts.now in
+    let spot = g.T.Here.spot c.args.parts.now in
     pathless_lowers spot c.args.at (answered spot c.args.node.now) c.args.callee.now c.args.args.now _ _ c.args.state.now _ _
     c.requires.is c.in-Some.is c.get.ensures c.in-None-callee_path.ensures c.place-in-None-callee_path.ensures
 
 pub returns-in-Some-callee_path : goal.returns-in-Some-callee_path
 returns-in-Some-callee_path g c =
-    let spot = g.T.TargetParts.spot c.args.parts.now in
+    let spot = g.T.Here.spot c.args.parts.now in
     call_lowers spot c.args.at (answered spot c.args.node.now) c.args.callee.now c.args.args.now _ _ _ _ c.args.state.now _ _
     c.requires.is c.in-Some.is c.in-Some-args.is c.get.ensures c.in-Some-callee_path.ensures c.called_aim.ensures

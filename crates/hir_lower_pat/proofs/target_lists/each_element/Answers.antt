@@ -10,7 +10,7 @@ use Rattle.hir_lower_pat.proofs.target_lists.each_element.Goals as goal
 pub returns-in_err-done : goal.returns-in_err-done
 returns-in_err-done g c =
     let l = c.loop-left in
-    let spot = g.T.TargetParts.spot c.args.parts.now in
+    let spot = g.T.Here.spot c.args.parts.now in
     handed_on HasElements (elements_read (found_at spot) no_elements (exprs_part spot c.args.left.now)) c.args.state.now _
     c.from_residual.result c.element.new.state c.from_residual.ensures.1
     (λ other.

@@ -7,7 +7,7 @@ use Rattle.hir_lower_pat.specs.Aims.{elements_read, found_at}
 use Rattle.hir_lower_pat.proofs.target_lists.each_element.Given as goal
 
 abbrev pub invariant-loop-left : goal.invariant-loop-left
-invariant-loop-left g l = let at = g.T.TargetParts.spot l.parts in record {
+invariant-loop-left g l = let at = g.T.Here.spot l.parts in record {
   so_far : elements_read (found_at at) no_elements (exprs_part at l.fn.left) l.fn.state
       ≡ elements_read (found_at at) l.done (exprs_part at l.left) l.state;
   may : Each (g.T.TargetParts.can_target l.parts) l.left;

@@ -12,7 +12,7 @@ use Rattle.hir_lower_pat.proofs.target_records.fields.Goals as goal
 pub returns-in_err-field : goal.returns-in_err-field
 returns-in_err-field g c =
     let l = c.loop-left in
-    let spot = g.T.TargetParts.spot c.args.parts.now in
+    let spot = g.T.Here.spot c.args.parts.now in
     handed_on HasPatFields (lower_target_fields [] (target_fields (found_at spot) (fields_part spot c.args.left.now))) c.args.state.now _
     c.from_residual.result c.field.new.state c.from_residual.ensures.1
     (λ other.
@@ -25,7 +25,7 @@ pub loop-left-preserved-in_ok-push_pat_field : goal.loop-left-preserved-in_ok-pu
 loop-left-preserved-in_ok-push_pat_field g c =
     let l = c.loop-left in
     let new = c.field.new.state in
-    let spot = g.T.TargetParts.spot c.args.parts.now in
+    let spot = g.T.Here.spot c.args.parts.now in
     let first = first_of l.left.now c.one-item.result c.one-item.is c.in-len1-up.len_at_least in
     let may = rw first at l.invariant.may in
     let put = rw c.in-Some.is at c.in_ok-field.ensures in

@@ -8,7 +8,7 @@ use Rattle.hir_lower_pat.proofs.target_records.fields.Given as goal
 
 abbrev pub invariant-loop-left : goal.invariant-loop-left
 invariant-loop-left g l =
-    let at = g.T.TargetParts.spot l.parts in
+    let at = g.T.Here.spot l.parts in
     let read = of.target_fields (found_at at) in
     record {
       so_far : lower_target_fields [] (read (fields_part at l.fn.left)) l.fn.state

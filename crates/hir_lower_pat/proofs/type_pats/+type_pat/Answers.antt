@@ -70,7 +70,8 @@ type_pat-range_form-requires g t c =
 pub type_pat-returns-in-NotNullPat : goal.type_pat-returns-in-NotNullPat
 type_pat-returns-in-NotNullPat g t c =
     let here = at_place (g.P.LowerParts.spot c.args.lowerer.now.parts) c.args.place in
-    rw (pat_is_level here c.args.node.now, opened (kind.rolls-NotNullPat ∙ sym c.in-NotNullPat.is)) c.not_null_form.ensures
+    rw (pat_is_level here c.args.node.now, opened (kind.rolls-NotNullPat ∙ sym c.in-NotNullPat.is))
+    (rw c.pointer_in-at.ensures at c.not_null_form.ensures)
 
 pub type_pat-returns-in-OrPat : goal.type_pat-returns-in-OrPat
 type_pat-returns-in-OrPat g t c =
@@ -80,7 +81,8 @@ type_pat-returns-in-OrPat g t c =
 pub type_pat-returns-in-RangePat : goal.type_pat-returns-in-RangePat
 type_pat-returns-in-RangePat g t c =
     let here = at_place (g.P.LowerParts.spot c.args.lowerer.now.parts) c.args.place in
-    rw (pat_is_level here c.args.node.now, opened (kind.rolls-RangePat _ _ _ ∙ sym c.in-RangePat.is)) c.range_form.ensures
+    rw (pat_is_level here c.args.node.now, opened (kind.rolls-RangePat _ _ _ ∙ sym c.in-RangePat.is))
+    (rw c.pointer_in-at.ensures at c.range_form.ensures)
 
 pub type_pat-returns-in_default : goal.type_pat-returns-in_default
 type_pat-returns-in_default g t c =

@@ -3,13 +3,13 @@ use Rattle.hir_env.specs.Whole.{exprs_part}
 use Rattle.hir_lower_pat.specs.Aims.{HasArrayParts, array_read, found_at}
 use Rattle.hir_lower_pat.proofs.AimTurns.{array_refused}
 use Rattle.hir_lower_pat.proofs.TypePats.{handed_on}
-use Rattle.hir_lower_pat.proofs.target_lists.each_of_array.Goals as goal
+use Rattle.hir_lower_pat.proofs.target_lists.SeqAstExprTargetsPart.around_dots.Goals as goal
 
 pub returns-in_err-done : goal.returns-in_err-done
 returns-in_err-done g c =
     let l = c.loop-left in
-    let spot = g.T.TargetParts.spot c.args.parts.now in
-    handed_on HasArrayParts (array_read (found_at spot) ([], None, []) (exprs_part spot c.args.left.now)) c.args.state.now _
+    let spot = g.T.Here.spot c.args.parts.now in
+    handed_on HasArrayParts (array_read (found_at spot) ([], None, []) (exprs_part spot c.args.self.now)) c.args.state.now _
     c.from_residual.result c.array_element.new.state c.from_residual.ensures.1
     (λ other.
     let h = c.in_err-done.ensures other in

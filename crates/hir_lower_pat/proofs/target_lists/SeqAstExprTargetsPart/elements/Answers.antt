@@ -1,0 +1,9 @@
+use Rattle.hir_env.specs.Whole.{exprs_part}
+use Rattle.hir_lower_pat.specs.Aims.{found_at}
+use Rattle.hir_lower_pat.proofs.AimSteps.{elements_lower}
+use Rattle.hir_lower_pat.proofs.target_lists.SeqAstExprTargetsPart.elements.Goals as goal
+
+pub returns : goal.returns
+returns g c =
+    let spot = g.T.Here.spot c.args.parts.now in
+    elements_lower (found_at spot) (exprs_part spot c.args.self.now) c.args.state.now _ _ (rw c.as_slice.ensures at c.each_element.ensures)

@@ -1,9 +1,0 @@
-use Rattle.hir_env.specs.Whole.{exprs_part}
-use Rattle.hir_lower_pat.specs.Aims.{found_at}
-use Rattle.hir_lower_pat.proofs.AimSteps.{elements_lower}
-use Rattle.hir_lower_pat.proofs.target_lists.elements.Goals as goal
-
-pub returns : goal.returns
-returns g c =
-    let spot = g.T.TargetParts.spot c.args.parts.now in
-    elements_lower (found_at spot) (exprs_part spot c.args.all.now) c.args.state.now _ _ c.each_element.ensures

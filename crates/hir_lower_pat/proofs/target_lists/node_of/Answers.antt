@@ -1,6 +1,0 @@
-use Rattle.std.proofs.Common.{◌∙◌, sym}
-use Rattle.hir_env.proofs.Pointers.{pointer_is_own}
-use Rattle.hir_lower_pat.proofs.target_lists.node_of.Goals as goal
-
-pub returns : goal.returns
-returns g c = c.pointer_of.ensures ∙ sym (pointer_is_own (g.T.TargetParts.spot c.args.parts.now) c.args.node.now)

@@ -1,0 +1,187 @@
+//! Patterns as parts of a form. A form that hands one on has it as a type parameter, so that no tree is among the form's types.
+
+ghost use Rattle.std.specs.Prelude.{◌≡◌};
+ghost use Rattle.hir_syntax.specs.declared.pats.Pat.{Pat as AstPat};
+ghost use Rattle.hir_env.specs.Answered.{OptionPat, Pat as AnsweredPat, Pats};
+ghost use Rattle.hir_env.specs.Spot.{Spot};
+ghost use Rattle.hir_env.specs.Whole.{answered_pat, pat_part, pats_part};
+ghost use Rattle.hir_lower_form.specs.Nests.{Each, IfPresent};
+ghost use Rattle.hir_lower_form.specs.Pats.{is_dots};
+ghost use Rattle.hir_lower_pat.specs.Bindings.{HasNames};
+ghost use Rattle.hir_lower_pat.specs.Methods.{LowersElements, LowersPat, LowersPatIfPresent, LowersPatOpt, LowersPats};
+
+use crate::bindings::Bindings;
+use crate::parts::{Here, PatParts};
+use crate::tuples::{element, stands_for_rest};
+use hir_lower_form::builder::BodyBuilder;
+use hir_store::fault::StoreFault;
+use hir_store::ids::PatId;
+use hir_store::lists::push_pat;
+use hir_syntax::{Boxed, Seq, ast};
+
+/// A pattern.
+pub trait PatNode {
+    ghost can: { (AstPat → Type 0) → Self → Type 0 };
+
+    ghost read: { Spot → Self → AnsweredPat };
+
+    /// Whether it is two dots.
+    fn is_rest<H: Here>(&self, parts: &H) -> bool
+        ensures { result ≡ is_dots (read (H.spot parts.now) self.now) };
+
+    /// The pattern, with the names of its top pattern that were used before.
+    fn lower_node<S: PatParts>(
+        &self,
+        parts: &S,
+        state: &mut BodyBuilder,
+        bindings: &mut Bindings,
+    ) -> Result<PatId, StoreFault>
+        requires part { can (S.can_pat parts.now) self.now }
+        requires names { HasNames state.old.stored bindings.old }
+        ensures { LowersPat (read (S.spot parts.now) self.now) bindings.old state.old result bindings.new state.new };
+}
+
+impl PatNode for ast::Pat {
+    ghost can = { λ pattern p. pattern p };
+
+    ghost read = { answered_pat };
+
+    fn is_rest<H: Here>(&self, parts: &H) -> bool {
+        let _ = parts;
+        stands_for_rest(self)
+    }
+
+    fn lower_node<S: PatParts>(
+        &self,
+        parts: &S,
+        state: &mut BodyBuilder,
+        bindings: &mut Bindings,
+    ) -> Result<PatId, StoreFault> {
+        parts.lower_pat(state, bindings, self)
+    }
+}
+
+/// A pattern that is there or isn't.
+pub trait PatPart {
+    ghost can: { (AstPat → Type 0) → Self → Type 0 };
+
+    ghost read: { Spot → Self → OptionPat };
+
+    /// The pattern, missing where it is absent.
+    fn lower<S: PatParts>(
+        &self,
+        parts: &S,
+        state: &mut BodyBuilder,
+        bindings: &mut Bindings,
+    ) -> Result<PatId, StoreFault>
+        requires part { can (S.can_pat parts.now) self.now }
+        requires names { HasNames state.old.stored bindings.old }
+        ensures { LowersPatOpt (read (S.spot parts.now) self.now) bindings.old state.old result bindings.new state.new };
+
+    /// The pattern, or none where it is absent.
+    fn lower_if_present<S: PatParts>(
+        &self,
+        parts: &S,
+        state: &mut BodyBuilder,
+        bindings: &mut Bindings,
+    ) -> Result<Option<PatId>, StoreFault>
+        requires part { can (S.can_pat parts.now) self.now }
+        requires names { HasNames state.old.stored bindings.old }
+        ensures { LowersPatIfPresent (read (S.spot parts.now) self.now) bindings.old state.old result bindings.new state.new };
+}
+
+impl PatPart for Option<Boxed<ast::Pat>> {
+    ghost can = { λ pattern. IfPresent pattern };
+
+    ghost read = { pat_part };
+
+    fn lower<S: PatParts>(
+        &self,
+        parts: &S,
+        state: &mut BodyBuilder,
+        bindings: &mut Bindings,
+    ) -> Result<PatId, StoreFault> {
+        match self {
+            None => state.missing_pat(),
+            Some(part) => parts.lower_pat(state, bindings, part.get()),
+        }
+    }
+
+    fn lower_if_present<S: PatParts>(
+        &self,
+        parts: &S,
+        state: &mut BodyBuilder,
+        bindings: &mut Bindings,
+    ) -> Result<Option<PatId>, StoreFault> {
+        match self {
+            None => Ok(None),
+            Some(part) => Ok(Some(parts.lower_pat(state, bindings, part.get())?)),
+        }
+    }
+}
+
+/// Patterns, one after another.
+pub trait PatsPart {
+    ghost can: { (AstPat → Type 0) → Self → Type 0 };
+
+    ghost read: { Spot → Self → Pats };
+
+    /// The patterns.
+    fn lower_each<S: PatParts>(
+        &self,
+        parts: &S,
+        state: &mut BodyBuilder,
+        bindings: &mut Bindings,
+    ) -> Result<Seq<PatId>, StoreFault>
+        requires parts { can (S.can_pat parts.now) self.now }
+        requires names { HasNames state.old.stored bindings.old }
+        ensures { LowersPats (read (S.spot parts.now) self.now) bindings.old state.old result bindings.new state.new };
+
+    /// The patterns without two dots, and how many stand in front of the first of these.
+    fn elements<S: PatParts>(
+        &self,
+        parts: &S,
+        state: &mut BodyBuilder,
+        bindings: &mut Bindings,
+    ) -> Result<(Seq<PatId>, Option<usize>), StoreFault>
+        requires parts { can (S.can_pat parts.now) self.now }
+        requires names { HasNames state.old.stored bindings.old }
+        ensures { LowersElements (read (S.spot parts.now) self.now) bindings.old state.old result bindings.new state.new };
+}
+
+impl PatsPart for Seq<ast::Pat> {
+    ghost can = { λ pattern. Each pattern };
+
+    ghost read = { pats_part };
+
+    fn lower_each<S: PatParts>(
+        &self,
+        parts: &S,
+        state: &mut BodyBuilder,
+        bindings: &mut Bindings,
+    ) -> Result<Seq<PatId>, StoreFault> {
+        let mut done = Seq::new(parts.alloc());
+        let mut left = self.as_slice();
+        while let [one, rest @ ..] = left {
+            let id = parts.lower_pat(state, bindings, one)?;
+            push_pat(&mut done, id)?;
+            left = rest;
+        }
+        Ok(done)
+    }
+
+    fn elements<S: PatParts>(
+        &self,
+        parts: &S,
+        state: &mut BodyBuilder,
+        bindings: &mut Bindings,
+    ) -> Result<(Seq<PatId>, Option<usize>), StoreFault> {
+        let mut done = (Seq::new(parts.alloc()), None);
+        let mut left = self.as_slice();
+        while let [one, rest @ ..] = left {
+            done = element(parts, state, bindings, done, one)?;
+            left = rest;
+        }
+        Ok(done)
+    }
+}

@@ -1,0 +1,48 @@
+//! A path as a part of a form.
+
+ghost use Rattle.hir_syntax.specs.declared.ast.Path.{Path as AstPath};
+ghost use Rattle.hir_env.specs.Answered.{OptionPath};
+ghost use Rattle.hir_env.specs.Spot.{Spot};
+ghost use Rattle.hir_env.specs.Whole.{path_part};
+ghost use Rattle.hir_lower_form.specs.Methods.{LowersPath, at_place};
+ghost use Rattle.hir_lower_form.specs.Nests.{IfPresent};
+
+use hir_env::place::Place;
+use hir_lower_form::builder::BodyBuilder;
+use hir_lower_form::parts::{LowerParts, Lowerer};
+use hir_store::fault::StoreFault;
+use hir_store::path::Path;
+use hir_syntax::{Boxed, ast};
+
+/// A path that is there or isn't. A form that hands one on has it as a type parameter, so that no tree is among the form's types,
+/// each of which a check would lay out with all that it leads to.
+pub trait PathPart {
+    ghost can: { (AstPath → Type 0) → Self → Type 0 };
+
+    ghost read: { Spot → Self → OptionPath };
+
+    /// The path, read at this place, or none where it is absent or refused.
+    fn lower<P: LowerParts>(
+        &self,
+        lowerer: &Lowerer<P>,
+        state: &mut BodyBuilder,
+        place: Place,
+    ) -> Result<Option<Path>, StoreFault>
+        requires { can ((P.can lowerer.now.parts).path place) self.now }
+        ensures { LowersPath (read (at_place (P.spot lowerer.now.parts) place) self.now) state.old result state.new };
+}
+
+impl PathPart for Option<Boxed<ast::Path>> {
+    ghost can = { λ path. IfPresent path };
+
+    ghost read = { path_part };
+
+    fn lower<P: LowerParts>(
+        &self,
+        lowerer: &Lowerer<P>,
+        state: &mut BodyBuilder,
+        place: Place,
+    ) -> Result<Option<Path>, StoreFault> {
+        lowerer.path_if_present(state, place, self)
+    }
+}
