@@ -234,7 +234,9 @@ fn record_form<T: TargetParts, W: PathPart, L: TargetRecord>(
     requires path { W.can (T.can_path parts.now) path.now }
     requires list { L.can (T.can_target parts.now) list.now }
     ensures { let spot = T.spot parts.now in
-        LowersTarget (tree.record_target at (W.read spot path.now) (L.fields spot list.now) (L.has_dots list.now) (L.spread spot list.now)) state.old result state.new }
+        let fields = L.fields spot list.now in
+        let read = tree.record_target at (W.read spot path.now) fields (L.has_dots list.now) (L.spread spot list.now) in
+        LowersTarget read state.old result state.new }
 {
     match parts.path(state, path)? {
         None => state.missing_pat(),
@@ -253,7 +255,9 @@ fn listed_aim<T: TargetParts, W: PathPart, L: TargetRecord>(
     requires path { W.can (T.can_path parts.now) path.now }
     requires list { L.can (T.can_target parts.now) list.now }
     ensures { let spot = T.spot parts.now in
-        Lowers HasAim (patterned (tree.record_target at (W.read spot path.now) (L.fields spot list.now) (L.has_dots list.now) (L.spread spot list.now))) state.old result state.new }
+        let fields = L.fields spot list.now in
+        let read = tree.record_target at (W.read spot path.now) fields (L.has_dots list.now) (L.spread spot list.now) in
+        Lowers HasAim (patterned read) state.old result state.new }
 {
     Ok(Aim::Pat(record_form(parts, state, at, path, list)?))
 }
