@@ -1,0 +1,27 @@
+use Rattle.std.proofs.Common.{rules}
+use Rattle.hir_lower_form.specs.Made.{typed_try_form}
+use Rattle.hir_lower_expr.proofs.tries.typed_try.Goals as goal
+
+pub returns-in_err-block : goal.returns-in_err-block
+unfolding typed_try_form
+returns-in_err-block g c = search rules
+
+pub returns-in_err-number : goal.returns-in_err-number
+unfolding typed_try_form
+returns-in_err-number g c = search rules
+
+pub returns-in_err-type_ref : goal.returns-in_err-type_ref
+unfolding typed_try_form
+returns-in_err-type_ref g c = search rules
+
+pub returns-in_err-pat : goal.returns-in_err-pat
+unfolding typed_try_form
+returns-in_err-pat g c = search rules
+
+pub returns-in_err-tail : goal.returns-in_err-tail
+unfolding typed_try_form
+returns-in_err-tail g c = search rules
+
+pub returns : goal.returns
+unfolding typed_try_form
+returns g c = search rules
