@@ -4,20 +4,20 @@ ghost use Rattle.std.specs.Prelude.{◌≡◌, ◌-◌, [], false, length, slice
 ghost use Rattle.hir_syntax.specs.declared.ast.BlockExpr.{out-BlockExpr};
 ghost use Rattle.hir_syntax.specs.declared.ast.StmtKind.{out-StmtKind};
 ghost use Rattle.hir_store.specs.Range.{HasExpr, HasLabelOption};
-ghost use Rattle.hir_env.specs.Whole.{answered_block, answered_plain, expr_part, label_part, stmt_level, stmts_part};
+ghost use Rattle.hir_env.specs.Whole.{answered_block, expr_part, label_part, stmt_level, stmts_part};
 ghost use Rattle.hir_lower_form.specs.Lowering.{Lowers};
 ghost use Rattle.hir_lower_form.specs.Lower as spec;
 ghost use Rattle.hir_lower_form.specs.Nests.{Each, KidsBlock, KidsBody, KidsStmt};
-ghost use Rattle.hir_lower_form.specs.Methods.{HasContents, HasRole, LowersExpr, LowersStmt, LowersStmts, block_steps_at, contents_at};
+ghost use Rattle.hir_lower_form.specs.Methods.{HasContents, HasRole, LowersExpr, LowersStmt, LowersStmts, block_steps_at};
 ghost use Rattle.hir_lower_form.specs.Methods.{flat, own_steps_at};
 ghost use Rattle.hir_lower_form.specs.declared.parts.BlockRole.TheVariants as role;
 
 use crate::consts::const_form;
 use crate::coroutines::{coroutine, coroutine_form};
-use crate::here::block_here;
 use crate::kept::push_kept_statement;
 use crate::lets::let_stmt;
 use crate::tries::try_form;
+use crate::written::WrittenBlock;
 use hir_lower_form::builder::BodyBuilder;
 use hir_lower_form::parts::{BlockRole, LowerParts, Lowerer};
 use hir_store::fault::StoreFault;
@@ -107,7 +107,7 @@ fn collect_stmts<P: LowerParts>(
 }
 
 /// The statements, and then the tail.
-fn flat_contents<P: LowerParts>(
+pub(crate) fn flat_contents<P: LowerParts>(
     lowerer: &Lowerer<P>,
     state: &mut BodyBuilder,
     node: &ast::BlockExpr,
@@ -123,35 +123,23 @@ fn flat_contents<P: LowerParts>(
     Ok((statements, tail))
 }
 
-/// What is in a block that is read here.
-fn contents<P: LowerParts>(
-    lowerer: &Lowerer<P>,
-    state: &mut BodyBuilder,
-    node: &ast::BlockExpr,
-) -> Result<(Seq<Statement>, Option<ExprId>), StoreFault>
-    requires { KidsBlock (P.can lowerer.now.parts) (P.spot lowerer.now.parts).place (out-BlockExpr node.now) }
-    ensures { Lowers HasContents (contents_at (P.spot lowerer.now.parts) node.now) state.old result state.new }
-{
-    flat_contents(lowerer, state, node)
-}
-
 /// A block that is read here, as one that is unsafe or isn't, inside the label of this number.
 #[tactic(auto, unfolding(hir_lower_form::specs::Forms::block_form))]
-fn plain_node<P: LowerParts>(
+fn plain_node<P: LowerParts, N: WrittenBlock>(
     lowerer: &Lowerer<P>,
     state: &mut BodyBuilder,
     is_unsafe: bool,
     label: Option<LabelId>,
     number: Option<BlockId>,
-    node: &ast::BlockExpr,
+    node: &N,
 ) -> Result<ExprId, StoreFault>
-    requires parts { KidsBlock (P.can lowerer.now.parts) (P.spot lowerer.now.parts).place (out-BlockExpr node.now) }
+    requires parts { N.can_parts (P.can lowerer.now.parts) (P.spot lowerer.now.parts).place node.now }
     requires label { HasLabelOption state.old.stored label }
     ensures { let spot = P.spot lowerer.now.parts in
-        Lowers HasExpr (block_steps_at spot (role.Plain is_unsafe label) number node.now) state.old result state.new }
+        Lowers HasExpr (spec.as_role (role.Plain is_unsafe label) (N.place_of spot node.now) number (N.stored spot node.now)) state.old result state.new }
 {
     state.enter_block(number)?;
-    let (mut statements, tail) = contents(lowerer, state, node)?;
+    let (mut statements, tail) = node.contents(lowerer, state)?;
     let tail = settle(&mut statements, tail);
     let expr = Expr::Block {
         is_unsafe,
@@ -160,27 +148,27 @@ fn plain_node<P: LowerParts>(
         statements,
         tail,
     };
-    state.alloc_expr(expr, Some(lowerer.pointer(node.id, node.range)))
+    state.alloc_expr(expr, Some(node.pointer(lowerer)))
 }
 
 /// The block of a `try` that is read here. Its tail goes through the item before the block is stored.
 #[tactic(auto, unfolding(hir_lower_form::specs::Made::try_block_form))]
-fn try_node<P: LowerParts>(
+fn try_node<P: LowerParts, N: WrittenBlock>(
     lowerer: &Lowerer<P>,
     state: &mut BodyBuilder,
     item: Option<LangItemId>,
     typed: bool,
     number: Option<BlockId>,
-    node: &ast::BlockExpr,
+    node: &N,
 ) -> Result<ExprId, StoreFault>
-    requires { KidsBlock (P.can lowerer.now.parts) (P.spot lowerer.now.parts).place (out-BlockExpr node.now) }
+    requires { N.can_parts (P.can lowerer.now.parts) (P.spot lowerer.now.parts).place node.now }
     ensures { let spot = P.spot lowerer.now.parts in
-        Lowers HasExpr (block_steps_at spot (role.Try item typed) number node.now) state.old result state.new }
+        Lowers HasExpr (spec.as_role (role.Try item typed) (N.place_of spot node.now) number (N.stored spot node.now)) state.old result state.new }
 {
-    let at = lowerer.pointer(node.id, node.range);
+    let at = node.pointer(lowerer);
     let label = state.open_try(at, typed)?;
     state.enter_block(number)?;
-    let (mut statements, tail) = contents(lowerer, state, node)?;
+    let (mut statements, tail) = node.contents(lowerer, state)?;
     state.close();
     let tail = settle(&mut statements, tail);
     let tail = state.wrapped(lowerer.alloc, at, item, tail)?;
@@ -196,20 +184,20 @@ fn try_node<P: LowerParts>(
 
 /// The block of a coroutine that is read here, which comes from no node, and the coroutine around it.
 #[tactic(auto, unfolding(hir_lower_form::specs::Forms::coroutine_block_form))]
-fn coroutine_node<P: LowerParts>(
+fn coroutine_node<P: LowerParts, N: WrittenBlock>(
     lowerer: &Lowerer<P>,
     state: &mut BodyBuilder,
     kind: CoroutineKind,
     moves: bool,
     number: Option<BlockId>,
-    node: &ast::BlockExpr,
+    node: &N,
 ) -> Result<ExprId, StoreFault>
-    requires { KidsBlock (P.can lowerer.now.parts) (P.spot lowerer.now.parts).place (out-BlockExpr node.now) }
+    requires { N.can_parts (P.can lowerer.now.parts) (P.spot lowerer.now.parts).place node.now }
     ensures { let spot = P.spot lowerer.now.parts in
-        Lowers HasExpr (block_steps_at spot (role.Coroutine kind moves) number node.now) state.old result state.new }
+        Lowers HasExpr (spec.as_role (role.Coroutine kind moves) (N.place_of spot node.now) number (N.stored spot node.now)) state.old result state.new }
 {
     state.enter_block(number)?;
-    let (mut statements, tail) = contents(lowerer, state, node)?;
+    let (mut statements, tail) = node.contents(lowerer, state)?;
     let tail = settle(&mut statements, tail);
     let expr = Expr::Block {
         is_unsafe: false,
@@ -219,7 +207,7 @@ fn coroutine_node<P: LowerParts>(
         tail,
     };
     let body = state.alloc_expr(expr, None)?;
-    let at = lowerer.pointer(node.id, node.range);
+    let at = node.pointer(lowerer);
     state.alloc_expr(coroutine(lowerer.alloc, kind, moves, body), Some(at))
 }
 
@@ -248,14 +236,14 @@ pub fn block_node<P: LowerParts>(
 
 /// A block with a label, if it has one, and with no modifier.
 #[tactic(auto, unfolding(hir_lower_form::specs::Forms::labelled))]
-fn labelled_block<P: LowerParts>(
+fn labelled_block<P: LowerParts, N: WrittenBlock>(
     lowerer: &Lowerer<P>,
     state: &mut BodyBuilder,
     label: &Option<ast::Label>,
-    node: &ast::BlockExpr,
+    node: &N,
 ) -> Result<ExprId, StoreFault>
-    requires { (P.can lowerer.now.parts).block (P.spot lowerer.now.parts).place node.now }
-    ensures { let block = answered_plain (P.spot lowerer.now.parts) node.now in
+    requires { N.can (P.can lowerer.now.parts) (P.spot lowerer.now.parts).place node.now }
+    ensures { let block = N.read (P.spot lowerer.now.parts) node.now in
         let label = label_part (P.spot lowerer.now.parts) label.now in
         Lowers HasExpr (spec.labelled label (λ id. spec.lower_inside (role.Plain false id) block)) state.old result state.new }
 {
@@ -263,11 +251,11 @@ fn labelled_block<P: LowerParts>(
     let Some(label) = label else {
         let label = None;
         let role = BlockRole::Plain { is_unsafe, label };
-        return block_here(lowerer, state, role, node);
+        return node.lower(lowerer, state, role);
     };
     let label = Some(lowerer.open_label(state, label)?);
     let role = BlockRole::Plain { is_unsafe, label };
-    let id = block_here(lowerer, state, role, node)?;
+    let id = node.lower(lowerer, state, role)?;
     state.close();
     Ok(id)
 }
@@ -289,7 +277,7 @@ fn headed_block<P: LowerParts>(
                 is_unsafe: true,
                 label: None,
             };
-            block_here(lowerer, state, role, node)
+            node.lower(lowerer, state, role)
         }
         Some(ast::BlockModifier::Try) => try_form(lowerer, state, &node.ty, node),
         Some(ast::BlockModifier::Const) => const_form(lowerer, state, node),

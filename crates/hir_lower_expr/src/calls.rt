@@ -1,13 +1,10 @@
 //! Calls, and what stands around an operand.
 
-ghost use Rattle.std.specs.Prelude.{is_some};
 ghost use Rattle.hir_env.specs.Answered as tree;
 ghost use Rattle.hir_env.specs.Answering.{name_or_missing};
-ghost use Rattle.hir_env.specs.Whole.{arg_list_part, args_part, expr_part};
-ghost use Rattle.hir_lower_form.specs.Nests.{Each, IfPresent};
 ghost use Rattle.hir_lower_form.specs.Methods.{LowersExpr};
 
-use crate::here::args_here;
+use crate::part::{ArgsPart, ExprPart, GenericsPart};
 use hir_base::node::{AstPtr, InFile};
 use hir_lower_form::builder::BodyBuilder;
 use hir_lower_form::names::name_of;
@@ -15,52 +12,52 @@ use hir_lower_form::parts::{LowerParts, Lowerer};
 use hir_store::fault::StoreFault;
 use hir_store::hir::Expr;
 use hir_store::ids::ExprId;
-use hir_syntax::{Boxed, Seq, ast};
+use hir_syntax::ast;
 
 /// A call: the callee, then its arguments first to last.
 #[tactic(auto, unfolding(hir_lower_form::specs::Forms::call_form))]
-pub fn call_form<P: LowerParts>(
+pub fn call_form<P: LowerParts, E: ExprPart, A: ArgsPart>(
     lowerer: &Lowerer<P>,
     state: &mut BodyBuilder,
     at: InFile<AstPtr>,
-    callee: &Option<Boxed<ast::Expr>>,
-    args: &Option<Seq<ast::Expr>>,
+    callee: &E,
+    args: &A,
 ) -> Result<ExprId, StoreFault>
-    requires callee { IfPresent (P.can lowerer.now.parts).expr callee.now }
-    requires args { IfPresent (Each (P.can lowerer.now.parts).expr) args.now }
+    requires callee { E.can (P.can lowerer.now.parts) callee.now }
+    requires args { A.can (P.can lowerer.now.parts) args.now }
     ensures { LowersExpr (tree.call_expr at
-        (expr_part (P.spot lowerer.now.parts) callee.now)
-        (is_some args.now)
-        (args_part (P.spot lowerer.now.parts) args.now)) state.old result state.new }
+        (E.read (P.spot lowerer.now.parts) callee.now)
+        (A.is_there args.now)
+        (A.read (P.spot lowerer.now.parts) args.now)) state.old result state.new }
 {
-    let callee = lowerer.collect_expr_opt(state, callee)?;
-    let args = lowerer.arguments(state, args)?;
+    let callee = callee.lower(lowerer, state)?;
+    let args = args.lower(lowerer, state)?;
     state.alloc_expr(Expr::Call { callee, args }, Some(at))
 }
 
 /// The generic arguments behind the others.
 #[tactic(auto, unfolding(hir_lower_form::specs::Forms::method_call_form))]
-pub fn method_call_form<P: LowerParts>(
+pub fn method_call_form<P: LowerParts, E: ExprPart, G: GenericsPart, A: ArgsPart>(
     lowerer: &Lowerer<P>,
     state: &mut BodyBuilder,
     at: InFile<AstPtr>,
-    receiver: &Option<Boxed<ast::Expr>>,
+    receiver: &E,
     name: &Option<ast::Name>,
-    generics: &Option<ast::GenericArgList>,
-    args: &Option<Seq<ast::Expr>>,
+    generics: &G,
+    args: &A,
 ) -> Result<ExprId, StoreFault>
-    requires receiver { IfPresent (P.can lowerer.now.parts).expr receiver.now }
-    requires generics { IfPresent ((P.can lowerer.now.parts).args (P.spot lowerer.now.parts).place) generics.now }
-    requires args { IfPresent (Each (P.can lowerer.now.parts).expr) args.now }
+    requires receiver { E.can (P.can lowerer.now.parts) receiver.now }
+    requires generics { G.can (P.can lowerer.now.parts) (P.spot lowerer.now.parts).place generics.now }
+    requires args { A.can (P.can lowerer.now.parts) args.now }
     ensures { LowersExpr (tree.method_call_expr at
-        (expr_part (P.spot lowerer.now.parts) receiver.now)
+        (E.read (P.spot lowerer.now.parts) receiver.now)
         (name_or_missing name.now)
-        (args_part (P.spot lowerer.now.parts) args.now)
-        (arg_list_part (P.spot lowerer.now.parts) generics.now)) state.old result state.new }
+        (A.read (P.spot lowerer.now.parts) args.now)
+        (G.read (P.spot lowerer.now.parts) generics.now)) state.old result state.new }
 {
-    let receiver = lowerer.collect_expr_opt(state, receiver)?;
-    let args = lowerer.arguments(state, args)?;
-    let generic_args = args_here(lowerer, state, generics)?;
+    let receiver = receiver.lower(lowerer, state)?;
+    let args = args.lower(lowerer, state)?;
+    let generic_args = generics.lower(lowerer, state)?;
     let method_name = name_of(name)?;
     let expr = Expr::MethodCall {
         receiver,
@@ -73,16 +70,16 @@ pub fn method_call_form<P: LowerParts>(
 
 /// The parentheses lead to what is in them.
 #[tactic(auto, unfolding(hir_lower_form::specs::Forms::paren_form))]
-pub fn paren_form<P: LowerParts>(
+pub fn paren_form<P: LowerParts, E: ExprPart>(
     lowerer: &Lowerer<P>,
     state: &mut BodyBuilder,
     at: InFile<AstPtr>,
-    inner: &Option<Boxed<ast::Expr>>,
+    inner: &E,
 ) -> Result<ExprId, StoreFault>
-    requires { IfPresent (P.can lowerer.now.parts).expr inner.now }
-    ensures { LowersExpr (tree.paren_expr at (expr_part (P.spot lowerer.now.parts) inner.now)) state.old result state.new }
+    requires { E.can (P.can lowerer.now.parts) inner.now }
+    ensures { LowersExpr (tree.paren_expr at (E.read (P.spot lowerer.now.parts) inner.now)) state.old result state.new }
 {
-    let id = lowerer.collect_expr_opt(state, inner)?;
+    let id = inner.lower(lowerer, state)?;
     state.point(at, id)?;
     Ok(id)
 }

@@ -6,28 +6,30 @@ ghost use Rattle.hir_store.specs.Range.{HasExpr};
 ghost use Rattle.hir_env.specs.Answered as tree;
 ghost use Rattle.hir_env.specs.Answering.{closure_of, coroutine_kind};
 ghost use Rattle.hir_env.specs.Paths as of;
-ghost use Rattle.hir_env.specs.Whole.{answer_part, answered_closure_param, closure_params_or_none_part, closure_params_part, expr_part};
-ghost use Rattle.hir_env.specs.Whole.{in_closure, param_level, pat_part, type_part};
+ghost use Rattle.hir_env.specs.Answered.{OptionType, Params};
+ghost use Rattle.hir_env.specs.declared.place.Place.{Place as AtPlace};
+ghost use Rattle.hir_env.specs.Spot.{Spot};
+ghost use Rattle.hir_env.specs.Whole.{answer_part, answered_closure_param, closure_params_or_none_part, closure_params_part};
+ghost use Rattle.hir_env.specs.Whole.{in_closure, param_level};
 ghost use Rattle.hir_lower_form.specs.Forms as spec;
 ghost use Rattle.hir_lower_form.specs.Lower.{lower_params, lower_part, present_type};
 ghost use Rattle.hir_lower_form.specs.Lowering.{Lowers};
 ghost use Rattle.hir_lower_form.specs.Methods.{HasClosureParams, LowersExpr, LowersExprOpt, LowersParam, LowersParams};
 ghost use Rattle.hir_lower_form.specs.Methods.{LowersTypeIfPresent};
-ghost use Rattle.hir_lower_form.specs.Nests.{IfPresent, KidsClosureParam, KidsClosureParams, KidsRet};
+ghost use Rattle.hir_lower_form.specs.Nests.{Claims, IfPresent, KidsClosureParam, KidsClosureParams, KidsRet};
 
 use crate::coroutine_closures::coroutine_closure_form;
-use crate::here::type_here_if_present;
+use crate::part::{ExprPart, PatPart, TypePart};
 use hir_base::node::{AstPtr, InFile};
 use hir_env::place::Place;
 use hir_lower_form::builder::BodyBuilder;
 use hir_lower_form::closures::ClosureParams;
 use hir_lower_form::parts::{LowerParts, Lowerer, site};
-use hir_lower_pat::top::top_pat;
 use hir_store::diagnostics::{AwaitLocation, ExpressionStoreDiagnostics};
 use hir_store::fault::StoreFault;
 use hir_store::hir::{CaptureBy, ClosureKind, CoroutineKind, Expr, Movability};
 use hir_store::ids::{ExprId, TypeRefId};
-use hir_syntax::{Boxed, Seq, ast};
+use hir_syntax::{Seq, ast};
 
 /// Where the body of a closure is read that is written at this place.
 fn inside_closure(is_async: bool, place: Place) -> Place
@@ -70,20 +72,21 @@ pub(crate) fn capture_by(moves: bool) -> CaptureBy
 
 /// A parameter that no condition disables: its pattern, its type.
 #[tactic(auto, unfolding(hir_lower_form::specs::Forms::param_form))]
-fn kept_param<P: LowerParts>(
+fn kept_param<P: LowerParts, Q: PatPart, T: TypePart>(
     lowerer: &Lowerer<P>,
     state: &mut BodyBuilder,
     params: ClosureParams,
-    node: &ast::Param,
+    pat: &Q,
+    ty: &T,
 ) -> Result<ClosureParams, StoreFault>
-    requires part { KidsClosureParam (P.can lowerer.now.parts) (P.spot lowerer.now.parts).place (out-Param node.now) }
+    requires pat { Q.can (P.can lowerer.now.parts) (P.spot lowerer.now.parts).place pat.now }
+    requires ty { T.can (P.can lowerer.now.parts) (P.spot lowerer.now.parts).place ty.now }
     requires params { HasClosureParams state.old.stored params }
     ensures { let spot = P.spot lowerer.now.parts in
-        let level = out-Param node.now in
-        LowersParam params (tree.param (pat_part spot level.pat) (type_part spot level.ty)) state.old result state.new }
+        LowersParam params (tree.param (Q.read spot pat.now) (T.read spot ty.now)) state.old result state.new }
 {
-    let pat = top_pat(lowerer, state, &node.pat)?;
-    let ty = type_here_if_present(lowerer, state, &node.ty)?;
+    let pat = pat.lower(lowerer, state)?;
+    let ty = ty.lower_if_present(lowerer, state)?;
     Ok(params.with_param(pat, ty)?)
 }
 
@@ -104,7 +107,7 @@ fn param_form<P: LowerParts>(
             state.report(ExpressionStoreDiagnostics::InactiveCode { node: at, cfg })?;
             Ok(params)
         }
-        Ok(()) => kept_param(lowerer, state, params, node),
+        Ok(()) => kept_param(lowerer, state, params, &node.pat, &node.ty),
     }
 }
 
@@ -139,77 +142,115 @@ fn params<P: LowerParts>(
     Ok(params)
 }
 
-pub(crate) fn params_if_present<P: LowerParts>(
-    lowerer: &Lowerer<P>,
-    state: &mut BodyBuilder,
-    all: &Option<Seq<ast::Param>>,
-) -> Result<ClosureParams, StoreFault>
-    requires { IfPresent (KidsClosureParams (P.can lowerer.now.parts) (P.spot lowerer.now.parts).place) all.now }
-    ensures { let read = closure_params_or_none_part (P.spot lowerer.now.parts) all.now in
-        LowersParams spec.no_closure_params read state.old result state.new }
-{
-    let none = ClosureParams::new(lowerer.alloc);
-    match all {
-        None => Ok(none),
-        Some(all) => params(lowerer, state, none, all.as_slice()),
+/// The parameters of a closure, none where they are absent.
+pub trait ParamsPart {
+    ghost can: { Claims → AtPlace → Self → Type 0 };
+
+    ghost read: { Spot → Self → Params };
+
+    fn lower<P: LowerParts>(
+        &self,
+        lowerer: &Lowerer<P>,
+        state: &mut BodyBuilder,
+    ) -> Result<ClosureParams, StoreFault>
+        requires { can (P.can lowerer.now.parts) (P.spot lowerer.now.parts).place self.now }
+        ensures { LowersParams spec.no_closure_params (read (P.spot lowerer.now.parts) self.now) state.old result state.new };
+}
+
+impl ParamsPart for Option<Seq<ast::Param>> {
+    ghost can = { λ claims place. IfPresent (KidsClosureParams claims place) };
+
+    ghost read = { closure_params_or_none_part };
+
+    fn lower<P: LowerParts>(
+        &self,
+        lowerer: &Lowerer<P>,
+        state: &mut BodyBuilder,
+    ) -> Result<ClosureParams, StoreFault> {
+        let none = ClosureParams::new(lowerer.alloc);
+        match self {
+            None => Ok(none),
+            Some(all) => params(lowerer, state, none, all.as_slice()),
+        }
     }
 }
 
-/// What it returns, none where no type is written.
-pub(crate) fn ret_if_present<P: LowerParts>(
-    lowerer: &Lowerer<P>,
-    state: &mut BodyBuilder,
-    ret: &Option<ast::RetType>,
-) -> Result<Option<TypeRefId>, StoreFault>
-    requires { IfPresent (KidsRet (P.can lowerer.now.parts) (P.spot lowerer.now.parts).place) ret.now }
-    ensures { LowersTypeIfPresent (answer_part (P.spot lowerer.now.parts) ret.now) state.old result state.new }
-{
-    match ret {
-        None => Ok(None),
-        Some(ty) => type_here_if_present(lowerer, state, ty),
+/// What a closure returns, none where no type is written.
+pub trait RetPart {
+    ghost can: { Claims → AtPlace → Self → Type 0 };
+
+    ghost read: { Spot → Self → OptionType };
+
+    fn lower<P: LowerParts>(
+        &self,
+        lowerer: &Lowerer<P>,
+        state: &mut BodyBuilder,
+    ) -> Result<Option<TypeRefId>, StoreFault>
+        requires { can (P.can lowerer.now.parts) (P.spot lowerer.now.parts).place self.now }
+        ensures { LowersTypeIfPresent (read (P.spot lowerer.now.parts) self.now) state.old result state.new };
+}
+
+impl RetPart for Option<ast::RetType> {
+    ghost can = { λ claims place. IfPresent (KidsRet claims place) };
+
+    ghost read = { answer_part };
+
+    fn lower<P: LowerParts>(
+        &self,
+        lowerer: &Lowerer<P>,
+        state: &mut BodyBuilder,
+    ) -> Result<Option<TypeRefId>, StoreFault> {
+        match self {
+            None => Ok(None),
+            Some(ty) => ty.lower_if_present(lowerer, state),
+        }
     }
 }
 
 /// The body, missing where it is absent or a condition disables it.
-pub(crate) fn body_opt<P: LowerParts>(
+pub(crate) fn body_opt<P: LowerParts, E: ExprPart>(
     lowerer: &Lowerer<P>,
     state: &mut BodyBuilder,
     is_async: bool,
-    body: &Option<Boxed<ast::Expr>>,
+    body: &E,
 ) -> Result<ExprId, StoreFault>
     requires { let place = (P.spot lowerer.now.parts).place in
-        IfPresent ((P.can lowerer.now.parts).inner (of.inside_closure is_async place)) body.now }
-    ensures { LowersExprOpt (expr_part (in_closure is_async (P.spot lowerer.now.parts)) body.now) state.old result state.new }
+        E.can_inside (P.can lowerer.now.parts) (of.inside_closure is_async place) body.now }
+    ensures { LowersExprOpt (E.read (in_closure is_async (P.spot lowerer.now.parts)) body.now) state.old result state.new }
 {
-    lowerer.collect_expr_opt_inside(state, inside_closure(is_async, lowerer.parts.place()), body)
+    body.lower_inside(
+        lowerer,
+        state,
+        inside_closure(is_async, lowerer.parts.place()),
+    )
 }
 
 /// The parameters, what it returns, its body. No jump in it reaches what is open around it, and whether a `yield` stands in its body,
 /// and in none inside of that, decides what it is.
 #[tactic(auto, unfolding(hir_lower_form::specs::Forms::closure_form))]
-fn bordered_closure<P: LowerParts>(
+fn bordered_closure<P: LowerParts, A: ParamsPart, R: RetPart, E: ExprPart>(
     lowerer: &Lowerer<P>,
     state: &mut BodyBuilder,
     at: InFile<AstPtr>,
-    params: &Option<Seq<ast::Param>>,
-    ret: &Option<ast::RetType>,
-    body: &Option<Boxed<ast::Expr>>,
+    params: &A,
+    ret: &R,
+    body: &E,
     moves: bool,
     is_static: bool,
 ) -> Result<ExprId, StoreFault>
-    requires params { IfPresent (KidsClosureParams (P.can lowerer.now.parts) (P.spot lowerer.now.parts).place) params.now }
-    requires ret { IfPresent (KidsRet (P.can lowerer.now.parts) (P.spot lowerer.now.parts).place) ret.now }
+    requires params { A.can (P.can lowerer.now.parts) (P.spot lowerer.now.parts).place params.now }
+    requires ret { R.can (P.can lowerer.now.parts) (P.spot lowerer.now.parts).place ret.now }
     requires body { let place = (P.spot lowerer.now.parts).place in
-        IfPresent ((P.can lowerer.now.parts).inner (of.inside_closure false place)) body.now }
+        E.can_inside (P.can lowerer.now.parts) (of.inside_closure false place) body.now }
     ensures { let spot = P.spot lowerer.now.parts in
-        let lowered = lower_params spec.no_closure_params (closure_params_or_none_part spot params.now) in
-        let returned = present_type (answer_part spot ret.now) in
-        let inner = lower_part (expr_part (in_closure false spot) body.now) in
+        let lowered = lower_params spec.no_closure_params (A.read spot params.now) in
+        let returned = present_type (R.read spot ret.now) in
+        let inner = lower_part (E.read (in_closure false spot) body.now) in
         Lowers HasExpr (spec.closure_form at moves is_static lowered returned inner) state.old result state.new }
 {
     let outside = state.open_barrier()?;
-    let ClosureParams { args, arg_types } = params_if_present(lowerer, state, params)?;
-    let ret_type = ret_if_present(lowerer, state, ret)?;
+    let ClosureParams { args, arg_types } = params.lower(lowerer, state)?;
+    let ret_type = ret.lower(lowerer, state)?;
     let body = body_opt(lowerer, state, false, body)?;
     let yields = state.close_barrier(outside);
     let closure_kind = closure_kind(yields, is_static);
@@ -227,27 +268,27 @@ fn bordered_closure<P: LowerParts>(
 
 /// A closure without `async` and `gen`, which owns the bindings that are made in it.
 #[tactic(auto, unfolding(hir_lower_form::specs::Lowering::owning))]
-fn plain_closure<P: LowerParts>(
+fn plain_closure<P: LowerParts, A: ParamsPart, R: RetPart, E: ExprPart>(
     lowerer: &Lowerer<P>,
     state: &mut BodyBuilder,
     at: InFile<AstPtr>,
-    params: &Option<Seq<ast::Param>>,
-    ret: &Option<ast::RetType>,
-    body: &Option<Boxed<ast::Expr>>,
+    params: &A,
+    ret: &R,
+    body: &E,
     moves: bool,
     is_static: bool,
 ) -> Result<ExprId, StoreFault>
-    requires params { IfPresent (KidsClosureParams (P.can lowerer.now.parts) (P.spot lowerer.now.parts).place) params.now }
-    requires ret { IfPresent (KidsRet (P.can lowerer.now.parts) (P.spot lowerer.now.parts).place) ret.now }
+    requires params { A.can (P.can lowerer.now.parts) (P.spot lowerer.now.parts).place params.now }
+    requires ret { R.can (P.can lowerer.now.parts) (P.spot lowerer.now.parts).place ret.now }
     requires body { let place = (P.spot lowerer.now.parts).place in
-        IfPresent ((P.can lowerer.now.parts).inner (of.inside_closure false place)) body.now }
+        E.can_inside (P.can lowerer.now.parts) (of.inside_closure false place) body.now }
     ensures { let spot = P.spot lowerer.now.parts in
         LowersExpr (tree.closure_expr at
         moves
         is_static
-        (closure_params_or_none_part spot params.now)
-        (answer_part spot ret.now)
-        (expr_part (in_closure false spot) body.now)) state.old result state.new }
+        (A.read spot params.now)
+        (R.read spot ret.now)
+        (E.read (in_closure false spot) body.now)) state.old result state.new }
 {
     let start = state.bindings_end();
     let id = bordered_closure(lowerer, state, at, params, ret, body, moves, is_static)?;
@@ -256,30 +297,30 @@ fn plain_closure<P: LowerParts>(
 }
 
 /// A closure with `async`, `gen` or both, whose body is a coroutine, or with neither.
-pub fn closure_form<P: LowerParts>(
+pub fn closure_form<P: LowerParts, A: ParamsPart, R: RetPart, E: ExprPart>(
     lowerer: &Lowerer<P>,
     state: &mut BodyBuilder,
     at: InFile<AstPtr>,
-    params: &Option<Seq<ast::Param>>,
-    ret: &Option<ast::RetType>,
-    body: &Option<Boxed<ast::Expr>>,
+    params: &A,
+    ret: &R,
+    body: &E,
     is_async: bool,
     is_gen: bool,
     moves: bool,
     is_static: bool,
 ) -> Result<ExprId, StoreFault>
-    requires params { IfPresent (KidsClosureParams (P.can lowerer.now.parts) (P.spot lowerer.now.parts).place) params.now }
-    requires ret { IfPresent (KidsRet (P.can lowerer.now.parts) (P.spot lowerer.now.parts).place) ret.now }
+    requires params { A.can (P.can lowerer.now.parts) (P.spot lowerer.now.parts).place params.now }
+    requires ret { R.can (P.can lowerer.now.parts) (P.spot lowerer.now.parts).place ret.now }
     requires body { let place = (P.spot lowerer.now.parts).place in
-        IfPresent ((P.can lowerer.now.parts).inner (of.inside_closure is_async place)) body.now }
+        E.can_inside (P.can lowerer.now.parts) (of.inside_closure is_async place) body.now }
     ensures { let spot = P.spot lowerer.now.parts in
         LowersExpr (closure_of (coroutine_kind is_async is_gen)
         at
         moves
         is_static
-        (closure_params_or_none_part spot params.now)
-        (answer_part spot ret.now)
-        (expr_part (in_closure is_async spot) body.now)) state.old result state.new }
+        (A.read spot params.now)
+        (R.read spot ret.now)
+        (E.read (in_closure is_async spot) body.now)) state.old result state.new }
 {
     match (is_async, is_gen) {
         (false, false) => plain_closure(lowerer, state, at, params, ret, body, moves, is_static),

@@ -1,15 +1,15 @@
 //! `const` blocks, which are bodies of their own.
 
 ghost use Rattle.std.specs.Prelude.{◌≡◌, None, false};
-ghost use Rattle.hir_syntax.specs.declared.ast.BlockExpr.{out-BlockExpr};
 ghost use Rattle.hir_store.specs.Range.{HasConst, HasExpr};
 ghost use Rattle.hir_env.specs.Paths as of;
-ghost use Rattle.hir_env.specs.Whole.{answered_plain, in_const_block, pointer_at};
+ghost use Rattle.hir_env.specs.Whole.{in_const_block};
 ghost use Rattle.hir_lower_form.specs.Lower as spec;
 ghost use Rattle.hir_lower_form.specs.Lowering.{Lowers};
-ghost use Rattle.hir_lower_form.specs.Methods.{LowersInside, const_steps_at};
+ghost use Rattle.hir_lower_form.specs.Methods.{LowersInside};
 ghost use Rattle.hir_lower_form.specs.declared.parts.BlockRole.TheVariants as role;
 
+use crate::written::WrittenBlock;
 use hir_env::place::Place;
 use hir_lower_form::builder::BodyBuilder;
 use hir_lower_form::parts::{BlockRole, LowerParts, Lowerer};
@@ -18,7 +18,6 @@ use hir_store::fault::StoreFault;
 use hir_store::hir::Expr;
 use hir_store::ids::ExprId;
 use hir_store::type_ref::ConstRef;
-use hir_syntax::ast;
 
 /// Where what is in a `const` block is read that is written at this place.
 fn inside_const_block(place: Place) -> Place
@@ -31,32 +30,37 @@ fn inside_const_block(place: Place) -> Place
 }
 
 /// The block in a `const` block, which is a plain one.
-fn inner_block<P: LowerParts>(
+fn inner_block<P: LowerParts, N: WrittenBlock>(
     lowerer: &Lowerer<P>,
     state: &mut BodyBuilder,
-    node: &ast::BlockExpr,
+    node: &N,
 ) -> Result<ExprId, StoreFault>
-    requires { (P.can lowerer.now.parts).block (of.inside_const_block (P.spot lowerer.now.parts).place) node.now }
+    requires { N.can (P.can lowerer.now.parts) (of.inside_const_block (P.spot lowerer.now.parts).place) node.now }
     ensures { let inside = in_const_block (P.spot lowerer.now.parts) in
-        LowersInside (role.Plain false None) (answered_plain inside node.now) state.old result state.new }
+        LowersInside (role.Plain false None) (N.read inside node.now) state.old result state.new }
 {
     let role = BlockRole::Plain {
         is_unsafe: false,
         label: None,
     };
-    lowerer.parts.collect_block_inside(state, inside_const_block(lowerer.parts.place()), role, node)
+    node.lower_inside(
+        lowerer,
+        state,
+        inside_const_block(lowerer.parts.place()),
+        role,
+    )
 }
 
 /// The same as a constant: no jump in it reaches what is open around it.
 #[tactic(auto, unfolding(hir_lower_form::specs::Forms::constant_form))]
-fn inner_constant<P: LowerParts>(
+fn inner_constant<P: LowerParts, N: WrittenBlock>(
     lowerer: &Lowerer<P>,
     state: &mut BodyBuilder,
-    node: &ast::BlockExpr,
+    node: &N,
 ) -> Result<ConstRef, StoreFault>
-    requires { (P.can lowerer.now.parts).block (of.inside_const_block (P.spot lowerer.now.parts).place) node.now }
+    requires { N.can (P.can lowerer.now.parts) (of.inside_const_block (P.spot lowerer.now.parts).place) node.now }
     ensures { let inside = in_const_block (P.spot lowerer.now.parts) in
-        let inner = spec.lower_inside (role.Plain false None) (answered_plain inside node.now) in
+        let inner = spec.lower_inside (role.Plain false None) (N.read inside node.now) in
         Lowers HasConst (spec.constant_form inner) state.old result state.new }
 {
     let outside = state.open_barrier()?;
@@ -69,31 +73,34 @@ fn inner_constant<P: LowerParts>(
 
 /// The constant as an expression.
 #[tactic(auto, unfolding(hir_lower_form::specs::Forms::const_form))]
-fn stored_const<P: LowerParts>(
+fn stored_const<P: LowerParts, N: WrittenBlock>(
     lowerer: &Lowerer<P>,
     state: &mut BodyBuilder,
-    node: &ast::BlockExpr,
+    node: &N,
 ) -> Result<ExprId, StoreFault>
-    requires { (P.can lowerer.now.parts).block (of.inside_const_block (P.spot lowerer.now.parts).place) node.now }
+    requires { N.can (P.can lowerer.now.parts) (of.inside_const_block (P.spot lowerer.now.parts).place) node.now }
     ensures { let spot = P.spot lowerer.now.parts in
-        let at = pointer_at spot (out-BlockExpr node.now).id (out-BlockExpr node.now).range in
-        let inner = spec.lower_inside (role.Plain false None) (answered_plain (in_const_block spot) node.now) in
+        let at = N.place_of spot node.now in
+        let inner = spec.lower_inside (role.Plain false None) (N.read (in_const_block spot) node.now) in
         Lowers HasExpr (spec.const_form at (spec.constant_form inner)) state.old result state.new }
 {
     let constant = inner_constant(lowerer, state, node)?;
-    let at = lowerer.pointer(node.id, node.range);
+    let at = node.pointer(lowerer);
     state.alloc_expr(Expr::Const(constant), Some(at))
 }
 
 /// A `const` block, of which neither a label nor a type counts. It owns the bindings that are made in it.
 #[tactic(auto, unfolding(hir_lower_form::specs::Lowering::owning))]
-pub(crate) fn const_form<P: LowerParts>(
+pub(crate) fn const_form<P: LowerParts, N: WrittenBlock>(
     lowerer: &Lowerer<P>,
     state: &mut BodyBuilder,
-    node: &ast::BlockExpr,
+    node: &N,
 ) -> Result<ExprId, StoreFault>
-    requires { (P.can lowerer.now.parts).block (of.inside_const_block (P.spot lowerer.now.parts).place) node.now }
-    ensures { Lowers HasExpr (const_steps_at (P.spot lowerer.now.parts) node.now) state.old result state.new }
+    requires { N.can (P.can lowerer.now.parts) (of.inside_const_block (P.spot lowerer.now.parts).place) node.now }
+    ensures { let spot = P.spot lowerer.now.parts in
+        let inner = spec.lower_inside (role.Plain false None) (N.read (in_const_block spot) node.now) in
+        let form = spec.const_form (N.place_of spot node.now) (spec.constant_form inner) in
+        Lowers HasExpr (spec.owning (λ i. i) form) state.old result state.new }
 {
     let start = state.bindings_end();
     let id = stored_const(lowerer, state, node)?;

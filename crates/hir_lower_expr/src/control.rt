@@ -2,22 +2,26 @@
 
 ghost use Rattle.hir_syntax.specs.declared.ast.ElseBranch.{out-ElseBranch};
 ghost use Rattle.hir_env.specs.Answered as tree;
+ghost use Rattle.hir_env.specs.Answered.{OptionExpr};
 ghost use Rattle.hir_env.specs.Answering.{label_written};
-ghost use Rattle.hir_env.specs.Whole.{answered_else, block_part, else_level, else_part, expr_part, label_part};
+ghost use Rattle.hir_env.specs.declared.place.Place.{Place as AtPlace};
+ghost use Rattle.hir_env.specs.Spot.{Spot};
+ghost use Rattle.hir_env.specs.Whole.{answered_else, else_level, else_part, label_part};
 ghost use Rattle.hir_store.specs.Range.{HasExpr};
 ghost use Rattle.hir_lower_form.specs.Lower.{lower_block_part, lower_part};
 ghost use Rattle.hir_lower_form.specs.Lower as spec;
 ghost use Rattle.hir_lower_form.specs.Lowering.{Lowers};
-ghost use Rattle.hir_lower_form.specs.Nests.{IfPresent, KidsElse};
+ghost use Rattle.hir_lower_form.specs.Nests.{Claims, IfPresent, KidsElse};
 ghost use Rattle.hir_lower_form.specs.Methods.{LowersExpr, LowersIfPresent};
 
+use crate::part::{BlockPart, ExprPart};
 use hir_base::node::{AstPtr, InFile};
 use hir_lower_form::builder::BodyBuilder;
 use hir_lower_form::parts::{LowerParts, Lowerer};
 use hir_store::fault::StoreFault;
 use hir_store::hir::{Expr, LoopSource};
 use hir_store::ids::ExprId;
-use hir_syntax::{Boxed, ast};
+use hir_syntax::ast;
 
 fn else_node<P: LowerParts>(
     lowerer: &Lowerer<P>,
@@ -44,41 +48,59 @@ fn else_branch<P: LowerParts>(
     else_node(lowerer, state, part)
 }
 
-fn else_if_present<P: LowerParts>(
-    lowerer: &Lowerer<P>,
-    state: &mut BodyBuilder,
-    part: &Option<ast::ElseBranch>,
-) -> Result<Option<ExprId>, StoreFault>
-    requires { IfPresent (λ e. KidsElse (P.can lowerer.now.parts) (P.spot lowerer.now.parts).place (out-ElseBranch e)) part.now }
-    ensures { LowersIfPresent (else_part (P.spot lowerer.now.parts) part.now) state.old result state.new }
-{
-    match part {
-        None => Ok(None),
-        Some(part) => Ok(Some(else_branch(lowerer, state, part)?)),
+/// The other side of a branch, none where it is absent.
+pub trait ElsePart {
+    ghost can: { Claims → AtPlace → Self → Type 0 };
+
+    ghost read: { Spot → Self → OptionExpr };
+
+    fn lower<P: LowerParts>(
+        &self,
+        lowerer: &Lowerer<P>,
+        state: &mut BodyBuilder,
+    ) -> Result<Option<ExprId>, StoreFault>
+        requires { can (P.can lowerer.now.parts) (P.spot lowerer.now.parts).place self.now }
+        ensures { LowersIfPresent (read (P.spot lowerer.now.parts) self.now) state.old result state.new };
+}
+
+impl ElsePart for Option<ast::ElseBranch> {
+    ghost can = { λ claims place. IfPresent (λ e. KidsElse claims place (out-ElseBranch e)) };
+
+    ghost read = { else_part };
+
+    fn lower<P: LowerParts>(
+        &self,
+        lowerer: &Lowerer<P>,
+        state: &mut BodyBuilder,
+    ) -> Result<Option<ExprId>, StoreFault> {
+        match self {
+            None => Ok(None),
+            Some(part) => Ok(Some(else_branch(lowerer, state, part)?)),
+        }
     }
 }
 
 /// The branches are lowered before the condition.
 #[tactic(auto, unfolding(hir_lower_form::specs::Forms::if_form))]
-pub fn if_form<P: LowerParts>(
+pub fn if_form<P: LowerParts, E: ExprPart, B: BlockPart, L: ElsePart>(
     lowerer: &Lowerer<P>,
     state: &mut BodyBuilder,
     at: InFile<AstPtr>,
-    condition: &Option<Boxed<ast::Expr>>,
-    then: &Option<Boxed<ast::BlockExpr>>,
-    else_: &Option<ast::ElseBranch>,
+    condition: &E,
+    then: &B,
+    else_: &L,
 ) -> Result<ExprId, StoreFault>
-    requires condition { IfPresent (P.can lowerer.now.parts).expr condition.now }
-    requires then { IfPresent ((P.can lowerer.now.parts).block (P.spot lowerer.now.parts).place) then.now }
-    requires else_ { IfPresent (λ e. KidsElse (P.can lowerer.now.parts) (P.spot lowerer.now.parts).place (out-ElseBranch e)) else_.now }
+    requires condition { E.can (P.can lowerer.now.parts) condition.now }
+    requires then { B.can (P.can lowerer.now.parts) (P.spot lowerer.now.parts).place then.now }
+    requires else_ { L.can (P.can lowerer.now.parts) (P.spot lowerer.now.parts).place else_.now }
     ensures { LowersExpr (tree.if_expr at
-        (expr_part (P.spot lowerer.now.parts) condition.now)
-        (block_part (P.spot lowerer.now.parts) then.now)
-        (else_part (P.spot lowerer.now.parts) else_.now)) state.old result state.new }
+        (E.read (P.spot lowerer.now.parts) condition.now)
+        (B.read (P.spot lowerer.now.parts) then.now)
+        (L.read (P.spot lowerer.now.parts) else_.now)) state.old result state.new }
 {
-    let then_branch = lowerer.collect_block_opt(state, then)?;
-    let else_branch = else_if_present(lowerer, state, else_)?;
-    let condition = lowerer.collect_expr_opt(state, condition)?;
+    let then_branch = then.lower(lowerer, state)?;
+    let else_branch = else_.lower(lowerer, state)?;
+    let condition = condition.lower(lowerer, state)?;
     let expr = Expr::If {
         condition,
         then_branch,
@@ -89,24 +111,24 @@ pub fn if_form<P: LowerParts>(
 
 /// A `loop`, whose label lies around its body.
 #[tactic(auto, unfolding(hir_lower_form::specs::Forms::loop_form))]
-pub fn loop_form<P: LowerParts>(
+pub fn loop_form<P: LowerParts, B: BlockPart>(
     lowerer: &Lowerer<P>,
     state: &mut BodyBuilder,
     at: InFile<AstPtr>,
     label: &Option<ast::Label>,
-    body: &Option<Boxed<ast::BlockExpr>>,
+    body: &B,
 ) -> Result<ExprId, StoreFault>
-    requires { IfPresent ((P.can lowerer.now.parts).block (P.spot lowerer.now.parts).place) body.now }
+    requires { B.can (P.can lowerer.now.parts) (P.spot lowerer.now.parts).place body.now }
     ensures { let spot = P.spot lowerer.now.parts in
         LowersExpr (tree.loop_expr at
         (label_part spot label.now)
         (label_written spot.answers spot.place label.now)
-        (block_part spot body.now)) state.old result state.new }
+        (B.read spot body.now)) state.old result state.new }
 {
     let source = LoopSource::Loop;
     match label {
         None => {
-            let body = lowerer.collect_block_opt(state, body)?;
+            let body = body.lower(lowerer, state)?;
             let label = None;
             state.alloc_expr(
                 Expr::Loop {
@@ -119,7 +141,7 @@ pub fn loop_form<P: LowerParts>(
         }
         Some(label) => {
             let label = lowerer.open_label(state, label)?;
-            let body = lowerer.collect_block_opt(state, body)?;
+            let body = body.lower(lowerer, state)?;
             state.close();
             let label = Some(label);
             state.alloc_expr(
@@ -136,21 +158,21 @@ pub fn loop_form<P: LowerParts>(
 
 /// The turn of a `while`: its body where the condition holds, else a break. The body is lowered before the condition.
 #[tactic(auto, unfolding(hir_lower_form::specs::Forms::turn_form))]
-fn turn_form<P: LowerParts>(
+fn turn_form<P: LowerParts, E: ExprPart, B: BlockPart>(
     lowerer: &Lowerer<P>,
     state: &mut BodyBuilder,
     at: InFile<AstPtr>,
-    condition: &Option<Boxed<ast::Expr>>,
-    body: &Option<Boxed<ast::BlockExpr>>,
+    condition: &E,
+    body: &B,
 ) -> Result<ExprId, StoreFault>
-    requires condition { IfPresent (P.can lowerer.now.parts).expr condition.now }
-    requires body { IfPresent ((P.can lowerer.now.parts).block (P.spot lowerer.now.parts).place) body.now }
+    requires condition { E.can (P.can lowerer.now.parts) condition.now }
+    requires body { B.can (P.can lowerer.now.parts) (P.spot lowerer.now.parts).place body.now }
     ensures { Lowers HasExpr (spec.turn_form at
-        (lower_part (expr_part (P.spot lowerer.now.parts) condition.now))
-        (lower_block_part (block_part (P.spot lowerer.now.parts) body.now))) state.old result state.new }
+        (lower_part (E.read (P.spot lowerer.now.parts) condition.now))
+        (lower_block_part (B.read (P.spot lowerer.now.parts) body.now))) state.old result state.new }
 {
-    let body = lowerer.collect_block_opt(state, body)?;
-    let tested = lowerer.collect_expr_opt(state, condition)?;
+    let body = body.lower(lowerer, state)?;
+    let tested = condition.lower(lowerer, state)?;
     let out = Expr::Break {
         label: None,
         expr: None,
@@ -166,22 +188,22 @@ fn turn_form<P: LowerParts>(
 
 /// A loop over such a turn. The condition lies under the label as the body does.
 #[tactic(auto, unfolding(hir_lower_form::specs::Forms::loop_form))]
-pub fn while_form<P: LowerParts>(
+pub fn while_form<P: LowerParts, E: ExprPart, B: BlockPart>(
     lowerer: &Lowerer<P>,
     state: &mut BodyBuilder,
     at: InFile<AstPtr>,
     label: &Option<ast::Label>,
-    condition: &Option<Boxed<ast::Expr>>,
-    body: &Option<Boxed<ast::BlockExpr>>,
+    condition: &E,
+    body: &B,
 ) -> Result<ExprId, StoreFault>
-    requires condition { IfPresent (P.can lowerer.now.parts).expr condition.now }
-    requires body { IfPresent ((P.can lowerer.now.parts).block (P.spot lowerer.now.parts).place) body.now }
+    requires condition { E.can (P.can lowerer.now.parts) condition.now }
+    requires body { B.can (P.can lowerer.now.parts) (P.spot lowerer.now.parts).place body.now }
     ensures { let spot = P.spot lowerer.now.parts in
         LowersExpr (tree.while_expr at
         (label_part spot label.now)
         (label_written spot.answers spot.place label.now)
-        (expr_part spot condition.now)
-        (block_part spot body.now)) state.old result state.new }
+        (E.read spot condition.now)
+        (B.read spot body.now)) state.old result state.new }
 {
     let source = LoopSource::While;
     match label {

@@ -4,15 +4,15 @@ ghost use Rattle.std.specs.Prelude.{[], ◌≡◌};
 ghost use Rattle.hir_store.specs.Range.{HasExpr, HasPats};
 ghost use Rattle.hir_env.specs.Answered as tree;
 ghost use Rattle.hir_env.specs.Paths as of;
-ghost use Rattle.hir_env.specs.Whole.{answer_part, closure_params_or_none_part, expr_part, in_closure};
+ghost use Rattle.hir_env.specs.Whole.{in_closure};
 ghost use Rattle.hir_lower_form.specs.Forms.{no_closure_params};
 ghost use Rattle.hir_lower_form.specs.Lower.{lower_params, lower_part, present_type};
 ghost use Rattle.hir_lower_form.specs.Lowering.{Lowers, owning};
 ghost use Rattle.hir_lower_form.specs.Methods.{HasWithin, LowersExpr};
-ghost use Rattle.hir_lower_form.specs.Nests.{IfPresent, KidsClosureParams, KidsRet};
 ghost use Rattle.hir_lower_form.specs.Preludes as spec;
 
-use crate::closures::{body_opt, capture_by, params_if_present, ret_if_present};
+use crate::closures::{ParamsPart, RetPart, body_opt, capture_by};
+use crate::part::ExprPart;
 use hir_base::node::{AstPtr, InFile};
 use hir_lower_form::builder::BodyBuilder;
 use hir_lower_form::closures::ClosureParams;
@@ -21,32 +21,32 @@ use hir_lower_form::preludes::{Prelude, Within, let_params, lower_handed};
 use hir_store::fault::StoreFault;
 use hir_store::hir::{ClosureKind, CoroutineKind, CoroutineSource, Expr};
 use hir_store::ids::{ExprId, PatId};
-use hir_syntax::{Boxed, Seq, ast};
+use hir_syntax::Seq;
 
 /// The coroutine of its body, in front of which its parameters are handed in.
 #[tactic(auto, unfolding(hir_lower_form::specs::Preludes::within_form))]
-fn within<P: LowerParts>(
+fn within<P: LowerParts, A: ParamsPart, R: RetPart, E: ExprPart>(
     lowerer: &Lowerer<P>,
     state: &mut BodyBuilder,
-    params: &Option<Seq<ast::Param>>,
-    ret: &Option<ast::RetType>,
-    body: &Option<Boxed<ast::Expr>>,
+    params: &A,
+    ret: &R,
+    body: &E,
     is_async: bool,
     kind: CoroutineKind,
 ) -> Result<Within, StoreFault>
-    requires params { IfPresent (KidsClosureParams (P.can lowerer.now.parts) (P.spot lowerer.now.parts).place) params.now }
-    requires ret { IfPresent (KidsRet (P.can lowerer.now.parts) (P.spot lowerer.now.parts).place) ret.now }
+    requires params { A.can (P.can lowerer.now.parts) (P.spot lowerer.now.parts).place params.now }
+    requires ret { R.can (P.can lowerer.now.parts) (P.spot lowerer.now.parts).place ret.now }
     requires body { let place = (P.spot lowerer.now.parts).place in
-        IfPresent ((P.can lowerer.now.parts).inner (of.inside_closure is_async place)) body.now }
+        E.can_inside (P.can lowerer.now.parts) (of.inside_closure is_async place) body.now }
     ensures { let spot = P.spot lowerer.now.parts in
-        let lowered = lower_params no_closure_params (closure_params_or_none_part spot params.now) in
-        let returned = present_type (answer_part spot ret.now) in
-        let inner = lower_part (expr_part (in_closure is_async spot) body.now) in
+        let lowered = lower_params no_closure_params (A.read spot params.now) in
+        let returned = present_type (R.read spot ret.now) in
+        let inner = lower_part (E.read (in_closure is_async spot) body.now) in
         Lowers HasWithin (spec.within_form kind lowered returned inner) state.old result state.new }
 {
     let alloc = lowerer.alloc;
-    let ClosureParams { args, arg_types } = params_if_present(lowerer, state, params)?;
-    let ret = ret_if_present(lowerer, state, ret)?;
+    let ClosureParams { args, arg_types } = params.lower(lowerer, state)?;
+    let ret = ret.lower(lowerer, state)?;
     let body = body_opt(lowerer, state, is_async, body)?;
     let Prelude { handed, lets } = let_params(alloc, state, Prelude::new(alloc), args.as_slice())?;
     let coroutine = state.made_coroutine(alloc, kind, CoroutineSource::Closure, lets, body)?;
@@ -60,23 +60,23 @@ fn within<P: LowerParts>(
 
 /// The same, where the coroutine owns the bindings that are made in it.
 #[tactic(auto, unfolding(hir_lower_form::specs::Lowering::owning))]
-fn owned_within<P: LowerParts>(
+fn owned_within<P: LowerParts, A: ParamsPart, R: RetPart, E: ExprPart>(
     lowerer: &Lowerer<P>,
     state: &mut BodyBuilder,
-    params: &Option<Seq<ast::Param>>,
-    ret: &Option<ast::RetType>,
-    body: &Option<Boxed<ast::Expr>>,
+    params: &A,
+    ret: &R,
+    body: &E,
     is_async: bool,
     kind: CoroutineKind,
 ) -> Result<Within, StoreFault>
-    requires params { IfPresent (KidsClosureParams (P.can lowerer.now.parts) (P.spot lowerer.now.parts).place) params.now }
-    requires ret { IfPresent (KidsRet (P.can lowerer.now.parts) (P.spot lowerer.now.parts).place) ret.now }
+    requires params { A.can (P.can lowerer.now.parts) (P.spot lowerer.now.parts).place params.now }
+    requires ret { R.can (P.can lowerer.now.parts) (P.spot lowerer.now.parts).place ret.now }
     requires body { let place = (P.spot lowerer.now.parts).place in
-        IfPresent ((P.can lowerer.now.parts).inner (of.inside_closure is_async place)) body.now }
+        E.can_inside (P.can lowerer.now.parts) (of.inside_closure is_async place) body.now }
     ensures { let spot = P.spot lowerer.now.parts in
-        let lowered = lower_params no_closure_params (closure_params_or_none_part spot params.now) in
-        let returned = present_type (answer_part spot ret.now) in
-        let inner = lower_part (expr_part (in_closure is_async spot) body.now) in
+        let lowered = lower_params no_closure_params (A.read spot params.now) in
+        let returned = present_type (R.read spot ret.now) in
+        let inner = lower_part (E.read (in_closure is_async spot) body.now) in
         Lowers HasWithin (owning (λ w. w.coroutine) (spec.within_form kind lowered returned inner)) state.old result state.new }
 {
     let start = state.bindings_end();
@@ -108,25 +108,25 @@ fn coroutine_closure(kind: CoroutineKind, moves: bool, args: Seq<PatId>, inner: 
 /// The coroutine, and what the outside hands its parameters to. No jump in it reaches what is open around it, and a `yield` in it is its
 /// own.
 #[tactic(auto, unfolding(hir_lower_form::specs::Preludes::coroutine_closure_form))]
-fn bordered_coroutine_closure<P: LowerParts>(
+fn bordered_coroutine_closure<P: LowerParts, A: ParamsPart, R: RetPart, E: ExprPart>(
     lowerer: &Lowerer<P>,
     state: &mut BodyBuilder,
     at: InFile<AstPtr>,
-    params: &Option<Seq<ast::Param>>,
-    ret: &Option<ast::RetType>,
-    body: &Option<Boxed<ast::Expr>>,
+    params: &A,
+    ret: &R,
+    body: &E,
     is_async: bool,
     kind: CoroutineKind,
     moves: bool,
 ) -> Result<ExprId, StoreFault>
-    requires params { IfPresent (KidsClosureParams (P.can lowerer.now.parts) (P.spot lowerer.now.parts).place) params.now }
-    requires ret { IfPresent (KidsRet (P.can lowerer.now.parts) (P.spot lowerer.now.parts).place) ret.now }
+    requires params { A.can (P.can lowerer.now.parts) (P.spot lowerer.now.parts).place params.now }
+    requires ret { R.can (P.can lowerer.now.parts) (P.spot lowerer.now.parts).place ret.now }
     requires body { let place = (P.spot lowerer.now.parts).place in
-        IfPresent ((P.can lowerer.now.parts).inner (of.inside_closure is_async place)) body.now }
+        E.can_inside (P.can lowerer.now.parts) (of.inside_closure is_async place) body.now }
     ensures { let spot = P.spot lowerer.now.parts in
-        let lowered = lower_params no_closure_params (closure_params_or_none_part spot params.now) in
-        let returned = present_type (answer_part spot ret.now) in
-        let inner = lower_part (expr_part (in_closure is_async spot) body.now) in
+        let lowered = lower_params no_closure_params (A.read spot params.now) in
+        let returned = present_type (R.read spot ret.now) in
+        let inner = lower_part (E.read (in_closure is_async spot) body.now) in
         Lowers HasExpr (spec.coroutine_closure_form at kind moves lowered returned inner) state.old result state.new }
 {
     let outside = state.open_barrier()?;
@@ -138,28 +138,28 @@ fn bordered_coroutine_closure<P: LowerParts>(
 
 /// A closure with `async`, `gen` or both, which owns what the outside hands its parameters to.
 #[tactic(auto, unfolding(hir_lower_form::specs::Lowering::owning))]
-pub(crate) fn coroutine_closure_form<P: LowerParts>(
+pub(crate) fn coroutine_closure_form<P: LowerParts, A: ParamsPart, R: RetPart, E: ExprPart>(
     lowerer: &Lowerer<P>,
     state: &mut BodyBuilder,
     at: InFile<AstPtr>,
-    params: &Option<Seq<ast::Param>>,
-    ret: &Option<ast::RetType>,
-    body: &Option<Boxed<ast::Expr>>,
+    params: &A,
+    ret: &R,
+    body: &E,
     is_async: bool,
     kind: CoroutineKind,
     moves: bool,
 ) -> Result<ExprId, StoreFault>
-    requires params { IfPresent (KidsClosureParams (P.can lowerer.now.parts) (P.spot lowerer.now.parts).place) params.now }
-    requires ret { IfPresent (KidsRet (P.can lowerer.now.parts) (P.spot lowerer.now.parts).place) ret.now }
+    requires params { A.can (P.can lowerer.now.parts) (P.spot lowerer.now.parts).place params.now }
+    requires ret { R.can (P.can lowerer.now.parts) (P.spot lowerer.now.parts).place ret.now }
     requires body { let place = (P.spot lowerer.now.parts).place in
-        IfPresent ((P.can lowerer.now.parts).inner (of.inside_closure is_async place)) body.now }
+        E.can_inside (P.can lowerer.now.parts) (of.inside_closure is_async place) body.now }
     ensures { let spot = P.spot lowerer.now.parts in
         LowersExpr (tree.coroutine_closure_expr at
         kind
         moves
-        (closure_params_or_none_part spot params.now)
-        (answer_part spot ret.now)
-        (expr_part (in_closure is_async spot) body.now)) state.old result state.new }
+        (A.read spot params.now)
+        (R.read spot ret.now)
+        (E.read (in_closure is_async spot) body.now)) state.old result state.new }
 {
     let start = state.bindings_end();
     let id = bordered_coroutine_closure(

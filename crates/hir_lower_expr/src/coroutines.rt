@@ -1,17 +1,17 @@
 //! `async`, `gen` and `async gen` blocks: coroutines, whose blocks are bodies of their own.
 
 ghost use Rattle.std.specs.Prelude.{◌≡◌};
-ghost use Rattle.hir_syntax.specs.declared.ast.BlockExpr.{out-BlockExpr};
 ghost use Rattle.hir_store.specs.Range.{HasExpr};
 ghost use Rattle.hir_env.specs.Paths as of;
-ghost use Rattle.hir_env.specs.Whole.{answered_plain, in_coroutine};
+ghost use Rattle.hir_env.specs.Whole.{in_coroutine};
 ghost use Rattle.hir_lower_form.specs.Forms as form;
 ghost use Rattle.hir_lower_form.specs.Lower as spec;
 ghost use Rattle.hir_lower_form.specs.Lowering.{Lowers};
-ghost use Rattle.hir_lower_form.specs.Methods.{LowersInside, coroutine_steps_at};
+ghost use Rattle.hir_lower_form.specs.Methods.{LowersInside};
 ghost use Rattle.hir_lower_form.specs.declared.parts.BlockRole.TheVariants as role;
 
 use crate::closures::capture_by;
+use crate::written::WrittenBlock;
 use hir_env::place::Place;
 use hir_lower_form::builder::BodyBuilder;
 use hir_lower_form::parts::{BlockRole, LowerParts, Lowerer};
@@ -19,7 +19,7 @@ use hir_store::diagnostics::AwaitLocation;
 use hir_store::fault::StoreFault;
 use hir_store::hir::{ClosureKind, CoroutineKind, CoroutineSource, Expr};
 use hir_store::ids::ExprId;
-use hir_syntax::{Seq, ast};
+use hir_syntax::Seq;
 use std::alloc::Global;
 
 /// Where what is in such a block is read that is written at this place.
@@ -52,37 +52,35 @@ pub(crate) fn coroutine(alloc: Global, kind: CoroutineKind, moves: bool, body: E
 }
 
 /// The block, read inside of it, and the coroutine around that.
-fn inner_coroutine<P: LowerParts>(
+fn inner_coroutine<P: LowerParts, N: WrittenBlock>(
     lowerer: &Lowerer<P>,
     state: &mut BodyBuilder,
     kind: CoroutineKind,
-    node: &ast::BlockExpr,
+    node: &N,
 ) -> Result<ExprId, StoreFault>
-    requires { (P.can lowerer.now.parts).block (of.inside_coroutine kind (P.spot lowerer.now.parts).place) node.now }
+    requires { N.can (P.can lowerer.now.parts) (of.inside_coroutine kind (P.spot lowerer.now.parts).place) node.now }
     ensures { let inside = in_coroutine kind (P.spot lowerer.now.parts) in
-        let own = role.Coroutine kind (out-BlockExpr node.now).move_ in
-        LowersInside own (answered_plain inside node.now) state.old result state.new }
+        let own = role.Coroutine kind (N.is_moved node.now) in
+        LowersInside own (N.read inside node.now) state.old result state.new }
 {
-    let moves = node.move_;
+    let moves = node.moves();
     let role = BlockRole::Coroutine { kind, moves };
     let inside = inside_coroutine(kind, lowerer.parts.place());
-    lowerer
-        .parts
-        .collect_block_inside(state, inside, role, node)
+    node.lower_inside(lowerer, state, inside, role)
 }
 
 /// The same behind a border: no jump in it reaches what is open around it, and a `yield` in it is its own.
 #[tactic(auto, unfolding(hir_lower_form::specs::Forms::coroutine_form))]
-fn bordered_coroutine<P: LowerParts>(
+fn bordered_coroutine<P: LowerParts, N: WrittenBlock>(
     lowerer: &Lowerer<P>,
     state: &mut BodyBuilder,
     kind: CoroutineKind,
-    node: &ast::BlockExpr,
+    node: &N,
 ) -> Result<ExprId, StoreFault>
-    requires { (P.can lowerer.now.parts).block (of.inside_coroutine kind (P.spot lowerer.now.parts).place) node.now }
+    requires { N.can (P.can lowerer.now.parts) (of.inside_coroutine kind (P.spot lowerer.now.parts).place) node.now }
     ensures { let inside = in_coroutine kind (P.spot lowerer.now.parts) in
-        let own = role.Coroutine kind (out-BlockExpr node.now).move_ in
-        Lowers HasExpr (spec.coroutine_form (spec.lower_inside own (answered_plain inside node.now))) state.old result state.new }
+        let own = role.Coroutine kind (N.is_moved node.now) in
+        Lowers HasExpr (spec.coroutine_form (spec.lower_inside own (N.read inside node.now))) state.old result state.new }
 {
     let outside = state.open_barrier()?;
     let id = inner_coroutine(lowerer, state, kind, node)?;
@@ -92,14 +90,17 @@ fn bordered_coroutine<P: LowerParts>(
 
 /// Such a block, of which neither a label nor a type counts. The coroutine owns the bindings that are made in it.
 #[tactic(auto, unfolding(hir_lower_form::specs::Lowering::owning))]
-pub(crate) fn coroutine_form<P: LowerParts>(
+pub(crate) fn coroutine_form<P: LowerParts, N: WrittenBlock>(
     lowerer: &Lowerer<P>,
     state: &mut BodyBuilder,
     kind: CoroutineKind,
-    node: &ast::BlockExpr,
+    node: &N,
 ) -> Result<ExprId, StoreFault>
-    requires { (P.can lowerer.now.parts).block (of.inside_coroutine kind (P.spot lowerer.now.parts).place) node.now }
-    ensures { Lowers HasExpr (coroutine_steps_at (P.spot lowerer.now.parts) kind node.now) state.old result state.new }
+    requires { N.can (P.can lowerer.now.parts) (of.inside_coroutine kind (P.spot lowerer.now.parts).place) node.now }
+    ensures { let inside = in_coroutine kind (P.spot lowerer.now.parts) in
+        let own = role.Coroutine kind (N.is_moved node.now) in
+        let form = spec.coroutine_form (spec.lower_inside own (N.read inside node.now)) in
+        Lowers HasExpr (spec.owning (λ i. i) form) state.old result state.new }
 {
     let start = state.bindings_end();
     let id = bordered_coroutine(lowerer, state, kind, node)?;

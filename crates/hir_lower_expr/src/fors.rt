@@ -4,25 +4,28 @@ ghost use Rattle.std.specs.Prelude.{◌≡◌, [], ◌∷◌, IfOk, Some, option
 ghost use Rattle.hir_syntax.specs.declared.ast.BlockExpr.{out-BlockExpr};
 ghost use Rattle.hir_store.specs.Range.{HasExpr, HasPat};
 ghost use Rattle.hir_env.specs.Answered as tree;
+ghost use Rattle.hir_env.specs.Answered.{OptionExpr};
+ghost use Rattle.hir_env.specs.declared.place.Place.{Place as AtPlace};
+ghost use Rattle.hir_env.specs.Spot.{Spot};
 ghost use Rattle.hir_env.specs.Answering as of;
 ghost use Rattle.hir_env.specs.Targets.{head_pointer, pointer_of};
 ghost use Rattle.hir_env.specs.Whole.{answered, answered_block, answered_body, body_part, expr_part, label_part, own_pointer};
-ghost use Rattle.hir_env.specs.Whole.{pat_part, pointer_at};
+ghost use Rattle.hir_env.specs.Whole.{pointer_at};
 ghost use Rattle.hir_lower_form.specs.Lower.{lower_part};
 ghost use Rattle.hir_lower_form.specs.Lowering.{Lowers};
 ghost use Rattle.hir_lower_form.specs.Lowering as step;
 ghost use Rattle.hir_lower_form.specs.Made as spec;
 ghost use Rattle.hir_lower_form.specs.Methods.{HasArm, LowersExpr, LowersExprOpt};
-ghost use Rattle.hir_lower_form.specs.Nests.{IfPresent, KidsBody};
+ghost use Rattle.hir_lower_form.specs.Nests.{Claims, IfPresent, KidsBody};
 ghost use Rattle.hir_lower_expr.specs.Fors.{items_of};
 
 use crate::blocks::block_form;
+use crate::part::{ExprPart, PatPart};
 use crate::questions::two_arms;
 use hir_base::node::{AstPtr, InFile};
 use hir_env::lang::LangItems;
 use hir_lower_form::builder::BodyBuilder;
 use hir_lower_form::parts::{LowerParts, Lowerer, site};
-use hir_lower_pat::top::top_pat;
 use hir_store::diagnostics::ExpressionStoreDiagnostics;
 use hir_store::fault::StoreFault;
 use hir_store::hir::{BindingAnnotation, Expr, LoopSource, MatchArm, Pat};
@@ -91,18 +94,36 @@ fn body_node<P: LowerParts>(
     asked_body(lowerer, state, node)
 }
 
-/// The body, missing where it is absent.
-fn body_opt<P: LowerParts>(
-    lowerer: &Lowerer<P>,
-    state: &mut BodyBuilder,
-    part: &Option<Boxed<ast::BlockExpr>>,
-) -> Result<ExprId, StoreFault>
-    requires { IfPresent (KidsBody (P.can lowerer.now.parts) (P.spot lowerer.now.parts).place) part.now }
-    ensures { LowersExprOpt (body_part (P.spot lowerer.now.parts) part.now) state.old result state.new }
-{
-    match part {
-        None => state.missing_expr(),
-        Some(part) => body_node(lowerer, state, part.get()),
+/// The body of a `for`, which is there or isn't.
+pub trait BodyPart {
+    ghost can: { Claims → AtPlace → Self → Type 0 };
+
+    ghost read: { Spot → Self → OptionExpr };
+
+    /// The body, missing where it is absent or a condition disables it.
+    fn lower<P: LowerParts>(
+        &self,
+        lowerer: &Lowerer<P>,
+        state: &mut BodyBuilder,
+    ) -> Result<ExprId, StoreFault>
+        requires { can (P.can lowerer.now.parts) (P.spot lowerer.now.parts).place self.now }
+        ensures { LowersExprOpt (read (P.spot lowerer.now.parts) self.now) state.old result state.new };
+}
+
+impl BodyPart for Option<Boxed<ast::BlockExpr>> {
+    ghost can = { λ claims place. IfPresent (KidsBody claims place) };
+
+    ghost read = { body_part };
+
+    fn lower<P: LowerParts>(
+        &self,
+        lowerer: &Lowerer<P>,
+        state: &mut BodyBuilder,
+    ) -> Result<ExprId, StoreFault> {
+        match self {
+            None => state.missing_expr(),
+            Some(part) => body_node(lowerer, state, part.get()),
+        }
     }
 }
 
@@ -142,20 +163,20 @@ fn done_arm(
 
 /// The arm for an item that the pattern fits, with the body.
 #[tactic(auto, unfolding(hir_lower_form::specs::Made::gives_arm_form))]
-fn gives_arm<P: LowerParts>(
+fn gives_arm<P: LowerParts, B: BodyPart>(
     lowerer: &Lowerer<P>,
     state: &mut BodyBuilder,
     item: LangItemId,
     part: PatId,
-    body: &Option<Boxed<ast::BlockExpr>>,
+    body: &B,
 ) -> Result<MatchArm, StoreFault>
     requires part { HasPat state.old.stored part }
-    requires body { IfPresent (KidsBody (P.can lowerer.now.parts) (P.spot lowerer.now.parts).place) body.now }
-    ensures { let body = lower_part (body_part (P.spot lowerer.now.parts) body.now) in
+    requires body { B.can (P.can lowerer.now.parts) (P.spot lowerer.now.parts).place body.now }
+    ensures { let body = lower_part (B.read (P.spot lowerer.now.parts) body.now) in
         Lowers HasArm (spec.gives_arm_form item part body) state.old result state.new }
 {
     let pat = state.item_pat(lowerer.alloc, item, part)?;
-    let expr = body_opt(lowerer, state, body)?;
+    let expr = body.lower(lowerer, state)?;
     let guard = None;
     Ok(MatchArm { pat, guard, expr })
 }
@@ -182,18 +203,18 @@ fn only_tail(
 
 /// One turn of the loop, for the iterator of this name.
 #[tactic(auto, unfolding(hir_lower_form::specs::Made::for_turn_form))]
-fn turn<P: LowerParts>(
+fn turn<P: LowerParts, B: BodyPart>(
     lowerer: &Lowerer<P>,
     state: &mut BodyBuilder,
     at: InFile<AstPtr>,
     items: ForItems,
     number: u32,
     pat: PatId,
-    body: &Option<Boxed<ast::BlockExpr>>,
+    body: &B,
 ) -> Result<ExprId, StoreFault>
     requires pat { HasPat state.old.stored pat }
-    requires body { IfPresent (KidsBody (P.can lowerer.now.parts) (P.spot lowerer.now.parts).place) body.now }
-    ensures { let body = lower_part (body_part (P.spot lowerer.now.parts) body.now) in
+    requires body { B.can (P.can lowerer.now.parts) (P.spot lowerer.now.parts).place body.now }
+    ensures { let body = lower_part (B.read (P.spot lowerer.now.parts) body.now) in
         Lowers HasExpr (spec.for_turn_form at (items_of items) number pat body) state.old result state.new }
 {
     let expr = next_item(lowerer.alloc, state, at, items.next, number)?;
@@ -206,7 +227,7 @@ fn turn<P: LowerParts>(
 
 /// The loop over such turns.
 #[tactic(auto, unfolding(hir_lower_form::specs::Made::made_loop_form))]
-fn turns<P: LowerParts>(
+fn turns<P: LowerParts, B: BodyPart>(
     lowerer: &Lowerer<P>,
     state: &mut BodyBuilder,
     at: InFile<AstPtr>,
@@ -214,12 +235,12 @@ fn turns<P: LowerParts>(
     label: &Option<ast::Label>,
     number: u32,
     pat: PatId,
-    body: &Option<Boxed<ast::BlockExpr>>,
+    body: &B,
 ) -> Result<ExprId, StoreFault>
     requires pat { HasPat state.old.stored pat }
-    requires body { IfPresent (KidsBody (P.can lowerer.now.parts) (P.spot lowerer.now.parts).place) body.now }
+    requires body { B.can (P.can lowerer.now.parts) (P.spot lowerer.now.parts).place body.now }
     ensures { let spot = P.spot lowerer.now.parts in
-        let turn = spec.for_turn_form at (items_of items) number pat (lower_part (body_part spot body.now)) in
+        let turn = spec.for_turn_form at (items_of items) number pat (lower_part (B.read spot body.now)) in
         Lowers HasExpr (spec.made_loop_form at (label_part spot label.now) turn) state.old result state.new }
 {
     let source = LoopSource::ForLoop;
@@ -273,7 +294,7 @@ fn node_of<P: LowerParts>(lowerer: &Lowerer<P>, node: &ast::Expr) -> InFile<AstP
 }
 
 /// The node of the head, or the form's where that is absent.
-fn head_node<P: LowerParts>(
+pub(crate) fn head_node<P: LowerParts>(
     lowerer: &Lowerer<P>,
     at: InFile<AstPtr>,
     head: &Option<Boxed<ast::Expr>>,
@@ -298,31 +319,31 @@ fn one_arm(alloc: Global, pat: PatId, expr: ExprId) -> Result<Seq<MatchArm>, All
 
 /// The head and the pattern lie outside of the label.
 #[tactic(auto, unfolding(hir_lower_form::specs::Made::for_form))]
-fn for_with<P: LowerParts>(
+fn for_with<P: LowerParts, Q: PatPart, E: ExprPart, B: BodyPart>(
     lowerer: &Lowerer<P>,
     state: &mut BodyBuilder,
     at: InFile<AstPtr>,
     items: ForItems,
     label: &Option<ast::Label>,
-    pat: &Option<Boxed<ast::Pat>>,
-    iterable: &Option<Boxed<ast::Expr>>,
-    body: &Option<Boxed<ast::BlockExpr>>,
+    pat: &Q,
+    iterable: &E,
+    body: &B,
 ) -> Result<ExprId, StoreFault>
-    requires pat { IfPresent ((P.can lowerer.now.parts).pat (P.spot lowerer.now.parts).place) pat.now }
-    requires iterable { IfPresent (P.can lowerer.now.parts).expr iterable.now }
-    requires body { IfPresent (KidsBody (P.can lowerer.now.parts) (P.spot lowerer.now.parts).place) body.now }
+    requires pat { Q.can (P.can lowerer.now.parts) (P.spot lowerer.now.parts).place pat.now }
+    requires iterable { E.can (P.can lowerer.now.parts) iterable.now }
+    requires body { B.can (P.can lowerer.now.parts) (P.spot lowerer.now.parts).place body.now }
     ensures { let spot = P.spot lowerer.now.parts in
         LowersExpr (tree.for_expr at (items_of items)
         (label_part spot label.now)
         (of.label_written spot.answers spot.place label.now)
-        (pat_part spot pat.now)
-        (expr_part spot iterable.now)
-        (body_part spot body.now)) state.old result state.new }
+        (Q.read spot pat.now)
+        (E.read spot iterable.now)
+        (B.read spot body.now)) state.old result state.new }
 {
-    let head_at = head_node(lowerer, at, iterable);
-    let head = lowerer.collect_expr_opt(state, iterable)?;
+    let head_at = iterable.node_or(lowerer, at);
+    let head = iterable.lower(lowerer, state)?;
     let expr = state.item_call(lowerer.alloc, head_at, Some(items.into_iter), head)?;
-    let pat = top_pat(lowerer, state, pat)?;
+    let pat = pat.lower(lowerer, state)?;
     let number = state.made_number()?;
     let iterator = state.made_bind(BindingAnnotation::Mutable, number)?;
     let turns = turns(lowerer, state, at, items, label, number, pat, body)?;
@@ -331,25 +352,25 @@ fn for_with<P: LowerParts>(
 }
 
 /// Where the language lacks one of the items, a `for` is missing, and nothing in it is lowered.
-pub fn for_form<P: LowerParts>(
+pub fn for_form<P: LowerParts, Q: PatPart, E: ExprPart, B: BodyPart>(
     lowerer: &Lowerer<P>,
     state: &mut BodyBuilder,
     at: InFile<AstPtr>,
     label: &Option<ast::Label>,
-    pat: &Option<Boxed<ast::Pat>>,
-    iterable: &Option<Boxed<ast::Expr>>,
-    body: &Option<Boxed<ast::BlockExpr>>,
+    pat: &Q,
+    iterable: &E,
+    body: &B,
 ) -> Result<ExprId, StoreFault>
-    requires pat { IfPresent ((P.can lowerer.now.parts).pat (P.spot lowerer.now.parts).place) pat.now }
-    requires iterable { IfPresent (P.can lowerer.now.parts).expr iterable.now }
-    requires body { IfPresent (KidsBody (P.can lowerer.now.parts) (P.spot lowerer.now.parts).place) body.now }
+    requires pat { Q.can (P.can lowerer.now.parts) (P.spot lowerer.now.parts).place pat.now }
+    requires iterable { E.can (P.can lowerer.now.parts) iterable.now }
+    requires body { B.can (P.can lowerer.now.parts) (P.spot lowerer.now.parts).place body.now }
     ensures { let spot = P.spot lowerer.now.parts in
         LowersExpr (of.for_of (of.for_items spot.answers.lang_items) at
         (label_part spot label.now)
         (of.label_written spot.answers spot.place label.now)
-        (pat_part spot pat.now)
-        (expr_part spot iterable.now)
-        (body_part spot body.now)) state.old result state.new }
+        (Q.read spot pat.now)
+        (E.read spot iterable.now)
+        (B.read spot body.now)) state.old result state.new }
 {
     match for_items(lowerer.parts.lang_items()) {
         None => state.missing_expr(),

@@ -1,17 +1,17 @@
 //! Labels, and the jumps to them.
 
 ghost use Rattle.hir_env.specs.Answered as tree;
-ghost use Rattle.hir_env.specs.Whole.{expr_part, jump_part};
-ghost use Rattle.hir_lower_form.specs.Nests.{IfPresent};
+ghost use Rattle.hir_env.specs.Whole.{jump_part};
 ghost use Rattle.hir_lower_form.specs.Methods.{LowersExpr};
 
+use crate::part::ExprPart;
 use hir_base::node::{AstPtr, InFile};
 use hir_lower_form::builder::BodyBuilder;
 use hir_lower_form::parts::{LowerParts, Lowerer};
 use hir_store::fault::StoreFault;
 use hir_store::hir::Expr;
 use hir_store::ids::ExprId;
-use hir_syntax::{Boxed, ast};
+use hir_syntax::ast;
 
 /// A `continue`. Where its label has no target, that is told, and it has none.
 #[tactic(auto, unfolding(hir_lower_form::specs::Forms::continue_form))]
@@ -29,19 +29,19 @@ pub fn continue_form<P: LowerParts>(
 
 /// A `break`: its target first, then its value. Where its label has no target, that is told, and it has none.
 #[tactic(auto, unfolding(hir_lower_form::specs::Forms::break_form))]
-pub fn break_form<P: LowerParts>(
+pub fn break_form<P: LowerParts, E: ExprPart>(
     lowerer: &Lowerer<P>,
     state: &mut BodyBuilder,
     at: InFile<AstPtr>,
     lifetime: &Option<ast::Lifetime>,
-    value: &Option<Boxed<ast::Expr>>,
+    value: &E,
 ) -> Result<ExprId, StoreFault>
-    requires { IfPresent (P.can lowerer.now.parts).expr value.now }
+    requires { E.can (P.can lowerer.now.parts) value.now }
     ensures { LowersExpr (tree.break_expr at
         (jump_part (P.spot lowerer.now.parts) lifetime.now)
-        (expr_part (P.spot lowerer.now.parts) value.now)) state.old result state.new }
+        (E.read (P.spot lowerer.now.parts) value.now)) state.old result state.new }
 {
     let label = lowerer.jump_target(state, lifetime)?;
-    let expr = lowerer.collect_expr_if_present(state, value)?;
+    let expr = value.lower_if_present(lowerer, state)?;
     state.alloc_expr(Expr::Break { label, expr }, Some(at))
 }

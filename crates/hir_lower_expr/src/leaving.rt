@@ -1,79 +1,77 @@
 //! What leaves the body, and what comes back to it.
 
 ghost use Rattle.hir_env.specs.Answered as tree;
-ghost use Rattle.hir_env.specs.Whole.{expr_part};
-ghost use Rattle.hir_lower_form.specs.Nests.{IfPresent};
 ghost use Rattle.hir_lower_form.specs.Methods.{LowersExpr};
 
+use crate::part::ExprPart;
 use hir_base::node::{AstPtr, InFile};
 use hir_lower_form::builder::BodyBuilder;
 use hir_lower_form::parts::{LowerParts, Lowerer};
 use hir_store::fault::StoreFault;
 use hir_store::hir::Expr;
 use hir_store::ids::ExprId;
-use hir_syntax::{Boxed, ast};
 
 /// A `return`, with its value if it has one.
 #[tactic(auto, unfolding(hir_lower_form::specs::Forms::value_form))]
-pub fn return_form<P: LowerParts>(
+pub fn return_form<P: LowerParts, E: ExprPart>(
     lowerer: &Lowerer<P>,
     state: &mut BodyBuilder,
     at: InFile<AstPtr>,
-    value: &Option<Boxed<ast::Expr>>,
+    value: &E,
 ) -> Result<ExprId, StoreFault>
-    requires { IfPresent (P.can lowerer.now.parts).expr value.now }
+    requires { E.can (P.can lowerer.now.parts) value.now }
     ensures { LowersExpr (tree.leaving_expr at
         tree.returning
-        (expr_part (P.spot lowerer.now.parts) value.now)) state.old result state.new }
+        (E.read (P.spot lowerer.now.parts) value.now)) state.old result state.new }
 {
-    let expr = lowerer.collect_expr_if_present(state, value)?;
+    let expr = value.lower_if_present(lowerer, state)?;
     state.alloc_expr(Expr::Return { expr }, Some(at))
 }
 
 /// A `do yeet`, with its value if it has one.
 #[tactic(auto, unfolding(hir_lower_form::specs::Forms::value_form))]
-pub fn yeet_form<P: LowerParts>(
+pub fn yeet_form<P: LowerParts, E: ExprPart>(
     lowerer: &Lowerer<P>,
     state: &mut BodyBuilder,
     at: InFile<AstPtr>,
-    value: &Option<Boxed<ast::Expr>>,
+    value: &E,
 ) -> Result<ExprId, StoreFault>
-    requires { IfPresent (P.can lowerer.now.parts).expr value.now }
+    requires { E.can (P.can lowerer.now.parts) value.now }
     ensures { LowersExpr (tree.leaving_expr at
         tree.yeeting
-        (expr_part (P.spot lowerer.now.parts) value.now)) state.old result state.new }
+        (E.read (P.spot lowerer.now.parts) value.now)) state.old result state.new }
 {
-    let expr = lowerer.collect_expr_if_present(state, value)?;
+    let expr = value.lower_if_present(lowerer, state)?;
     state.alloc_expr(Expr::Yeet { expr }, Some(at))
 }
 
 /// A `yield`, with its value if it has one. It is noted before its value is lowered.
 #[tactic(auto, unfolding(hir_lower_form::specs::Forms::yield_form))]
-pub fn yield_form<P: LowerParts>(
+pub fn yield_form<P: LowerParts, E: ExprPart>(
     lowerer: &Lowerer<P>,
     state: &mut BodyBuilder,
     at: InFile<AstPtr>,
-    value: &Option<Boxed<ast::Expr>>,
+    value: &E,
 ) -> Result<ExprId, StoreFault>
-    requires { IfPresent (P.can lowerer.now.parts).expr value.now }
-    ensures { LowersExpr (tree.yield_expr at (expr_part (P.spot lowerer.now.parts) value.now)) state.old result state.new }
+    requires { E.can (P.can lowerer.now.parts) value.now }
+    ensures { LowersExpr (tree.yield_expr at (E.read (P.spot lowerer.now.parts) value.now)) state.old result state.new }
 {
     state.note_yield();
-    let expr = lowerer.collect_expr_if_present(state, value)?;
+    let expr = value.lower_if_present(lowerer, state)?;
     state.alloc_expr(Expr::Yield { expr }, Some(at))
 }
 
 /// The call that it becomes is missing where it is absent.
 #[tactic(auto, unfolding(hir_lower_form::specs::Forms::operand_form))]
-pub fn become_form<P: LowerParts>(
+pub fn become_form<P: LowerParts, E: ExprPart>(
     lowerer: &Lowerer<P>,
     state: &mut BodyBuilder,
     at: InFile<AstPtr>,
-    call: &Option<Boxed<ast::Expr>>,
+    call: &E,
 ) -> Result<ExprId, StoreFault>
-    requires { IfPresent (P.can lowerer.now.parts).expr call.now }
-    ensures { LowersExpr (tree.become_expr at (expr_part (P.spot lowerer.now.parts) call.now)) state.old result state.new }
+    requires { E.can (P.can lowerer.now.parts) call.now }
+    ensures { LowersExpr (tree.become_expr at (E.read (P.spot lowerer.now.parts) call.now)) state.old result state.new }
 {
-    let expr = lowerer.collect_expr_opt(state, call)?;
+    let expr = call.lower(lowerer, state)?;
     state.alloc_expr(Expr::Become { expr }, Some(at))
 }

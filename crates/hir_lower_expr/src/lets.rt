@@ -1,38 +1,40 @@
 //! `let`, as a condition and as a statement.
 
 ghost use Rattle.hir_env.specs.Answered as tree;
+ghost use Rattle.hir_env.specs.Answered.{OptionBlock};
 ghost use Rattle.hir_env.specs.Answering.{asked_stmt, site_of};
-ghost use Rattle.hir_env.specs.Whole.{answered_let_else, expr_part, let_else_part, pat_part, type_part};
-ghost use Rattle.hir_lower_form.specs.Nests.{IfPresent, KidsLetElse};
+ghost use Rattle.hir_env.specs.declared.place.Place.{Place as AtPlace};
+ghost use Rattle.hir_env.specs.Spot.{Spot};
+ghost use Rattle.hir_env.specs.Whole.{answered_let_else, let_else_part};
+ghost use Rattle.hir_lower_form.specs.Nests.{Claims, IfPresent, KidsLetElse};
 ghost use Rattle.hir_lower_form.specs.Methods.{LowersBlockIfPresent, LowersExpr, LowersStmt};
 
-use crate::here::type_here_if_present;
+use crate::part::{ExprPart, PatPart, TypePart};
 use hir_base::node::{AstPtr, InFile};
 use hir_lower_form::builder::BodyBuilder;
 use hir_lower_form::parts::{LowerParts, Lowerer, site};
-use hir_lower_pat::top::top_pat;
 use hir_store::diagnostics::ExpressionStoreDiagnostics;
 use hir_store::fault::StoreFault;
 use hir_store::hir::{Expr, Statement};
 use hir_store::ids::ExprId;
-use hir_syntax::{Boxed, ast};
+use hir_syntax::ast;
 
 /// The pattern before the expression.
 #[tactic(auto, unfolding(hir_lower_form::specs::Forms::let_form))]
-pub fn let_form<P: LowerParts>(
+pub fn let_form<P: LowerParts, Q: PatPart, E: ExprPart>(
     lowerer: &Lowerer<P>,
     state: &mut BodyBuilder,
     at: InFile<AstPtr>,
-    pat: &Option<Boxed<ast::Pat>>,
-    expr: &Option<Boxed<ast::Expr>>,
+    pat: &Q,
+    expr: &E,
 ) -> Result<ExprId, StoreFault>
-    requires pat { IfPresent ((P.can lowerer.now.parts).pat (P.spot lowerer.now.parts).place) pat.now }
-    requires expr { IfPresent (P.can lowerer.now.parts).expr expr.now }
+    requires pat { Q.can (P.can lowerer.now.parts) (P.spot lowerer.now.parts).place pat.now }
+    requires expr { E.can (P.can lowerer.now.parts) expr.now }
     ensures { let spot = P.spot lowerer.now.parts in
-        LowersExpr (tree.let_expr at (pat_part spot pat.now) (expr_part spot expr.now)) state.old result state.new }
+        LowersExpr (tree.let_expr at (Q.read spot pat.now) (E.read spot expr.now)) state.old result state.new }
 {
-    let pat = top_pat(lowerer, state, pat)?;
-    let expr = lowerer.collect_expr_opt(state, expr)?;
+    let pat = pat.lower(lowerer, state)?;
+    let expr = expr.lower(lowerer, state)?;
     state.alloc_expr(Expr::Let { pat, expr }, Some(at))
 }
 
@@ -51,45 +53,63 @@ fn else_block<P: LowerParts>(
     }
 }
 
-fn else_if_present<P: LowerParts>(
-    lowerer: &Lowerer<P>,
-    state: &mut BodyBuilder,
-    part: &Option<ast::LetElse>,
-) -> Result<Option<ExprId>, StoreFault>
-    requires { IfPresent (KidsLetElse (P.can lowerer.now.parts) (P.spot lowerer.now.parts).place) part.now }
-    ensures { LowersBlockIfPresent (let_else_part (P.spot lowerer.now.parts) part.now) state.old result state.new }
-{
-    match part {
-        None => Ok(None),
-        Some(part) => else_block(lowerer, state, part),
+/// The `else` of a `let`, none where it is absent.
+pub trait LetElsePart {
+    ghost can: { Claims → AtPlace → Self → Type 0 };
+
+    ghost read: { Spot → Self → OptionBlock };
+
+    fn lower<P: LowerParts>(
+        &self,
+        lowerer: &Lowerer<P>,
+        state: &mut BodyBuilder,
+    ) -> Result<Option<ExprId>, StoreFault>
+        requires { can (P.can lowerer.now.parts) (P.spot lowerer.now.parts).place self.now }
+        ensures { LowersBlockIfPresent (read (P.spot lowerer.now.parts) self.now) state.old result state.new };
+}
+
+impl LetElsePart for Option<ast::LetElse> {
+    ghost can = { λ claims place. IfPresent (KidsLetElse claims place) };
+
+    ghost read = { let_else_part };
+
+    fn lower<P: LowerParts>(
+        &self,
+        lowerer: &Lowerer<P>,
+        state: &mut BodyBuilder,
+    ) -> Result<Option<ExprId>, StoreFault> {
+        match self {
+            None => Ok(None),
+            Some(part) => else_block(lowerer, state, part),
+        }
     }
 }
 
 /// A `let` that no condition disables: its pattern, its type, its initializer, its `else`.
 #[tactic(auto, unfolding(hir_lower_form::specs::Forms::let_stmt_form))]
-fn kept_let<P: LowerParts>(
+fn kept_let<P: LowerParts, Q: PatPart, T: TypePart, E: ExprPart, L: LetElsePart>(
     lowerer: &Lowerer<P>,
     state: &mut BodyBuilder,
-    pat: &Option<Boxed<ast::Pat>>,
-    ty: &Option<Boxed<ast::Type_>>,
-    init: &Option<Boxed<ast::Expr>>,
-    else_: &Option<ast::LetElse>,
+    pat: &Q,
+    ty: &T,
+    init: &E,
+    else_: &L,
 ) -> Result<Option<Statement>, StoreFault>
-    requires pat { IfPresent ((P.can lowerer.now.parts).pat (P.spot lowerer.now.parts).place) pat.now }
-    requires ty { IfPresent ((P.can lowerer.now.parts).type_ (P.spot lowerer.now.parts).place) ty.now }
-    requires init { IfPresent (P.can lowerer.now.parts).expr init.now }
-    requires else_ { IfPresent (KidsLetElse (P.can lowerer.now.parts) (P.spot lowerer.now.parts).place) else_.now }
+    requires pat { Q.can (P.can lowerer.now.parts) (P.spot lowerer.now.parts).place pat.now }
+    requires ty { T.can (P.can lowerer.now.parts) (P.spot lowerer.now.parts).place ty.now }
+    requires init { E.can (P.can lowerer.now.parts) init.now }
+    requires else_ { L.can (P.can lowerer.now.parts) (P.spot lowerer.now.parts).place else_.now }
     ensures { let spot = P.spot lowerer.now.parts in
         LowersStmt (tree.let_stmt
-        (pat_part spot pat.now)
-        (type_part spot ty.now)
-        (expr_part spot init.now)
-        (let_else_part spot else_.now)) state.old result state.new }
+        (Q.read spot pat.now)
+        (T.read spot ty.now)
+        (E.read spot init.now)
+        (L.read spot else_.now)) state.old result state.new }
 {
-    let pat = top_pat(lowerer, state, pat)?;
-    let type_ref = type_here_if_present(lowerer, state, ty)?;
-    let initializer = lowerer.collect_expr_if_present(state, init)?;
-    let else_branch = else_if_present(lowerer, state, else_)?;
+    let pat = pat.lower(lowerer, state)?;
+    let type_ref = ty.lower_if_present(lowerer, state)?;
+    let initializer = init.lower_if_present(lowerer, state)?;
+    let else_branch = else_.lower(lowerer, state)?;
     Ok(Some(Statement::Let {
         pat,
         type_ref,
@@ -99,25 +119,25 @@ fn kept_let<P: LowerParts>(
 }
 
 /// The statement, none where a condition disables it.
-pub(crate) fn let_stmt<P: LowerParts>(
+pub(crate) fn let_stmt<P: LowerParts, Q: PatPart, T: TypePart, E: ExprPart, L: LetElsePart>(
     lowerer: &Lowerer<P>,
     state: &mut BodyBuilder,
     at: InFile<AstPtr>,
-    pat: &Option<Boxed<ast::Pat>>,
-    ty: &Option<Boxed<ast::Type_>>,
-    init: &Option<Boxed<ast::Expr>>,
-    else_: &Option<ast::LetElse>,
+    pat: &Q,
+    ty: &T,
+    init: &E,
+    else_: &L,
 ) -> Result<Option<Statement>, StoreFault>
-    requires pat { IfPresent ((P.can lowerer.now.parts).pat (P.spot lowerer.now.parts).place) pat.now }
-    requires ty { IfPresent ((P.can lowerer.now.parts).type_ (P.spot lowerer.now.parts).place) ty.now }
-    requires init { IfPresent (P.can lowerer.now.parts).expr init.now }
-    requires else_ { IfPresent (KidsLetElse (P.can lowerer.now.parts) (P.spot lowerer.now.parts).place) else_.now }
+    requires pat { Q.can (P.can lowerer.now.parts) (P.spot lowerer.now.parts).place pat.now }
+    requires ty { T.can (P.can lowerer.now.parts) (P.spot lowerer.now.parts).place ty.now }
+    requires init { E.can (P.can lowerer.now.parts) init.now }
+    requires else_ { L.can (P.can lowerer.now.parts) (P.spot lowerer.now.parts).place else_.now }
     ensures { let spot = P.spot lowerer.now.parts in
         LowersStmt (asked_stmt at (spot.answers.cfg (site_of at)) (tree.let_stmt
-        (pat_part spot pat.now)
-        (type_part spot ty.now)
-        (expr_part spot init.now)
-        (let_else_part spot else_.now))) state.old result state.new }
+        (Q.read spot pat.now)
+        (T.read spot ty.now)
+        (E.read spot init.now)
+        (L.read spot else_.now))) state.old result state.new }
 {
     match lowerer.parts.cfg(site(at)) {
         Err(cfg) => {

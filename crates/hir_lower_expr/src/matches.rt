@@ -4,54 +4,77 @@ ghost use Rattle.std.specs.Prelude.{[]};
 ghost use Rattle.hir_syntax.specs.declared.branches.MatchArm.{out-MatchArm};
 ghost use Rattle.hir_store.specs.Range.{HasArms, HasExprOption};
 ghost use Rattle.hir_env.specs.Answered as tree;
-ghost use Rattle.hir_env.specs.Whole.{answered_arm, arm_level, arms_or_none_part, arms_part, expr_part, guard_part, pat_part};
+ghost use Rattle.hir_env.specs.Answered.{Arms, Guard};
+ghost use Rattle.hir_env.specs.declared.place.Place.{Place as AtPlace};
+ghost use Rattle.hir_env.specs.Spot.{Spot};
+ghost use Rattle.hir_env.specs.Whole.{answered_arm, arm_level, arms_or_none_part, arms_part, guard_part};
 ghost use Rattle.hir_lower_form.specs.Lowering.{Lowers};
 ghost use Rattle.hir_lower_form.specs.Lower as spec;
 ghost use Rattle.hir_lower_form.specs.Methods.{HasArmOption, LowersExpr};
-ghost use Rattle.hir_lower_form.specs.Nests.{IfPresent, KidsArm, KidsArms, KidsGuard};
+ghost use Rattle.hir_lower_form.specs.Nests.{Claims, IfPresent, KidsArm, KidsArms, KidsGuard};
 
 use crate::kept::push_kept_arm;
+use crate::part::{ExprPart, PatPart};
 use hir_base::node::{AstPtr, InFile};
 use hir_lower_form::builder::BodyBuilder;
 use hir_lower_form::parts::{LowerParts, Lowerer, site};
-use hir_lower_pat::top::top_pat;
 use hir_store::diagnostics::ExpressionStoreDiagnostics;
 use hir_store::fault::StoreFault;
 use hir_store::hir::{Expr, MatchArm};
 use hir_store::ids::ExprId;
-use hir_syntax::{Boxed, Seq, ast};
+use hir_syntax::{Seq, ast};
 
-/// The condition of an arm's guard, missing where the guard has none.
-fn guard<P: LowerParts>(
-    lowerer: &Lowerer<P>,
-    state: &mut BodyBuilder,
-    part: &Option<ast::Guard>,
-) -> Result<Option<ExprId>, StoreFault>
-    requires { IfPresent (KidsGuard (P.can lowerer.now.parts)) part.now }
-    ensures { Lowers HasExprOption (spec.lower_guard (guard_part (P.spot lowerer.now.parts) part.now)) state.old result state.new }
-{
-    match part {
-        None => Ok(None),
-        Some(condition) => Ok(Some(lowerer.collect_expr_opt(state, condition)?)),
+/// The guard of an arm, none where it is absent. Its condition is missing where the guard has none.
+trait GuardPart {
+    ghost can: { Claims → AtPlace → Self → Type 0 };
+
+    ghost read: { Spot → Self → Guard };
+
+    fn lower<P: LowerParts>(
+        &self,
+        lowerer: &Lowerer<P>,
+        state: &mut BodyBuilder,
+    ) -> Result<Option<ExprId>, StoreFault>
+        requires { can (P.can lowerer.now.parts) (P.spot lowerer.now.parts).place self.now }
+        ensures { Lowers HasExprOption (spec.lower_guard (read (P.spot lowerer.now.parts) self.now)) state.old result state.new };
+}
+
+impl GuardPart for Option<ast::Guard> {
+    ghost can = { λ claims place. IfPresent (KidsGuard claims) };
+
+    ghost read = { guard_part };
+
+    fn lower<P: LowerParts>(
+        &self,
+        lowerer: &Lowerer<P>,
+        state: &mut BodyBuilder,
+    ) -> Result<Option<ExprId>, StoreFault> {
+        match self {
+            None => Ok(None),
+            Some(condition) => Ok(Some(condition.lower(lowerer, state)?)),
+        }
     }
 }
 
 /// An arm that no condition disables: its pattern, its expression, its guard.
 #[tactic(auto, unfolding(hir_lower_form::specs::Forms::arm_form))]
-fn kept_arm<P: LowerParts>(
+fn kept_arm<P: LowerParts, Q: PatPart, E: ExprPart, G: GuardPart>(
     lowerer: &Lowerer<P>,
     state: &mut BodyBuilder,
-    node: &ast::MatchArm,
+    pat: &Q,
+    expr: &E,
+    guard: &G,
 ) -> Result<Option<MatchArm>, StoreFault>
-    requires { KidsArm (P.can lowerer.now.parts) (P.spot lowerer.now.parts).place (out-MatchArm node.now) }
+    requires pat { Q.can (P.can lowerer.now.parts) (P.spot lowerer.now.parts).place pat.now }
+    requires expr { E.can (P.can lowerer.now.parts) expr.now }
+    requires guard { G.can (P.can lowerer.now.parts) (P.spot lowerer.now.parts).place guard.now }
     ensures { let spot = P.spot lowerer.now.parts in
-        let level = out-MatchArm node.now in
-        let read = tree.arm (pat_part spot level.pat) (expr_part spot level.expr) (guard_part spot level.guard) in
+        let read = tree.arm (Q.read spot pat.now) (E.read spot expr.now) (G.read spot guard.now) in
         Lowers HasArmOption (spec.lower_arm read) state.old result state.new }
 {
-    let pat = top_pat(lowerer, state, &node.pat)?;
-    let expr = lowerer.collect_expr_opt(state, &node.expr)?;
-    let guard = guard(lowerer, state, &node.guard)?;
+    let pat = pat.lower(lowerer, state)?;
+    let expr = expr.lower(lowerer, state)?;
+    let guard = guard.lower(lowerer, state)?;
     Ok(Some(MatchArm { pat, guard, expr }))
 }
 
@@ -70,7 +93,7 @@ fn arm_form<P: LowerParts>(
             state.report(ExpressionStoreDiagnostics::InactiveCode { node: at, cfg })?;
             Ok(None)
         }
-        Ok(()) => kept_arm(lowerer, state, node),
+        Ok(()) => kept_arm(lowerer, state, &node.pat, &node.expr, &node.guard),
     }
 }
 
@@ -103,35 +126,53 @@ fn each_arm<P: LowerParts>(
     Ok(done)
 }
 
-fn arms<P: LowerParts>(
-    lowerer: &Lowerer<P>,
-    state: &mut BodyBuilder,
-    all: &Option<Seq<ast::MatchArm>>,
-) -> Result<Seq<MatchArm>, StoreFault>
-    requires { IfPresent (KidsArms (P.can lowerer.now.parts) (P.spot lowerer.now.parts).place) all.now }
-    ensures { Lowers HasArms (spec.lower_arms [] (arms_or_none_part (P.spot lowerer.now.parts) all.now)) state.old result state.new }
-{
-    match all {
-        None => Ok(Seq::new(lowerer.alloc)),
-        Some(all) => each_arm(lowerer, state, all.as_slice()),
+/// The arms of a `match`, none where they are absent.
+pub trait ArmsPart {
+    ghost can: { Claims → AtPlace → Self → Type 0 };
+
+    ghost read: { Spot → Self → Arms };
+
+    fn lower<P: LowerParts>(
+        &self,
+        lowerer: &Lowerer<P>,
+        state: &mut BodyBuilder,
+    ) -> Result<Seq<MatchArm>, StoreFault>
+        requires { can (P.can lowerer.now.parts) (P.spot lowerer.now.parts).place self.now }
+        ensures { Lowers HasArms (spec.lower_arms [] (read (P.spot lowerer.now.parts) self.now)) state.old result state.new };
+}
+
+impl ArmsPart for Option<Seq<ast::MatchArm>> {
+    ghost can = { λ claims place. IfPresent (KidsArms claims place) };
+
+    ghost read = { arms_or_none_part };
+
+    fn lower<P: LowerParts>(
+        &self,
+        lowerer: &Lowerer<P>,
+        state: &mut BodyBuilder,
+    ) -> Result<Seq<MatchArm>, StoreFault> {
+        match self {
+            None => Ok(Seq::new(lowerer.alloc)),
+            Some(all) => each_arm(lowerer, state, all.as_slice()),
+        }
     }
 }
 
 /// What is matched before the arms.
 #[tactic(auto, unfolding(hir_lower_form::specs::Forms::match_form))]
-pub fn match_form<P: LowerParts>(
+pub fn match_form<P: LowerParts, E: ExprPart, A: ArmsPart>(
     lowerer: &Lowerer<P>,
     state: &mut BodyBuilder,
     at: InFile<AstPtr>,
-    expr: &Option<Boxed<ast::Expr>>,
-    all: &Option<Seq<ast::MatchArm>>,
+    expr: &E,
+    all: &A,
 ) -> Result<ExprId, StoreFault>
-    requires expr { IfPresent (P.can lowerer.now.parts).expr expr.now }
-    requires arms { IfPresent (KidsArms (P.can lowerer.now.parts) (P.spot lowerer.now.parts).place) all.now }
+    requires expr { E.can (P.can lowerer.now.parts) expr.now }
+    requires arms { A.can (P.can lowerer.now.parts) (P.spot lowerer.now.parts).place all.now }
     ensures { let spot = P.spot lowerer.now.parts in
-        LowersExpr (tree.match_expr at (expr_part spot expr.now) (arms_or_none_part spot all.now)) state.old result state.new }
+        LowersExpr (tree.match_expr at (E.read spot expr.now) (A.read spot all.now)) state.old result state.new }
 {
-    let expr = lowerer.collect_expr_opt(state, expr)?;
-    let arms = arms(lowerer, state, all)?;
+    let expr = expr.lower(lowerer, state)?;
+    let arms = all.lower(lowerer, state)?;
     state.alloc_expr(Expr::Match { expr, arms }, Some(at))
 }

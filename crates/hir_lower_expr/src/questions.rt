@@ -4,16 +4,15 @@ ghost use Rattle.std.specs.Prelude.{◌≡◌, [], ◌∷◌, IfOk, Some, option
 ghost use Rattle.hir_store.specs.Range.{HasExpr};
 ghost use Rattle.hir_env.specs.Answered as tree;
 ghost use Rattle.hir_env.specs.Answering as of;
-ghost use Rattle.hir_env.specs.Whole.{expr_part};
 ghost use Rattle.hir_lower_scope.specs.Found.{try_of};
 ghost use Rattle.hir_lower_form.specs.Lower.{lower_part};
 ghost use Rattle.hir_lower_form.specs.Lowering.{HasTry, Lowers};
 ghost use Rattle.hir_lower_form.specs.Lowering as step;
 ghost use Rattle.hir_lower_form.specs.Made as spec;
 ghost use Rattle.hir_lower_form.specs.Methods.{HasArm, LowersExpr};
-ghost use Rattle.hir_lower_form.specs.Nests.{IfPresent};
 ghost use Rattle.hir_lower_expr.specs.Questions.{items_of};
 
+use crate::part::ExprPart;
 use hir_base::node::{AstPtr, InFile};
 use hir_env::lang::LangItems;
 use hir_lower_form::builder::BodyBuilder;
@@ -23,7 +22,7 @@ use hir_store::fault::StoreFault;
 use hir_store::hir::{BindingAnnotation, Expr, MatchArm};
 use hir_store::ids::{ExprId, LangItemId};
 use hir_store::lists::push_arm;
-use hir_syntax::{Boxed, Seq, ast};
+use hir_syntax::Seq;
 use std::alloc::{AllocError, Global};
 
 /// The items that a `?` takes. It can't do without the first three.
@@ -154,18 +153,18 @@ pub(crate) fn two_arms(
 
 /// The operand before what is made of it.
 #[tactic(auto, unfolding(hir_lower_form::specs::Made::question_form))]
-fn question_with<P: LowerParts>(
+fn question_with<P: LowerParts, E: ExprPart>(
     lowerer: &Lowerer<P>,
     state: &mut BodyBuilder,
     at: InFile<AstPtr>,
     items: QuestionItems,
-    operand: &Option<Boxed<ast::Expr>>,
+    operand: &E,
 ) -> Result<ExprId, StoreFault>
-    requires { IfPresent (P.can lowerer.now.parts).expr operand.now }
-    ensures { let part = expr_part (P.spot lowerer.now.parts) operand.now in
+    requires { E.can (P.can lowerer.now.parts) operand.now }
+    ensures { let part = E.read (P.spot lowerer.now.parts) operand.now in
         Lowers HasExpr (spec.question_form at (items_of items) (lower_part part)) state.old result state.new }
 {
-    let operand = lowerer.collect_expr_opt(state, operand)?;
+    let operand = operand.lower(lowerer, state)?;
     let expr = state.item_call(lowerer.alloc, at, Some(items.branch), operand)?;
     let value = value_arm(lowerer.alloc, state, at, items.goes_on)?;
     let residual = residual_arm(lowerer.alloc, state, at, items)?;
@@ -174,16 +173,16 @@ fn question_with<P: LowerParts>(
 }
 
 /// Where the language lacks an item that a `?` can't do without, it is missing, and nothing in it is lowered.
-pub fn question_form<P: LowerParts>(
+pub fn question_form<P: LowerParts, E: ExprPart>(
     lowerer: &Lowerer<P>,
     state: &mut BodyBuilder,
     at: InFile<AstPtr>,
-    operand: &Option<Boxed<ast::Expr>>,
+    operand: &E,
 ) -> Result<ExprId, StoreFault>
-    requires { IfPresent (P.can lowerer.now.parts).expr operand.now }
+    requires { E.can (P.can lowerer.now.parts) operand.now }
     ensures { let spot = P.spot lowerer.now.parts in
         let items = of.question_items spot.answers.lang_items in
-        LowersExpr (of.question_of items at (expr_part spot operand.now)) state.old result state.new }
+        LowersExpr (of.question_of items at (E.read spot operand.now)) state.old result state.new }
 {
     match question_items(lowerer.parts.lang_items()) {
         None => state.missing_expr(),

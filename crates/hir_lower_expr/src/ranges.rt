@@ -1,17 +1,16 @@
 //! Ranges, which are made as items of the language.
 
-ghost use Rattle.std.specs.Prelude.{◌≡◌, ◌++◌, if◌then◌else◌, is_some, max, IfOk};
+ghost use Rattle.std.specs.Prelude.{◌≡◌, ◌++◌, if◌then◌else◌, max, IfOk};
 ghost use Rattle.hir_store.specs.Arenas.{past, past_option};
 ghost use Rattle.hir_store.specs.Range.{HasExpr, HasExprOption, past_expr, past_field};
 ghost use Rattle.hir_env.specs.Answered as tree;
 ghost use Rattle.hir_env.specs.Ranges as of;
-ghost use Rattle.hir_env.specs.Whole.{expr_part};
 ghost use Rattle.hir_lower_form.specs.Lowering.{Lowers};
 ghost use Rattle.hir_lower_form.specs.Ranges as spec;
-ghost use Rattle.hir_lower_form.specs.Nests.{IfPresent};
 ghost use Rattle.hir_lower_form.specs.Methods.{LowersExpr};
 ghost use Rattle.hir_lower_expr.specs.Ranges.{made_form, name_of_end};
 
+use crate::part::ExprPart;
 use hir_base::node::{AstPtr, InFile};
 use hir_env::lang::LangItems;
 use hir_lower_form::builder::BodyBuilder;
@@ -24,7 +23,7 @@ use hir_store::lists::{push_field, push_id};
 use hir_store::name::Name;
 use hir_store::path::Path;
 use hir_syntax::ast::RangeOp;
-use hir_syntax::{Boxed, Seq, Text, ast};
+use hir_syntax::{Seq, Text};
 use std::alloc::{AllocError, Global};
 
 /// What a range is made as: a record of an item, whose field for the end is `last` or `end`, a call of one, or nothing.
@@ -103,23 +102,23 @@ fn made_as(items: &LangItems, is_new: bool, op: Option<RangeOp>, start: bool, en
 }
 
 /// What a range that stands here is made as.
-fn made_here<P: LowerParts>(
+fn made_here<P: LowerParts, E: ExprPart>(
     lowerer: &Lowerer<P>,
     op: Option<RangeOp>,
-    start: &Option<Boxed<ast::Expr>>,
-    end: &Option<Boxed<ast::Expr>>,
+    start: &E,
+    end: &E,
 ) -> Made
     ensures { let spot = P.spot lowerer.now.parts in
         let is_new = spot.answers.new_range spot.place.module_id in
-        made_form result ≡ of.range_form spot.answers.lang_items is_new op (is_some start.now) (is_some end.now) }
+        made_form result ≡ of.range_form spot.answers.lang_items is_new op (E.is_there start.now) (E.is_there end.now) }
 {
     let is_new = lowerer.parts.new_range();
     made_as(
         lowerer.parts.lang_items(),
         is_new,
         op,
-        start.is_some(),
-        end.is_some(),
+        start.is_present(),
+        end.is_present(),
     )
 }
 
@@ -222,23 +221,23 @@ fn made_of(
 
 /// The ends from left to right, whatever it is made as.
 #[tactic(auto, unfolding(hir_lower_form::specs::Ranges::range_form))]
-pub fn range_form<P: LowerParts>(
+pub fn range_form<P: LowerParts, E: ExprPart>(
     lowerer: &Lowerer<P>,
     state: &mut BodyBuilder,
     at: InFile<AstPtr>,
     op: Option<RangeOp>,
-    start: &Option<Boxed<ast::Expr>>,
-    end: &Option<Boxed<ast::Expr>>,
+    start: &E,
+    end: &E,
 ) -> Result<ExprId, StoreFault>
-    requires start { IfPresent (P.can lowerer.now.parts).expr start.now }
-    requires end { IfPresent (P.can lowerer.now.parts).expr end.now }
+    requires start { E.can (P.can lowerer.now.parts) start.now }
+    requires end { E.can (P.can lowerer.now.parts) end.now }
     ensures { let spot = P.spot lowerer.now.parts in
         let is_new = spot.answers.new_range spot.place.module_id in
-        let form = of.range_form spot.answers.lang_items is_new op (is_some start.now) (is_some end.now) in
-        LowersExpr (tree.range_expr at form (expr_part spot start.now) (expr_part spot end.now)) state.old result state.new }
+        let form = of.range_form spot.answers.lang_items is_new op (E.is_there start.now) (E.is_there end.now) in
+        LowersExpr (tree.range_expr at form (E.read spot start.now) (E.read spot end.now)) state.old result state.new }
 {
-    let low = lowerer.collect_expr_if_present(state, start)?;
-    let high = lowerer.collect_expr_if_present(state, end)?;
+    let low = start.lower_if_present(lowerer, state)?;
+    let high = end.lower_if_present(lowerer, state)?;
     let made = made_here(lowerer, op, start, end);
     made_of(lowerer.alloc, state, at, made, low, high)
 }

@@ -6,15 +6,18 @@ ghost use Rattle.hir_syntax.specs.declared.ast.RecordExprFieldList.{out-RecordEx
 ghost use Rattle.hir_store.specs.declared.name.Name.TheVariants as names;
 ghost use Rattle.hir_store.specs.Range.{HasFields, HasSpread};
 ghost use Rattle.hir_env.specs.Answered as tree;
-ghost use Rattle.hir_env.specs.Whole.{answered_field, answered_record, expr_part, field_level, fields_part, path_part, record_level};
+ghost use Rattle.hir_env.specs.declared.place.Place.{Place as AtPlace};
+ghost use Rattle.hir_env.specs.Spot.{Spot};
+ghost use Rattle.hir_env.specs.Layers.{RecordReading};
+ghost use Rattle.hir_env.specs.Whole.{answered_field, answered_record, field_level, fields_part, record_level};
 ghost use Rattle.hir_env.specs.Whole.{record_part, spread_part};
 ghost use Rattle.hir_lower_form.specs.Lowering.{Lowers};
 ghost use Rattle.hir_lower_form.specs.Lower as spec;
 ghost use Rattle.hir_lower_form.specs.Methods.{HasField, HasRecord, LowersExpr, record_at};
-ghost use Rattle.hir_lower_form.specs.Nests.{IfPresent, KidsField, KidsFields, KidsRecord};
+ghost use Rattle.hir_lower_form.specs.Nests.{Claims, IfPresent, KidsField, KidsFields, KidsRecord};
 
-use crate::here::path_here;
 use crate::kept::push_kept_field;
+use crate::part::{ExprPart, PathPart};
 use hir_base::node::{AstPtr, InFile};
 use hir_lower_form::builder::BodyBuilder;
 use hir_lower_form::parts::{LowerParts, Lowerer, site};
@@ -27,18 +30,18 @@ use hir_syntax::{Boxed, Seq, ast};
 
 /// A field with a name, whose value leads to it.
 #[tactic(auto, unfolding(hir_lower_form::specs::Forms::field_form))]
-fn named_field<P: LowerParts>(
+fn named_field<P: LowerParts, E: ExprPart>(
     lowerer: &Lowerer<P>,
     state: &mut BodyBuilder,
     at: InFile<AstPtr>,
     name: &ast::Name,
-    value: &Option<Boxed<ast::Expr>>,
+    value: &E,
 ) -> Result<Option<RecordLitField>, StoreFault>
-    requires { IfPresent (P.can lowerer.now.parts).expr value.now }
-    ensures { let read = tree.named_field at (names.Text name.now.t) (expr_part (P.spot lowerer.now.parts) value.now) in
+    requires { E.can (P.can lowerer.now.parts) value.now }
+    ensures { let read = tree.named_field at (names.Text name.now.t) (E.read (P.spot lowerer.now.parts) value.now) in
         Lowers HasField (spec.lower_field read) state.old result state.new }
 {
-    let expr = lowerer.collect_expr_opt(state, value)?;
+    let expr = value.lower(lowerer, state)?;
     state.point_field(expr, at)?;
     let name = Name::Text(name.t.clone()?);
     Ok(Some(RecordLitField { name, expr }))
@@ -141,41 +144,57 @@ fn listed<P: LowerParts>(
     record_level_contents(lowerer, state, node)
 }
 
-/// The fields and what the others come from, nothing where no list is written.
-#[tactic(auto, unfolding(hir_lower_form::specs::Forms::record_contents))]
-fn contents<P: LowerParts>(
-    lowerer: &Lowerer<P>,
-    state: &mut BodyBuilder,
-    list: &Option<ast::RecordExprFieldList>,
-) -> Result<(Seq<RecordLitField>, RecordSpread), StoreFault>
-    requires { IfPresent (λ r. KidsRecord (P.can lowerer.now.parts) (P.spot lowerer.now.parts).place (out-RecordExprFieldList r)) list.now }
-    ensures { Lowers HasRecord (record_at (record_part (P.spot lowerer.now.parts) list.now)) state.old result state.new }
-{
-    match list {
-        None => Ok((Seq::new(lowerer.alloc), RecordSpread::None)),
-        Some(list) => listed(lowerer, state, list),
+/// The fields of a record and what the others come from, nothing where no list is written.
+pub trait RecordPart {
+    ghost can: { Claims → AtPlace → Self → Type 0 };
+
+    ghost read: { Spot → Self → RecordReading };
+
+    fn lower<P: LowerParts>(
+        &self,
+        lowerer: &Lowerer<P>,
+        state: &mut BodyBuilder,
+    ) -> Result<(Seq<RecordLitField>, RecordSpread), StoreFault>
+        requires { can (P.can lowerer.now.parts) (P.spot lowerer.now.parts).place self.now }
+        ensures { Lowers HasRecord (record_at (read (P.spot lowerer.now.parts) self.now)) state.old result state.new };
+}
+
+impl RecordPart for Option<ast::RecordExprFieldList> {
+    ghost can = { λ claims place. IfPresent (λ r. KidsRecord claims place (out-RecordExprFieldList r)) };
+
+    ghost read = { record_part };
+
+    #[tactic(auto, unfolding(hir_lower_form::specs::Forms::record_contents))]
+    fn lower<P: LowerParts>(
+        &self,
+        lowerer: &Lowerer<P>,
+        state: &mut BodyBuilder,
+    ) -> Result<(Seq<RecordLitField>, RecordSpread), StoreFault> {
+        match self {
+            None => Ok((Seq::new(lowerer.alloc), RecordSpread::None)),
+            Some(list) => listed(lowerer, state, list),
+        }
     }
 }
 
 /// Where the path is absent or refused the record is missing, and nothing else of it is read.
 #[tactic(auto, unfolding(hir_lower_form::specs::Forms::record_form))]
-pub fn record_form<P: LowerParts>(
+pub fn record_form<P: LowerParts, W: PathPart, R: RecordPart>(
     lowerer: &Lowerer<P>,
     state: &mut BodyBuilder,
     at: InFile<AstPtr>,
-    path: &Option<Boxed<ast::Path>>,
-    list: &Option<ast::RecordExprFieldList>,
+    path: &W,
+    list: &R,
 ) -> Result<ExprId, StoreFault>
-    requires path { IfPresent ((P.can lowerer.now.parts).path (P.spot lowerer.now.parts).place) path.now }
-    requires list { let place = (P.spot lowerer.now.parts).place in
-        IfPresent (λ r. KidsRecord (P.can lowerer.now.parts) place (out-RecordExprFieldList r)) list.now }
-    ensures { let spot = P.spot lowerer.now.parts in let read = record_part spot list.now in
-        LowersExpr (tree.record_expr at (path_part spot path.now) read.head read.fields read.spread) state.old result state.new }
+    requires path { W.can (P.can lowerer.now.parts) (P.spot lowerer.now.parts).place path.now }
+    requires list { R.can (P.can lowerer.now.parts) (P.spot lowerer.now.parts).place list.now }
+    ensures { let spot = P.spot lowerer.now.parts in let read = R.read spot list.now in
+        LowersExpr (tree.record_expr at (W.read spot path.now) read.head read.fields read.spread) state.old result state.new }
 {
-    let Some(path) = path_here(lowerer, state, path)? else {
+    let Some(path) = path.lower(lowerer, state)? else {
         return state.missing_expr();
     };
-    let (fields, spread) = contents(lowerer, state, list)?;
+    let (fields, spread) = list.lower(lowerer, state)?;
     let expr = Expr::RecordLit {
         path,
         fields,

@@ -7,7 +7,7 @@ ghost use Rattle.hir_lower_form.specs.Lowering.{Lowers};
 ghost use Rattle.hir_lower_form.specs.Methods.{try_steps_at};
 ghost use Rattle.hir_lower_form.specs.Nests.{IfPresent};
 
-use crate::here::block_here;
+use crate::written::WrittenBlock;
 use hir_lower_form::builder::BodyBuilder;
 use hir_lower_form::parts::{BlockRole, LowerParts, Lowerer};
 use hir_store::fault::StoreFault;
@@ -30,7 +30,7 @@ fn typed_try<P: LowerParts>(
 {
     let item = lowerer.parts.lang_items().try_trait_from_output;
     let role = BlockRole::Try { item, typed: true };
-    let block = block_here(lowerer, state, role, node)?;
+    let block = node.lower(lowerer, state, role)?;
     let number = state.made_number()?;
     let place = lowerer.parts.place();
     let type_ref = lowerer.parts.lower_type(state, place, &None, ty)?;
@@ -56,7 +56,7 @@ pub(crate) fn try_form<P: LowerParts>(
         None => {
             let item = lowerer.parts.lang_items().try_trait_from_output;
             let role = BlockRole::Try { item, typed: false };
-            block_here(lowerer, state, role, node)
+            node.lower(lowerer, state, role)
         }
         Some(ty) => typed_try(lowerer, state, ty.get(), node),
     }

@@ -4,14 +4,12 @@ ghost use Rattle.std.specs.Prelude.{◌≡◌, IfOk, Some};
 ghost use Rattle.hir_store.specs.Range.{HasExpr, HasPathOption};
 ghost use Rattle.hir_env.specs.Answered as tree;
 ghost use Rattle.hir_env.specs.Answering.{names_of, site_of};
-ghost use Rattle.hir_env.specs.Whole.{expr_part, path_part, type_part};
 ghost use Rattle.hir_lower_form.specs.Forms.{path_or_missing};
 ghost use Rattle.hir_lower_form.specs.Lowering as step;
 ghost use Rattle.hir_lower_form.specs.Lowering.{Lowers};
-ghost use Rattle.hir_lower_form.specs.Nests.{IfPresent};
 ghost use Rattle.hir_lower_form.specs.Methods.{LowersExpr};
 
-use crate::here::{path_here, type_here};
+use crate::part::{ExprPart, PathPart, TypePart};
 use hir_base::node::{AstPtr, InFile};
 use hir_lower_form::builder::BodyBuilder;
 use hir_lower_form::names::{names_of, path_expr};
@@ -21,7 +19,7 @@ use hir_store::hir::Expr;
 use hir_store::ids::{ExprId, HygieneId};
 use hir_store::name::Name;
 use hir_store::path::Path;
-use hir_syntax::{Boxed, Seq, ast};
+use hir_syntax::{Seq, ast};
 use std::alloc::{AllocError, Global};
 
 /// What was read of a path, which is missing where it is absent or refused.
@@ -39,37 +37,37 @@ fn read_path_expr(
 
 /// A path that is absent or refused is missing.
 #[tactic(auto, unfolding(hir_lower_form::specs::Forms::path_form))]
-pub fn path_form<P: LowerParts>(
+pub fn path_form<P: LowerParts, W: PathPart>(
     lowerer: &Lowerer<P>,
     state: &mut BodyBuilder,
     at: InFile<AstPtr>,
-    path: &Option<Boxed<ast::Path>>,
+    path: &W,
 ) -> Result<ExprId, StoreFault>
-    requires { IfPresent ((P.can lowerer.now.parts).path (P.spot lowerer.now.parts).place) path.now }
+    requires { W.can (P.can lowerer.now.parts) (P.spot lowerer.now.parts).place path.now }
     ensures { let spot = P.spot lowerer.now.parts in
-        LowersExpr (tree.path_expr at (path_part spot path.now) (spot.answers.hygiene (site_of at))) state.old result state.new }
+        LowersExpr (tree.path_expr at (W.read spot path.now) (spot.answers.hygiene (site_of at))) state.old result state.new }
 {
     let hygiene = lowerer.parts.hygiene(site(at));
-    let path = path_here(lowerer, state, path)?;
+    let path = path.lower(lowerer, state)?;
     read_path_expr(state, at, path, hygiene)
 }
 
 /// A cast: what is cast, then the type.
 #[tactic(auto, unfolding(hir_lower_form::specs::Forms::cast_form))]
-pub fn cast_form<P: LowerParts>(
+pub fn cast_form<P: LowerParts, E: ExprPart, T: TypePart>(
     lowerer: &Lowerer<P>,
     state: &mut BodyBuilder,
     at: InFile<AstPtr>,
-    operand: &Option<Boxed<ast::Expr>>,
-    ty: &Option<Boxed<ast::Type_>>,
+    operand: &E,
+    ty: &T,
 ) -> Result<ExprId, StoreFault>
-    requires operand { IfPresent (P.can lowerer.now.parts).expr operand.now }
-    requires ty { IfPresent ((P.can lowerer.now.parts).type_ (P.spot lowerer.now.parts).place) ty.now }
+    requires operand { E.can (P.can lowerer.now.parts) operand.now }
+    requires ty { T.can (P.can lowerer.now.parts) (P.spot lowerer.now.parts).place ty.now }
     ensures { let spot = P.spot lowerer.now.parts in
-        LowersExpr (tree.cast_expr at (expr_part spot operand.now) (type_part spot ty.now)) state.old result state.new }
+        LowersExpr (tree.cast_expr at (E.read spot operand.now) (T.read spot ty.now)) state.old result state.new }
 {
-    let expr = lowerer.collect_expr_opt(state, operand)?;
-    let type_ref = type_here(lowerer, state, ty)?;
+    let expr = operand.lower(lowerer, state)?;
+    let type_ref = ty.lower(lowerer, state)?;
     state.alloc_expr(Expr::Cast { expr, type_ref }, Some(at))
 }
 
@@ -82,18 +80,18 @@ fn field_names(alloc: Global, names: &Seq<ast::Name>) -> Result<Seq<Name>, Alloc
 
 /// `offset_of!`: the type, then the names of the fields.
 #[tactic(auto, unfolding(hir_lower_form::specs::Forms::offset_of_form))]
-pub fn offset_of_form<P: LowerParts>(
+pub fn offset_of_form<P: LowerParts, T: TypePart>(
     lowerer: &Lowerer<P>,
     state: &mut BodyBuilder,
     at: InFile<AstPtr>,
-    ty: &Option<Boxed<ast::Type_>>,
+    ty: &T,
     names: &Seq<ast::Name>,
 ) -> Result<ExprId, StoreFault>
-    requires { IfPresent ((P.can lowerer.now.parts).type_ (P.spot lowerer.now.parts).place) ty.now }
-    ensures { let container = type_part (P.spot lowerer.now.parts) ty.now in
+    requires { T.can (P.can lowerer.now.parts) (P.spot lowerer.now.parts).place ty.now }
+    ensures { let container = T.read (P.spot lowerer.now.parts) ty.now in
         LowersExpr (tree.offset_of_expr at container (names_of names.now)) state.old result state.new }
 {
-    let container = type_here(lowerer, state, ty)?;
+    let container = ty.lower(lowerer, state)?;
     let fields = field_names(lowerer.alloc, names)?;
     state.alloc_expr(Expr::OffsetOf { container, fields }, Some(at))
 }

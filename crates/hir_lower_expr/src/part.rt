@@ -1,0 +1,399 @@
+//! What a part of the tree is to a form: something that is lowered. No tree is then among the types of the form.
+
+ghost use Rattle.std.specs.Prelude.{◌≡◌, Bool, None, is_some};
+ghost use Rattle.hir_env.specs.Answered.{Constant, Exprs, OptionArgs, OptionBlock, OptionExpr, OptionPat, OptionPath, OptionType};
+ghost use Rattle.hir_env.specs.declared.place.Place.{Place as AtPlace};
+ghost use Rattle.hir_env.specs.Spot.{Spot};
+ghost use Rattle.hir_env.specs.Targets.{head_pointer, resolves, target_of};
+ghost use Rattle.hir_env.specs.Whole.{arg_list_part, args_part, block_part, expr_part, exprs_part, pat_part, path_part, type_part};
+ghost use Rattle.hir_lower_form.specs.Nests.{Claims, Each, IfPresent};
+ghost use Rattle.hir_lower_form.specs.Methods.{LowersArgs, LowersBlockOpt, LowersConstant, LowersEach, LowersExprOpt, LowersIfPresent};
+ghost use Rattle.hir_lower_form.specs.Methods.{LowersPath, LowersTarget, LowersTop, LowersTypeIfPresent, LowersTypeOpt};
+ghost use Rattle.hir_lower_form.specs.Methods.{at_place, constant_at};
+
+use crate::fors::head_node;
+use hir_base::node::{AstPtr, InFile};
+use hir_env::place::Place;
+use hir_lower_form::builder::BodyBuilder;
+use hir_lower_form::parts::{LowerParts, Lowerer};
+use hir_lower_pat::targets::lower_target;
+use hir_lower_pat::top::top_pat;
+use hir_store::fault::StoreFault;
+use hir_store::ids::{ExprId, PatId, TypeRefId};
+use hir_store::path::{GenericArgs, Path};
+use hir_store::type_ref::ConstRef;
+use hir_syntax::{Boxed, Seq, ast};
+
+/// An expression that is there or isn't.
+pub trait ExprPart {
+    ghost can: { Claims → Self → Type 0 };
+
+    /// At another place than the form's.
+    ghost can_inside: { Claims → AtPlace → Self → Type 0 };
+
+    /// As what is assigned to.
+    ghost can_aim: { Claims → AtPlace → Self → Type 0 };
+
+    ghost read: { Spot → Self → OptionExpr };
+
+    ghost is_there: { Self → Bool };
+
+    fn is_present(&self) -> bool
+        ensures { result ≡ is_there self.now };
+
+    /// The node of the expression, or this one where it is absent.
+    fn node_or<P: LowerParts>(&self, lowerer: &Lowerer<P>, at: InFile<AstPtr>) -> InFile<AstPtr>
+        ensures { result ≡ head_pointer at (read (P.spot lowerer.now.parts) self.now) };
+
+    /// The expression, missing where it is absent or a condition disables it.
+    fn lower<P: LowerParts>(
+        &self,
+        lowerer: &Lowerer<P>,
+        state: &mut BodyBuilder,
+    ) -> Result<ExprId, StoreFault>
+        requires { can (P.can lowerer.now.parts) self.now }
+        ensures { LowersExprOpt (read (P.spot lowerer.now.parts) self.now) state.old result state.new };
+
+    /// The expression, none where it is absent, and missing where a condition disables it.
+    fn lower_if_present<P: LowerParts>(
+        &self,
+        lowerer: &Lowerer<P>,
+        state: &mut BodyBuilder,
+    ) -> Result<Option<ExprId>, StoreFault>
+        requires { can (P.can lowerer.now.parts) self.now }
+        ensures { LowersIfPresent (read (P.spot lowerer.now.parts) self.now) state.old result state.new };
+
+    /// The expression, read at this place, missing where it is absent or a condition disables it.
+    fn lower_inside<P: LowerParts>(
+        &self,
+        lowerer: &Lowerer<P>,
+        state: &mut BodyBuilder,
+        place: Place,
+    ) -> Result<ExprId, StoreFault>
+        requires { can_inside (P.can lowerer.now.parts) place self.now }
+        ensures { LowersExprOpt (read (at_place (P.spot lowerer.now.parts) place) self.now) state.old result state.new };
+
+    /// What is assigned to, missing where it is absent.
+    fn lower_aim<P: LowerParts>(
+        &self,
+        lowerer: &Lowerer<P>,
+        state: &mut BodyBuilder,
+    ) -> Result<PatId, StoreFault>
+        requires { can_aim (P.can lowerer.now.parts) (P.spot lowerer.now.parts).place self.now }
+        ensures { let spot = P.spot lowerer.now.parts in
+            LowersTarget (target_of (resolves spot.answers spot.place) (read spot self.now)) state.old result state.new };
+}
+
+impl ExprPart for Option<Boxed<ast::Expr>> {
+    ghost can = { λ claims. IfPresent claims.expr };
+
+    ghost can_inside = { λ claims place. IfPresent (claims.inner place) };
+
+    ghost can_aim = { λ claims place. IfPresent (claims.target place) };
+
+    ghost read = { expr_part };
+
+    ghost is_there = { is_some };
+
+    fn is_present(&self) -> bool {
+        self.is_some()
+    }
+
+    fn node_or<P: LowerParts>(&self, lowerer: &Lowerer<P>, at: InFile<AstPtr>) -> InFile<AstPtr> {
+        head_node(lowerer, at, self)
+    }
+
+    fn lower<P: LowerParts>(
+        &self,
+        lowerer: &Lowerer<P>,
+        state: &mut BodyBuilder,
+    ) -> Result<ExprId, StoreFault> {
+        lowerer.collect_expr_opt(state, self)
+    }
+
+    fn lower_if_present<P: LowerParts>(
+        &self,
+        lowerer: &Lowerer<P>,
+        state: &mut BodyBuilder,
+    ) -> Result<Option<ExprId>, StoreFault> {
+        lowerer.collect_expr_if_present(state, self)
+    }
+
+    fn lower_inside<P: LowerParts>(
+        &self,
+        lowerer: &Lowerer<P>,
+        state: &mut BodyBuilder,
+        place: Place,
+    ) -> Result<ExprId, StoreFault> {
+        lowerer.collect_expr_opt_inside(state, place, self)
+    }
+
+    fn lower_aim<P: LowerParts>(
+        &self,
+        lowerer: &Lowerer<P>,
+        state: &mut BodyBuilder,
+    ) -> Result<PatId, StoreFault> {
+        lower_target(lowerer, state, self)
+    }
+}
+
+/// The expression of a constant, which is there or isn't.
+pub trait ConstPart {
+    ghost can: { Claims → AtPlace → Self → Type 0 };
+
+    ghost read: { Spot → Self → Constant };
+
+    /// The constant, which is missing where the expression is absent or a condition disables it.
+    fn lower<P: LowerParts>(
+        &self,
+        lowerer: &Lowerer<P>,
+        state: &mut BodyBuilder,
+    ) -> Result<ConstRef, StoreFault>
+        requires { can (P.can lowerer.now.parts) (P.spot lowerer.now.parts).place self.now }
+        ensures { LowersConstant (read (P.spot lowerer.now.parts) self.now) state.old result state.new };
+}
+
+impl ConstPart for Option<Boxed<ast::Expr>> {
+    ghost can = { λ claims. claims.constant };
+
+    ghost read = { constant_at };
+
+    fn lower<P: LowerParts>(
+        &self,
+        lowerer: &Lowerer<P>,
+        state: &mut BodyBuilder,
+    ) -> Result<ConstRef, StoreFault> {
+        lowerer
+            .parts
+            .collect_constant(state, lowerer.parts.place(), self)
+    }
+}
+
+/// Expressions one after another.
+pub trait ListPart {
+    ghost can: { Claims → Self → Type 0 };
+
+    ghost read: { Spot → Self → Exprs };
+
+    /// Those that no condition disables.
+    fn lower<P: LowerParts>(
+        &self,
+        lowerer: &Lowerer<P>,
+        state: &mut BodyBuilder,
+    ) -> Result<Seq<ExprId>, StoreFault>
+        requires { can (P.can lowerer.now.parts) self.now }
+        ensures { LowersEach (read (P.spot lowerer.now.parts) self.now) state.old result state.new };
+}
+
+impl ListPart for Seq<ast::Expr> {
+    ghost can = { λ claims. Each claims.expr };
+
+    ghost read = { exprs_part };
+
+    fn lower<P: LowerParts>(
+        &self,
+        lowerer: &Lowerer<P>,
+        state: &mut BodyBuilder,
+    ) -> Result<Seq<ExprId>, StoreFault> {
+        lowerer.collect_each(state, self.as_slice())
+    }
+}
+
+/// Arguments, none where they are absent.
+pub trait ArgsPart {
+    ghost can: { Claims → Self → Type 0 };
+
+    ghost read: { Spot → Self → Exprs };
+
+    ghost is_there: { Self → Bool };
+
+    fn lower<P: LowerParts>(
+        &self,
+        lowerer: &Lowerer<P>,
+        state: &mut BodyBuilder,
+    ) -> Result<Seq<ExprId>, StoreFault>
+        requires { can (P.can lowerer.now.parts) self.now }
+        ensures { LowersEach (read (P.spot lowerer.now.parts) self.now) state.old result state.new };
+}
+
+impl ArgsPart for Option<Seq<ast::Expr>> {
+    ghost can = { λ claims. IfPresent (Each claims.expr) };
+
+    ghost read = { args_part };
+
+    ghost is_there = { is_some };
+
+    fn lower<P: LowerParts>(
+        &self,
+        lowerer: &Lowerer<P>,
+        state: &mut BodyBuilder,
+    ) -> Result<Seq<ExprId>, StoreFault> {
+        lowerer.arguments(state, self)
+    }
+}
+
+/// A block that is there or isn't, in a place where only a block may stand.
+pub trait BlockPart {
+    ghost can: { Claims → AtPlace → Self → Type 0 };
+
+    ghost read: { Spot → Self → OptionBlock };
+
+    /// The block, missing where it is absent.
+    fn lower<P: LowerParts>(
+        &self,
+        lowerer: &Lowerer<P>,
+        state: &mut BodyBuilder,
+    ) -> Result<ExprId, StoreFault>
+        requires { can (P.can lowerer.now.parts) (P.spot lowerer.now.parts).place self.now }
+        ensures { LowersBlockOpt (read (P.spot lowerer.now.parts) self.now) state.old result state.new };
+}
+
+impl BlockPart for Option<Boxed<ast::BlockExpr>> {
+    ghost can = { λ claims place. IfPresent (claims.block place) };
+
+    ghost read = { block_part };
+
+    fn lower<P: LowerParts>(
+        &self,
+        lowerer: &Lowerer<P>,
+        state: &mut BodyBuilder,
+    ) -> Result<ExprId, StoreFault> {
+        lowerer.collect_block_opt(state, self)
+    }
+}
+
+/// A whole pattern that is there or isn't.
+pub trait PatPart {
+    ghost can: { Claims → AtPlace → Self → Type 0 };
+
+    ghost read: { Spot → Self → OptionPat };
+
+    /// The pattern, missing where it is absent.
+    fn lower<P: LowerParts>(
+        &self,
+        lowerer: &Lowerer<P>,
+        state: &mut BodyBuilder,
+    ) -> Result<PatId, StoreFault>
+        requires { can (P.can lowerer.now.parts) (P.spot lowerer.now.parts).place self.now }
+        ensures { LowersTop (read (P.spot lowerer.now.parts) self.now) state.old result state.new };
+}
+
+impl PatPart for Option<Boxed<ast::Pat>> {
+    ghost can = { λ claims place. IfPresent (claims.pat place) };
+
+    ghost read = { pat_part };
+
+    fn lower<P: LowerParts>(
+        &self,
+        lowerer: &Lowerer<P>,
+        state: &mut BodyBuilder,
+    ) -> Result<PatId, StoreFault> {
+        top_pat(lowerer, state, self)
+    }
+}
+
+/// A type that is there or isn't.
+pub trait TypePart {
+    ghost can: { Claims → AtPlace → Self → Type 0 };
+
+    ghost read: { Spot → Self → OptionType };
+
+    /// The type, an error where it is absent.
+    fn lower<P: LowerParts>(
+        &self,
+        lowerer: &Lowerer<P>,
+        state: &mut BodyBuilder,
+    ) -> Result<TypeRefId, StoreFault>
+        requires { can (P.can lowerer.now.parts) (P.spot lowerer.now.parts).place self.now }
+        ensures { LowersTypeOpt None (read (P.spot lowerer.now.parts) self.now) state.old result state.new };
+
+    /// The type, none where it is absent.
+    fn lower_if_present<P: LowerParts>(
+        &self,
+        lowerer: &Lowerer<P>,
+        state: &mut BodyBuilder,
+    ) -> Result<Option<TypeRefId>, StoreFault>
+        requires { can (P.can lowerer.now.parts) (P.spot lowerer.now.parts).place self.now }
+        ensures { LowersTypeIfPresent (read (P.spot lowerer.now.parts) self.now) state.old result state.new };
+}
+
+impl TypePart for Option<Boxed<ast::Type_>> {
+    ghost can = { λ claims place. IfPresent (claims.type_ place) };
+
+    ghost read = { type_part };
+
+    fn lower<P: LowerParts>(
+        &self,
+        lowerer: &Lowerer<P>,
+        state: &mut BodyBuilder,
+    ) -> Result<TypeRefId, StoreFault> {
+        lowerer.type_or_error(state, lowerer.parts.place(), &None, self)
+    }
+
+    fn lower_if_present<P: LowerParts>(
+        &self,
+        lowerer: &Lowerer<P>,
+        state: &mut BodyBuilder,
+    ) -> Result<Option<TypeRefId>, StoreFault> {
+        lowerer.type_if_present(state, lowerer.parts.place(), self)
+    }
+}
+
+/// A path that is there or isn't.
+pub trait PathPart {
+    ghost can: { Claims → AtPlace → Self → Type 0 };
+
+    ghost read: { Spot → Self → OptionPath };
+
+    /// The path, none where it is absent or refused.
+    fn lower<P: LowerParts>(
+        &self,
+        lowerer: &Lowerer<P>,
+        state: &mut BodyBuilder,
+    ) -> Result<Option<Path>, StoreFault>
+        requires { can (P.can lowerer.now.parts) (P.spot lowerer.now.parts).place self.now }
+        ensures { LowersPath (read (P.spot lowerer.now.parts) self.now) state.old result state.new };
+}
+
+impl PathPart for Option<Boxed<ast::Path>> {
+    ghost can = { λ claims place. IfPresent (claims.path place) };
+
+    ghost read = { path_part };
+
+    fn lower<P: LowerParts>(
+        &self,
+        lowerer: &Lowerer<P>,
+        state: &mut BodyBuilder,
+    ) -> Result<Option<Path>, StoreFault> {
+        lowerer.path_if_present(state, lowerer.parts.place(), self)
+    }
+}
+
+/// Generic arguments, none where they are absent or yield nothing.
+pub trait GenericsPart {
+    ghost can: { Claims → AtPlace → Self → Type 0 };
+
+    ghost read: { Spot → Self → OptionArgs };
+
+    fn lower<P: LowerParts>(
+        &self,
+        lowerer: &Lowerer<P>,
+        state: &mut BodyBuilder,
+    ) -> Result<Option<GenericArgs>, StoreFault>
+        requires { can (P.can lowerer.now.parts) (P.spot lowerer.now.parts).place self.now }
+        ensures { LowersArgs (read (P.spot lowerer.now.parts) self.now) state.old result state.new };
+}
+
+impl GenericsPart for Option<ast::GenericArgList> {
+    ghost can = { λ claims place. IfPresent (claims.args place) };
+
+    ghost read = { arg_list_part };
+
+    fn lower<P: LowerParts>(
+        &self,
+        lowerer: &Lowerer<P>,
+        state: &mut BodyBuilder,
+    ) -> Result<Option<GenericArgs>, StoreFault> {
+        lowerer.args_if_present(state, lowerer.parts.place(), self)
+    }
+}
