@@ -1,15 +1,14 @@
 //! Blocks and statements.
 
-ghost use Rattle.std.specs.Prelude.{◌≡◌, ◌-◌, [], false, length, slice_get};
+ghost use Rattle.std.specs.Prelude.{◌≡◌, ◌-◌, false, length, slice_get};
 ghost use Rattle.hir_syntax.specs.declared.ast.BlockExpr.{out-BlockExpr};
 ghost use Rattle.hir_syntax.specs.declared.ast.StmtKind.{out-StmtKind};
 ghost use Rattle.hir_store.specs.Range.{HasExpr, HasLabelOption};
-ghost use Rattle.hir_env.specs.Whole.{answered_block, expr_part, label_part, stmt_level, stmts_part};
+ghost use Rattle.hir_env.specs.Whole.{answered_block, label_part, stmt_level, stmts_part};
 ghost use Rattle.hir_lower_form.specs.Lowering.{Lowers};
 ghost use Rattle.hir_lower_form.specs.Lower as spec;
 ghost use Rattle.hir_lower_form.specs.Nests.{Each, KidsBlock, KidsBody, KidsStmt};
-ghost use Rattle.hir_lower_form.specs.Methods.{HasContents, HasRole, LowersExpr, LowersStmt, LowersStmts, block_steps_at};
-ghost use Rattle.hir_lower_form.specs.Methods.{flat, own_steps_at};
+ghost use Rattle.hir_lower_form.specs.Methods.{HasRole, LowersExpr, LowersStmt, LowersStmts, block_steps_at};
 ghost use Rattle.hir_lower_form.specs.declared.parts.BlockRole.TheVariants as role;
 
 use crate::consts::const_form;
@@ -18,6 +17,7 @@ use crate::kept::push_kept_statement;
 use crate::lets::let_stmt;
 use crate::tries::try_form;
 use crate::written::WrittenBlock;
+use hir_base::node::{AstPtr, InFile};
 use hir_lower_form::builder::BodyBuilder;
 use hir_lower_form::parts::{BlockRole, LowerParts, Lowerer};
 use hir_store::fault::StoreFault;
@@ -89,7 +89,7 @@ fn collect_stmt<P: LowerParts>(
     }
 }
 
-fn collect_stmts<P: LowerParts>(
+pub(crate) fn collect_stmts<P: LowerParts>(
     lowerer: &Lowerer<P>,
     state: &mut BodyBuilder,
     mut all: &[ast::Stmt],
@@ -106,28 +106,12 @@ fn collect_stmts<P: LowerParts>(
     Ok(done)
 }
 
-/// The statements, and then the tail.
-pub(crate) fn flat_contents<P: LowerParts>(
-    lowerer: &Lowerer<P>,
-    state: &mut BodyBuilder,
-    node: &ast::BlockExpr,
-) -> Result<(Seq<Statement>, Option<ExprId>), StoreFault>
-    requires { KidsBlock (P.can lowerer.now.parts) (P.spot lowerer.now.parts).place (out-BlockExpr node.now) }
-    ensures { let block = out-BlockExpr node.now in
-        let spot = P.spot lowerer.now.parts in
-        let tail = spec.kept_part (expr_part spot block.tail) in
-        Lowers HasContents (flat [] (stmts_part spot block.stmts) tail) state.old result state.new }
-{
-    let statements = collect_stmts(lowerer, state, node.stmts.as_slice())?;
-    let tail = lowerer.maybe_collect_expr_opt(state, &node.tail)?;
-    Ok((statements, tail))
-}
-
 /// A block that is read here, as one that is unsafe or isn't, inside the label of this number.
 #[tactic(auto, unfolding(hir_lower_form::specs::Forms::block_form))]
 fn plain_node<P: LowerParts, N: WrittenBlock>(
     lowerer: &Lowerer<P>,
     state: &mut BodyBuilder,
+    at: InFile<AstPtr>,
     is_unsafe: bool,
     label: Option<LabelId>,
     number: Option<BlockId>,
@@ -136,7 +120,7 @@ fn plain_node<P: LowerParts, N: WrittenBlock>(
     requires parts { N.can_parts (P.can lowerer.now.parts) (P.spot lowerer.now.parts).place node.now }
     requires label { HasLabelOption state.old.stored label }
     ensures { let spot = P.spot lowerer.now.parts in
-        Lowers HasExpr (spec.as_role (role.Plain is_unsafe label) (N.place_of spot node.now) number (N.stored spot node.now)) state.old result state.new }
+        Lowers HasExpr (spec.as_role (role.Plain is_unsafe label) at number (N.stored spot node.now)) state.old result state.new }
 {
     state.enter_block(number)?;
     let (mut statements, tail) = node.contents(lowerer, state)?;
@@ -148,7 +132,7 @@ fn plain_node<P: LowerParts, N: WrittenBlock>(
         statements,
         tail,
     };
-    state.alloc_expr(expr, Some(node.pointer(lowerer)))
+    state.alloc_expr(expr, Some(at))
 }
 
 /// The block of a `try` that is read here. Its tail goes through the item before the block is stored.
@@ -156,6 +140,7 @@ fn plain_node<P: LowerParts, N: WrittenBlock>(
 fn try_node<P: LowerParts, N: WrittenBlock>(
     lowerer: &Lowerer<P>,
     state: &mut BodyBuilder,
+    at: InFile<AstPtr>,
     item: Option<LangItemId>,
     typed: bool,
     number: Option<BlockId>,
@@ -163,9 +148,8 @@ fn try_node<P: LowerParts, N: WrittenBlock>(
 ) -> Result<ExprId, StoreFault>
     requires { N.can_parts (P.can lowerer.now.parts) (P.spot lowerer.now.parts).place node.now }
     ensures { let spot = P.spot lowerer.now.parts in
-        Lowers HasExpr (spec.as_role (role.Try item typed) (N.place_of spot node.now) number (N.stored spot node.now)) state.old result state.new }
+        Lowers HasExpr (spec.as_role (role.Try item typed) at number (N.stored spot node.now)) state.old result state.new }
 {
-    let at = node.pointer(lowerer);
     let label = state.open_try(at, typed)?;
     state.enter_block(number)?;
     let (mut statements, tail) = node.contents(lowerer, state)?;
@@ -187,6 +171,7 @@ fn try_node<P: LowerParts, N: WrittenBlock>(
 fn coroutine_node<P: LowerParts, N: WrittenBlock>(
     lowerer: &Lowerer<P>,
     state: &mut BodyBuilder,
+    at: InFile<AstPtr>,
     kind: CoroutineKind,
     moves: bool,
     number: Option<BlockId>,
@@ -194,7 +179,7 @@ fn coroutine_node<P: LowerParts, N: WrittenBlock>(
 ) -> Result<ExprId, StoreFault>
     requires { N.can_parts (P.can lowerer.now.parts) (P.spot lowerer.now.parts).place node.now }
     ensures { let spot = P.spot lowerer.now.parts in
-        Lowers HasExpr (spec.as_role (role.Coroutine kind moves) (N.place_of spot node.now) number (N.stored spot node.now)) state.old result state.new }
+        Lowers HasExpr (spec.as_role (role.Coroutine kind moves) at number (N.stored spot node.now)) state.old result state.new }
 {
     state.enter_block(number)?;
     let (mut statements, tail) = node.contents(lowerer, state)?;
@@ -207,7 +192,6 @@ fn coroutine_node<P: LowerParts, N: WrittenBlock>(
         tail,
     };
     let body = state.alloc_expr(expr, None)?;
-    let at = node.pointer(lowerer);
     state.alloc_expr(coroutine(lowerer.alloc, kind, moves, body), Some(at))
 }
 
@@ -223,13 +207,14 @@ pub fn block_node<P: LowerParts>(
     requires role { HasRole state.old.stored role }
     ensures { Lowers HasExpr (block_steps_at (P.spot lowerer.now.parts) role number node.now) state.old result state.new }
 {
+    let at = lowerer.pointer(node.id, node.range);
     match role {
         BlockRole::Plain { is_unsafe, label } => {
-            plain_node(lowerer, state, is_unsafe, label, number, node)
+            plain_node(lowerer, state, at, is_unsafe, label, number, node)
         }
-        BlockRole::Try { item, typed } => try_node(lowerer, state, item, typed, number, node),
+        BlockRole::Try { item, typed } => try_node(lowerer, state, at, item, typed, number, node),
         BlockRole::Coroutine { kind, moves } => {
-            coroutine_node(lowerer, state, kind, moves, number, node)
+            coroutine_node(lowerer, state, at, kind, moves, number, node)
         }
     }
 }
@@ -260,15 +245,14 @@ fn labelled_block<P: LowerParts, N: WrittenBlock>(
     Ok(id)
 }
 
-/// A block with its modifier, beside which no label counts, or else with its label.
-fn headed_block<P: LowerParts>(
+/// A block as an expression: with its modifier, beside which no label counts, or else with its label.
+pub fn block_form<P: LowerParts>(
     lowerer: &Lowerer<P>,
     state: &mut BodyBuilder,
     node: &ast::BlockExpr,
 ) -> Result<ExprId, StoreFault>
     requires { KidsBody (P.can lowerer.now.parts) (P.spot lowerer.now.parts).place node.now }
-    ensures { let spot = P.spot lowerer.now.parts in
-        Lowers HasExpr (own_steps_at spot (out-BlockExpr node.now).mod_ node.now) state.old result state.new }
+    ensures { LowersExpr (answered_block (P.spot lowerer.now.parts) node.now) state.old result state.new }
 {
     match node.mod_ {
         None => labelled_block(lowerer, state, &node.label, node),
@@ -280,25 +264,22 @@ fn headed_block<P: LowerParts>(
             node.lower(lowerer, state, role)
         }
         Some(ast::BlockModifier::Try) => try_form(lowerer, state, &node.ty, node),
-        Some(ast::BlockModifier::Const) => const_form(lowerer, state, node),
-        Some(ast::BlockModifier::Async) => {
-            coroutine_form(lowerer, state, CoroutineKind::Async, node)
+        Some(ast::BlockModifier::Const) => {
+            let at = lowerer.pointer(node.id, node.range);
+            const_form(lowerer, state, at, node)
         }
-        Some(ast::BlockModifier::Gen) => coroutine_form(lowerer, state, CoroutineKind::Gen, node),
+        Some(ast::BlockModifier::Async) => {
+            coroutine_form(lowerer, state, CoroutineKind::Async, node.move_, node)
+        }
+        Some(ast::BlockModifier::Gen) => coroutine_form(
+            lowerer,
+            state,
+            CoroutineKind::Gen,
+            node.move_,
+            node,
+        ),
         Some(ast::BlockModifier::AsyncGen) => {
-            coroutine_form(lowerer, state, CoroutineKind::AsyncGen, node)
+            coroutine_form(lowerer, state, CoroutineKind::AsyncGen, node.move_, node)
         }
     }
-}
-
-/// A block as an expression, where its own modifier and its own label count.
-pub fn block_form<P: LowerParts>(
-    lowerer: &Lowerer<P>,
-    state: &mut BodyBuilder,
-    node: &ast::BlockExpr,
-) -> Result<ExprId, StoreFault>
-    requires { KidsBody (P.can lowerer.now.parts) (P.spot lowerer.now.parts).place node.now }
-    ensures { LowersExpr (answered_block (P.spot lowerer.now.parts) node.now) state.old result state.new }
-{
-    headed_block(lowerer, state, node)
 }

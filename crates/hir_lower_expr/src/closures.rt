@@ -10,7 +10,7 @@ ghost use Rattle.hir_env.specs.Answered.{OptionType, Params};
 ghost use Rattle.hir_env.specs.declared.place.Place.{Place as AtPlace};
 ghost use Rattle.hir_env.specs.Spot.{Spot};
 ghost use Rattle.hir_env.specs.Whole.{answer_part, answered_closure_param, closure_params_or_none_part, closure_params_part};
-ghost use Rattle.hir_env.specs.Whole.{in_closure, param_level};
+ghost use Rattle.hir_env.specs.Whole.{in_closure};
 ghost use Rattle.hir_lower_form.specs.Forms as spec;
 ghost use Rattle.hir_lower_form.specs.Lower.{lower_params, lower_part, present_type};
 ghost use Rattle.hir_lower_form.specs.Lowering.{Lowers};
@@ -91,26 +91,6 @@ fn kept_param<P: LowerParts, Q: PatPart, T: TypePart>(
 }
 
 /// A parameter behind others, which stay alone where a condition disables it.
-fn param_form<P: LowerParts>(
-    lowerer: &Lowerer<P>,
-    state: &mut BodyBuilder,
-    params: ClosureParams,
-    node: &ast::Param,
-) -> Result<ClosureParams, StoreFault>
-    requires part { KidsClosureParam (P.can lowerer.now.parts) (P.spot lowerer.now.parts).place (out-Param node.now) }
-    requires params { HasClosureParams state.old.stored params }
-    ensures { LowersParam params (param_level (P.spot lowerer.now.parts) node.now).own state.old result state.new }
-{
-    let at = lowerer.pointer(node.id, node.range);
-    match lowerer.parts.cfg(site(at)) {
-        Err(cfg) => {
-            state.report(ExpressionStoreDiagnostics::InactiveCode { node: at, cfg })?;
-            Ok(params)
-        }
-        Ok(()) => kept_param(lowerer, state, params, &node.pat, &node.ty),
-    }
-}
-
 fn param<P: LowerParts>(
     lowerer: &Lowerer<P>,
     state: &mut BodyBuilder,
@@ -121,7 +101,14 @@ fn param<P: LowerParts>(
     requires params { HasClosureParams state.old.stored params }
     ensures { LowersParam params (answered_closure_param (P.spot lowerer.now.parts) node.now) state.old result state.new }
 {
-    param_form(lowerer, state, params, node)
+    let at = lowerer.pointer(node.id, node.range);
+    match lowerer.parts.cfg(site(at)) {
+        Err(cfg) => {
+            state.report(ExpressionStoreDiagnostics::InactiveCode { node: at, cfg })?;
+            Ok(params)
+        }
+        Ok(()) => kept_param(lowerer, state, params, &node.pat, &node.ty),
+    }
 }
 
 /// The parameters that no condition disables, behind others.

@@ -10,6 +10,7 @@ ghost use Rattle.hir_lower_form.specs.Methods.{LowersInside};
 ghost use Rattle.hir_lower_form.specs.declared.parts.BlockRole.TheVariants as role;
 
 use crate::written::WrittenBlock;
+use hir_base::node::{AstPtr, InFile};
 use hir_env::place::Place;
 use hir_lower_form::builder::BodyBuilder;
 use hir_lower_form::parts::{BlockRole, LowerParts, Lowerer};
@@ -76,16 +77,15 @@ fn inner_constant<P: LowerParts, N: WrittenBlock>(
 fn stored_const<P: LowerParts, N: WrittenBlock>(
     lowerer: &Lowerer<P>,
     state: &mut BodyBuilder,
+    at: InFile<AstPtr>,
     node: &N,
 ) -> Result<ExprId, StoreFault>
     requires { N.can (P.can lowerer.now.parts) (of.inside_const_block (P.spot lowerer.now.parts).place) node.now }
     ensures { let spot = P.spot lowerer.now.parts in
-        let at = N.place_of spot node.now in
         let inner = spec.lower_inside (role.Plain false None) (N.read (in_const_block spot) node.now) in
         Lowers HasExpr (spec.const_form at (spec.constant_form inner)) state.old result state.new }
 {
     let constant = inner_constant(lowerer, state, node)?;
-    let at = node.pointer(lowerer);
     state.alloc_expr(Expr::Const(constant), Some(at))
 }
 
@@ -94,16 +94,17 @@ fn stored_const<P: LowerParts, N: WrittenBlock>(
 pub(crate) fn const_form<P: LowerParts, N: WrittenBlock>(
     lowerer: &Lowerer<P>,
     state: &mut BodyBuilder,
+    at: InFile<AstPtr>,
     node: &N,
 ) -> Result<ExprId, StoreFault>
     requires { N.can (P.can lowerer.now.parts) (of.inside_const_block (P.spot lowerer.now.parts).place) node.now }
     ensures { let spot = P.spot lowerer.now.parts in
         let inner = spec.lower_inside (role.Plain false None) (N.read (in_const_block spot) node.now) in
-        let form = spec.const_form (N.place_of spot node.now) (spec.constant_form inner) in
+        let form = spec.const_form at (spec.constant_form inner) in
         Lowers HasExpr (spec.owning (λ i. i) form) state.old result state.new }
 {
     let start = state.bindings_end();
-    let id = stored_const(lowerer, state, node)?;
+    let id = stored_const(lowerer, state, at, node)?;
     state.own(start, id);
     Ok(id)
 }

@@ -6,7 +6,7 @@ ghost use Rattle.hir_env.specs.Answered.{OptionExpr};
 ghost use Rattle.hir_env.specs.Answering.{label_written};
 ghost use Rattle.hir_env.specs.declared.place.Place.{Place as AtPlace};
 ghost use Rattle.hir_env.specs.Spot.{Spot};
-ghost use Rattle.hir_env.specs.Whole.{answered_else, else_level, else_part, label_part};
+ghost use Rattle.hir_env.specs.Whole.{else_part, label_part};
 ghost use Rattle.hir_store.specs.Range.{HasExpr};
 ghost use Rattle.hir_lower_form.specs.Lower.{lower_block_part, lower_part};
 ghost use Rattle.hir_lower_form.specs.Lower as spec;
@@ -22,31 +22,6 @@ use hir_store::fault::StoreFault;
 use hir_store::hir::{Expr, LoopSource};
 use hir_store::ids::ExprId;
 use hir_syntax::ast;
-
-fn else_node<P: LowerParts>(
-    lowerer: &Lowerer<P>,
-    state: &mut BodyBuilder,
-    part: &ast::ElseBranch,
-) -> Result<ExprId, StoreFault>
-    requires { KidsElse (P.can lowerer.now.parts) (P.spot lowerer.now.parts).place (out-ElseBranch part.now) }
-    ensures { LowersExpr (else_level (P.spot lowerer.now.parts) part.now) state.old result state.new }
-{
-    match part {
-        ast::ElseBranch::ElseBlock(block) => lowerer.collect_block(state, block.get()),
-        ast::ElseBranch::ElseIf(expr) => lowerer.collect_expr(state, expr.get()),
-    }
-}
-
-fn else_branch<P: LowerParts>(
-    lowerer: &Lowerer<P>,
-    state: &mut BodyBuilder,
-    part: &ast::ElseBranch,
-) -> Result<ExprId, StoreFault>
-    requires { KidsElse (P.can lowerer.now.parts) (P.spot lowerer.now.parts).place (out-ElseBranch part.now) }
-    ensures { LowersExpr (answered_else (P.spot lowerer.now.parts) part.now) state.old result state.new }
-{
-    else_node(lowerer, state, part)
-}
 
 /// The other side of a branch, none where it is absent.
 pub trait ElsePart {
@@ -75,7 +50,12 @@ impl ElsePart for Option<ast::ElseBranch> {
     ) -> Result<Option<ExprId>, StoreFault> {
         match self {
             None => Ok(None),
-            Some(part) => Ok(Some(else_branch(lowerer, state, part)?)),
+            Some(ast::ElseBranch::ElseBlock(block)) => {
+                Ok(Some(lowerer.collect_block(state, block.get())?))
+            }
+            Some(ast::ElseBranch::ElseIf(expr)) => {
+                Ok(Some(lowerer.collect_expr(state, expr.get())?))
+            }
         }
     }
 }

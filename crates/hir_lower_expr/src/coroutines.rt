@@ -56,14 +56,14 @@ fn inner_coroutine<P: LowerParts, N: WrittenBlock>(
     lowerer: &Lowerer<P>,
     state: &mut BodyBuilder,
     kind: CoroutineKind,
+    moves: bool,
     node: &N,
 ) -> Result<ExprId, StoreFault>
     requires { N.can (P.can lowerer.now.parts) (of.inside_coroutine kind (P.spot lowerer.now.parts).place) node.now }
     ensures { let inside = in_coroutine kind (P.spot lowerer.now.parts) in
-        let own = role.Coroutine kind (N.is_moved node.now) in
+        let own = role.Coroutine kind moves in
         LowersInside own (N.read inside node.now) state.old result state.new }
 {
-    let moves = node.moves();
     let role = BlockRole::Coroutine { kind, moves };
     let inside = inside_coroutine(kind, lowerer.parts.place());
     node.lower_inside(lowerer, state, inside, role)
@@ -75,15 +75,16 @@ fn bordered_coroutine<P: LowerParts, N: WrittenBlock>(
     lowerer: &Lowerer<P>,
     state: &mut BodyBuilder,
     kind: CoroutineKind,
+    moves: bool,
     node: &N,
 ) -> Result<ExprId, StoreFault>
     requires { N.can (P.can lowerer.now.parts) (of.inside_coroutine kind (P.spot lowerer.now.parts).place) node.now }
     ensures { let inside = in_coroutine kind (P.spot lowerer.now.parts) in
-        let own = role.Coroutine kind (N.is_moved node.now) in
+        let own = role.Coroutine kind moves in
         Lowers HasExpr (spec.coroutine_form (spec.lower_inside own (N.read inside node.now))) state.old result state.new }
 {
     let outside = state.open_barrier()?;
-    let id = inner_coroutine(lowerer, state, kind, node)?;
+    let id = inner_coroutine(lowerer, state, kind, moves, node)?;
     let _ = state.close_barrier(outside);
     Ok(id)
 }
@@ -94,16 +95,17 @@ pub(crate) fn coroutine_form<P: LowerParts, N: WrittenBlock>(
     lowerer: &Lowerer<P>,
     state: &mut BodyBuilder,
     kind: CoroutineKind,
+    moves: bool,
     node: &N,
 ) -> Result<ExprId, StoreFault>
     requires { N.can (P.can lowerer.now.parts) (of.inside_coroutine kind (P.spot lowerer.now.parts).place) node.now }
     ensures { let inside = in_coroutine kind (P.spot lowerer.now.parts) in
-        let own = role.Coroutine kind (N.is_moved node.now) in
+        let own = role.Coroutine kind moves in
         let form = spec.coroutine_form (spec.lower_inside own (N.read inside node.now)) in
         Lowers HasExpr (spec.owning (λ i. i) form) state.old result state.new }
 {
     let start = state.bindings_end();
-    let id = bordered_coroutine(lowerer, state, kind, node)?;
+    let id = bordered_coroutine(lowerer, state, kind, moves, node)?;
     state.own(start, id);
     Ok(id)
 }

@@ -1,16 +1,13 @@
 //! `for`: a match on the iterator that is made of the head, of which the one arm is a loop. Each turn of it matches on the next item.
 
 ghost use Rattle.std.specs.Prelude.{◌≡◌, [], ◌∷◌, IfOk, Some, option_map};
-ghost use Rattle.hir_syntax.specs.declared.ast.BlockExpr.{out-BlockExpr};
 ghost use Rattle.hir_store.specs.Range.{HasExpr, HasPat};
 ghost use Rattle.hir_env.specs.Answered as tree;
 ghost use Rattle.hir_env.specs.Answered.{OptionExpr};
 ghost use Rattle.hir_env.specs.declared.place.Place.{Place as AtPlace};
 ghost use Rattle.hir_env.specs.Spot.{Spot};
 ghost use Rattle.hir_env.specs.Answering as of;
-ghost use Rattle.hir_env.specs.Targets.{head_pointer, pointer_of};
-ghost use Rattle.hir_env.specs.Whole.{answered, answered_block, answered_body, body_part, expr_part, label_part, own_pointer};
-ghost use Rattle.hir_env.specs.Whole.{pointer_at};
+ghost use Rattle.hir_env.specs.Whole.{answered_body, body_part, label_part};
 ghost use Rattle.hir_lower_form.specs.Lower.{lower_part};
 ghost use Rattle.hir_lower_form.specs.Lowering.{Lowers};
 ghost use Rattle.hir_lower_form.specs.Lowering as step;
@@ -61,17 +58,13 @@ fn for_items(items: &LangItems) -> Option<ForItems>
 }
 
 /// A block as an expression, missing where a condition disables it.
-fn asked_body<P: LowerParts>(
+fn body_node<P: LowerParts>(
     lowerer: &Lowerer<P>,
     state: &mut BodyBuilder,
     node: &ast::BlockExpr,
 ) -> Result<ExprId, StoreFault>
     requires { KidsBody (P.can lowerer.now.parts) (P.spot lowerer.now.parts).place node.now }
-    ensures { let spot = P.spot lowerer.now.parts in
-        let level = out-BlockExpr node.now in
-        let at = pointer_at spot level.id level.range in
-        let read = of.asked at (spot.answers.cfg (of.site_of at)) (answered_block spot node.now) in
-        LowersExpr read state.old result state.new }
+    ensures { LowersExpr (answered_body (P.spot lowerer.now.parts) node.now) state.old result state.new }
 {
     let at = lowerer.pointer(node.id, node.range);
     match lowerer.parts.cfg(site(at)) {
@@ -81,17 +74,6 @@ fn asked_body<P: LowerParts>(
         }
         Ok(()) => block_form(lowerer, state, node),
     }
-}
-
-fn body_node<P: LowerParts>(
-    lowerer: &Lowerer<P>,
-    state: &mut BodyBuilder,
-    node: &ast::BlockExpr,
-) -> Result<ExprId, StoreFault>
-    requires { KidsBody (P.can lowerer.now.parts) (P.spot lowerer.now.parts).place node.now }
-    ensures { LowersExpr (answered_body (P.spot lowerer.now.parts) node.now) state.old result state.new }
-{
-    asked_body(lowerer, state, node)
 }
 
 /// The body of a `for`, which is there or isn't.
@@ -271,39 +253,6 @@ fn turns<P: LowerParts, B: BodyPart>(
                 Some(at),
             )
         }
-    }
-}
-
-/// The node of an expression, which of a block is the block's.
-fn own_node<P: LowerParts>(lowerer: &Lowerer<P>, node: &ast::Expr) -> InFile<AstPtr>
-    ensures { result ≡ own_pointer (P.spot lowerer.now.parts) node.now }
-{
-    match &node.kind {
-        ast::ExprKind::BlockExpr(block) => {
-            let block = block.get();
-            lowerer.pointer(block.id, block.range)
-        }
-        _ => lowerer.pointer(node.id, node.range),
-    }
-}
-
-fn node_of<P: LowerParts>(lowerer: &Lowerer<P>, node: &ast::Expr) -> InFile<AstPtr>
-    ensures { result ≡ pointer_of (answered (P.spot lowerer.now.parts) node.now) }
-{
-    own_node(lowerer, node)
-}
-
-/// The node of the head, or the form's where that is absent.
-pub(crate) fn head_node<P: LowerParts>(
-    lowerer: &Lowerer<P>,
-    at: InFile<AstPtr>,
-    head: &Option<Boxed<ast::Expr>>,
-) -> InFile<AstPtr>
-    ensures { result ≡ head_pointer at (expr_part (P.spot lowerer.now.parts) head.now) }
-{
-    match head {
-        None => at,
-        Some(head) => node_of(lowerer, head.get()),
     }
 }
 

@@ -5,7 +5,7 @@ ghost use Rattle.hir_env.specs.Answered.{OptionBlock};
 ghost use Rattle.hir_env.specs.Answering.{asked_stmt, site_of};
 ghost use Rattle.hir_env.specs.declared.place.Place.{Place as AtPlace};
 ghost use Rattle.hir_env.specs.Spot.{Spot};
-ghost use Rattle.hir_env.specs.Whole.{answered_let_else, let_else_part};
+ghost use Rattle.hir_env.specs.Whole.{let_else_part};
 ghost use Rattle.hir_lower_form.specs.Nests.{Claims, IfPresent, KidsLetElse};
 ghost use Rattle.hir_lower_form.specs.Methods.{LowersBlockIfPresent, LowersExpr, LowersStmt};
 
@@ -38,21 +38,6 @@ pub fn let_form<P: LowerParts, Q: PatPart, E: ExprPart>(
     state.alloc_expr(Expr::Let { pat, expr }, Some(at))
 }
 
-/// The block of an `else`, where it has one.
-fn else_block<P: LowerParts>(
-    lowerer: &Lowerer<P>,
-    state: &mut BodyBuilder,
-    node: &ast::LetElse,
-) -> Result<Option<ExprId>, StoreFault>
-    requires { KidsLetElse (P.can lowerer.now.parts) (P.spot lowerer.now.parts).place node.now }
-    ensures { LowersBlockIfPresent (answered_let_else (P.spot lowerer.now.parts) node.now) state.old result state.new }
-{
-    match node {
-        None => Ok(None),
-        Some(block) => Ok(Some(lowerer.collect_block(state, block.get())?)),
-    }
-}
-
 /// The `else` of a `let`, none where it is absent.
 pub trait LetElsePart {
     ghost can: { Claims → AtPlace → Self → Type 0 };
@@ -79,8 +64,8 @@ impl LetElsePart for Option<ast::LetElse> {
         state: &mut BodyBuilder,
     ) -> Result<Option<ExprId>, StoreFault> {
         match self {
-            None => Ok(None),
-            Some(part) => else_block(lowerer, state, part),
+            None | Some(None) => Ok(None),
+            Some(Some(block)) => Ok(Some(lowerer.collect_block(state, block.get())?)),
         }
     }
 }

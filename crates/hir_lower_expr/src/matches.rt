@@ -7,7 +7,7 @@ ghost use Rattle.hir_env.specs.Answered as tree;
 ghost use Rattle.hir_env.specs.Answered.{Arms, Guard};
 ghost use Rattle.hir_env.specs.declared.place.Place.{Place as AtPlace};
 ghost use Rattle.hir_env.specs.Spot.{Spot};
-ghost use Rattle.hir_env.specs.Whole.{answered_arm, arm_level, arms_or_none_part, arms_part, guard_part};
+ghost use Rattle.hir_env.specs.Whole.{answered_arm, arms_or_none_part, arms_part, guard_part};
 ghost use Rattle.hir_lower_form.specs.Lowering.{Lowers};
 ghost use Rattle.hir_lower_form.specs.Lower as spec;
 ghost use Rattle.hir_lower_form.specs.Methods.{HasArmOption, LowersExpr};
@@ -79,13 +79,13 @@ fn kept_arm<P: LowerParts, Q: PatPart, E: ExprPart, G: GuardPart>(
 }
 
 /// The arm, none where a condition disables it.
-fn arm_form<P: LowerParts>(
+fn arm<P: LowerParts>(
     lowerer: &Lowerer<P>,
     state: &mut BodyBuilder,
     node: &ast::MatchArm,
 ) -> Result<Option<MatchArm>, StoreFault>
     requires { KidsArm (P.can lowerer.now.parts) (P.spot lowerer.now.parts).place (out-MatchArm node.now) }
-    ensures { Lowers HasArmOption (spec.lower_arm (arm_level (P.spot lowerer.now.parts) node.now)) state.old result state.new }
+    ensures { Lowers HasArmOption (spec.lower_arm (answered_arm (P.spot lowerer.now.parts) node.now)) state.old result state.new }
 {
     let at = lowerer.pointer(node.id, node.range);
     match lowerer.parts.cfg(site(at)) {
@@ -95,17 +95,6 @@ fn arm_form<P: LowerParts>(
         }
         Ok(()) => kept_arm(lowerer, state, &node.pat, &node.expr, &node.guard),
     }
-}
-
-fn arm<P: LowerParts>(
-    lowerer: &Lowerer<P>,
-    state: &mut BodyBuilder,
-    node: &ast::MatchArm,
-) -> Result<Option<MatchArm>, StoreFault>
-    requires { KidsArm (P.can lowerer.now.parts) (P.spot lowerer.now.parts).place (out-MatchArm node.now) }
-    ensures { Lowers HasArmOption (spec.lower_arm (answered_arm (P.spot lowerer.now.parts) node.now)) state.old result state.new }
-{
-    arm_form(lowerer, state, node)
 }
 
 /// The arms that no condition disables.

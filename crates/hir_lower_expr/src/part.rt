@@ -4,14 +4,14 @@ ghost use Rattle.std.specs.Prelude.{◌≡◌, Bool, None, is_some};
 ghost use Rattle.hir_env.specs.Answered.{Constant, Exprs, OptionArgs, OptionBlock, OptionExpr, OptionPat, OptionPath, OptionType};
 ghost use Rattle.hir_env.specs.declared.place.Place.{Place as AtPlace};
 ghost use Rattle.hir_env.specs.Spot.{Spot};
-ghost use Rattle.hir_env.specs.Targets.{head_pointer, resolves, target_of};
-ghost use Rattle.hir_env.specs.Whole.{arg_list_part, args_part, block_part, expr_part, exprs_part, pat_part, path_part, type_part};
+ghost use Rattle.hir_env.specs.Targets.{head_pointer, pointer_of, resolves, target_of};
+ghost use Rattle.hir_env.specs.Whole.{answered, arg_list_part, args_part, block_part, expr_part, exprs_part, pat_part};
+ghost use Rattle.hir_env.specs.Whole.{path_part, type_part};
 ghost use Rattle.hir_lower_form.specs.Nests.{Claims, Each, IfPresent};
 ghost use Rattle.hir_lower_form.specs.Methods.{LowersArgs, LowersBlockOpt, LowersConstant, LowersEach, LowersExprOpt, LowersIfPresent};
 ghost use Rattle.hir_lower_form.specs.Methods.{LowersPath, LowersTarget, LowersTop, LowersTypeIfPresent, LowersTypeOpt};
 ghost use Rattle.hir_lower_form.specs.Methods.{at_place, constant_at};
 
-use crate::fors::head_node;
 use hir_base::node::{AstPtr, InFile};
 use hir_env::place::Place;
 use hir_lower_form::builder::BodyBuilder;
@@ -23,6 +23,19 @@ use hir_store::ids::{ExprId, PatId, TypeRefId};
 use hir_store::path::{GenericArgs, Path};
 use hir_store::type_ref::ConstRef;
 use hir_syntax::{Boxed, Seq, ast};
+
+/// The node of an expression, which of a block is the block's.
+fn own_node<P: LowerParts>(lowerer: &Lowerer<P>, node: &ast::Expr) -> InFile<AstPtr>
+    ensures { result ≡ pointer_of (answered (P.spot lowerer.now.parts) node.now) }
+{
+    match &node.kind {
+        ast::ExprKind::BlockExpr(block) => {
+            let block = block.get();
+            lowerer.pointer(block.id, block.range)
+        }
+        _ => lowerer.pointer(node.id, node.range),
+    }
+}
 
 /// An expression that is there or isn't.
 pub trait ExprPart {
@@ -100,7 +113,10 @@ impl ExprPart for Option<Boxed<ast::Expr>> {
     }
 
     fn node_or<P: LowerParts>(&self, lowerer: &Lowerer<P>, at: InFile<AstPtr>) -> InFile<AstPtr> {
-        head_node(lowerer, at, self)
+        match self {
+            None => at,
+            Some(expr) => own_node(lowerer, expr.get()),
+        }
     }
 
     fn lower<P: LowerParts>(

@@ -9,7 +9,7 @@ ghost use Rattle.hir_env.specs.Answered as tree;
 ghost use Rattle.hir_env.specs.declared.place.Place.{Place as AtPlace};
 ghost use Rattle.hir_env.specs.Spot.{Spot};
 ghost use Rattle.hir_env.specs.Layers.{RecordReading};
-ghost use Rattle.hir_env.specs.Whole.{answered_field, answered_record, field_level, fields_part, record_level};
+ghost use Rattle.hir_env.specs.Whole.{answered_field, answered_record, fields_part};
 ghost use Rattle.hir_env.specs.Whole.{record_part, spread_part};
 ghost use Rattle.hir_lower_form.specs.Lowering.{Lowers};
 ghost use Rattle.hir_lower_form.specs.Lower as spec;
@@ -48,13 +48,13 @@ fn named_field<P: LowerParts, E: ExprPart>(
 }
 
 /// The field, none where a condition disables it or it has no name.
-fn field_form<P: LowerParts>(
+fn field<P: LowerParts>(
     lowerer: &Lowerer<P>,
     state: &mut BodyBuilder,
     node: &ast::RecordExprField,
 ) -> Result<Option<RecordLitField>, StoreFault>
     requires { KidsField (P.can lowerer.now.parts) (P.spot lowerer.now.parts).place (out-RecordExprField node.now) }
-    ensures { Lowers HasField (spec.lower_field (field_level (P.spot lowerer.now.parts) node.now)) state.old result state.new }
+    ensures { Lowers HasField (spec.lower_field (answered_field (P.spot lowerer.now.parts) node.now)) state.old result state.new }
 {
     let at = lowerer.pointer(node.id, node.range);
     match lowerer.parts.cfg(site(at)) {
@@ -67,17 +67,6 @@ fn field_form<P: LowerParts>(
             Some(name) => named_field(lowerer, state, at, name, &node.expr),
         },
     }
-}
-
-fn field<P: LowerParts>(
-    lowerer: &Lowerer<P>,
-    state: &mut BodyBuilder,
-    node: &ast::RecordExprField,
-) -> Result<Option<RecordLitField>, StoreFault>
-    requires { KidsField (P.can lowerer.now.parts) (P.spot lowerer.now.parts).place (out-RecordExprField node.now) }
-    ensures { Lowers HasField (spec.lower_field (answered_field (P.spot lowerer.now.parts) node.now)) state.old result state.new }
-{
-    field_form(lowerer, state, node)
 }
 
 fn fields<P: LowerParts>(
@@ -120,19 +109,6 @@ fn spread<P: LowerParts>(
 }
 
 #[tactic(auto, unfolding(hir_lower_form::specs::Forms::record_contents))]
-fn record_level_contents<P: LowerParts>(
-    lowerer: &Lowerer<P>,
-    state: &mut BodyBuilder,
-    node: &ast::RecordExprFieldList,
-) -> Result<(Seq<RecordLitField>, RecordSpread), StoreFault>
-    requires { KidsRecord (P.can lowerer.now.parts) (P.spot lowerer.now.parts).place (out-RecordExprFieldList node.now) }
-    ensures { Lowers HasRecord (record_at (record_level (P.spot lowerer.now.parts) node.now)) state.old result state.new }
-{
-    let fields = fields(lowerer, state, node.fields.as_slice())?;
-    let spread = spread(lowerer, state, &node.spread, node.dotdot)?;
-    Ok((fields, spread))
-}
-
 fn listed<P: LowerParts>(
     lowerer: &Lowerer<P>,
     state: &mut BodyBuilder,
@@ -141,7 +117,9 @@ fn listed<P: LowerParts>(
     requires { KidsRecord (P.can lowerer.now.parts) (P.spot lowerer.now.parts).place (out-RecordExprFieldList node.now) }
     ensures { Lowers HasRecord (record_at (answered_record (P.spot lowerer.now.parts) node.now)) state.old result state.new }
 {
-    record_level_contents(lowerer, state, node)
+    let fields = fields(lowerer, state, node.fields.as_slice())?;
+    let spread = spread(lowerer, state, &node.spread, node.dotdot)?;
+    Ok((fields, spread))
 }
 
 /// The fields of a record and what the others come from, nothing where no list is written.

@@ -1,6 +1,6 @@
 //! Expressions with a path or a type.
 
-ghost use Rattle.std.specs.Prelude.{◌≡◌, IfOk, Some};
+ghost use Rattle.std.specs.Prelude.{Some};
 ghost use Rattle.hir_store.specs.Range.{HasExpr, HasPathOption};
 ghost use Rattle.hir_env.specs.Answered as tree;
 ghost use Rattle.hir_env.specs.Answering.{names_of, site_of};
@@ -17,10 +17,8 @@ use hir_lower_form::parts::{LowerParts, Lowerer, site};
 use hir_store::fault::StoreFault;
 use hir_store::hir::Expr;
 use hir_store::ids::{ExprId, HygieneId};
-use hir_store::name::Name;
 use hir_store::path::Path;
 use hir_syntax::{Seq, ast};
-use std::alloc::{AllocError, Global};
 
 /// What was read of a path, which is missing where it is absent or refused.
 fn read_path_expr(
@@ -71,13 +69,6 @@ pub fn cast_form<P: LowerParts, E: ExprPart, T: TypePart>(
     state.alloc_expr(Expr::Cast { expr, type_ref }, Some(at))
 }
 
-/// The names that lead to the field.
-fn field_names(alloc: Global, names: &Seq<ast::Name>) -> Result<Seq<Name>, AllocError>
-    ensures { IfOk result (λ ns. ns ≡ names_of names.now) }
-{
-    names_of(alloc, names.as_slice())
-}
-
 /// `offset_of!`: the type, then the names of the fields.
 #[tactic(auto, unfolding(hir_lower_form::specs::Forms::offset_of_form))]
 pub fn offset_of_form<P: LowerParts, T: TypePart>(
@@ -92,6 +83,6 @@ pub fn offset_of_form<P: LowerParts, T: TypePart>(
         LowersExpr (tree.offset_of_expr at container (names_of names.now)) state.old result state.new }
 {
     let container = ty.lower(lowerer, state)?;
-    let fields = field_names(lowerer.alloc, names)?;
+    let fields = names_of(lowerer.alloc, names.as_slice())?;
     state.alloc_expr(Expr::OffsetOf { container, fields }, Some(at))
 }

@@ -1,19 +1,16 @@
 //! A block that is written here: it is handed on to be lowered, or read here.
 
-ghost use Rattle.std.specs.Prelude.{◌≡◌, Bool};
 ghost use Rattle.hir_syntax.specs.declared.ast.BlockExpr.{out-BlockExpr};
 ghost use Rattle.hir_env.specs.Answered.{Block};
 ghost use Rattle.hir_env.specs.declared.place.Place.{Place as AtPlace};
 ghost use Rattle.hir_env.specs.Spot.{Spot};
-ghost use Rattle.hir_env.specs.Whole.{answered_plain, pointer_at};
-ghost use Rattle.hir_store.specs.Pointers.{Pointer};
+ghost use Rattle.hir_env.specs.Whole.{answered_plain};
 ghost use Rattle.hir_lower_form.specs.Lower.{StoredContents};
 ghost use Rattle.hir_lower_form.specs.Lowering.{Lowering, Lowers};
 ghost use Rattle.hir_lower_form.specs.Nests.{Claims, KidsBlock};
 ghost use Rattle.hir_lower_form.specs.Methods.{HasContents, HasRole, LowersInside, at_place, contents_at};
 
-use crate::blocks::flat_contents;
-use hir_base::node::{AstPtr, InFile};
+use crate::blocks::collect_stmts;
 use hir_env::place::Place;
 use hir_lower_form::builder::BodyBuilder;
 use hir_lower_form::parts::{BlockRole, LowerParts, Lowerer};
@@ -32,17 +29,6 @@ pub(crate) trait WrittenBlock {
     ghost read: { Spot → Self → Block };
 
     ghost stored: { Spot → Self → Lowering StoredContents };
-
-    ghost place_of: { Spot → Self → Pointer };
-
-    ghost is_moved: { Self → Bool };
-
-    fn pointer<P: LowerParts>(&self, lowerer: &Lowerer<P>) -> InFile<AstPtr>
-        ensures { result ≡ place_of (P.spot lowerer.now.parts) self.now };
-
-    /// Whether `move` stands behind its modifier.
-    fn moves(&self) -> bool
-        ensures { result ≡ is_moved self.now };
 
     /// The block, as one of this role.
     fn lower<P: LowerParts>(
@@ -86,18 +72,6 @@ impl WrittenBlock for ast::BlockExpr {
 
     ghost stored = { contents_at };
 
-    ghost place_of = { λ at b. pointer_at at (out-BlockExpr b).id (out-BlockExpr b).range };
-
-    ghost is_moved = { λ b. (out-BlockExpr b).move_ };
-
-    fn pointer<P: LowerParts>(&self, lowerer: &Lowerer<P>) -> InFile<AstPtr> {
-        lowerer.pointer(self.id, self.range)
-    }
-
-    fn moves(&self) -> bool {
-        self.move_
-    }
-
     fn lower<P: LowerParts>(
         &self,
         lowerer: &Lowerer<P>,
@@ -124,6 +98,8 @@ impl WrittenBlock for ast::BlockExpr {
         lowerer: &Lowerer<P>,
         state: &mut BodyBuilder,
     ) -> Result<(Seq<Statement>, Option<ExprId>), StoreFault> {
-        flat_contents(lowerer, state, self)
+        let statements = collect_stmts(lowerer, state, self.stmts.as_slice())?;
+        let tail = lowerer.maybe_collect_expr_opt(state, &self.tail)?;
+        Ok((statements, tail))
     }
 }
