@@ -4,7 +4,7 @@ use Rattle.hir_env.specs.Spot.{Spot}
 use Rattle.hir_env.specs.Whole.{expr_part, stmts_part}
 use Rattle.hir_lower_form.specs.Lower.{kept_part}
 use Rattle.hir_lower_form.proofs.Flat.{flat_is}
-use Rattle.hir_lower_expr.proofs.written.BlockExprWrittenBlock.contents.Goals as goal
+use Rattle.hir_lower_expr.proofs.written.AstBlockExprWrittenBlock.contents.Goals as goal
 
 pub returns : goal.returns
 returns g c =
