@@ -139,7 +139,7 @@ fn length_in_both(
         alloc,
         Root::Type_,
         text,
-        &|alloc: Global, document: &Document| lowered_in_both(alloc, document, less, more),
+        &move |alloc: Global, document: &Document| lowered_in_both(alloc, document, less, more),
     )
 }
 
