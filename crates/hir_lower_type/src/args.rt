@@ -14,7 +14,7 @@ ghost use Rattle.hir_lower_form.specs.Types as forms;
 ghost use Rattle.hir_lower_form.specs.Methods.{HasLists, LowersArgs, at_place};
 ghost use Rattle.hir_lower_form.specs.Nests.{Each, KidsArg, KidsArgs, KidsAssoc, KidsBinding};
 
-use crate::bounds::bounds;
+use crate::bounds::BoundsPart;
 use crate::lifetimes::lifetime;
 use crate::places::outside_impl;
 use hir_env::place::Place;
@@ -46,7 +46,7 @@ fn binding_form<P: LowerParts>(
     let args = lowerer.args_if_present(state, place, &node.generics)?;
     let args = or_notation(lowerer.alloc, args, node.rtn);
     let ty = lowerer.type_if_present(state, place, &node.ty)?;
-    let bounds = bounds(lowerer, state, place, &node.bounds)?;
+    let bounds = node.bounds.lower(lowerer, state, place)?;
     Ok(AssociatedTypeBinding::new(Name::Text(written.t.clone()?), args, ty, bounds))
 }
 

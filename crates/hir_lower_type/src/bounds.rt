@@ -3,13 +3,16 @@
 ghost use Rattle.std.specs.Prelude.{◌≡◌, [], map};
 ghost use Rattle.hir_syntax.specs.declared.types.TypeBound.{out-TypeBound};
 ghost use Rattle.hir_store.specs.Range.{HasBound, HasUseArgs};
+ghost use Rattle.hir_env.specs.Answered.{Bounds};
 ghost use Rattle.hir_env.specs.Paths.{binder_of, use_of};
+ghost use Rattle.hir_env.specs.Spot.{Spot};
 ghost use Rattle.hir_env.specs.Whole.{answered_bound, answered_path_type, bound_level, bounds_part, path_type_level};
+ghost use Rattle.hir_env.specs.declared.place.Place.{Place as AtPlace};
 ghost use Rattle.hir_lower_form.specs.Lowering.{Lowers};
 ghost use Rattle.hir_lower_form.specs.Lower as spec;
 ghost use Rattle.hir_lower_form.specs.Types as forms;
 ghost use Rattle.hir_lower_form.specs.Methods.{HasUseArg, LowersBounds, LowersPath, at_place};
-ghost use Rattle.hir_lower_form.specs.Nests.{KidsBound, KidsBounds, KidsTrait};
+ghost use Rattle.hir_lower_form.specs.Nests.{Claims, KidsBound, KidsBounds, KidsTrait};
 ghost use Rattle.hir_lower_type.specs.Bounds.{LowersPathBound};
 
 use crate::lifetimes::{binder, lifetime};
@@ -159,33 +162,41 @@ fn bound<P: LowerParts>(
     bound_form(lowerer, state, place, node)
 }
 
-fn each_bound<P: LowerParts>(
-    lowerer: &Lowerer<P>,
-    state: &mut BodyBuilder,
-    place: Place,
-    mut left: &[ast::TypeBound],
-) -> Result<Seq<TypeBound>, StoreFault>
-    requires { KidsBounds (P.can lowerer.now.parts) place left.now }
-    ensures { LowersBounds (bounds_part (at_place (P.spot lowerer.now.parts) place) left.entry.now) state.old result state.new }
-{
-    let mut done = Seq::new(lowerer.alloc);
-    while let [one, rest @ ..] = left {
-        let bound = bound(lowerer, state, place, one)?;
-        push_bound(&mut done, bound)?;
-        left = rest;
-    }
-    Ok(done)
+/// Bounds, one after another. A form that hands them on has them as a type parameter.
+pub trait BoundsPart {
+    ghost can: { Claims → AtPlace → Self → Type 0 };
+
+    ghost read: { Spot → Self → Bounds };
+
+    /// The bounds, read at this place.
+    fn lower<P: LowerParts>(
+        &self,
+        lowerer: &Lowerer<P>,
+        state: &mut BodyBuilder,
+        place: Place,
+    ) -> Result<Seq<TypeBound>, StoreFault>
+        requires { can (P.can lowerer.now.parts) place self.now }
+        ensures { LowersBounds (read (at_place (P.spot lowerer.now.parts) place) self.now) state.old result state.new };
 }
 
-/// The bounds, read at this place.
-pub(crate) fn bounds<P: LowerParts>(
-    lowerer: &Lowerer<P>,
-    state: &mut BodyBuilder,
-    place: Place,
-    all: &Seq<ast::TypeBound>,
-) -> Result<Seq<TypeBound>, StoreFault>
-    requires { KidsBounds (P.can lowerer.now.parts) place all.now }
-    ensures { LowersBounds (bounds_part (at_place (P.spot lowerer.now.parts) place) all.now) state.old result state.new }
-{
-    each_bound(lowerer, state, place, all.as_slice())
+impl BoundsPart for Seq<ast::TypeBound> {
+    ghost can = { KidsBounds };
+
+    ghost read = { bounds_part };
+
+    fn lower<P: LowerParts>(
+        &self,
+        lowerer: &Lowerer<P>,
+        state: &mut BodyBuilder,
+        place: Place,
+    ) -> Result<Seq<TypeBound>, StoreFault> {
+        let mut done = Seq::new(lowerer.alloc);
+        let mut left = self.as_slice();
+        while let [one, rest @ ..] = left {
+            let bound = bound(lowerer, state, place, one)?;
+            push_bound(&mut done, bound)?;
+            left = rest;
+        }
+        Ok(done)
+    }
 }

@@ -1,15 +1,19 @@
 //! Function pointers.
 
-ghost use Rattle.std.specs.Prelude.{◌≡◌, IfOk, false};
+ghost use Rattle.std.specs.Prelude.{◌≡◌, Bool, IfOk, List, Option, false};
 ghost use Rattle.hir_syntax.specs.declared.types.Param.{out-Param};
 ghost use Rattle.hir_store.specs.Range.{HasType, HasTypeOption};
+ghost use Rattle.hir_store.specs.declared.name.Name.{Name as StoredName};
 ghost use Rattle.hir_env.specs.Answered as tree;
+ghost use Rattle.hir_env.specs.Answered.{OptionType, Parts};
 ghost use Rattle.hir_env.specs.Paths as of;
+ghost use Rattle.hir_env.specs.Spot.{Spot};
+ghost use Rattle.hir_env.specs.declared.place.Place.{Place as AtPlace};
 ghost use Rattle.hir_env.specs.Whole.{answer_part, answered_param, names_part, param_level, params_part, varargs_part};
 ghost use Rattle.hir_lower_form.specs.Lowering.{Lowers};
 ghost use Rattle.hir_lower_form.specs.Lower as spec;
 ghost use Rattle.hir_lower_form.specs.Methods.{LowersParts, LowersType};
-ghost use Rattle.hir_lower_form.specs.Nests.{Each, IfPresent, KidsParam, KidsRet};
+ghost use Rattle.hir_lower_form.specs.Nests.{Claims, Each, IfPresent, KidsParam, KidsRet};
 ghost use Rattle.hir_lower_type.specs.Abis.{abi_later};
 ghost use Rattle.hir_lower_type.specs.Params.{lower_param, param_name, param_names, params_at, variadic_last};
 
@@ -130,20 +134,6 @@ fn params<P: LowerParts>(
     Ok(done)
 }
 
-fn params_if_present<P: LowerParts>(
-    lowerer: &Lowerer<P>,
-    state: &mut BodyBuilder,
-    all: &Option<Seq<ast::Param>>,
-) -> Result<Seq<TypeRefId>, StoreFault>
-    requires { IfPresent (Each (λ x. KidsParam (P.can lowerer.now.parts) (P.spot lowerer.now.parts).place (out-Param x))) all.now }
-    ensures { LowersParts (params_part (P.spot lowerer.now.parts) all.now) state.old result state.new }
-{
-    match all {
-        None => Ok(Seq::new(lowerer.alloc)),
-        Some(all) => params(lowerer, state, all.as_slice()),
-    }
-}
-
 fn last_variadic(all: &Seq<ast::Param>) -> bool
     ensures { result ≡ variadic_last false all.now }
 {
@@ -154,35 +144,6 @@ fn last_variadic(all: &Seq<ast::Param>) -> bool
         left = rest;
     }
     variadic
-}
-
-/// Whether the last of the parameters is variadic.
-#[tactic(auto, using(crate::proofs::Params::variadic_is))]
-fn is_varargs<P: LowerParts>(lowerer: &Lowerer<P>, all: &Option<Seq<ast::Param>>) -> bool
-    ensures { result ≡ varargs_part (P.spot lowerer.now.parts) all.now }
-{
-    match all {
-        None => false,
-        Some(all) => last_variadic(all),
-    }
-}
-
-/// What a function pointer returns: `()` where no type is written.
-fn answer<P: LowerParts>(
-    lowerer: &Lowerer<P>,
-    state: &mut BodyBuilder,
-    ret: &Option<ast::RetType>,
-) -> Result<TypeRefId, StoreFault>
-    requires { IfPresent (KidsRet (P.can lowerer.now.parts) (P.spot lowerer.now.parts).place) ret.now }
-    ensures { Lowers HasType (spec.type_or_unit (answer_part (P.spot lowerer.now.parts) ret.now)) state.old result state.new }
-{
-    match ret {
-        None | Some(None) => state.unit_type(lowerer.alloc),
-        Some(Some(ty)) => {
-            let place = lowerer.parts.place();
-            lowerer.parts.lower_type(state, place, &None, ty.get())
-        }
-    }
 }
 
 /// The name that the pattern of a parameter gives it: any that is one name.
@@ -213,19 +174,6 @@ fn names(alloc: Global, mut left: &[ast::Param]) -> Result<Seq<Option<Name>>, Al
     Ok(names)
 }
 
-#[tactic(auto, using(crate::proofs::Params::names_are))]
-fn names_if_present<P: LowerParts>(
-    lowerer: &Lowerer<P>,
-    all: &Option<Seq<ast::Param>>,
-) -> Result<Seq<Option<Name>>, AllocError>
-    ensures { IfOk result (λ names. names ≡ names_part (P.spot lowerer.now.parts) all.now) }
-{
-    match all {
-        None => Ok(Seq::new(lowerer.alloc)),
-        Some(all) => names(lowerer.alloc, all.as_slice()),
-    }
-}
-
 fn binder_copy(binder: &Option<Seq<Name>>) -> Result<Option<Seq<Name>>, AllocError>
     ensures { IfOk result (λ copy. copy ≡ binder.now) }
 {
@@ -235,33 +183,135 @@ fn binder_copy(binder: &Option<Seq<Name>>) -> Result<Option<Seq<Name>>, AllocErr
     }
 }
 
+/// The parameters of a function pointer, that are there or aren't. A form that hands them on has them as a type parameter.
+pub trait ParamsPart {
+    ghost can: { Claims → AtPlace → Self → Type 0 };
+
+    ghost read: { Spot → Self → Parts };
+
+    ghost all_names: { Spot → Self → List (Option StoredName) };
+
+    ghost varargs: { Spot → Self → Bool };
+
+    /// The types of those that aren't variadic.
+    fn types<P: LowerParts>(
+        &self,
+        lowerer: &Lowerer<P>,
+        state: &mut BodyBuilder,
+    ) -> Result<Seq<TypeRefId>, StoreFault>
+        requires { can (P.can lowerer.now.parts) (P.spot lowerer.now.parts).place self.now }
+        ensures { LowersParts (read (P.spot lowerer.now.parts) self.now) state.old result state.new };
+
+    /// The names of those that aren't variadic.
+    fn names<P: LowerParts>(&self, lowerer: &Lowerer<P>) -> Result<Seq<Option<Name>>, AllocError>
+        ensures { IfOk result (λ names. names ≡ all_names (P.spot lowerer.now.parts) self.now) };
+
+    /// Whether the last of them is variadic.
+    fn is_varargs<P: LowerParts>(&self, lowerer: &Lowerer<P>) -> bool
+        ensures { result ≡ varargs (P.spot lowerer.now.parts) self.now };
+}
+
+impl ParamsPart for Option<Seq<ast::Param>> {
+    ghost can = { λ claims place. IfPresent (Each (λ x. KidsParam claims place (out-Param x))) };
+
+    ghost read = { params_part };
+
+    ghost all_names = { names_part };
+
+    ghost varargs = { varargs_part };
+
+    fn types<P: LowerParts>(
+        &self,
+        lowerer: &Lowerer<P>,
+        state: &mut BodyBuilder,
+    ) -> Result<Seq<TypeRefId>, StoreFault> {
+        match self {
+            None => Ok(Seq::new(lowerer.alloc)),
+            Some(all) => params(lowerer, state, all.as_slice()),
+        }
+    }
+
+    #[tactic(auto, using(crate::proofs::Params::names_are))]
+    fn names<P: LowerParts>(&self, lowerer: &Lowerer<P>) -> Result<Seq<Option<Name>>, AllocError> {
+        match self {
+            None => Ok(Seq::new(lowerer.alloc)),
+            Some(all) => names(lowerer.alloc, all.as_slice()),
+        }
+    }
+
+    #[tactic(auto, using(crate::proofs::Params::variadic_is))]
+    fn is_varargs<P: LowerParts>(&self, lowerer: &Lowerer<P>) -> bool {
+        let _ = lowerer;
+        match self {
+            None => false,
+            Some(all) => last_variadic(all),
+        }
+    }
+}
+
+/// What a function pointer returns, where that is written.
+pub trait AnswerPart {
+    ghost can: { Claims → AtPlace → Self → Type 0 };
+
+    ghost read: { Spot → Self → OptionType };
+
+    /// The type that it returns: `()` where no type is written.
+    fn answer<P: LowerParts>(
+        &self,
+        lowerer: &Lowerer<P>,
+        state: &mut BodyBuilder,
+    ) -> Result<TypeRefId, StoreFault>
+        requires { can (P.can lowerer.now.parts) (P.spot lowerer.now.parts).place self.now }
+        ensures { Lowers HasType (spec.type_or_unit (read (P.spot lowerer.now.parts) self.now)) state.old result state.new };
+}
+
+impl AnswerPart for Option<ast::RetType> {
+    ghost can = { λ claims place. IfPresent (KidsRet claims place) };
+
+    ghost read = { answer_part };
+
+    fn answer<P: LowerParts>(
+        &self,
+        lowerer: &Lowerer<P>,
+        state: &mut BodyBuilder,
+    ) -> Result<TypeRefId, StoreFault> {
+        match self {
+            None | Some(None) => state.unit_type(lowerer.alloc),
+            Some(Some(ty)) => {
+                let place = lowerer.parts.place();
+                lowerer.parts.lower_type(state, place, &None, ty.get())
+            }
+        }
+    }
+}
+
 /// What it returns is lowered first.
 #[tactic(auto, unfolding(hir_lower_form::specs::Types::fn_type_form))]
-pub(crate) fn fn_form<P: LowerParts>(
+pub(crate) fn fn_form<P: LowerParts, L: ParamsPart, R: AnswerPart>(
     lowerer: &Lowerer<P>,
     state: &mut BodyBuilder,
     at: InFile<AstPtr>,
     binder: &Option<Seq<Name>>,
     is_unsafe: bool,
     written: &Option<Text>,
-    all: &Option<Seq<ast::Param>>,
-    ret: &Option<ast::RetType>,
+    all: &L,
+    ret: &R,
 ) -> Result<TypeRefId, StoreFault>
-    requires params { IfPresent (Each (λ x. KidsParam (P.can lowerer.now.parts) (P.spot lowerer.now.parts).place (out-Param x))) all.now }
-    requires ret { IfPresent (KidsRet (P.can lowerer.now.parts) (P.spot lowerer.now.parts).place) ret.now }
+    requires params { L.can (P.can lowerer.now.parts) (P.spot lowerer.now.parts).place all.now }
+    requires ret { R.can (P.can lowerer.now.parts) (P.spot lowerer.now.parts).place ret.now }
     ensures { let spot = P.spot lowerer.now.parts in
-        let head = of.fn_head is_unsafe written.now (varargs_part spot all.now) (names_part spot all.now) in
-        LowersType binder.now (tree.fn_type at head (params_part spot all.now) (answer_part spot ret.now)) state.old result state.new }
+        let head = of.fn_head is_unsafe written.now (L.varargs spot all.now) (L.all_names spot all.now) in
+        LowersType binder.now (tree.fn_type at head (L.read spot all.now) (R.read spot ret.now)) state.old result state.new }
 {
-    let output = answer(lowerer, state, ret)?;
-    let mut params = params_if_present(lowerer, state, all)?;
+    let output = ret.answer(lowerer, state)?;
+    let mut params = all.types(lowerer, state)?;
     push_type(&mut params, output)?;
-    let names = names_if_present(lowerer, all)?;
+    let names = all.names(lowerer)?;
     let binder = binder_copy(binder)?;
     let ty = TypeRef::Fn(FnType {
         params,
         names,
-        is_varargs: is_varargs(lowerer, all),
+        is_varargs: all.is_varargs(lowerer),
         is_unsafe,
         abi: abi(written),
         binder,

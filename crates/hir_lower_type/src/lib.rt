@@ -5,6 +5,7 @@ pub mod args;
 mod bounds;
 mod functions;
 mod lifetimes;
+mod part;
 pub mod places;
 mod simple;
 pub mod types;

@@ -1,16 +1,14 @@
 //! The roots of constants in a collector, and constants for whose parts there is no room.
 
+use crate::collectors::{collector, lowered, table, with_store};
 use crate::documents::{path_in, with_document};
-use hir_base::node::HirFileId;
-use hir_env::place::LoweringMode;
-use hir_env::table::TableEnv;
-use hir_lower::{ErrorImplTrait, ExprCollector, LowerError};
-use hir_store::ids::{BindingId, ExprId, ItemContainerId, ModuleId, PatId};
+use hir_lower::LowerError;
+use hir_store::ids::{BindingId, ExprId, PatId};
 use hir_store::roots::ExprRoot;
+use hir_store::source_map::ExpressionStoreSourceMap;
 use hir_store::store::ExpressionStore;
 use hir_syntax::ast::{ConstArg, GenericArg, Path};
 use lower_json::document::{Document, Root};
-use lower_json::fault::ReadError;
 use std::alloc::Global;
 
 /// `A<{a::<{b}>}>`, which becomes two expressions.
@@ -28,21 +26,6 @@ const PATH: &str = r#"{"nodes": [
     {"k": "Path", "segs": [11]},
     {"k": "PathSegment", "seg": "name", "name": "b"}
 ]}"#;
-
-fn table(alloc: Global) -> TableEnv {
-    TableEnv::new(alloc, ItemContainerId::ModuleId(ModuleId(0)))
-}
-
-fn collector(alloc: Global, env: &TableEnv, limit: u32) -> ExprCollector<'_, TableEnv> {
-    ExprCollector::with_limit(
-        alloc,
-        env,
-        ModuleId(0),
-        HirFileId(0),
-        LoweringMode::Analysis,
-        limit,
-    )
-}
 
 /// The first argument beside the path's only name, where it is a constant.
 fn constant_of(path: &Path) -> Option<&ConstArg> {
@@ -62,34 +45,14 @@ fn expr_and_end(root: &ExprRoot) -> (ExprId, ExprId) {
 /// The first three recorded roots: the expression of each, and where those end that belong to it.
 type Roots = [Option<(ExprId, ExprId)>; 3];
 
-fn roots_in(store: &ExpressionStore) -> Roots {
+/// The roots that are recorded in a store.
+fn roots_in(store: &ExpressionStore, _source_map: &ExpressionStoreSourceMap) -> Roots {
     let roots = store.expr_roots();
     [
         roots.first().map(expr_and_end),
         roots.get(1).map(expr_and_end),
         roots.get(2).map(expr_and_end),
     ]
-}
-
-/// The roots that a collector has recorded, or why it hands out no store.
-fn recorded(collector: ExprCollector<'_, TableEnv>) -> Result<Roots, LowerError> {
-    match collector.into_store() {
-        Ok((store, source_map)) => {
-            let roots = roots_in(&store);
-            drop(store);
-            drop(source_map);
-            Ok(roots)
-        }
-        Err(error) => Err(error),
-    }
-}
-
-/// Whether the path has a lowered form, or why that isn't said.
-fn lowered(collector: &mut ExprCollector<'_, TableEnv>, path: &Path) -> Result<bool, LowerError> {
-    let lowered = collector.lower_path(path, &mut ErrorImplTrait)?;
-    let is_some = lowered.is_some();
-    drop(lowered);
-    Ok(is_some)
 }
 
 /// What is recorded where the path's constant is lowered, and where the path is lowered behind it.
@@ -101,17 +64,13 @@ fn roots_of(alloc: Global, document: &Document) -> Option<Recorded> {
     let env = table(alloc);
     let mut alone = collector(alloc, &env, u32::MAX);
     let _constant = alone.lower_const_arg(constant);
-    let alone = recorded(alone);
+    let alone = with_store(alone, &roots_in);
     let mut both = collector(alloc, &env, u32::MAX);
     let _constant = both.lower_const_arg(constant);
     let _path = lowered(&mut both, path);
-    let both = recorded(both);
+    let both = with_store(both, &roots_in);
     drop(env);
     Some((alone, both))
-}
-
-fn roots_in_text(alloc: Global, text: &str) -> Result<Option<Recorded>, ReadError> {
-    with_document(alloc, Root::Path, text, &roots_of)
 }
 
 #[test]
@@ -119,7 +78,7 @@ fn a_constant_in_a_constant_is_no_root_and_a_later_one_is(rt: HostRuntime) {
     let first = Some((ExprId(1), ExprId(2)));
     let second = Some((ExprId(3), ExprId(4)));
     let recorded = (Ok([first, None, None]), Ok([first, second, None]));
-    assert!(rt; roots_in_text(rt.alloc(), PATH) == Ok(Some(recorded)));
+    assert!(rt; with_document(rt.alloc(), Root::Path, PATH, &roots_of) == Ok(Some(recorded)));
 }
 
 /// What a collector with a limit answers: to the path and to the path again, and how many expressions it has then.
@@ -142,18 +101,11 @@ fn in_one_and_two(alloc: Global, document: &Document) -> Option<(Answers, Answer
     Some((lowered_twice(alloc, path, 1), lowered_twice(alloc, path, 2)))
 }
 
-fn in_one_and_two_in_text(
-    alloc: Global,
-    text: &str,
-) -> Result<Option<(Answers, Answers)>, ReadError> {
-    with_document(alloc, Root::Path, text, &in_one_and_two)
-}
-
 #[test]
 fn a_path_does_not_fit_where_its_constants_do_not(rt: HostRuntime) {
     let in_one = (Err(LowerError::Full), Err(LowerError::Failed), 1);
     let in_two = (Ok(true), Err(LowerError::Full), 2);
-    assert!(rt; in_one_and_two_in_text(rt.alloc(), PATH) == Ok(Some((in_one, in_two))));
+    assert!(rt; with_document(rt.alloc(), Root::Path, PATH, &in_one_and_two) == Ok(Some((in_one, in_two))));
 }
 
 /// `A<{ let (x, y); }>`, whose constant becomes one expression, three patterns and two bindings.
@@ -176,17 +128,9 @@ fn ends_of(root: &ExprRoot) -> Ends {
     (root.exprs_end, root.pats_end, root.bindings_end)
 }
 
-/// The ends of the first root that a collector has recorded, or why it hands out no store.
-fn first_ends(collector: ExprCollector<'_, TableEnv>) -> Result<Option<Ends>, LowerError> {
-    match collector.into_store() {
-        Ok((store, source_map)) => {
-            let ends = store.expr_roots().first().map(ends_of);
-            drop(store);
-            drop(source_map);
-            Ok(ends)
-        }
-        Err(error) => Err(error),
-    }
+/// The ends of the first root that is recorded in a store.
+fn first_ends(store: &ExpressionStore, _source_map: &ExpressionStoreSourceMap) -> Option<Ends> {
+    store.expr_roots().first().map(ends_of)
 }
 
 /// What a collector with a limit answers to the path's constant, and the ends of its root.
@@ -197,7 +141,7 @@ fn ends_within(alloc: Global, path: &Path, limit: u32) -> Option<Bounded> {
     let env = table(alloc);
     let mut collector = collector(alloc, &env, limit);
     let error = collector.lower_const_arg(constant).err();
-    let ends = first_ends(collector);
+    let ends = with_store(collector, &first_ends);
     drop(env);
     Some((error, ends))
 }
@@ -208,13 +152,9 @@ fn in_two_and_three(alloc: Global, document: &Document) -> Option<(Bounded, Boun
     Some((ends_within(alloc, path, 2)?, ends_within(alloc, path, 3)?))
 }
 
-fn let_in_two_and_three(alloc: Global) -> Result<Option<(Bounded, Bounded)>, ReadError> {
-    with_document(alloc, Root::Path, LET, &in_two_and_three)
-}
-
 #[test]
 fn a_let_of_two_names_takes_three_patterns_and_two_bindings(rt: HostRuntime) {
     let in_two = (Some(LowerError::Full), Err(LowerError::Failed));
     let in_three = (None, Ok(Some((ExprId(1), PatId(3), BindingId(2)))));
-    assert!(rt; let_in_two_and_three(rt.alloc()) == Ok(Some((in_two, in_three))));
+    assert!(rt; with_document(rt.alloc(), Root::Path, LET, &in_two_and_three) == Ok(Some((in_two, in_three))));
 }

@@ -1,13 +1,11 @@
 //! Which stored parts the parameters of a function are whose body is a coroutine, and where the coroutine of a closure is stored.
 
-use crate::lowered::lowered_text;
+use crate::lowered::with_lowered;
 use crate::ways::node;
 use hir_lower::{Body, BodySourceMap};
 use hir_store::hir::{Expr, Pat, Statement};
 use hir_store::ids::{BindingId, ExprId, PatId};
 use hir_store::store::ExpressionStore;
-use lower_json::fault::ReadError;
-use std::alloc::Global;
 
 /// `async fn f(self, x: A, (y, z): B) {}`
 const FUNCTION: &str = r#"{"nodes": [
@@ -85,24 +83,14 @@ fn written_and_bound(body: &Body) -> Option<(Received, Received)> {
 }
 
 /// Whether what was written is what the first two `let`s bind; none where one of these isn't there.
-fn is_bound_by_lets(alloc: Global, text: &str) -> Result<Option<bool>, ReadError> {
-    match lowered_text(alloc, text)? {
-        Some((body, source_map)) => {
-            let is_bound = match written_and_bound(&body) {
-                Some((written, bound)) => Some(written == bound),
-                None => None,
-            };
-            drop(body);
-            drop(source_map);
-            Ok(is_bound)
-        }
-        None => Ok(None),
-    }
+fn is_bound_by_lets(body: &Body, _source_map: &BodySourceMap) -> Option<bool> {
+    let (written, bound) = written_and_bound(body)?;
+    Some(written == bound)
 }
 
 #[test]
 fn what_was_written_is_bound_by_the_lets_in_front_of_the_body(rt: HostRuntime) {
-    assert!(rt; is_bound_by_lets(rt.alloc(), FUNCTION) == Ok(Some(true)));
+    assert!(rt; with_lowered(rt.alloc(), FUNCTION, &is_bound_by_lets) == Ok(Some(Some(true))));
 }
 
 /// The numbers of the closure that node 2 leads to, and of the coroutine in it.
@@ -114,21 +102,8 @@ fn closure_and_coroutine(body: &Body, source_map: &BodySourceMap) -> Option<(Exp
     }
 }
 
-/// The same of a text.
-fn numbers_in_text(alloc: Global, text: &str) -> Result<Option<(ExprId, ExprId)>, ReadError> {
-    match lowered_text(alloc, text)? {
-        Some((body, source_map)) => {
-            let found = closure_and_coroutine(&body, &source_map);
-            drop(body);
-            drop(source_map);
-            Ok(found)
-        }
-        None => Ok(None),
-    }
-}
-
 #[test]
 fn a_coroutine_is_stored_right_in_front_of_its_closure(rt: HostRuntime) {
     let numbers = (ExprId(4), ExprId(3));
-    assert!(rt; numbers_in_text(rt.alloc(), CLOSURE) == Ok(Some(numbers)));
+    assert!(rt; with_lowered(rt.alloc(), CLOSURE, &closure_and_coroutine) == Ok(Some(Some(numbers))));
 }

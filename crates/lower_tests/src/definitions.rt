@@ -1,10 +1,8 @@
 //! The patterns that make a binding, which no listing prints by number, and how many patterns and bindings are stored.
 
-use crate::lowered::lowered_text;
+use crate::lowered::with_lowered;
 use hir_lower::{Body, BodySourceMap};
 use hir_store::ids::{BindingId, PatId};
-use lower_json::fault::ReadError;
-use std::alloc::Global;
 
 /// A function with the one parameter `(x, x)` and no body.
 const TWICE: &str = r#"{"nodes": [
@@ -82,18 +80,6 @@ fn what_is_defined(body: &Body, source_map: &BodySourceMap) -> Defined {
     }
 }
 
-fn defined_in_text(alloc: Global, text: &str) -> Result<Option<Defined>, ReadError> {
-    match lowered_text(alloc, text)? {
-        Some((body, source_map)) => {
-            let defined = what_is_defined(&body, &source_map);
-            drop(body);
-            drop(source_map);
-            Ok(Some(defined))
-        }
-        None => Ok(None),
-    }
-}
-
 #[test]
 fn a_name_used_twice_is_one_binding_of_two_patterns(rt: HostRuntime) {
     let twice = Defined {
@@ -102,14 +88,14 @@ fn a_name_used_twice_is_one_binding_of_two_patterns(rt: HostRuntime) {
         pats: 3,
         bindings: 1,
     };
-    assert!(rt; defined_in_text(rt.alloc(), TWICE) == Ok(Some(twice)));
+    assert!(rt; with_lowered(rt.alloc(), TWICE, &what_is_defined) == Ok(Some(twice)));
     let turned = Defined {
         first: Some([Some(PatId(0)), Some(PatId(4)), None]),
         second: Some([Some(PatId(1)), Some(PatId(3)), None]),
         pats: 7,
         bindings: 2,
     };
-    assert!(rt; defined_in_text(rt.alloc(), TURNED) == Ok(Some(turned)));
+    assert!(rt; with_lowered(rt.alloc(), TURNED, &what_is_defined) == Ok(Some(turned)));
 }
 
 #[test]
@@ -120,7 +106,7 @@ fn each_name_of_a_question_is_a_binding_of_one_pattern(rt: HostRuntime) {
         pats: 4,
         bindings: 2,
     };
-    assert!(rt; defined_in_text(rt.alloc(), QUESTION) == Ok(Some(question)));
+    assert!(rt; with_lowered(rt.alloc(), QUESTION, &what_is_defined) == Ok(Some(question)));
 }
 
 #[test]
@@ -131,5 +117,5 @@ fn the_name_of_a_for_is_a_binding_behind_those_of_its_pattern(rt: HostRuntime) {
         pats: 4,
         bindings: 2,
     };
-    assert!(rt; defined_in_text(rt.alloc(), FOR) == Ok(Some(loop_)));
+    assert!(rt; with_lowered(rt.alloc(), FOR, &what_is_defined) == Ok(Some(loop_)));
 }

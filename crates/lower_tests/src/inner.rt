@@ -1,12 +1,10 @@
 //! What the nodes of `const` blocks, repeat arrays, closures and coroutines lead to, and how much is stored for them.
 
-use crate::lowered::lowered_text;
+use crate::lowered::with_lowered;
 use crate::ways::node;
 use hir_lower::{Body, BodySourceMap};
 use hir_store::hir::{Array, Expr};
 use hir_store::ids::{ExprId, PatId, TypeRefId};
-use lower_json::fault::ReadError;
-use std::alloc::Global;
 
 /// `fn f() { const { 1 } }`
 const CONST: &str = r#"{"nodes": [
@@ -105,30 +103,21 @@ fn led_to(body: &Body, source_map: &BodySourceMap) -> Led {
 /// What node 2 leads to, how many expressions are stored, and how many roots.
 type Became = (Led, u32, usize);
 
-fn became_in_text(alloc: Global, text: &str) -> Result<Option<Became>, ReadError> {
-    match lowered_text(alloc, text)? {
-        Some((body, source_map)) => {
-            let led = led_to(&body, &source_map);
-            let roots = body.store.expr_roots().len();
-            let became = (led, body.store.exprs_len(), roots);
-            drop(body);
-            drop(source_map);
-            Ok(Some(became))
-        }
-        None => Ok(None),
-    }
+fn what_became(body: &Body, source_map: &BodySourceMap) -> Became {
+    let roots = body.store.expr_roots().len();
+    (led_to(body, source_map), body.store.exprs_len(), roots)
 }
 
 #[test]
 fn a_const_block_leads_to_what_is_around_its_block(rt: HostRuntime) {
     let became = (Led::Const(ExprId(1)), 4, 1);
-    assert!(rt; became_in_text(rt.alloc(), CONST) == Ok(Some(became)));
+    assert!(rt; with_lowered(rt.alloc(), CONST, &what_became) == Ok(Some(became)));
 }
 
 #[test]
 fn a_repeat_array_is_stored_behind_its_length_which_is_no_root(rt: HostRuntime) {
     let became = (Led::Repeat(ExprId(0), ExprId(1)), 4, 1);
-    assert!(rt; became_in_text(rt.alloc(), REPEAT) == Ok(Some(became)));
+    assert!(rt; with_lowered(rt.alloc(), REPEAT, &what_became) == Ok(Some(became)));
 }
 
 #[test]
@@ -136,35 +125,28 @@ fn a_closure_has_a_pattern_for_each_parameter_and_is_no_root(rt: HostRuntime) {
     let pats = [Some(PatId(0)), Some(PatId(1))];
     let types = [Some(TypeRefId(0)), None];
     let became = (Led::Closure(pats, types, ExprId(0)), 3, 1);
-    assert!(rt; became_in_text(rt.alloc(), CLOSURE) == Ok(Some(became)));
+    assert!(rt; with_lowered(rt.alloc(), CLOSURE, &what_became) == Ok(Some(became)));
 }
 
 #[test]
 fn an_async_block_leads_to_the_coroutine_around_its_block(rt: HostRuntime) {
     let became = (Led::Closure([None, None], [None, None], ExprId(1)), 4, 1);
-    assert!(rt; became_in_text(rt.alloc(), ASYNC) == Ok(Some(became)));
+    assert!(rt; with_lowered(rt.alloc(), ASYNC, &what_became) == Ok(Some(became)));
 }
 
 /// Whether the expressions came from nodes, in the order of their numbers; for the first four.
-fn have_nodes(alloc: Global, text: &str) -> Result<Option<[bool; 4]>, ReadError> {
-    match lowered_text(alloc, text)? {
-        Some((body, source_map)) => {
-            let have = [
-                source_map.store.expr_syntax(ExprId(0)).is_some(),
-                source_map.store.expr_syntax(ExprId(1)).is_some(),
-                source_map.store.expr_syntax(ExprId(2)).is_some(),
-                source_map.store.expr_syntax(ExprId(3)).is_some(),
-            ];
-            drop(body);
-            drop(source_map);
-            Ok(Some(have))
-        }
-        None => Ok(None),
-    }
+fn have_nodes(_body: &Body, source_map: &BodySourceMap) -> [bool; 4] {
+    let map = &source_map.store;
+    [
+        map.expr_syntax(ExprId(0)).is_some(),
+        map.expr_syntax(ExprId(1)).is_some(),
+        map.expr_syntax(ExprId(2)).is_some(),
+        map.expr_syntax(ExprId(3)).is_some(),
+    ]
 }
 
 #[test]
 fn the_block_in_a_coroutine_comes_from_no_node(rt: HostRuntime) {
     let have = [true, false, true, true];
-    assert!(rt; have_nodes(rt.alloc(), ASYNC) == Ok(Some(have)));
+    assert!(rt; with_lowered(rt.alloc(), ASYNC, &have_nodes) == Ok(Some(have)));
 }

@@ -4,6 +4,8 @@
 #[cfg(test)]
 mod bindings;
 #[cfg(test)]
+mod collectors;
+#[cfg(test)]
 mod constants;
 #[cfg(test)]
 mod coroutines;

@@ -1,11 +1,10 @@
 //! Constants that a collector with a limit lowers. Each is the length in the type of an array.
 
+use crate::collectors::{collector, table, with_store};
 use crate::documents::{length_in, with_document};
-use hir_base::node::HirFileId;
-use hir_env::place::LoweringMode;
-use hir_env::table::TableEnv;
-use hir_lower::{ExprCollector, LowerError};
-use hir_store::ids::{ExprId, ItemContainerId, ModuleId};
+use hir_lower::LowerError;
+use hir_store::ids::ExprId;
+use hir_store::source_map::ExpressionStoreSourceMap;
 use hir_store::store::ExpressionStore;
 use hir_syntax::ast::ConstArg;
 use lower_json::document::{Document, Root};
@@ -46,23 +45,11 @@ const ONE: &str = r#"{"nodes": [
     {"k": "Literal", "lit": "int", "t": "1"}
 ]}"#;
 
-fn table(alloc: Global) -> TableEnv {
-    TableEnv::new(alloc, ItemContainerId::ModuleId(ModuleId(0)))
-}
-
-fn collector(alloc: Global, env: &TableEnv, limit: u32) -> ExprCollector<'_, TableEnv> {
-    ExprCollector::with_limit(
-        alloc,
-        env,
-        ModuleId(0),
-        HirFileId(0),
-        LoweringMode::Analysis,
-        limit,
-    )
-}
-
 /// Where the only recorded root ends.
-fn only_root_end(store: &ExpressionStore) -> Option<ExprId> {
+fn only_root_end(
+    store: &ExpressionStore,
+    _source_map: &ExpressionStoreSourceMap,
+) -> Option<ExprId> {
     match store.expr_roots() {
         [root] => Some(root.exprs_end),
         _ => None,
@@ -71,18 +58,6 @@ fn only_root_end(store: &ExpressionStore) -> Option<ExprId> {
 
 /// Where the only root of a store ends, or why no store is handed out.
 type Stored = Result<Option<ExprId>, LowerError>;
-
-fn stored(collector: ExprCollector<'_, TableEnv>) -> Stored {
-    match collector.into_store() {
-        Ok((store, source_map)) => {
-            let end = only_root_end(&store);
-            drop(store);
-            drop(source_map);
-            Ok(end)
-        }
-        Err(error) => Err(error),
-    }
-}
 
 /// What a collector answers, call by call.
 #[derive(Clone, Copy, PartialEq)]
@@ -99,7 +74,7 @@ fn lowered_twice(alloc: Global, constant: &ConstArg, limit: u32) -> Answers {
     let first = collector.lower_const_arg(constant).err();
     let exprs = collector.store().exprs_len();
     let again = collector.lower_const_arg(constant).err();
-    let stored = stored(collector);
+    let stored = with_store(collector, &only_root_end);
     drop(env);
     Answers {
         first,
@@ -113,7 +88,7 @@ fn lowered_once(alloc: Global, constant: &ConstArg, limit: u32) -> Stored {
     let env = table(alloc);
     let mut collector = collector(alloc, &env, limit);
     let _lowered = collector.lower_const_arg(constant);
-    let stored = stored(collector);
+    let stored = with_store(collector, &only_root_end);
     drop(env);
     stored
 }

@@ -1,23 +1,23 @@
 //! Listings that no document leads to yet, as paths of several generated names, nodes of other files, and faults behind a
 //! border or outside of a body; and a minus in front of an integer.
 
+use crate::collectors::{collector, of_both, table, with_store};
 use crate::documents::{length_in, with_document};
 use hir_base::node::{AstPtr, HirFileId, InFile, NodeId, TextRange};
 use hir_base::{Seq, Text};
 use hir_env::lang::LangItems;
-use hir_env::place::LoweringMode;
-use hir_env::table::TableEnv;
-use hir_lower::{ExprCollector, LowerError};
+use hir_lower::LowerError;
 use hir_store::builder::ExpressionStoreBuilder;
 use hir_store::diagnostics::ExpressionStoreDiagnostics;
 use hir_store::fault::StoreFault;
 use hir_store::hir::{Expr, Literal};
-use hir_store::ids::{HygieneId, ItemContainerId, ModuleId};
+use hir_store::ids::HygieneId;
 use hir_store::name::Name;
 use hir_store::path::{ModPath, Path, PathKind};
+use hir_store::source_map::ExpressionStoreSourceMap;
+use hir_store::store::ExpressionStore;
 use hir_syntax::ast::LiteralKind;
 use lower_json::document::{Document, Root};
-use lower_json::fault::ReadError;
 use lower_run::listing::{Listed, body_listing};
 use std::alloc::{AllocError, Global};
 use std::test::Fail;
@@ -30,20 +30,32 @@ const OTHER_FILE: InFile<AstPtr> = InFile {
     },
 };
 
-/// The listing of what a builder holds, with sources.
-fn listing(alloc: Global, builder: ExpressionStoreBuilder) -> Result<String, AllocError> {
-    let (store, source_map) = builder.finish();
+/// The listing of a store, with sources.
+fn listed(
+    alloc: Global,
+    store: &ExpressionStore,
+    source_map: &ExpressionStoreSourceMap,
+) -> Result<String, AllocError> {
     let items = LangItems::numbered();
     let listed = Listed {
-        store: &store,
-        source_map: &source_map,
+        store,
+        source_map,
         lang_items: &items,
         sources: true,
     };
-    let text = body_listing(alloc, listed, None, &[]);
-    drop(store);
-    drop(source_map);
-    text
+    body_listing(alloc, listed, None, &[])
+}
+
+/// The listing of what a builder holds.
+fn listing(alloc: Global, builder: ExpressionStoreBuilder) -> Result<String, AllocError> {
+    let (store, source_map) = builder.finish();
+    of_both(
+        store,
+        source_map,
+        &move |store: &ExpressionStore, source_map: &ExpressionStoreSourceMap| {
+            listed(alloc, store, source_map)
+        },
+    )
 }
 
 fn record_literal(builder: &mut ExpressionStoreBuilder, text: Text) -> Result<(), StoreFault> {
@@ -142,54 +154,29 @@ const AWAIT: &str = r#"{"nodes": [
     {"k": "AwaitExpr"}
 ]}"#;
 
-/// The listing of what a collector holds, with sources.
-fn collected(alloc: Global, collector: ExprCollector<'_, TableEnv>) -> Result<String, LowerError> {
-    match collector.into_store() {
-        Ok((store, source_map)) => {
-            let items = LangItems::numbered();
-            let listed = Listed {
-                store: &store,
-                source_map: &source_map,
-                lang_items: &items,
-                sources: true,
-            };
-            let text = body_listing(alloc, listed, None, &[]);
-            drop(store);
-            drop(source_map);
-            text.map_err(|_| LowerError::Memory)
-        }
-        Err(error) => Err(error),
-    }
-}
-
 /// The listing of a length that stands in no body.
-fn length_in_no_body(alloc: Global, document: &Document) -> Option<Result<String, LowerError>> {
-    let length = length_in(document)?;
-    let env = TableEnv::new(alloc, ItemContainerId::ModuleId(ModuleId(0)));
-    let mut collector = ExprCollector::new(
-        alloc,
-        &env,
-        ModuleId(0),
-        HirFileId(0),
-        LoweringMode::Analysis,
-    );
-    let _lowered = collector.lower_const_arg(length);
-    let listed = collected(alloc, collector);
-    drop(env);
-    Some(listed)
-}
-
-fn listed_length(
+fn length_in_no_body(
     alloc: Global,
-    text: &str,
-) -> Result<Option<Result<String, LowerError>>, ReadError> {
-    with_document(alloc, Root::Type_, text, &length_in_no_body)
+    document: &Document,
+) -> Option<Result<Result<String, AllocError>, LowerError>> {
+    let length = length_in(document)?;
+    let env = table(alloc);
+    let mut collector = collector(alloc, &env, u32::MAX);
+    let _lowered = collector.lower_const_arg(length);
+    let text = with_store(
+        collector,
+        &move |store: &ExpressionStore, source_map: &ExpressionStoreSourceMap| {
+            listed(alloc, store, source_map)
+        },
+    );
+    drop(env);
+    Some(text)
 }
 
 #[test]
 fn an_await_in_no_body_stands_in_the_unknown(rt: HostRuntime) -> Result<(), Fail> {
-    let listed = listed_length(rt.alloc(), AWAIT)?;
+    let listed = with_document(rt.alloc(), Root::Type_, AWAIT, &length_in_no_body)?;
     let text = "body r0=(Await@2 (Missing))\ndiag AwaitOutsideOfAsync unknown @2\n";
-    assert!(rt; matches!(&listed, Some(Ok(found)) if found.as_str() == text));
+    assert!(rt; matches!(&listed, Some(Ok(Ok(found))) if found.as_str() == text));
     Ok(())
 }

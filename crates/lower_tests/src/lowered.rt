@@ -5,7 +5,7 @@ use hir_base::node::{AstPtr, HirFileId};
 use hir_env::env::LowerEnv;
 use hir_lower::{Body, BodySourceMap, lower_body};
 use hir_store::ids::{DefWithBodyId, ModuleId};
-use hir_syntax::ast::Fn;
+use hir_syntax::ast;
 use lower_json::document::{Document, Root, Tree};
 use lower_json::fault::ReadError;
 use std::alloc::Global;
@@ -15,7 +15,7 @@ fn lowered_item<E: LowerEnv>(
     alloc: Global,
     env: &E,
     owner: DefWithBodyId,
-    item: &Fn,
+    item: &ast::Fn,
 ) -> Option<(Body, BodySourceMap)> {
     let lowered = lower_body(
         alloc,
@@ -54,15 +54,44 @@ fn lowered_by_object(alloc: Global, document: &Document) -> Option<(Body, BodySo
     }
 }
 
-/// The lowered body of the item in the document that a text is.
-pub fn lowered_text(alloc: Global, text: &str) -> Result<Option<(Body, BodySourceMap)>, ReadError> {
-    with_document(alloc, Root::Fn, text, &lowered_document)
+/// What is answered of a body, if there is one. No other function owns a body.
+fn asked<R, F: Fn(&Body, &BodySourceMap) -> R>(
+    lowered: Option<(Body, BodySourceMap)>,
+    ask: &F,
+) -> Option<R>
+    requires { F.IsAlwaysCallable ask.now }
+{
+    match lowered {
+        Some((body, source_map)) => {
+            let answer = ask(&body, &source_map);
+            drop(body);
+            drop(source_map);
+            Some(answer)
+        }
+        None => None,
+    }
 }
 
-/// The same where an object answers.
-pub fn lowered_text_by_object(
+/// What is answered of the lowered body of the item in the document that a text is.
+pub fn with_lowered<R, F: Fn(&Body, &BodySourceMap) -> R>(
     alloc: Global,
     text: &str,
-) -> Result<Option<(Body, BodySourceMap)>, ReadError> {
-    with_document(alloc, Root::Fn, text, &lowered_by_object)
+    ask: &F,
+) -> Result<Option<R>, ReadError>
+    requires { F.IsAlwaysCallable ask.now }
+{
+    let lowered = with_document(alloc, Root::Fn, text, &lowered_document)?;
+    Ok(asked(lowered, ask))
+}
+
+/// The same where an object answers what lowering asks.
+pub fn with_lowered_by_object<R, F: Fn(&Body, &BodySourceMap) -> R>(
+    alloc: Global,
+    text: &str,
+    ask: &F,
+) -> Result<Option<R>, ReadError>
+    requires { F.IsAlwaysCallable ask.now }
+{
+    let lowered = with_document(alloc, Root::Fn, text, &lowered_by_object)?;
+    Ok(asked(lowered, ask))
 }

@@ -1,12 +1,10 @@
 //! Labels, types and lifetimes, with their nodes and back, and how many are stored.
 
-use crate::lowered::lowered_text;
+use crate::lowered::with_lowered;
 use crate::ways::{node, number_of};
 use hir_base::node::NodeId;
 use hir_lower::{Body, BodySourceMap};
 use hir_store::ids::{LabelId, LifetimeRefId, TypeRefId};
-use lower_json::fault::ReadError;
-use std::alloc::Global;
 
 /// `fn f() { 'a: loop { a as &'x T } }`
 const LABEL_AND_TYPE: &str = r#"{"nodes": [
@@ -57,18 +55,6 @@ fn where_led(body: &Body, source_map: &BodySourceMap) -> Led {
     }
 }
 
-fn led_in_text(alloc: Global, text: &str) -> Result<Option<Led>, ReadError> {
-    match lowered_text(alloc, text)? {
-        Some((body, source_map)) => {
-            let led = where_led(&body, &source_map);
-            drop(body);
-            drop(source_map);
-            Ok(Some(led))
-        }
-        None => Ok(None),
-    }
-}
-
 #[test]
 fn labels_types_and_lifetimes_have_their_nodes(rt: HostRuntime) {
     let led = Led {
@@ -78,5 +64,5 @@ fn labels_types_and_lifetimes_have_their_nodes(rt: HostRuntime) {
         nodes: [Some(NodeId(3)), Some(NodeId(9)), Some(NodeId(10))],
         lengths: [1, 2, 1, 5],
     };
-    assert!(rt; led_in_text(rt.alloc(), LABEL_AND_TYPE) == Ok(Some(led)));
+    assert!(rt; with_lowered(rt.alloc(), LABEL_AND_TYPE, &where_led) == Ok(Some(led)));
 }

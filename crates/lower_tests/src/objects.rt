@@ -1,10 +1,9 @@
 //! What an object answers: the numbers of blocks, which no listing prints in order, what names stand for, and which ranges are meant.
 
-use crate::lowered::lowered_text_by_object;
+use crate::lowered::with_lowered_by_object;
 use hir_env::lang::LangItems;
 use hir_lower::{Body, BodySourceMap};
 use hir_store::ids::BlockId;
-use lower_json::fault::ReadError;
 use lower_run::listing::{Listed, body_listing};
 use std::alloc::{AllocError, Global};
 use std::test::Fail;
@@ -15,7 +14,7 @@ const BLOCK_IN_BLOCK: &str = r#"{
 }"#;
 
 /// The first three.
-fn entered(source_map: &BodySourceMap) -> [Option<BlockId>; 3] {
+fn entered(_body: &Body, source_map: &BodySourceMap) -> [Option<BlockId>; 3] {
     let scopes = source_map.store.block_scopes();
     [
         scopes.first().copied(),
@@ -24,22 +23,10 @@ fn entered(source_map: &BodySourceMap) -> [Option<BlockId>; 3] {
     ]
 }
 
-fn entered_in_text(alloc: Global, text: &str) -> Result<Option<[Option<BlockId>; 3]>, ReadError> {
-    match lowered_text_by_object(alloc, text)? {
-        Some((body, source_map)) => {
-            let blocks = entered(&source_map);
-            drop(body);
-            drop(source_map);
-            Ok(Some(blocks))
-        }
-        None => Ok(None),
-    }
-}
-
 #[test]
 fn blocks_are_noted_in_the_order_of_entering(rt: HostRuntime) {
     assert!(rt;
-        entered_in_text(rt.alloc(), BLOCK_IN_BLOCK)
+        with_lowered_by_object(rt.alloc(), BLOCK_IN_BLOCK, &entered)
             == Ok(Some([Some(BlockId(3)), Some(BlockId(4)), None]))
     );
 }
@@ -82,21 +69,14 @@ fn listed(alloc: Global, body: &Body, source_map: &BodySourceMap) -> Result<Stri
     body_listing(alloc, listed, None, body.params.as_slice())
 }
 
-fn listed_text(alloc: Global, text: &str) -> Result<Option<Result<String, AllocError>>, ReadError> {
-    match lowered_text_by_object(alloc, text)? {
-        Some((body, source_map)) => {
-            let text = listed(alloc, &body, &source_map);
-            drop(body);
-            drop(source_map);
-            Ok(Some(text))
-        }
-        None => Ok(None),
-    }
-}
-
 #[test]
 fn names_are_looked_up_and_ranges_are_the_newer_ones(rt: HostRuntime) -> Result<(), Fail> {
-    let listed = listed_text(rt.alloc(), NAMES_AND_RANGES)?;
+    let alloc = rt.alloc();
+    let listed = with_lowered_by_object(
+        alloc,
+        NAMES_AND_RANGES,
+        &move |body: &Body, source_map: &BodySourceMap| listed(alloc, body, source_map),
+    )?;
     assert!(rt; matches!(&listed, Some(Ok(found)) if found.as_str() == LISTED));
     Ok(())
 }

@@ -1,16 +1,15 @@
 //! What owns a binding, by number: also one that no listing prints, and one in a collector.
 
+use crate::collectors::{collector, table, with_store};
 use crate::documents::{path_in, with_document};
-use crate::lowered::lowered_text;
-use hir_base::node::HirFileId;
-use hir_env::place::LoweringMode;
+use crate::lowered::with_lowered;
 use hir_env::table::TableEnv;
-use hir_lower::{ErrorImplTrait, ExprCollector};
-use hir_store::ids::{BindingId, ExprId, ItemContainerId, ModuleId};
+use hir_lower::{Body, BodySourceMap, ErrorImplTrait, ExprCollector};
+use hir_store::ids::{BindingId, ExprId};
+use hir_store::source_map::ExpressionStoreSourceMap;
 use hir_store::store::ExpressionStore;
 use hir_syntax::ast::{GenericArg, Path};
 use lower_json::document::{Document, Root};
-use lower_json::fault::ReadError;
 use std::alloc::Global;
 
 /// `fn f(x) { |y| { let z; } }`
@@ -93,40 +92,36 @@ fn owners_in(store: &ExpressionStore) -> Owners {
     ]
 }
 
-fn owners_in_text(alloc: Global, text: &str) -> Result<Option<Owners>, ReadError> {
-    match lowered_text(alloc, text)? {
-        Some((body, source_map)) => {
-            let owners = owners_in(&body.store);
-            drop(body);
-            drop(source_map);
-            Ok(Some(owners))
-        }
-        None => Ok(None),
-    }
+fn owners_in_body(body: &Body, _source_map: &BodySourceMap) -> Owners {
+    owners_in(&body.store)
+}
+
+fn owners_in_store(store: &ExpressionStore, _source_map: &ExpressionStoreSourceMap) -> Owners {
+    owners_in(store)
 }
 
 #[test]
 fn a_closure_owns_its_parameters_and_what_its_body_binds(rt: HostRuntime) {
     let owners = [None, Some(ExprId(1)), Some(ExprId(1)), None];
-    assert!(rt; owners_in_text(rt.alloc(), CLOSURE) == Ok(Some(owners)));
+    assert!(rt; with_lowered(rt.alloc(), CLOSURE, &owners_in_body) == Ok(Some(owners)));
 }
 
 #[test]
 fn a_coroutine_owns_what_none_in_it_owns(rt: HostRuntime) {
     let owners = [Some(ExprId(3)), Some(ExprId(1)), Some(ExprId(3)), None];
-    assert!(rt; owners_in_text(rt.alloc(), COROUTINES) == Ok(Some(owners)));
+    assert!(rt; with_lowered(rt.alloc(), COROUTINES, &owners_in_body) == Ok(Some(owners)));
 }
 
 #[test]
 fn a_const_block_owns_by_itself_and_a_length_by_its_expression(rt: HostRuntime) {
     let owners = [Some(ExprId(4)), Some(ExprId(1)), None, None];
-    assert!(rt; owners_in_text(rt.alloc(), CONSTANTS) == Ok(Some(owners)));
+    assert!(rt; with_lowered(rt.alloc(), CONSTANTS, &owners_in_body) == Ok(Some(owners)));
 }
 
 #[test]
 fn a_binding_that_nothing_reaches_is_owned(rt: HostRuntime) {
     let owners = [Some(ExprId(2)), None, None, None];
-    assert!(rt; owners_in_text(rt.alloc(), UNREACHED) == Ok(Some(owners)));
+    assert!(rt; with_lowered(rt.alloc(), UNREACHED, &owners_in_body) == Ok(Some(owners)));
 }
 
 /// Lowers the first argument beside the path's only name, where it is a constant, and then the path.
@@ -143,30 +138,12 @@ fn lower_both(collector: &mut ExprCollector<'_, TableEnv>, path: &Path) {
 /// The owners behind these two calls, none where the collector hands out no store.
 fn owners_of_both(alloc: Global, document: &Document) -> Option<Owners> {
     let path = path_in(document)?;
-    let env = TableEnv::new(alloc, ItemContainerId::ModuleId(ModuleId(0)));
-    let mut collector = ExprCollector::new(
-        alloc,
-        &env,
-        ModuleId(0),
-        HirFileId(0),
-        LoweringMode::Analysis,
-    );
+    let env = table(alloc);
+    let mut collector = collector(alloc, &env, u32::MAX);
     lower_both(&mut collector, path);
-    let owners = match collector.into_store() {
-        Ok((store, source_map)) => {
-            let owners = owners_in(&store);
-            drop(store);
-            drop(source_map);
-            Some(owners)
-        }
-        Err(_) => None,
-    };
+    let owners = with_store(collector, &owners_in_store).ok();
     drop(env);
     owners
-}
-
-fn owners_of_arguments(alloc: Global) -> Result<Option<Owners>, ReadError> {
-    with_document(alloc, Root::Path, ARGUMENT, &owners_of_both)
 }
 
 #[test]
@@ -174,5 +151,5 @@ fn a_constant_argument_owns_by_its_expression(rt: HostRuntime) {
     let first = Some(ExprId(0));
     let second = Some(ExprId(1));
     let owners = [first, first, second, second];
-    assert!(rt; owners_of_arguments(rt.alloc()) == Ok(Some(owners)));
+    assert!(rt; with_document(rt.alloc(), Root::Path, ARGUMENT, &owners_of_both) == Ok(Some(owners)));
 }

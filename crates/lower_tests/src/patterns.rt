@@ -1,12 +1,10 @@
 //! The ways between written nodes and what patterns become, and what the parameters of a function are, which no listing shows.
 
-use crate::lowered::lowered_text;
+use crate::lowered::with_lowered;
 use crate::ways::{Way, number_of, way};
 use hir_base::node::NodeId;
 use hir_lower::{Body, BodySourceMap};
 use hir_store::ids::{BindingId, ExprId, PatId};
-use lower_json::fault::ReadError;
-use std::alloc::Global;
 
 /// `fn f(&mut self, (1, 2..=, S { a: b }, cfg)) {}`, where `cfg` stands for a predicate.
 const PATTERNS: &str = r#"{"nodes": [
@@ -71,18 +69,6 @@ fn parts_of(body: &Body, source_map: &BodySourceMap) -> Parts {
     }
 }
 
-fn parts_of_patterns(alloc: Global) -> Result<Option<Parts>, ReadError> {
-    match lowered_text(alloc, PATTERNS)? {
-        Some((body, source_map)) => {
-            let parts = parts_of(&body, &source_map);
-            drop(body);
-            drop(source_map);
-            Ok(Some(parts))
-        }
-        None => Ok(None),
-    }
-}
-
 #[test]
 fn parts_of_patterns_lead_to_what_they_become(rt: HostRuntime) {
     let parts = Parts {
@@ -100,5 +86,5 @@ fn parts_of_patterns_lead_to_what_they_become(rt: HostRuntime) {
         receiver: Some((BindingId(0), BindingId(0))),
         self_node: Some(NodeId(2)),
     };
-    assert!(rt; parts_of_patterns(rt.alloc()) == Ok(Some(parts)));
+    assert!(rt; with_lowered(rt.alloc(), PATTERNS, &parts_of) == Ok(Some(parts)));
 }

@@ -1,12 +1,10 @@
 //! What the nodes of `?`, `try` and `for` lead to, and how much is stored for them.
 
-use crate::lowered::lowered_text;
+use crate::lowered::with_lowered;
 use crate::ways::{Way, node, way};
 use hir_lower::{Body, BodySourceMap};
 use hir_store::hir::Expr;
 use hir_store::ids::ExprId;
-use lower_json::fault::ReadError;
-use std::alloc::Global;
 
 /// `fn f() { a? }`
 const QUESTION: &str = r#"{"nodes": [
@@ -127,25 +125,13 @@ fn what_became(body: &Body, source_map: &BodySourceMap) -> Rewritten {
     }
 }
 
-fn rewritten_in_text(alloc: Global, text: &str) -> Result<Option<Rewritten>, ReadError> {
-    match lowered_text(alloc, text)? {
-        Some((body, source_map)) => {
-            let became = what_became(&body, &source_map);
-            drop(body);
-            drop(source_map);
-            Ok(Some(became))
-        }
-        None => Ok(None),
-    }
-}
-
 #[test]
 fn a_question_leads_to_its_match(rt: HostRuntime) {
     let question = Rewritten {
         led: Led::Match,
         lengths: [10, 4, 2, 0, 0],
     };
-    assert!(rt; rewritten_in_text(rt.alloc(), QUESTION) == Ok(Some(question)));
+    assert!(rt; with_lowered(rt.alloc(), QUESTION, &what_became) == Ok(Some(question)));
 }
 
 #[test]
@@ -154,7 +140,7 @@ fn a_question_without_its_items_leads_nowhere(rt: HostRuntime) {
         led: Led::Nowhere,
         lengths: [2, 0, 0, 0, 0],
     };
-    assert!(rt; rewritten_in_text(rt.alloc(), WITHOUT_ITEM) == Ok(Some(missing)));
+    assert!(rt; with_lowered(rt.alloc(), WITHOUT_ITEM, &what_became) == Ok(Some(missing)));
 }
 
 #[test]
@@ -163,7 +149,7 @@ fn a_try_leads_to_its_labelled_block(rt: HostRuntime) {
         led: Led::LabelledBlock,
         lengths: [5, 0, 0, 1, 0],
     };
-    assert!(rt; rewritten_in_text(rt.alloc(), TRY) == Ok(Some(plain)));
+    assert!(rt; with_lowered(rt.alloc(), TRY, &what_became) == Ok(Some(plain)));
 }
 
 #[test]
@@ -172,7 +158,7 @@ fn a_typed_try_leads_to_the_labelled_block_inside(rt: HostRuntime) {
         led: Led::LabelledBlock,
         lengths: [7, 1, 1, 1, 1],
     };
-    assert!(rt; rewritten_in_text(rt.alloc(), TYPED) == Ok(Some(typed)));
+    assert!(rt; with_lowered(rt.alloc(), TYPED, &what_became) == Ok(Some(typed)));
 }
 
 #[test]
@@ -181,7 +167,7 @@ fn a_for_leads_to_its_outer_match(rt: HostRuntime) {
         led: Led::Match,
         lengths: [14, 4, 2, 1, 0],
     };
-    assert!(rt; rewritten_in_text(rt.alloc(), FOR) == Ok(Some(turns)));
+    assert!(rt; with_lowered(rt.alloc(), FOR, &what_became) == Ok(Some(turns)));
 }
 
 #[test]
@@ -190,25 +176,17 @@ fn a_for_without_its_items_leads_nowhere(rt: HostRuntime) {
         led: Led::Nowhere,
         lengths: [2, 0, 0, 0, 0],
     };
-    assert!(rt; rewritten_in_text(rt.alloc(), FOR_WITHOUT_ITEM) == Ok(Some(missing)));
+    assert!(rt; with_lowered(rt.alloc(), FOR_WITHOUT_ITEM, &what_became) == Ok(Some(missing)));
 }
 
 /// What the head of the `for` leads to, which is node 5.
-fn way_of_head(alloc: Global, text: &str) -> Result<Option<Way>, ReadError> {
-    match lowered_text(alloc, text)? {
-        Some((body, source_map)) => {
-            let found = way(&source_map, 5);
-            drop(body);
-            drop(source_map);
-            Ok(Some(found))
-        }
-        None => Ok(None),
-    }
+fn way_of_head(_body: &Body, source_map: &BodySourceMap) -> Way {
+    way(source_map, 5)
 }
 
 #[test]
 fn the_head_of_a_for_leads_to_itself_and_nowhere_where_it_is_disabled(rt: HostRuntime) {
     let head = (Some(ExprId(0)), None);
-    assert!(rt; way_of_head(rt.alloc(), FOR) == Ok(Some(head)));
-    assert!(rt; way_of_head(rt.alloc(), FOR_OF_DISABLED_HEAD) == Ok(Some((None, None))));
+    assert!(rt; with_lowered(rt.alloc(), FOR, &way_of_head) == Ok(Some(head)));
+    assert!(rt; with_lowered(rt.alloc(), FOR_OF_DISABLED_HEAD, &way_of_head) == Ok(Some((None, None))));
 }

@@ -1,12 +1,10 @@
 //! What is assigned to: places lead to expressions and to patterns.
 
-use crate::lowered::lowered_text;
+use crate::lowered::with_lowered;
 use crate::ways::{Way, number_of, way};
 use hir_base::node::NodeId;
-use hir_lower::BodySourceMap;
+use hir_lower::{Body, BodySourceMap};
 use hir_store::ids::{ExprId, PatId};
-use lower_json::fault::ReadError;
-use std::alloc::Global;
 
 /// `fn f() { (a, (b), ..) = c }`
 const TARGETS: &str = r#"{"nodes": [
@@ -28,23 +26,15 @@ const TARGETS: &str = r#"{"nodes": [
 ]}"#;
 
 /// What the tuple, `a`, the parentheses, `b`, the two dots and `c` lead to.
-fn ways_to_targets(alloc: Global) -> Result<Option<[Way; 6]>, ReadError> {
-    match lowered_text(alloc, TARGETS)? {
-        Some((body, source_map)) => {
-            let ways = [
-                way(&source_map, 3),
-                way(&source_map, 4),
-                way(&source_map, 7),
-                way(&source_map, 8),
-                way(&source_map, 11),
-                way(&source_map, 12),
-            ];
-            drop(body);
-            drop(source_map);
-            Ok(Some(ways))
-        }
-        None => Ok(None),
-    }
+fn targets(_body: &Body, source_map: &BodySourceMap) -> [Way; 6] {
+    [
+        way(source_map, 3),
+        way(source_map, 4),
+        way(source_map, 7),
+        way(source_map, 8),
+        way(source_map, 11),
+        way(source_map, 12),
+    ]
 }
 
 #[test]
@@ -57,7 +47,7 @@ fn places_lead_to_expressions_and_to_patterns(rt: HostRuntime) {
         (None, None),
         (Some(ExprId(2)), None),
     ];
-    assert!(rt; ways_to_targets(rt.alloc()) == Ok(Some(ways)));
+    assert!(rt; with_lowered(rt.alloc(), TARGETS, &targets) == Ok(Some(ways)));
 }
 
 /// `fn f() { [a, .., S(b), S { x: c }] = d }`
@@ -94,7 +84,7 @@ const KINDS: &str = r#"{"nodes": [
 /// pattern comes from.
 type Kinds = ([Way; 6], Option<NodeId>);
 
-fn kinds(source_map: &BodySourceMap) -> Kinds {
+fn kinds(_body: &Body, source_map: &BodySourceMap) -> Kinds {
     let ways = [
         way(source_map, 3),
         way(source_map, 7),
@@ -107,18 +97,6 @@ fn kinds(source_map: &BodySourceMap) -> Kinds {
     (ways, field)
 }
 
-fn ways_to_kinds(alloc: Global) -> Result<Option<Kinds>, ReadError> {
-    match lowered_text(alloc, KINDS)? {
-        Some((body, source_map)) => {
-            let kinds = kinds(&source_map);
-            drop(body);
-            drop(source_map);
-            Ok(Some(kinds))
-        }
-        None => Ok(None),
-    }
-}
-
 #[test]
 fn what_is_taken_apart_leads_to_patterns_alone(rt: HostRuntime) {
     let ways = [
@@ -129,5 +107,5 @@ fn what_is_taken_apart_leads_to_patterns_alone(rt: HostRuntime) {
         (None, Some(PatId(4))),
         (Some(ExprId(2)), Some(PatId(3))),
     ];
-    assert!(rt; ways_to_kinds(rt.alloc()) == Ok(Some((ways, Some(NodeId(19))))));
+    assert!(rt; with_lowered(rt.alloc(), KINDS, &kinds) == Ok(Some((ways, Some(NodeId(19))))));
 }

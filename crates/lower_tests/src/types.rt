@@ -1,16 +1,17 @@
 //! What an `impl` becomes where the caller chooses, types for which there is no room, and one that is absent.
 
+use crate::collectors::{collector, of_both, table, with_store};
 use crate::documents::{path_in, with_document};
 use hir_base::Seq;
 use hir_base::node::{AstPtr, HirFileId, InFile, NodeId, TextRange};
 use hir_env::lang::LangItems;
-use hir_env::place::LoweringMode;
 use hir_env::table::TableEnv;
 use hir_lower::{
     ErrorImplTrait, ExprCollector, ImplTraitLower, LowerError, OpaqueImplTrait,
     impl_trait_error_allocator, lower_type_ref,
 };
-use hir_store::ids::{ItemContainerId, ModuleId, TypeRefId};
+use hir_store::ids::{ModuleId, TypeRefId};
+use hir_store::path::Path as LoweredPath;
 use hir_store::source_map::ExpressionStoreSourceMap;
 use hir_store::store::ExpressionStore;
 use hir_syntax::ast::Path;
@@ -38,21 +39,6 @@ const IMPL_IN_A_PATH: &str = r#"{"nodes": [
     {"k": "PathSegment", "seg": "name", "name": "B"}
 ]}"#;
 
-fn table(alloc: Global) -> TableEnv {
-    TableEnv::new(alloc, ItemContainerId::ModuleId(ModuleId(0)))
-}
-
-fn collector(alloc: Global, env: &TableEnv, limit: u32) -> ExprCollector<'_, TableEnv> {
-    ExprCollector::with_limit(
-        alloc,
-        env,
-        ModuleId(0),
-        HirFileId(0),
-        LoweringMode::Analysis,
-        limit,
-    )
-}
-
 /// What is listed without sources.
 fn listed_in<'a>(
     store: &'a ExpressionStore,
@@ -74,15 +60,14 @@ fn listed(
     ty: TypeRefId,
 ) -> Result<String, LowerError> {
     let items = LangItems::numbered();
-    match collector.into_store() {
-        Ok((store, source_map)) => {
-            let text = type_listing(alloc, listed_in(&store, &source_map, &items), ty);
-            drop(store);
-            drop(source_map);
-            text.map_err(|_| LowerError::Memory)
-        }
-        Err(error) => Err(error),
-    }
+    let items = &items;
+    let text = with_store(
+        collector,
+        &move |store: &ExpressionStore, source_map: &ExpressionStoreSourceMap| {
+            type_listing(alloc, listed_in(store, source_map, items), ty)
+        },
+    )?;
+    text.map_err(|_| LowerError::Memory)
 }
 
 fn error_listed(alloc: Global) -> Result<String, LowerError> {
@@ -132,23 +117,36 @@ fn an_impl_becomes_what_the_caller_chooses(rt: HostRuntime) -> Result<(), Fail> 
     Ok(())
 }
 
+/// The listing of a lowered path, and of the written one's segments.
+fn path_listed(
+    alloc: Global,
+    collector: ExprCollector<'_, TableEnv>,
+    lowered: &Option<LoweredPath>,
+    path: &Path,
+) -> Result<String, LowerError> {
+    let items = LangItems::numbered();
+    let items = &items;
+    let text = with_store(
+        collector,
+        &move |store: &ExpressionStore, source_map: &ExpressionStoreSourceMap| {
+            path_listing(
+                alloc,
+                listed_in(store, source_map, items),
+                lowered.as_ref(),
+                path,
+            )
+        },
+    )?;
+    text.map_err(|_| LowerError::Memory)
+}
+
 /// The listing of a path in which an `impl` stays, where there is room for so many types and lifetimes each.
 fn opaque_listed(alloc: Global, path: &Path, limit: u32) -> Result<String, LowerError> {
     let env = table(alloc);
     let mut collector = collector(alloc, &env, limit);
-    let items = LangItems::numbered();
     let text = match collector.lower_path(path, &mut OpaqueImplTrait) {
         Ok(lowered) => {
-            let text = match collector.into_store() {
-                Ok((store, source_map)) => {
-                    let listed = listed_in(&store, &source_map, &items);
-                    let text = path_listing(alloc, listed, lowered.as_ref(), path);
-                    drop(store);
-                    drop(source_map);
-                    text.map_err(|_| LowerError::Memory)
-                }
-                Err(error) => Err(error),
-            };
+            let text = path_listed(alloc, collector, &lowered, path);
             drop(lowered);
             text
         }
@@ -174,7 +172,7 @@ fn opaque_in_text(
         alloc,
         Root::Path,
         text,
-        &|alloc: Global, document: &Document| opaque_in(alloc, document, limit),
+        &move |alloc: Global, document: &Document| opaque_in(alloc, document, limit),
     )
 }
 
@@ -200,17 +198,16 @@ fn absent_has_node(alloc: Global) -> Result<bool, LowerError> {
         file_id: HirFileId(0),
         value: None,
     };
-    let has_node = match lower_type_ref(alloc, &env, ModuleId(0), absent) {
-        Ok((store, source_map, ty)) => {
-            let has_node = source_map.type_syntax(ty).is_some();
-            drop(store);
-            drop(source_map);
-            Ok(has_node)
-        }
-        Err(error) => Err(error),
-    };
+    let lowered = lower_type_ref(alloc, &env, ModuleId(0), absent);
     drop(env);
-    has_node
+    let (store, source_map, ty) = lowered?;
+    Ok(of_both(
+        store,
+        source_map,
+        &move |_store: &ExpressionStore, source_map: &ExpressionStoreSourceMap| {
+            source_map.type_syntax(ty).is_some()
+        },
+    ))
 }
 
 #[test]

@@ -1,7 +1,7 @@
 //! The ways back from the parts of what is stored to the written nodes.
 
 use crate::documents::{path_in, with_document};
-use crate::lowered::lowered_text;
+use crate::lowered::with_lowered;
 use hir_base::node::NodeId;
 use hir_lower::{Body, BodySourceMap, hir_assoc_type_binding_to_ast, hir_generic_arg_to_ast};
 use hir_store::hir::Expr;
@@ -9,7 +9,6 @@ use hir_store::ids::ExprId;
 use hir_store::store::ExpressionStore;
 use hir_syntax::ast::{GenericArg, GenericArgList};
 use lower_json::document::{Document, Root};
-use lower_json::fault::ReadError;
 use std::alloc::Global;
 
 /// `A<T, 'x, B = u8, 3>`.
@@ -66,27 +65,18 @@ fn lent(list: &GenericArgList) -> Lent {
     (args, first_node_behind_self(list), bindings)
 }
 
-fn lent_in(document: &Document) -> Option<Lent> {
+fn lent_in(_alloc: Global, document: &Document) -> Option<Lent> {
     match path_in(document)?.segs.as_slice() {
         [Some(segment)] => Some(lent(segment.generics.as_ref()?)),
         _ => None,
     }
 }
 
-fn lent_in_text(alloc: Global, text: &str) -> Result<Option<Lent>, ReadError> {
-    with_document(
-        alloc,
-        Root::Path,
-        text,
-        &|_alloc: Global, document: &Document| lent_in(document),
-    )
-}
-
 #[test]
 fn arguments_and_bindings_are_lent(rt: HostRuntime) {
     let args = [Some(NodeId(4)), Some(NodeId(7)), Some(NodeId(13)), None];
     let bindings = [Some(NodeId(8)), None];
-    assert!(rt; lent_in_text(rt.alloc(), ARGUMENTS) == Ok(Some((args, Some(NodeId(4)), bindings))));
+    assert!(rt; with_document(rt.alloc(), Root::Path, ARGUMENTS, &lent_in) == Ok(Some((args, Some(NodeId(4)), bindings))));
 }
 
 /// The constant `S { a: b }`.
@@ -116,19 +106,7 @@ fn field_node(body: &Body, source_map: &BodySourceMap) -> Option<NodeId> {
     Some(source_map.store.field_syntax(value)?.value.node)
 }
 
-fn field_node_in_text(alloc: Global, text: &str) -> Result<Option<NodeId>, ReadError> {
-    match lowered_text(alloc, text)? {
-        Some((body, source_map)) => {
-            let node = field_node(&body, &source_map);
-            drop(body);
-            drop(source_map);
-            Ok(node)
-        }
-        None => Ok(None),
-    }
-}
-
 #[test]
 fn a_value_comes_from_its_field(rt: HostRuntime) {
-    assert!(rt; field_node_in_text(rt.alloc(), RECORD) == Ok(Some(NodeId(5))));
+    assert!(rt; with_lowered(rt.alloc(), RECORD, &field_node) == Ok(Some(Some(NodeId(5)))));
 }

@@ -1,4 +1,4 @@
-use Rattle.hir_lower_type.proofs.simple.inner_pattern.Goals as goal
+use Rattle.hir_lower_type.proofs.part.OptionBoxedAstPatTypePatPart.lower_inside.Goals as goal
 
 pub lower_type_pat-requires : goal.lower_type_pat-requires
 lower_type_pat-requires g c = rw (c.inside_constant.ensures, c.place.ensures) c.requires
