@@ -3,7 +3,7 @@ use Rattle.hir_store.specs.Range.{Grows, HasTypes}
 use Rattle.hir_env.specs.Whole.{types_part}
 use Rattle.hir_lower_form.specs.Lower.{lower_parts}
 use Rattle.hir_lower_form.specs.Nests.{Each}
-use Rattle.hir_lower_type.proofs.part.SeqAstTypeTypesPart.lower_each.Given as goal
+use Rattle.hir_lower_type.proofs.part.SeqAstType_TypesPart.lower_each.Given as goal
 
 abbrev pub invariant-loop-left : goal.invariant-loop-left
 invariant-loop-left g l = let at = g.P.LowerParts.spot l.lowerer.parts in record {
