@@ -4,9 +4,9 @@
 #   sh run.sh TOOL [FOLDER..]
 #
 # TOOL is the program; FOLDER is the name of a folder beside this script, or a
-# path of one. Without a folder all of them run. The last line says how many
-# rows passed and failed; the status is 0 where none failed, 1 where some did,
-# 2 where nothing could be run.
+# path of one. Without a folder all of them run, and the examples. The last line
+# says how many rows passed and failed; the status is 0 where none failed, 1 where
+# some did, 2 where nothing could be run.
 
 here=$(dirname "$0")
 if [ $# -lt 1 ]; then
@@ -20,7 +20,7 @@ if ! command -v "$tool" >/dev/null 2>&1; then
     exit 2
 fi
 if [ $# -eq 0 ]; then
-    set -- "$here"/*/
+    set -- "$here"/*/ "$here/../../examples"
 fi
 
 work=$(mktemp -d) || exit 2
