@@ -105,7 +105,9 @@ fn in_one_and_two(alloc: Global, document: &Document) -> Option<(Answers, Answer
 fn a_path_does_not_fit_where_its_constants_do_not(rt: HostRuntime) {
     let in_one = (Err(LowerError::Full), Err(LowerError::Failed), 1);
     let in_two = (Ok(true), Err(LowerError::Full), 2);
-    assert!(rt; with_document(rt.alloc(), Root::Path, PATH, &in_one_and_two) == Ok(Some((in_one, in_two))));
+    assert!(rt;
+        with_document(rt.alloc(), Root::Path, PATH, &in_one_and_two) == Ok(Some((in_one, in_two)))
+    );
 }
 
 /// `A<{ let (x, y); }>`, whose constant becomes one expression, three patterns and two bindings.
@@ -156,5 +158,8 @@ fn in_two_and_three(alloc: Global, document: &Document) -> Option<(Bounded, Boun
 fn a_let_of_two_names_takes_three_patterns_and_two_bindings(rt: HostRuntime) {
     let in_two = (Some(LowerError::Full), Err(LowerError::Failed));
     let in_three = (None, Ok(Some((ExprId(1), PatId(3), BindingId(2)))));
-    assert!(rt; with_document(rt.alloc(), Root::Path, LET, &in_two_and_three) == Ok(Some((in_two, in_three))));
+    assert!(rt;
+        with_document(rt.alloc(), Root::Path, LET, &in_two_and_three)
+            == Ok(Some((in_two, in_three)))
+    );
 }

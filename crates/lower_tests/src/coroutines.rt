@@ -105,5 +105,7 @@ fn closure_and_coroutine(body: &Body, source_map: &BodySourceMap) -> Option<(Exp
 #[test]
 fn a_coroutine_is_stored_right_in_front_of_its_closure(rt: HostRuntime) {
     let numbers = (ExprId(4), ExprId(3));
-    assert!(rt; with_lowered(rt.alloc(), CLOSURE, &closure_and_coroutine) == Ok(Some(Some(numbers))));
+    assert!(rt;
+        with_lowered(rt.alloc(), CLOSURE, &closure_and_coroutine) == Ok(Some(Some(numbers)))
+    );
 }

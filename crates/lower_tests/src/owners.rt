@@ -151,5 +151,7 @@ fn a_constant_argument_owns_by_its_expression(rt: HostRuntime) {
     let first = Some(ExprId(0));
     let second = Some(ExprId(1));
     let owners = [first, first, second, second];
-    assert!(rt; with_document(rt.alloc(), Root::Path, ARGUMENT, &owners_of_both) == Ok(Some(owners)));
+    assert!(rt;
+        with_document(rt.alloc(), Root::Path, ARGUMENT, &owners_of_both) == Ok(Some(owners))
+    );
 }

@@ -68,7 +68,5 @@ fn without_room(alloc: Global, document: &Document) -> Option<Answers> {
 #[test]
 fn a_path_takes_no_room_but_is_not_lowered_after_an_error(rt: HostRuntime) {
     let answers = (Ok(true), Some(LowerError::Full), Err(LowerError::Failed));
-    assert!(rt;
-        with_document(rt.alloc(), Root::Path, EMPTY, &without_room) == Ok(Some(answers))
-    );
+    assert!(rt; with_document(rt.alloc(), Root::Path, EMPTY, &without_room) == Ok(Some(answers)));
 }

@@ -188,5 +188,7 @@ fn way_of_head(_body: &Body, source_map: &BodySourceMap) -> Way {
 fn the_head_of_a_for_leads_to_itself_and_nowhere_where_it_is_disabled(rt: HostRuntime) {
     let head = (Some(ExprId(0)), None);
     assert!(rt; with_lowered(rt.alloc(), FOR, &way_of_head) == Ok(Some(head)));
-    assert!(rt; with_lowered(rt.alloc(), FOR_OF_DISABLED_HEAD, &way_of_head) == Ok(Some((None, None))));
+    assert!(rt;
+        with_lowered(rt.alloc(), FOR_OF_DISABLED_HEAD, &way_of_head) == Ok(Some((None, None)))
+    );
 }

@@ -76,7 +76,10 @@ fn lent_in(_alloc: Global, document: &Document) -> Option<Lent> {
 fn arguments_and_bindings_are_lent(rt: HostRuntime) {
     let args = [Some(NodeId(4)), Some(NodeId(7)), Some(NodeId(13)), None];
     let bindings = [Some(NodeId(8)), None];
-    assert!(rt; with_document(rt.alloc(), Root::Path, ARGUMENTS, &lent_in) == Ok(Some((args, Some(NodeId(4)), bindings))));
+    assert!(rt;
+        with_document(rt.alloc(), Root::Path, ARGUMENTS, &lent_in)
+            == Ok(Some((args, Some(NodeId(4)), bindings)))
+    );
 }
 
 /// The constant `S { a: b }`.
