@@ -1,3 +1,4 @@
 pub mod Tuples
 pub mod Levels
 pub mod Pieces
+mod Firsts

@@ -1,0 +1,24 @@
+use Rattle.json_nodes.specs.Args.{assoc_arg}
+use Rattle.json_nodes.proofs.args.assoc_arg.Goals as goal
+
+pub returns : goal.returns
+unfolding assoc_arg
+returns g c = λ e.
+    let bounds = c.field-bounds.ensures e in
+    let ty = c.field-ty.ensures bounds.0 in
+    let generics = c.field-generics.ensures ty.0 in
+    let name = c.field-name.ensures generics.0 in (
+      name.0,
+      rw (
+        c.id.ensures,
+        c.range.ensures,
+        name.1,
+        c.flag.ensures,
+        c.value.ensures,
+        generics.1,
+        c.flag-2.ensures,
+        c.value-2.ensures,
+        ty.1,
+        bounds.1,
+      ),
+    )

@@ -1,0 +1,24 @@
+use Rattle.json_nodes.specs.Bounds.{bound}
+use Rattle.json_nodes.proofs.bounds.bound.Goals as goal
+
+pub returns : goal.returns
+unfolding bound
+returns g c = λ e.
+    let uses = c.field-uses.ensures e in
+    let lifetime = c.field-lifetime.ensures uses.0 in
+    let binder = c.field-binder.ensures lifetime.0 in
+    let ty = c.field-ty.ensures binder.0 in (
+      ty.0,
+      rw (
+        c.id.ensures,
+        c.range.ensures,
+        c.bound_kind.ensures,
+        c.value.ensures,
+        ty.1,
+        binder.1,
+        c.flag.ensures,
+        c.value-2.ensures,
+        lifetime.1,
+        uses.1,
+      ),
+    )

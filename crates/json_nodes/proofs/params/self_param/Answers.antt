@@ -1,0 +1,22 @@
+use Rattle.json_nodes.specs.Params.{self_param}
+use Rattle.json_nodes.proofs.params.self_param.Goals as goal
+
+pub returns : goal.returns
+unfolding self_param
+returns g c = λ e.
+    let ty = c.field-ty.ensures e in
+    let lifetime = c.field-lifetime.ensures ty.0 in
+    let name = c.field-name.ensures lifetime.0 in (
+      name.0,
+      rw (
+        c.id.ensures,
+        c.range.ensures,
+        name.1,
+        c.flag.ensures,
+        c.value.ensures,
+        c.flag-2.ensures,
+        c.value-2.ensures,
+        lifetime.1,
+        ty.1,
+      ),
+    )

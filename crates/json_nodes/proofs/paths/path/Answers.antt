@@ -1,0 +1,9 @@
+use Rattle.json_nodes.specs.Paths.{path}
+use Rattle.json_nodes.proofs.paths.path.Goals as goal
+
+pub returns : goal.returns
+unfolding path
+returns g c = λ e.
+    let segs = c.field-segs.ensures e in
+    let used = c.field-use_.ensures segs.0 in
+    (used.0, rw (c.id.ensures, c.range.ensures, c.flag.ensures, c.value.ensures, used.1, segs.1))

@@ -1,0 +1,28 @@
+use Rattle.json_nodes.specs.Paths.{segment}
+use Rattle.json_nodes.proofs.paths.segment.Goals as goal
+
+pub returns : goal.returns
+unfolding segment
+returns g c = λ e.
+    let of = c.field-trait_.ensures e in
+    let ty = c.field-ty.ensures of.0 in
+    let ret = c.field-ret.ensures ty.0 in
+    let parens = c.field-parens.ensures ret.0 in
+    let generics = c.field-generics.ensures parens.0 in
+    let name = c.field-name.ensures generics.0 in (
+      name.0,
+      rw (
+        c.id.ensures,
+        c.range.ensures,
+        c.segment_kind.ensures,
+        c.value.ensures,
+        name.1,
+        generics.1,
+        parens.1,
+        ret.1,
+        c.flag.ensures,
+        c.value-2.ensures,
+        ty.1,
+        of.1,
+      ),
+    )

@@ -1,0 +1,17 @@
+use Rattle.json_nodes.specs.Pats.{values}
+use Rattle.json_nodes.proofs.pats.values.Goals as goal
+
+pub returns-in-LiteralPat : goal.returns-in-LiteralPat
+unfolding values
+returns-in-LiteralPat g c = λ e.
+    let made = c.whole.ensures e in
+    let lit = c.field-lit.ensures made.0 in
+    (lit.0, rw (c.in-LiteralPat.is, made.1, lit.1, c.flag-minus.ensures, c.value.ensures))
+
+pub returns-in-RangePat : goal.returns-in-RangePat
+unfolding values
+returns-in-RangePat g c = λ e.
+    let made = c.whole-in-RangePat.ensures e in
+    let end = c.field-end.ensures made.0 in
+    let start = c.field-start.ensures end.0 in
+    (start.0, rw (c.in-RangePat.is, made.1, c.range_op-op.ensures, c.value-in-RangePat.ensures, start.1, end.1))

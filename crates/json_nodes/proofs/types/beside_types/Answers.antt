@@ -1,0 +1,42 @@
+use Rattle.std.proofs.Common.{refl}
+use Rattle.json_nodes.specs.Types.{beside_types}
+use Rattle.json_nodes.proofs.types.beside_types.Goals as goal
+
+pub returns-in-ArrayType : goal.returns-in-ArrayType
+unfolding beside_types
+returns-in-ArrayType g c = λ e.
+    let made = c.whole-in-ArrayType.ensures e in
+    let len = c.field-len.ensures made.0 in
+    let ty = c.field-ty-in-ArrayType.ensures len.0 in
+    (ty.0, rw c.in-ArrayType.is (rw made.1 (rw len.1 (rw ty.1 refl))))
+
+pub returns-in-ForType : goal.returns-in-ForType
+unfolding beside_types
+returns-in-ForType g c = λ e.
+    let made = c.whole-in-ForType.ensures e in
+    let ty = c.field-ty-in-ForType.ensures made.0 in
+    let binder = c.field-binder.ensures ty.0 in
+    (binder.0, rw c.in-ForType.is (rw made.1 (rw ty.1 (rw binder.1 refl))))
+
+pub returns-in-PatternType : goal.returns-in-PatternType
+unfolding beside_types
+returns-in-PatternType g c = λ e.
+    let made = c.whole-in-PatternType.ensures e in
+    let pat = c.field-pat.ensures made.0 in
+    let ty = c.field-ty-in-PatternType.ensures pat.0 in
+    (ty.0, rw c.in-PatternType.is (rw made.1 (rw pat.1 (rw ty.1 refl))))
+
+pub returns-in-RefType : goal.returns-in-RefType
+unfolding beside_types
+returns-in-RefType g c = λ e.
+    let made = c.whole.ensures e in
+    let ty = c.field-ty.ensures made.0 in
+    let lifetime = c.field-lifetime.ensures ty.0 in
+    (lifetime.0, rw (c.in-RefType.is, made.1, lifetime.1, c.flag-mut_.ensures, c.value.ensures, ty.1))
+
+pub returns-in-FnPtrType : goal.returns-in-FnPtrType
+unfolding beside_types
+returns-in-FnPtrType g c = λ e.
+    let made = c.whole-in-FnPtrType.ensures e in
+    let kind = c.function_pointer-kind.ensures made.0 in
+    (kind.0, rw (c.in-FnPtrType.is, made.1, kind.1))
