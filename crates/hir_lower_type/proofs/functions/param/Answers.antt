@@ -3,3 +3,6 @@ use Rattle.hir_lower_type.proofs.functions.param.Goals as goal
 
 pub returns : goal.returns
 returns g c = rw (param_is_level (g.P.LowerParts.spot c.args.lowerer.now.parts) c.args.node.now) c.param_form.ensures
+
+pub param_form-requires : goal.param_form-requires
+param_form-requires g c = c.requires

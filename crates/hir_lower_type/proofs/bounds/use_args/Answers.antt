@@ -1,0 +1,18 @@
+use Rattle.std.proofs.Common.{arith}
+use Rattle.std.proofs.lemmas.Grind.{common_steps}
+use Rattle.hir_lower_type.proofs.bounds.use_args.Goals as goal
+
+pub loop-left-init : goal.loop-left-init
+loop-left-init g c = grind (arith, common_steps)
+
+pub returns-in_err-arg : goal.returns-in_err-arg
+returns-in_err-arg g c = grind (arith, common_steps)
+
+pub loop-left-smaller : goal.loop-left-smaller
+loop-left-smaller g c = grind (arith, common_steps)
+
+pub loop-left-preserved : goal.loop-left-preserved
+loop-left-preserved g c = grind (arith, common_steps)
+
+pub returns : goal.returns
+returns g c = grind (arith, common_steps)

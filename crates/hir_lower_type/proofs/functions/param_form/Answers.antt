@@ -1,0 +1,12 @@
+use Rattle.std.proofs.Common.{arith}
+use Rattle.std.proofs.lemmas.Grind.{common_steps}
+use Rattle.hir_lower_type.proofs.functions.param_form.Goals as goal
+
+pub type_or_error-requires : goal.type_or_error-requires
+type_or_error-requires g c = grind (arith, common_steps)
+
+pub returns-then-node : goal.returns-then-node
+returns-then-node g c = grind (arith, common_steps)
+
+pub returns : goal.returns
+returns g c = grind (arith, common_steps)
