@@ -1,0 +1,10 @@
+pub mod Answering
+pub mod Graded
+pub mod Knowing
+pub mod TypeForms
+pub mod PatForms
+pub mod TargetForms
+pub mod Tree
+pub mod CorrectWhere
+pub mod AsApart
+pub mod AsYields

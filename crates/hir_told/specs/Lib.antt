@@ -1,0 +1,4 @@
+pub mod Grading
+pub mod Grades
+pub mod Yields
+pub mod Laws
