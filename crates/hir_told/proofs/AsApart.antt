@@ -1,56 +1,48 @@
--- Made names stay apart: an instance. What constants and expressions do is taken from the induction that stands.
-use Rattle.std.proofs.Common.{Option}
-use Rattle.hir_env.specs.Answered.{Binder, OptionPat, OptionPath, Target, Type_}
-use Rattle.hir_lower_form.specs.Lower.{lower_path, lower_target, lower_top, lower_type}
-use Rattle.hir_lower_form.specs.Lowering.{Lowering, ◌>>=◌}
+-- Made names stay apart: an instance.
+use Rattle.std.proofs.Common.{refl}
+use Rattle.hir_env.specs.Answered.{OptionExpr}
+use Rattle.hir_lower_form.specs.Lower.{lower_part}
+use Rattle.hir_lower_form.specs.Lowering.{Lowering, ◌>>=◌, pure}
 use Rattle.hir_lower_form.specs.Pats.{new_binding}
 use Rattle.hir_lower_form.specs.Walks.{super_read}
-use Rattle.hir_steps.proofs.Apart.{Apart, apart_trans, binding_apart, define_apart, expr_apart, inner_apart, point_pat_field_apart}
-use Rattle.hir_steps.proofs.Apart.{pure_apart, report_apart, set_problem_apart, stored_lifetime_apart, stored_pat_apart}
-use Rattle.hir_steps.proofs.Apart.{stored_type_apart, then_apart}
+use Rattle.hir_steps.proofs.Apart.{Apart, apart_trans, binding_apart, closure_apart, constant_apart, coroutine_apart, define_apart}
+use Rattle.hir_steps.proofs.Apart.{enter_block_apart, expr_apart, inner_apart, jump_apart, made_apart, named_apart, opened_apart}
+use Rattle.hir_steps.proofs.Apart.{opened_try_apart, owning_apart, point_apart, point_field_apart, point_pat_field_apart, pure_apart}
+use Rattle.hir_steps.proofs.Apart.{report_apart, set_problem_apart, stored_lifetime_apart, stored_pat_apart, stored_type_apart, then_apart}
+use Rattle.hir_steps.proofs.Apart.{try_target_apart}
+use Rattle.hir_steps.proofs.ApartForms.{coroutine_block_apart}
 use Rattle.hir_steps.proofs.ApartPats.{dots_apart}
-use Rattle.hir_steps.proofs.ApartTree.{a_constant_apart, node_apart}
+use Rattle.hir_steps.proofs.ApartPreludes.{coroutine_closure_apart}
 use Rattle.hir_steps.proofs.ApartTypes.{counted_apart}
+use Rattle.hir_steps.proofs.Barriers.{correct_yield}
+use Rattle.hir_steps.proofs.Frames.{block_at, loop_at}
 use Rattle.hir_steps.proofs.Steps.{Correct, correct_as}
-use Rattle.hir_told.specs.Grading.{Grading}
+use Rattle.hir_told.specs.Silent.{silent}
 use Rattle.hir_told.proofs.Answering.{Answering}
 use Rattle.hir_told.proofs.CorrectWhere.{correct_where}
 use Rattle.hir_told.proofs.Graded.{Graded}
-use Rattle.hir_told.proofs.Tree.{path_graded, target_graded, top_graded, type_graded}
+use Rattle.hir_told.proofs.Tree.{expr_part_graded}
 
 pub apart_where : {A B : Type 0} {P : A → Type 0} {p : Lowering A} {f : A → Lowering B} → Correct p Apart → Answering P p
     → ((a : A) → P a → Correct (f a) Apart) → Correct (p >>= f) Apart
 apart_where h t k = correct_as (correct_where h t k) (λ final ps m m' b g row. apart_trans row.first row.second)
 
--- nothing is told
-abbrev pub silent : Grading {0}
-silent = record {
-  G = Unit;
-  none = tt;
-  then' = λ g h. tt;
-  type_at = λ at. tt;
-  lifetime_at = λ at. tt;
-  pat_at = λ at. tt;
-  expr = tt;
-  binding = tt;
-  fault = λ d. tt;
-  super = λ n. tt;
-  dots = λ n. tt;
-  inner = λ l g. tt;
-  of_constant = λ c. tt;
-  of_expr = λ e. tt;
-}
-
 abbrev pub apart_graded : Graded silent
 apart_graded = record {
   Claim = λ g p. Correct p Apart;
+  Made = λ g p. Correct p Apart;
+  made_is = λ h. h;
   pure_is = λ a. pure_apart a;
   bind_is = λ h t k. apart_where h t k;
+  makes_is = λ h t k. apart_where h t k;
   end_is = λ h k. then_apart h k;
   type_is = λ t at. stored_type_apart t at;
   lifetime_is = λ l at. stored_lifetime_apart l at;
   pat_is = λ p at. stored_pat_apart p at;
   expr_is = λ e at. expr_apart e at;
+  made_expr_is = λ e at. made_apart e at;
+  point_is = λ at h. then_apart h (λ i. then_apart (point_apart at i) (λ u. pure_apart i));
+  point_field_is = λ i at. point_field_apart i at;
   binding_is = λ u is. binding_apart (new_binding u) is;
   define_is = λ b p. define_apart b p;
   problem_is = λ b problem. set_problem_apart b problem;
@@ -58,19 +50,25 @@ apart_graded = record {
   fault_is = λ d. report_apart d;
   super_is = λ w. counted_apart (super_read w);
   dots_is = λ comma place. dots_apart comma place;
+  block_is = λ n. enter_block_apart n;
+  jump_is = λ j. jump_apart j;
+  yield_is = λ at e h. correct_yield at e h;
+  asked_is = λ k. then_apart try_target_apart k;
+  named_is = λ mode k. named_apart mode {p = pure (tt {0})} (pure_apart (tt {0})) (λ n u q. k n q);
+  made_named_is = λ mode k. named_apart mode {p = pure (tt {0})} (pure_apart (tt {0})) (λ n u q. k n q);
+  named_past_is = λ mode h k. named_apart mode h k;
+  bare_is = λ h k. then_apart h k;
+  loop_is = λ l is p h k. opened_apart loop_at l is (λ n ps. refl) (λ n. h) k;
+  labelled_is = λ l is k. opened_apart block_at l is (λ n ps. refl) k (λ n i. pure_apart i);
+  try_is = λ at typed k of b hs hp t f. opened_try_apart at typed hs hp f;
   inner_is = λ l h. inner_apart h;
-  constant_is = λ c. a_constant_apart c;
-  node_is = λ e. node_apart e;
+  constant_is = λ e h. owning_apart (λ c. c.expr) (constant_apart h);
+  rooted_is = λ e h. constant_apart h;
+  closure_is = λ at moves is_static hp ht he. owning_apart (λ i. i) (closure_apart at moves is_static hp ht he);
+  coroutine_closure_is = λ at kind moves xs t e hp ht he. owning_apart (λ i. i) (coroutine_closure_apart at kind moves hp ht he);
+  coroutine_is = λ at kind moves number h. owning_apart (λ i. i) (coroutine_apart (coroutine_block_apart at kind moves number h));
+  owning_is = λ h. owning_apart (λ i. i) h;
 }
 
-pub types_apart : (b : Option Binder) (t : Type_) → Correct (lower_type b t) Apart
-types_apart b t = type_graded apart_graded b t
-
-pub paths_apart : (p : OptionPath) → Correct (lower_path p) Apart
-paths_apart p = (path_graded apart_graded p).claim
-
-pub tops_apart : (p : OptionPat) → Correct (lower_top p) Apart
-tops_apart p = top_graded apart_graded p
-
-pub targets_apart : (t : Target) → Correct (lower_target t) Apart
-targets_apart t = target_graded apart_graded t
+pub parts_apart : (e : OptionExpr) → Correct (lower_part e) Apart
+parts_apart e = expr_part_graded apart_graded e

@@ -1,27 +1,35 @@
--- Whether a `yield` stands in it, and in none of the bodies inside: an instance, beside that made names stay apart. What constants and
--- expressions do is taken from the inductions that stand.
-use Rattle.std.proofs.Common.{◌≡◌, ◌∙◌, ap, subst, ◌||◌, Bool, false, None, Ok, Err}
-use Rattle.hir_env.specs.Answered.{some_expr}
+-- Whether a `yield` stands in it: an instance, beside that made names stay apart.
+use Rattle.std.proofs.Common.{◌≡◌, ◌∙◌, ap, subst, ◌||◌, ℕ, Bool, false, None, Ok, Err}
+use Rattle.hir_binding.specs.declared.binding.BindingAnnotation.{BindingAnnotation}
+use Rattle.hir_store.specs.Pointers.{Pointer}
+use Rattle.hir_store.specs.declared.ids.LabelId.{LabelId}
 use Rattle.hir_lower_form.specs.Builder.{Builder}
-use Rattle.hir_lower_form.specs.Lowering.{Checked, go_on, Lowering, ◌>>=◌}
+use Rattle.hir_lower_form.specs.Forms.{ExprSteps, StoredContents}
+use Rattle.hir_lower_form.specs.Lowering.{Checked, go_on, Lowering, ◌>>=◌, close, made_number, open_try}
+use Rattle.hir_lower_form.specs.Made.{made_bind_form}
 use Rattle.hir_lower_form.specs.Pats.{new_binding}
 use Rattle.hir_lower_form.specs.Walks.{super_read}
 use Rattle.hir_steps.specs.Keeps.{Paired}
-use Rattle.hir_steps.proofs.Apart.{Apart}
-use Rattle.hir_steps.proofs.Barriers.{still_inner}
+use Rattle.hir_steps.proofs.Apart.{Apart, point_apart, try_target_apart}
+use Rattle.hir_steps.proofs.Barriers.{raises_yield, still_closure, still_constant, still_coroutine, still_inner}
+use Rattle.hir_steps.proofs.CoroutineClosures.{still_coroutine_closure}
+use Rattle.hir_steps.proofs.MadeSteps.{correct_made_number}
+use Rattle.hir_steps.proofs.Opening.{raises_close, raises_open_label, raises_open_try}
+use Rattle.hir_steps.proofs.Owning.{raises_owning, still_owning}
+use Rattle.hir_steps.proofs.PatSteps.{correct_alloc_binding, correct_alloc_pat, correct_define}
 use Rattle.hir_steps.proofs.StillPats.{dots_still}
-use Rattle.hir_steps.proofs.StillTree.{a_constant_still}
 use Rattle.hir_steps.proofs.StillTypes.{counted_still}
 use Rattle.hir_steps.proofs.Steps.{Correct}
-use Rattle.hir_steps.proofs.Yields.{RaisedTo, Raises, Still, or_assoc, raises_end, raises_pure, raises_still, still_binding, still_define}
-use Rattle.hir_steps.proofs.Yields.{still_expr, still_lifetime, still_pat, still_point_pat_field, still_problem, still_report, still_type}
-use Rattle.hir_read_back.proofs.YieldTree.{part_raises}
-use Rattle.hir_told.specs.Laws.{PatsNote, TargetsNote, TypesNote}
+use Rattle.hir_steps.proofs.Yields.{RaisedTo, Raises, Still, or_assoc, raises_begin, raises_end, raises_pure, raises_still, raises_then}
+use Rattle.hir_steps.proofs.Yields.{still_binding, still_define, still_enter_block, still_expr, still_jump_target, still_lifetime, still_made}
+use Rattle.hir_steps.proofs.Yields.{still_made_number, still_pat, still_point, still_point_field, still_point_pat_field, still_problem}
+use Rattle.hir_steps.proofs.Yields.{still_report, still_try_target, still_type}
+use Rattle.hir_told.specs.Laws.{ExprsNote, PatsNote, TargetsNote, TypesNote}
 use Rattle.hir_told.specs.Yields.{yields}
 use Rattle.hir_told.proofs.Answering.{Answering, AnsweredTo}
 use Rattle.hir_told.proofs.AsApart.{apart_graded, apart_where}
 use Rattle.hir_told.proofs.Graded.{Graded}
-use Rattle.hir_told.proofs.Tree.{part_graded, target_graded, top_graded}
+use Rattle.hir_told.proofs.Tree.{expr_part_graded, part_graded, target_graded, top_graded}
 
 abbrev pub Notes : {A : Type 0} → Bool → Lowering A → Type 0
 Notes y p = Correct p Apart × Raises y p
@@ -45,16 +53,43 @@ raises_where {A = A} {P = P} {y = y} {z = z} {p = p} {f = f} h t k =
 pub off : {A : Type 0} {p : Lowering A} → Correct p Apart → Still p → Notes false p
 off h s = (h, raises_still h s)
 
+-- nor in a name that is made up and bound
+pub bind_off : (mode : BindingAnnotation) (n : ℕ) → Raises false (made_bind_form mode n)
+unfolding made_bind_form
+bind_off mode n = raises_end (raises_still (correct_alloc_binding _) (still_binding _)) (λ i.
+    raises_end (raises_still (correct_alloc_pat _ None) (still_pat _ None)) (λ p.
+    raises_begin (raises_still (correct_define i p) (still_define i p)) (λ u. raises_pure p)))
+
+pub number_off : Raises false made_number
+number_off = raises_still correct_made_number still_made_number
+
+-- what comes behind a `try` goes by something of what is in it
+pub try_raises : (at : Pointer) (typed : Bool) {y z : Bool} (k : Bool → Bool) (of : StoredContents → Bool) (b : Bool)
+    {s : Lowering (Unit {0})} {p : Lowering StoredContents} {f : LabelId → StoredContents → ExprSteps} → Raises y s → Raises z p
+    → Answering (λ r. of r ≡ b) p → ((n : LabelId) (r : StoredContents) → Raises (k (of r)) (f n r))
+    → Raises (y || (z || k b)) (open_try at typed >>= (λ n. s >>= (λ _. p >>= (λ r. close >>= (λ _. f n r)))))
+try_raises at typed k of b {f = f} hs hp t more = raises_begin (raises_open_try at typed) (λ n. raises_then hs (λ u.
+    raises_where hp t (λ r is. raises_begin raises_close (λ v. subst (λ x. Raises (k x) (f n r)) is (more n r)))))
+
 abbrev pub yields_graded : Graded yields
 yields_graded = let apart = apart_graded in record {
   Claim = λ y p. Notes y p;
+  Made = λ y p. Notes y p;
+  made_is = λ h. h;
   pure_is = λ a. (apart.pure_is a, raises_pure a);
   bind_is = λ h t k. (apart_where h.0 t (λ a x. (k a x).0), raises_where h.1 t (λ a x. (k a x).1));
+  makes_is = λ h t k. (apart_where h.0 t (λ a x. (k a x).0), raises_where h.1 t (λ a x. (k a x).1));
   end_is = λ h k. (apart.end_is h.0 (λ a. (k a).0), raises_end h.1 (λ a. (k a).1));
   type_is = λ t at. off (apart.type_is t at) (still_type t at);
   lifetime_is = λ l at. off (apart.lifetime_is l at) (still_lifetime l at);
   pat_is = λ p at. off (apart.pat_is p at) (still_pat p at);
   expr_is = λ e at. off (apart.expr_is e at) (still_expr e at);
+  made_expr_is = λ e at. off (apart.made_expr_is e at) (still_made e at);
+  point_is = λ at h. (
+    apart.point_is at h.0,
+    raises_end h.1 (λ i. raises_begin (raises_still (point_apart at i) (still_point at i)) (λ u. raises_pure i)),
+  );
+  point_field_is = λ i at. off (apart.point_field_is i at) (still_point_field i at);
   binding_is = λ u is. off (apart.binding_is u is) (still_binding (new_binding u));
   define_is = λ b p. off (apart.define_is b p) (still_define b p);
   problem_is = λ b problem. off (apart.problem_is b problem) (still_problem b problem);
@@ -62,15 +97,53 @@ yields_graded = let apart = apart_graded in record {
   fault_is = λ d. off (apart.fault_is d) (still_report d);
   super_is = λ w. off (apart.super_is w) (counted_still (super_read w));
   dots_is = λ comma place. off (apart.dots_is comma place) (dots_still comma place);
+  block_is = λ n. off (apart.block_is n) (still_enter_block n);
+  jump_is = λ j. off (apart.jump_is j) (still_jump_target j);
+  yield_is = λ at e h. (apart.yield_is at e h.0, raises_yield at e h.1);
+  asked_is = λ k. (apart.asked_is (λ t. (k t).0), raises_begin (raises_still try_target_apart still_try_target) (λ t. (k t).1));
+  named_is = λ mode k. (
+    apart.named_is mode (λ n q. (k n q).0),
+    raises_begin number_off (λ n. raises_begin (bind_off mode n) (λ q. (k n q).1)),
+  );
+  made_named_is = λ mode k. (
+    apart.made_named_is mode (λ n q. (k n q).0),
+    raises_begin number_off (λ n. raises_begin (bind_off mode n) (λ q. (k n q).1)),
+  );
+  named_past_is = λ mode h k. (
+    apart.named_past_is mode h.0 (λ n a q. (k n a q).0),
+    raises_begin number_off (λ n. raises_then h.1 (λ a. raises_begin (bind_off mode n) (λ q. (k n a q).1))),
+  );
+  bare_is = λ h k. (apart.bare_is h.0 (λ i. (k i).0), raises_end h.1 (λ i. (k i).1));
+  loop_is = λ l is p h k. (
+    apart.loop_is l is p h.0 (λ n i. (k n i).0),
+    raises_begin (raises_open_label l) (λ n. raises_end h.1 (λ i. raises_begin raises_close (λ u. (k n i).1))),
+  );
+  labelled_is = λ l is k. (
+    apart.labelled_is l is (λ n. (k n).0),
+    raises_begin (raises_open_label l) (λ n. raises_end (k n).1 (λ i. raises_begin raises_close (λ u. raises_pure i))),
+  );
+  try_is = λ at typed k of b hs hp t more. (
+    apart.try_is at typed (λ x. tt) of b hs.0 hp.0 t (λ n r. (more n r).0),
+    try_raises at typed k of b hs.1 hp.1 t (λ n r. (more n r).1),
+  );
   inner_is = λ l h. off (apart.inner_is l h.0) (still_inner _);
-  constant_is = λ c. off (apart.constant_is c) (a_constant_still c);
-  node_is = λ e. (apart.node_is e, part_raises (some_expr e));
+  constant_is = λ e h. off (apart.constant_is e h.0) (still_owning (λ c. c.expr) (still_constant _));
+  rooted_is = λ e h. off (apart.rooted_is e h.0) (still_constant _);
+  closure_is = λ at moves is_static hp ht he. off (apart.closure_is at moves is_static hp.0 ht.0 he.0)
+      (still_owning (λ i. i) (still_closure at moves is_static _ _ _));
+  coroutine_closure_is = λ at kind moves xs t e hp ht he. off (apart.coroutine_closure_is at kind moves xs t e hp.0 ht.0 he.0)
+      (still_owning (λ i. i) (still_coroutine_closure at kind moves _ _ _));
+  coroutine_is = λ at kind moves number h. off (apart.coroutine_is at kind moves number h.0) (still_owning (λ i. i) (still_coroutine _));
+  owning_is = λ h. (apart.owning_is h.0, raises_owning (λ i. i) h.1);
 }
 
 -- what the answer and the builder behind it say
 noted : {A : Type 0} {y : Bool} {p : Lowering A} (b c : Builder) (a : A) → Notes y p → Paired b.stored → p b ≡ (Ok a, c)
     → c.yields ≡ (b.yields || y)
 noted {y = y} b c a h d is = (subst (λ r. RaisedTo y b r.0 r.1) is (h.1.at b d)).1
+
+pub exprs_note : ExprsNote
+exprs_note e b i c d is = noted b c i (expr_part_graded yields_graded e) d is
 
 pub types_note : TypesNote
 types_note t b c i d is = noted b c i (part_graded yields_graded None t) d is

@@ -33,3 +33,15 @@ correct_where {A = A} {B = B} {p = p} {R = R} {P = P} {f = f} {Q = Q} h t k =
         → Holds R final ps b o c → AnsweredTo P o → Holds (Seq R (λ a. Q)) final ps b (go_on o c f).0 (go_on o c f).1
     first final ps b r (Ok a) c x y = second final ps b c a x (f a c).0 (f a c).1 ((k a y).holds final ps c (x.kept.scopes ∙ r))
     first final ps b r (Err e) c x y = x
+
+-- correct steps, with what is known of their answer
+pub correct_with : {A : Type 0} {p : Lowering A} {R : Rel A} {P : A → Type 0} → Correct p R → Answering P p
+    → Correct p (λ final ps m m' a. R final ps m m' a × P a)
+correct_with {A = A} {p = p} {R = R} {P = P} h t =
+    record { holds = λ final ps b r. by final ps b (p b).0 (p b).1 (h.holds final ps b r) (t.answers b) }
+  where
+    by : (final : Stored) (ps : List Frame) (b : Builder) (o : Checked A) (c : Builder) → Holds R final ps b o c → AnsweredTo P o
+        → Holds (λ final ps m m' a. R final ps m m' a × P a) final ps b o c
+    by final ps b (Ok a) c x y =
+        record { kept = x.kept; grows = x.grows; in_final = λ d pre. (x.in_final d pre, y) }
+    by final ps b (Err e) c x y = x

@@ -4,7 +4,11 @@ pub mod Knowing
 pub mod TypeForms
 pub mod PatForms
 pub mod TargetForms
+pub mod ExprForms
+pub mod MadeForms
 pub mod Tree
 pub mod CorrectWhere
 pub mod AsApart
 pub mod AsYields
+pub mod AsTelling
+pub mod AsRooms

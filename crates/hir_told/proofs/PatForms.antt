@@ -17,7 +17,7 @@ use Rattle.hir_env.specs.Answered as tree
 use Rattle.hir_env.specs.Answered.{Pat, Pats, PatUnary, Signed, Use}
 use Rattle.hir_data.specs.Patterns.{is_dots, moved_by}
 use Rattle.hir_data.specs.Uses.{FirstUses, with_use}
-use Rattle.hir_lower_form.specs.Forms.{ExprSteps, missing}
+use Rattle.hir_lower_form.specs.Forms.{ExprSteps}
 use Rattle.hir_lower_form.specs.Lower.{lower_pat}
 use Rattle.hir_lower_form.specs.Lowering.{Lowering, ◌>>=◌}
 use Rattle.hir_lower_form.specs.Pats as forms
@@ -30,7 +30,7 @@ use Rattle.hir_one_result.proofs.PathRooms.{GivesPath, option_seen}
 use Rattle.hir_one_result.proofs.PatRooms.{AsMany, Keyed, dots_use_none, from_none}
 use Rattle.hir_told.specs.Grading.{Grading, if_so, or_missing, grade_name, behind_comma, grade_or, grade_name_side}
 use Rattle.hir_told.proofs.Answering.{answering_any, answering_pure, answering_then}
-use Rattle.hir_told.proofs.Graded.{Graded, Told, next, map_is, told_any, told_end, told_last, told_less, told_map, told_pure, told_then}
+use Rattle.hir_told.proofs.Graded.{Graded, Told, next, made_next, expr_claim, map_is, told_any, told_end, told_last, told_less, told_map, told_pure, told_then}
 use Rattle.hir_told.proofs.Knowing.{KnownBy, keyed_more, known_by, same_dots}
 use Rattle.hir_told.proofs.TypeForms.{claim_by_path, told_by_path}
 
@@ -143,7 +143,7 @@ module _ {ℓ} {S : Grading {ℓ}} (L : Graded S) where
 
   side_of_graded : (at : Pointer) (p : Option HirPath) → L.Claim (if_so S (is_some (option_seen p)) S.expr) (forms.path_side_of at p)
   side_of_graded at None = L.pure_is None
-  side_of_graded at (Some p) = map_is L _ (L.expr_is _ (Some at))
+  side_of_graded at (Some p) = map_is L _ (expr_claim L _ (Some at))
 
   module _ (at : Pointer) where
     pub path_pat_graded : {g : S.G} {q : Lowering (Option HirPath)} → L.Claim g q
@@ -224,15 +224,15 @@ module _ {ℓ} {S : Grading {ℓ}} (L : Graded S) where
     pub literal_pat_graded : (own : Option Pointer) (s : Signed)
         → L.Claim (S.then' S.expr (S.pat_at (Some at))) (forms.literal_pat_form at own s)
     unfolding forms.literal_pat_form
-    literal_pat_graded own s = next L (L.expr_is _ _) (λ e. L.pat_is _ (Some at))
+    literal_pat_graded own s = next L (expr_claim L _ _) (λ e. L.pat_is _ (Some at))
 
     pub literal_side_graded : (s : Signed) → L.Claim S.expr (forms.literal_side_form at s)
     unfolding forms.literal_side_form
-    literal_side_graded s = map_is L _ (L.expr_is _ (Some at))
+    literal_side_graded s = map_is L _ (expr_claim L _ (Some at))
 
     pub name_side_graded : (n : Name) → L.Claim (grade_name_side S n) (forms.name_side_of at n)
     name_side_graded name.Missing = L.pure_is None
-    name_side_graded n = map_is L _ (L.expr_is _ (Some at))
+    name_side_graded n = map_is L _ (expr_claim L _ (Some at))
 
     pub path_side_graded : {x : Option Seen} {g : S.G} {q : Lowering (Option HirPath)} → Told L g (GivesPath x) q
         → L.Claim (S.then' g (if_so S (is_some x) S.expr)) (forms.path_side_form at q)
@@ -246,18 +246,18 @@ module _ {ℓ} {S : Grading {ℓ}} (L : Graded S) where
 
     -- ---- patterns of types
 
-    pub literal_limit_graded : (s : Signed) → L.Claim S.expr (ranges.literal_limit_form at s)
+    pub literal_limit_graded : (s : Signed) → L.Made S.expr (ranges.literal_limit_form at s)
     unfolding ranges.literal_limit_form
     literal_limit_graded s = L.expr_is _ (Some at)
 
-    pub name_limit_graded : (n : Name) → L.Claim S.expr (ranges.name_limit_form at n)
+    pub name_limit_graded : (n : Name) → L.Made S.expr (ranges.name_limit_form at n)
     unfolding ranges.name_limit_form
     name_limit_graded n = L.expr_is _ (Some at)
 
     pub path_limit_graded : {g : S.G} {q : Lowering (Option HirPath)} → L.Claim g q
-        → L.Claim (S.then' g S.expr) (ranges.path_limit_form at q)
+        → L.Made (S.then' g S.expr) (ranges.path_limit_form at q)
     unfolding ranges.path_limit_form
-    path_limit_graded h = next L h (λ p. L.expr_is _ (Some at))
+    path_limit_graded h = made_next L h (λ p. L.expr_is _ (Some at))
 
     pub limits_graded : {g h : S.G} {s e : ExprSteps} → L.Claim g s → L.Claim h e
         → L.Claim (S.then' g (S.then' h (S.pat_at (Some at)))) (ranges.limits_form at s e)
@@ -269,15 +269,11 @@ module _ {ℓ} {S : Grading {ℓ}} (L : Graded S) where
     unfolding ranges.type_alternatives_form
     type_alternatives_graded h = next L h (λ ps. L.pat_is _ (Some at))
 
-  pub missing_graded : L.Claim S.expr missing
-  unfolding missing
-  missing_graded = L.expr_is _ None
-
-  pub item_graded : (item : Option LangItemId) → L.Claim S.expr (ranges.item_form item)
+  pub item_graded : (item : Option LangItemId) → L.Made S.expr (ranges.item_form item)
   unfolding ranges.item_form
   item_graded item = L.expr_is _ None
 
-  pub before_graded : (item : Option LangItemId) {g : S.G} {e : ExprSteps} → L.Claim g e
-      → L.Claim (S.then' g (S.then' S.expr S.expr)) (ranges.before_form item e)
+  pub before_graded : (item : Option LangItemId) {g : S.G} {e : ExprSteps} → L.Made g e
+      → L.Made (S.then' g (S.then' S.expr S.expr)) (ranges.before_form item e)
   unfolding ranges.before_form
-  before_graded item h = next L h (λ e. next L (L.expr_is _ None) (λ f. L.expr_is _ None))
+  before_graded item h = made_next L (L.made_is h) (λ e. made_next L (expr_claim L _ None) (λ f. L.expr_is _ None))

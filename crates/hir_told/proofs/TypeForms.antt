@@ -17,6 +17,7 @@ use Rattle.hir_env.specs.Answered.{Binder, FnHead, Lifetime, TypeUnary, UseRead}
 use Rattle.hir_lower_form.specs.declared.walk.PathWalk.{PathWalk}
 use Rattle.hir_lower_form.specs.declared.walk.Reading.{Reading}
 use Rattle.hir_lower_form.specs.declared.walk.Reading.TheVariants.{Refused, Ended, Open}
+use Rattle.hir_lower_form.specs.Forms.{ExprSteps}
 use Rattle.hir_lower_form.specs.Lowering.{Lowering, ◌>>=◌}
 use Rattle.hir_lower_form.specs.Walks.{supers, super_read}
 use Rattle.hir_lower_form.specs.Paths as steps
@@ -43,6 +44,10 @@ module _ {ℓ} {S : Grading {ℓ}} (L : Graded S) where
       (k : Option Seen → S.G) → Told L g (GivesPath x) p → ((o : Option HirPath) → L.Claim (k (option_seen o)) (f o))
       → L.Claim (S.then' g (k x)) (p >>= f)
   claim_by_path k h more = (told_by_path k (λ y. anything) h (λ o. told_any L (more o))).claim
+
+  pub made_by_path : {g : S.G} {x : Option Seen} {p : Lowering (Option HirPath)} {f : Option HirPath → ExprSteps} (k : Option Seen → S.G)
+      → Told L g (GivesPath x) p → ((o : Option HirPath) → L.Made (k (option_seen o)) (f o)) → L.Made (S.then' g (k x)) (p >>= f)
+  made_by_path {f = f} k h more = L.makes_is h.claim h.known (λ o e. subst (λ y. L.Made (k y) (f o)) e (more o))
 
   -- ---- types
 

@@ -5,14 +5,16 @@ use Rattle.hir_store.specs.declared.diagnostics.ExpressionStoreDiagnostics.TheVa
 use Rattle.hir_env.specs.Answered as tree
 use Rattle.hir_env.specs.Answered.{Type_, OptionType, Parts, Path, OptionPath, Segments, Segment, SegmentArgs, OptionParens, OptionRet}
 use Rattle.hir_env.specs.Answered.{OptionArgs, Args, Arg, Bounds, Bound, Side, TypePat, OptionTypePat, TypePats, Limit}
-use Rattle.hir_env.specs.Answered.{Pat, OptionPat, Pats, PatFields, PatField, Target, Targets, TargetFields, TargetField}
+use Rattle.hir_env.specs.Answered.{Pat, OptionPat, Pats, PatFields, PatField, Target, Targets, TargetFields, TargetField, Constant, Expr}
+use Rattle.hir_env.specs.Answered.{OptionExpr, Exprs, Fields, Field, Spread, Block, OptionBlock, Stmts, Stmt, Arms, Arm, Guard, Param, Params}
 use Rattle.hir_data.specs.Patterns.{is_dots, ellipsis_of}
 use Rattle.hir_data.specs.Targets.{target_dots}
 use Rattle.hir_data.specs.Uses.{FirstUses}
 use Rattle.hir_one_result.specs.PathRoom.{Seen, nothing_seen, at_first, segments_read, own_read, yields, whole_read}
 use Rattle.hir_one_result.specs.PatRoom.{names_after, names_after_part, names_after_each, names_after_field}
 use Rattle.hir_told.specs.Grading.{Grading, if_so, before, grade_lifetime, grade_uses, or_missing, grade_name, behind_comma, grade_or}
-use Rattle.hir_told.specs.Grading.{grade_name_side, grade_rest, grade_spread}
+use Rattle.hir_told.specs.Grading.{grade_name_side, grade_rest, grade_spread, kept_of, labelled_of, grade_front, record_of, grade_await}
+use Rattle.hir_told.specs.Grading.{grade_range, made_bind, item_call, flow_arm, residual, for_turn, grade_try}
 
 module _ {ℓ} (S : Grading {ℓ}) where
   abbrev mutual
@@ -24,7 +26,7 @@ module _ {ℓ} (S : Grading {ℓ}) where
     grade_type (tree.leaf_type at form) = S.type_at (Some at)
     grade_type (tree.over_type at form t) = S.then' (grade_part t) (S.type_at (Some at))
     -- its length first
-    grade_type (tree.array_type at c t) = S.then' (S.of_constant c) (S.then' (grade_part t) (S.type_at (Some at)))
+    grade_type (tree.array_type at c t) = S.then' (grade_constant c) (S.then' (grade_part t) (S.type_at (Some at)))
     grade_type (tree.tuple_type at ts) = S.then' (grade_parts ts) (S.type_at (Some at))
     grade_type (tree.path_type at p) = S.then' (grade_whole p) (S.type_at (Some at))
     grade_type (tree.ref_type at l mutability t) = S.then' (grade_part t) (S.then' (grade_lifetime S l) (S.type_at (Some at)))
@@ -103,7 +105,7 @@ module _ {ℓ} (S : Grading {ℓ}) where
     grade_arg tree.skipped_arg = S.none
     grade_arg (tree.type_arg t) = grade_part t
     grade_arg (tree.lifetime_arg l) = S.lifetime_at (Some l.pointer)
-    grade_arg (tree.const_arg c) = S.of_constant c
+    grade_arg (tree.const_arg c) = grade_constant c
     grade_arg (tree.assoc_arg n as' dots t bs) = S.then' (grade_args as') (S.then' (grade_present t) (grade_bounds bs))
 
     pub grade_bounds : Bounds → S.G
@@ -145,15 +147,6 @@ module _ {ℓ} (S : Grading {ℓ}) where
     grade_limit_side (tree.path_side at p) = S.then' (grade_whole p) S.expr
     grade_limit_side s = S.expr
 
-  -- what is no side is absent
-  abbrev pub grade_side : Side → S.G
-  grade_side tree.no_side = S.none
-  grade_side (tree.literal_side at l) = S.expr
-  grade_side (tree.name_side at n _) = grade_name_side S n
-  grade_side (tree.path_side at p) = S.then' (grade_whole p) (if_so S (is_some (whole_read p)) S.expr)
-  grade_side tree.other_side = S.none
-
-  abbrev mutual
     -- ---- patterns, where these names have a use
 
     pub grade_pat : Pat → FirstUses → S.G
@@ -215,16 +208,24 @@ module _ {ℓ} (S : Grading {ℓ}) where
     grade_pat_field tree.partless_pat_field us = S.none
     grade_pat_field (tree.pat_field at n p) us = grade_pat p us
 
-  -- a whole one, before which no name has a use
-  abbrev pub grade_top : OptionPat → S.G
-  grade_top p = grade_pat_part p []
+    -- what is no side is absent
+    pub grade_side : Side → S.G
+    grade_side tree.no_side = S.none
+    grade_side (tree.literal_side at l) = S.expr
+    grade_side (tree.name_side at n _) = grade_name_side S n
+    grade_side (tree.path_side at p) = S.then' (grade_whole p) (if_so S (is_some (whole_read p)) S.expr)
+    grade_side tree.other_side = S.none
 
-  abbrev mutual
+    -- a whole one, before which no name has a use
+    pub grade_top : OptionPat → S.G
+    grade_top tree.no_pat = S.pat_at None
+    grade_top (tree.some_pat p) = grade_pat p []
+
     -- ---- what is assigned to
 
     pub grade_target : Target → S.G
     grade_target tree.absent_target = S.pat_at None
-    grade_target (tree.place_target at e) = S.then' (S.of_expr e) (S.pat_at (Some at))
+    grade_target (tree.place_target at e) = S.then' (grade_expr e) (S.pat_at (Some at))
     grade_target (tree.wild_target at) = S.pat_at (Some at)
     grade_target (tree.path_target at p h) = S.then' (grade_path p nothing_seen) (S.pat_at (Some at))
     grade_target (tree.tuple_target at ts) = S.then' (grade_targets ts) (S.then' (S.dots (target_dots ts)) (S.pat_at (Some at)))
@@ -249,3 +250,149 @@ module _ {ℓ} (S : Grading {ℓ}) where
     grade_target_field (tree.disabled_target_field at by) = S.fault (InactiveCode at by)
     grade_target_field tree.partless_target_field = S.none
     grade_target_field (tree.target_field at n t) = grade_target t
+
+    -- ---- constants
+
+    -- a length or an argument
+    pub grade_constant : Constant → S.G
+    grade_constant (tree.constant e) = S.constant e (grade_expr_part e)
+
+    -- that of a `const` block
+    pub grade_rooted : Constant → S.G
+    grade_rooted (tree.constant e) = S.rooted e (grade_expr_part e)
+
+    -- ---- expressions
+
+    pub grade_expr : Expr → S.G
+    grade_expr (tree.disabled_expr at by e) = S.then' (S.fault (InactiveCode at by)) S.expr
+    -- the branches are lowered before the condition
+    grade_expr (tree.if_expr at c t e) =
+        S.then' (grade_block_part t) (S.then' (grade_expr_present e) (S.then' (grade_expr_part c) S.expr))
+    grade_expr (tree.block_expr b) = grade_block b
+    grade_expr (tree.loop_expr at label _ b) = S.looped label (grade_block_part b)
+    -- the body before the condition, then a break and the turn
+    grade_expr (tree.while_expr at label _ c b) =
+        S.looped label (S.then' (grade_block_part b) (S.then' (grade_expr_part c) (S.then' S.expr S.expr)))
+    -- a call on the head, the pattern, and a name that the call's value has; then the loop, and the match around it
+    grade_expr (tree.for_expr at items label _ p h b) = S.then' (grade_expr_part h) (S.then' (item_call S) (S.then' (grade_top p)
+        (S.then' S.made_name (S.then' (made_bind S)
+        (S.then' (S.looped label (for_turn S (grade_expr_part b))) S.expr)))))
+    -- a call, an arm that names what it holds, one that makes of it what leaves, and the match
+    grade_expr (tree.question_expr at items e) = S.then' (grade_expr_part e) (S.then' (item_call S)
+        (S.then' (flow_arm S S.expr) (S.then' (flow_arm S (residual S)) S.expr)))
+    grade_expr (tree.itemless_expr at) = S.expr
+    grade_expr (tree.try_expr at item tree.no_type number ss e) = grade_try S false number ss e (grade_stmts ss (grade_kept e))
+    -- and then a `let` of that type in a block
+    grade_expr (tree.try_expr at item (tree.some_type t) number ss e) = S.then' (grade_try S true number ss e (grade_stmts ss (grade_kept e)))
+        (S.then' S.made_name (S.then' (grade_type t) (S.then' (made_bind S) (S.then' S.expr S.expr))))
+    grade_expr (tree.coroutine_expr at kind moves number ss e) = S.coroutine number (grade_stmts ss (grade_kept e))
+    grade_expr (tree.call_expr at f has_list es) = S.then' (grade_expr_part f) (S.then' (grade_exprs es) S.expr)
+    grade_expr (tree.path_expr at p h) = S.then' (grade_whole p) S.expr
+    grade_expr (tree.continue_expr at jump) = S.then' (S.jump jump) S.expr
+    grade_expr (tree.break_expr at jump e) = S.then' (S.jump jump) (S.then' (grade_expr_present e) S.expr)
+    grade_expr (tree.paren_expr at e) = grade_expr_part e
+    grade_expr (tree.literal_expr at l) = S.expr
+    grade_expr (tree.leaf_expr at form) = S.expr
+    grade_expr (tree.unary_expr at form e) = S.then' (grade_expr_part e) S.expr
+    grade_expr (tree.binary_expr at form a b) = S.then' (grade_expr_part a) (S.then' (grade_expr_part b) S.expr)
+    grade_expr (tree.lazy_expr at op a b) = S.then' (grade_expr_part a) (S.then' (grade_expr_part b) S.expr)
+    grade_expr (tree.list_expr at form es) = S.then' (grade_exprs es) (grade_front S form)
+    grade_expr (tree.repeat_expr at e c) = S.then' (grade_expr_part e) (S.then' (grade_constant c) S.expr)
+    grade_expr (tree.const_expr at c) = S.owned (S.then' (grade_rooted c) S.expr)
+    grade_expr (tree.closure_expr at moves is_static xs t e) = S.closure (grade_params xs) (grade_present t) (grade_expr_part e)
+    grade_expr (tree.coroutine_closure_expr at kind moves xs t e) =
+        S.coroutine_closure xs (grade_params xs) (grade_present t) (grade_expr_part e)
+    grade_expr (tree.method_call_expr at e name es generics) =
+        S.then' (grade_expr_part e) (S.then' (grade_exprs es) (S.then' (grade_args generics) S.expr))
+    grade_expr (tree.cast_expr at e t) = S.then' (grade_expr_part e) (S.then' (grade_part t) S.expr)
+    -- where the path is absent or refused nothing else is read
+    grade_expr (tree.record_expr at p head fs s) =
+        S.then' (grade_whole p) (record_of S (is_some (whole_read p)) (S.then' (grade_fields fs) (grade_expr_spread s)))
+    grade_expr (tree.offset_of_expr at t names) = S.then' (grade_part t) S.expr
+    grade_expr (tree.leaving_expr at form e) = S.then' (grade_expr_present e) S.expr
+    grade_expr (tree.become_expr at e) = S.then' (grade_expr_part e) S.expr
+    grade_expr (tree.yield_expr at e) = S.yielding (S.then' (grade_expr_present e) S.expr)
+    grade_expr (tree.await_expr at location e) = S.then' (grade_expr_part e) (S.then' (grade_await S at location) S.expr)
+    grade_expr (tree.nameless_expr at e) = S.then' (grade_expr_part e) S.expr
+    grade_expr (tree.let_expr at p e) = S.then' (grade_top p) (S.then' (grade_expr_part e) S.expr)
+    grade_expr (tree.match_expr at e arms) = S.then' (grade_expr_part e) (S.then' (grade_arms arms) S.expr)
+    grade_expr (tree.range_expr at form low high) =
+        S.then' (grade_expr_present low) (S.then' (grade_expr_present high) (grade_range S form))
+    -- the target before the value
+    grade_expr (tree.assign_expr at own t e) = S.then' (grade_target t) (S.then' (grade_expr_part e) S.expr)
+
+    pub grade_params : Params → S.G
+    grade_params tree.no_params = S.none
+    grade_params (tree.more_params x xs) = S.then' (grade_param x) (grade_params xs)
+
+    pub grade_param : Param → S.G
+    grade_param (tree.disabled_param at by x) = S.fault (InactiveCode at by)
+    grade_param (tree.param p t) = S.then' (grade_top p) (grade_present t)
+
+    -- of a part that is missing where it is absent
+    pub grade_expr_part : OptionExpr → S.G
+    grade_expr_part tree.no_expr = S.expr
+    grade_expr_part (tree.some_expr e) = grade_expr e
+
+    pub grade_expr_present : OptionExpr → S.G
+    grade_expr_present tree.no_expr = S.none
+    grade_expr_present (tree.some_expr e) = grade_expr e
+
+    pub grade_kept : OptionExpr → S.G
+    grade_kept tree.no_expr = S.none
+    grade_kept (tree.some_expr e) = kept_of S e (grade_expr e)
+
+    pub grade_exprs : Exprs → S.G
+    grade_exprs tree.no_exprs = S.none
+    grade_exprs (tree.more_exprs e es) = S.then' (kept_of S e (grade_expr e)) (grade_exprs es)
+
+    pub grade_fields : Fields → S.G
+    grade_fields tree.no_fields = S.none
+    grade_fields (tree.more_fields f fs) = S.then' (grade_field f) (grade_fields fs)
+
+    pub grade_field : Field → S.G
+    grade_field (tree.disabled_field at by f) = S.fault (InactiveCode at by)
+    grade_field (tree.nameless_field at e) = S.none
+    grade_field (tree.named_field at name e) = grade_expr_part e
+
+    pub grade_arms : Arms → S.G
+    grade_arms tree.no_arms = S.none
+    grade_arms (tree.more_arms a arms) = S.then' (grade_arm a) (grade_arms arms)
+
+    -- the guard behind the expression
+    pub grade_arm : Arm → S.G
+    grade_arm (tree.disabled_arm at by a) = S.fault (InactiveCode at by)
+    grade_arm (tree.arm p e g) = S.then' (grade_top p) (S.then' (grade_expr_part e) (grade_guard g))
+
+    pub grade_guard : Guard → S.G
+    grade_guard tree.no_guard = S.none
+    grade_guard (tree.guard e) = grade_expr_part e
+
+    pub grade_expr_spread : Spread → S.G
+    grade_expr_spread tree.no_spread = S.none
+    grade_expr_spread tree.field_defaults = S.none
+    grade_expr_spread (tree.spread_of e) = grade_expr e
+
+    pub grade_block : Block → S.G
+    grade_block (tree.block at is_unsafe label _ number ss e) =
+        labelled_of S label (S.then' (S.block number) (S.then' (grade_stmts ss (grade_kept e)) S.expr))
+
+    pub grade_block_part : OptionBlock → S.G
+    grade_block_part tree.no_block = S.expr
+    grade_block_part (tree.some_block b) = grade_block b
+
+    pub grade_block_present : OptionBlock → S.G
+    grade_block_present tree.no_block = S.none
+    grade_block_present (tree.some_block b) = grade_block b
+
+    -- with what is told of the tail
+    pub grade_stmts : Stmts → S.G → S.G
+    grade_stmts tree.no_stmts tail = tail
+    grade_stmts (tree.more_stmts s ss) tail = S.then' (grade_stmt s) (grade_stmts ss tail)
+
+    pub grade_stmt : Stmt → S.G
+    grade_stmt (tree.expr_stmt e semi) = grade_kept e
+    grade_stmt (tree.disabled_stmt at by s) = S.fault (InactiveCode at by)
+    grade_stmt tree.item_stmt = S.none
+    grade_stmt (tree.let_stmt p t e b) =
+        S.then' (grade_top p) (S.then' (grade_present t) (S.then' (grade_expr_present e) (grade_block_present b)))

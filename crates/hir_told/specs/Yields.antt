@@ -1,6 +1,5 @@
 -- Whether a `yield` stands in it: one that stands in a body inside counts there.
-use Rattle.std.specs.Prelude.{Bool, false, ◌||◌}
-use Rattle.hir_data.specs.Yields.{expr_yields}
+use Rattle.std.specs.Prelude.{Bool, true, false, ◌||◌}
 use Rattle.hir_told.specs.Grading.{Grading}
 
 abbrev pub yields : Grading {0}
@@ -16,7 +15,18 @@ yields = record {
   fault = λ d. false;
   super = λ n. false;
   dots = λ n. false;
+  jump = λ j. false;
+  block = λ n. false;
+  made_name = false;
+  yielding = λ y. true;
+  looped = λ label y. y;
+  labelled = λ l y. y;
+  tried = λ typed x y z. x || (y || z);
   inner = λ l y. false;
-  of_constant = λ c. false;
-  of_expr = λ e. expr_yields e;
+  constant = λ e y. false;
+  rooted = λ e y. false;
+  closure = λ x y z. false;
+  coroutine_closure = λ xs x y z. false;
+  coroutine = λ n y. false;
+  owned = λ y. y;
 }

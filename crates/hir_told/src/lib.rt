@@ -1,19 +1,39 @@
 //! What lowering tells, by one induction for all that is told of its steps. A law is a function whose contract is the law.
 #![tactic(auto)]
 
-ghost use Rattle.hir_told.specs.Laws.{TypesNote, PatsNote, TargetsNote};
+ghost use Rattle.hir_told.specs.Laws.{ExprsEnter, ExprsFit, ExprsNote, ExprsReport, PatsNote, TargetsNote, TypesNote};
 
-/// A type notes a `yield` where one is told of it, and nowhere else.
+/// A `yield` is noted where one is told of an expression, and nowhere else.
+pub fn exprs_note()
+    ensures { ExprsNote }
+{}
+
+/// Of a type likewise.
 pub fn types_note()
     ensures { TypesNote }
 {}
 
-/// A whole pattern likewise.
+/// Of a whole pattern likewise.
 pub fn pats_note()
     ensures { PatsNote }
 {}
 
-/// What is assigned to likewise.
+/// Of what is assigned to likewise.
 pub fn targets_note()
     ensures { TargetsNote }
+{}
+
+/// The faults of an expression come behind those that were met before, in the order in which they are told.
+pub fn exprs_report()
+    ensures { ExprsReport }
+{}
+
+/// So do the numbers of the blocks that it enters.
+pub fn exprs_enter()
+    ensures { ExprsEnter }
+{}
+
+/// As much is stored as is told of an expression, or there is no room for it.
+pub fn exprs_fit()
+    ensures { ExprsFit }
 {}
