@@ -1,6 +1,6 @@
 -- As much as is told is stored, or there is no room for it: an instance. Of steps that make an expression it is claimed besides that it is
 -- the last one.
-use Rattle.std.proofs.Common.{◌≡◌, refl, subst, add-one, ℕ, suc, ◌^◌, nat_lt, if◌then◌else◌, Bool, true, false, Option, Some, None, Ok, Err}
+use Rattle.std.proofs.Common.{◌≡◌, refl, sym, [], subst, add-one, ℕ, suc, ◌^◌, nat_lt, if◌then◌else◌, Bool, true, false, Option, Some, None, Ok, Err}
 use Rattle.std.proofs.lemmas.Bool.{ltb-false}
 use Rattle.hir_binding.specs.declared.binding.BindingAnnotation.{BindingAnnotation}
 use Rattle.hir_store.specs.Pointers.{Pointer}
@@ -8,7 +8,13 @@ use Rattle.hir_store.specs.declared.hir.Expr.TheVariants as hir
 use Rattle.hir_store.specs.declared.ids.ExprId.{ExprId}
 use Rattle.hir_store.specs.declared.ids.LabelId.{LabelId}
 use Rattle.hir_store.specs.declared.ids.PatId.{PatId}
-use Rattle.hir_env.specs.Answered.{Label}
+use Rattle.hir_env.specs.Answered as tree
+use Rattle.hir_env.specs.Answered.{Formals, Label, OptionExpr, SelfFormal}
+use Rattle.hir_store.specs.declared.hir.CoroutineKind.{CoroutineKind}
+use Rattle.hir_lower_form.specs.Lower.{lower_part}
+use Rattle.hir_one_result.specs.Formals.{coroutine_body, each_formal, lower_self}
+use Rattle.hir_one_result.specs.Room.{self_size}
+use Rattle.hir_one_result.proofs.FunctionRooms.{coroutine_body_takes}
 use Rattle.hir_data.specs.Patterns.{moved_by}
 use Rattle.hir_steps.specs.Keeps.{Paired}
 use Rattle.hir_lower_form.specs.Builder.{Builder}
@@ -33,9 +39,11 @@ use Rattle.hir_one_result.proofs.Rooms.{takes_then, takes_type}
 use Rattle.hir_one_result.proofs.Tellings as known
 use Rattle.hir_one_result.proofs.Tellings.{takes_of, tells_any, tells_then}
 use Rattle.hir_one_result.proofs.Took.{Room, Same, may_be_owned, nothing_first}
-use Rattle.hir_told.specs.Laws.{ExprsFit}
-use Rattle.hir_told.specs.Sizes.{sizes}
+use Rattle.hir_told.specs.Laws.{BodiesFit, ExprsFit}
+use Rattle.hir_told.specs.Sizes.{bodies_sized, sizes}
+use Rattle.hir_told.specs.Bodies.{grade_self}
 use Rattle.hir_told.proofs.Answering.{Answering, AnsweredTo}
+use Rattle.hir_told.proofs.Bodies.{GradedBodies, body_graded}
 use Rattle.hir_told.proofs.Graded.{Graded}
 use Rattle.hir_told.proofs.Tree.{expr_part_graded}
 use Rattle.hir_one_result.specs.Laws.{GrownUnless}
@@ -208,6 +216,23 @@ rooms_graded = record {
   owning_is = λ h. (takes_owning h.1 h.0, owning_last h.1);
 }
 
+-- ---- functions that are coroutines
+
+pub self_is : (s : SelfFormal) → grade_self sizes s ≡ self_size s
+self_is tree.no_self = refl
+self_is (tree.disabled_self at by) = refl
+self_is (tree.self_formal at u _) = refl
+
+pub body_takes : (kind : CoroutineKind) (skipped : Bool) (f : Formals) (e : OptionExpr) {n k : Size}
+    → Takes (grade_self sizes f.receiver) (lower_self f.receiver) → Takes n (each_formal skipped [] f.formals) → Takes k (lower_part e)
+    → Takes (bodies_sized.coroutine_body skipped f (grade_self sizes f.receiver) n k) (coroutine_body kind skipped f e)
+body_takes kind skipped f e {n = n} {k = k} hs hf he =
+    subst (λ m. Takes (bodies_sized.coroutine_body skipped f m n k) (coroutine_body kind skipped f e)) (sym (self_is f.receiver))
+    (coroutine_body_takes kind skipped f e (subst (λ m. Takes m (lower_self f.receiver)) (self_is f.receiver) hs) hf he)
+
+abbrev pub rooms_bodies : GradedBodies rooms_graded bodies_sized
+rooms_bodies = record { coroutine_body_is = λ kind skipped f e hs hf he. body_takes kind skipped f e hs hf he.0 }
+
 -- ---- laws
 
 -- of a builder, where lowering answers
@@ -234,3 +259,6 @@ fits {A = A} {n = n} {p = p} h old d = by (p old).0 (p old).1 (h.takes old d)
 
 pub exprs_fit : ExprsFit
 exprs_fit e old d = fits (expr_part_graded rooms_graded e).0 old d
+
+pub bodies_fit : BodiesFit
+bodies_fit kind skipped f e old d = fits (body_graded rooms_graded rooms_bodies kind skipped f e) old d

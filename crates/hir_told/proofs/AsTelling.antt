@@ -1,5 +1,5 @@
 -- What is added to a list of what is stored, as faults or entered blocks: an instance for both.
-use Rattle.std.proofs.Common.{◌≡◌, ◌∙◌, refl, sym, ap, subst, ℕ, List, [], ◌∷◌, ◌++◌, Bool, Option, Some, None}
+use Rattle.std.proofs.Common.{◌≡◌, ◌∙◌, refl, sym, ap, subst, ℕ, List, [], ◌∷◌, ◌++◌, Bool, Option, Some, None, Ok}
 use Rattle.hir_binding.specs.declared.binding.BindingAnnotation.{BindingAnnotation}
 use Rattle.hir_binding.specs.declared.binding.BindingProblems.{BindingProblems}
 use Rattle.hir_store.specs.Pointers.{Pointer}
@@ -11,11 +11,13 @@ use Rattle.hir_store.specs.declared.ids.BindingId.{BindingId}
 use Rattle.hir_store.specs.declared.ids.LabelId.{LabelId}
 use Rattle.hir_store.specs.declared.ids.PatId.{PatId}
 use Rattle.hir_scope.specs.Scopes.{Scope, block_scope, loop_scope, try_scope}
+use Rattle.hir_lower_form.specs.Builder.{Builder}
 use Rattle.hir_lower_form.specs.Forms.{ExprSteps, StoredContents}
 use Rattle.hir_lower_form.specs.Lowering.{Lowering, ◌>>=◌, alloc_made, close, open_try, point_pat_field, set_problem, try_target}
 use Rattle.hir_lower_form.specs.Made.{made_bind_form}
 use Rattle.hir_lower_form.specs.Pats.{counted_dots, counted_place, new_binding, small_place}
 use Rattle.hir_lower_form.specs.Walks.{super_read}
+use Rattle.hir_steps.specs.Keeps.{Paired}
 use Rattle.hir_steps.proofs.Aside.{aside_lifetime, aside_type, counted_aside}
 use Rattle.hir_steps.proofs.Barriers.{correct_yield}
 use Rattle.hir_steps.proofs.Frames.{block_at, loop_at, ribs, ribs_frames}
@@ -26,7 +28,7 @@ use Rattle.hir_one_result.specs.Diagnostics.{Around}
 use Rattle.hir_one_result.proofs.AfterLowering.{after_lowering}
 use Rattle.hir_one_result.proofs.Around.{block_is_rib, in_loop, loop_is_rib, try_is_rib}
 use Rattle.hir_one_result.proofs.ClosureTelling.{closure_tells, coroutine_tells}
-use Rattle.hir_one_result.proofs.CoroutineTelling.{coroutine_closure_tells}
+use Rattle.hir_one_result.proofs.CoroutineTelling.{coroutine_body_tells, coroutine_closure_tells}
 use Rattle.hir_one_result.proofs.MadeTelling.{tells_number}
 use Rattle.hir_one_result.proofs.PatTelling.{tells_binding, tells_define, tells_pat}
 use Rattle.hir_one_result.proofs.Telling.{Added, Listing, Tells, added_none, added_then, constant_tells, inner_tells, nothing, opened_tells}
@@ -34,9 +36,10 @@ use Rattle.hir_one_result.proofs.Telling.{owning_tells, rooted_tells, tells_allo
 use Rattle.hir_one_result.proofs.Telling.{tells_point, tells_point_field, tells_pure, tells_report, tells_target}
 use Rattle.hir_one_result.proofs.TreeBlocks.{entered}
 use Rattle.hir_one_result.proofs.TreeFaults.{no_fault_in_block}
-use Rattle.hir_told.specs.Laws.{ExprsEnter, ExprsReport}
-use Rattle.hir_told.specs.Lists.{listed}
+use Rattle.hir_told.specs.Laws.{BodiesEnter, BodiesReport, ExprsEnter, ExprsReport}
+use Rattle.hir_told.specs.Lists.{bodies_listed, listed}
 use Rattle.hir_told.proofs.Answering.{Answering}
+use Rattle.hir_told.proofs.Bodies.{GradedBodies, body_graded}
 use Rattle.hir_told.proofs.CorrectWhere.{correct_where, correct_with}
 use Rattle.hir_told.proofs.Graded.{Graded}
 use Rattle.hir_told.proofs.Tree.{expr_part_graded}
@@ -153,6 +156,22 @@ module _ {X : Type 0} (L : Listing X) where
     owning_is = λ h. owning_tells L (λ i. i) h;
   }
 
+  abbrev pub tells_bodies : GradedBodies tells_graded (bodies_listed L.of_faults L.of_block)
+  tells_bodies = record {
+    coroutine_body_is = λ kind skipped f e hs hf he. coroutine_body_tells L kind skipped f e hs hf he;
+  }
+
+  -- what the list is behind what was told, where it is told as it is added
+  behind : {A : Type 0} {D : List Scope → List X} {p : Lowering A} → ((xs ys : List X) → L.Like xs ys → xs ≡ ys) → Correct p (Tells L D)
+      → (old new : Builder) (a : A) → Paired old.stored → p old ≡ (Ok a, new) → (ss : List Scope) → Around ss old.scopes
+      → L.list new.stored ≡ L.list old.stored ++ D ss
+  behind {D = D} like h old new a paired is ss around =
+      let row = after_lowering h old a new paired is new.stored (extends_refl new.stored) in
+      let x = row.told ss (subst (Around ss) (ribs_frames old.scopes) around) in
+      x.is ∙ ap (λ xs. L.list old.stored ++ xs) (sym (like (D ss) x.more x.like))
+
+-- ---- laws
+
 -- the faults, in this order
 abbrev pub reported : Listing ExpressionStoreDiagnostics
 reported = record {
@@ -173,13 +192,17 @@ reported = record {
 }
 
 pub exprs_report : ExprsReport
-exprs_report e old id new paired is ss around =
-    let row = after_lowering (expr_part_graded (tells_graded reported) e) old id new paired is new.stored (extends_refl new.stored) in
-    let x = row.told ss (subst (Around ss) (ribs_frames old.scopes) around) in
-    x.is ∙ ap (λ ds. old.stored.diagnostics ++ ds) (sym x.like)
+exprs_report e old id new paired is =
+    behind reported (λ xs ys like. like) (expr_part_graded (tells_graded reported) e) old new id paired is
 
 pub exprs_enter : ExprsEnter
-exprs_enter e old id new paired is ss around =
-    let row = after_lowering (expr_part_graded (tells_graded entered) e) old id new paired is new.stored (extends_refl new.stored) in
-    let x = row.told ss (subst (Around ss) (ribs_frames old.scopes) around) in
-    x.is ∙ ap (λ ns. old.stored.block_scopes ++ ns) (sym x.like)
+exprs_enter e old id new paired is =
+    behind entered (λ xs ys like. like) (expr_part_graded (tells_graded entered) e) old new id paired is
+
+pub bodies_report : BodiesReport
+bodies_report kind skipped f e old new r paired is = behind reported (λ xs ys like. like)
+    (body_graded (tells_graded reported) (tells_bodies reported) kind skipped f e) old new r paired is
+
+pub bodies_enter : BodiesEnter
+bodies_enter kind skipped f e old new r paired is = behind entered (λ xs ys like. like)
+    (body_graded (tells_graded entered) (tells_bodies entered) kind skipped f e) old new r paired is

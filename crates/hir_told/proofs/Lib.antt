@@ -7,6 +7,7 @@ pub mod TargetForms
 pub mod ExprForms
 pub mod MadeForms
 pub mod Tree
+pub mod Bodies
 pub mod CorrectWhere
 pub mod AsApart
 pub mod AsYields

@@ -1,5 +1,6 @@
 pub mod Grading
 pub mod Grades
+pub mod Bodies
 pub mod Silent
 pub mod Yields
 pub mod Lists

@@ -4,6 +4,7 @@ use Rattle.hir_store.specs.declared.diagnostics.ExpressionStoreDiagnostics.{Expr
 use Rattle.hir_store.specs.declared.ids.BlockId.{BlockId}
 use Rattle.hir_scope.specs.Scopes.{Scope, barrier, block_scope, loop_scope, try_scope}
 use Rattle.hir_one_result.specs.Diagnostics.{jump_faults}
+use Rattle.hir_told.specs.Bodies.{GradingBodies}
 use Rattle.hir_told.specs.Grading.{Grading}
 
 module _ {X : Type 0} (of_faults : List ExpressionStoreDiagnostics → List X) (of_block : Option BlockId → List X) where
@@ -38,3 +39,7 @@ module _ {X : Type 0} (of_faults : List ExpressionStoreDiagnostics → List X) (
     coroutine = λ n D. λ ss. of_block n ++ D (barrier ∷ ss);
     owned = λ D. D;
   }
+
+  -- `self`, the other parameters, and the body
+  abbrev pub bodies_listed : GradingBodies listed
+  bodies_listed = record { coroutine_body = λ skipped f D E F. λ ss. D ss ++ (E ss ++ F ss) }

@@ -2,11 +2,12 @@
 use Rattle.hir_data.specs.Patterns.{written_pat}
 use Rattle.hir_data.specs.Tops.{params_tops}
 use Rattle.hir_meaning.specs.InnerWritten.{constant_body, limit_body}
-use Rattle.hir_one_result.specs.PreludeRoom.{handed_size, prelude_size}
-use Rattle.hir_one_result.specs.Room.{label_size}
+use Rattle.hir_one_result.specs.PreludeRoom.{handed_size, prelude_size, self_let_size}
+use Rattle.hir_one_result.specs.Room.{formals_data, label_size}
 use Rattle.hir_one_result.specs.Size as size
 use Rattle.hir_one_result.specs.Size.{Size, a_binding, a_body, a_label, a_lifetime, a_made_name, a_pat, a_super, a_type, an_expr, dots_behind}
 use Rattle.hir_one_result.specs.Size.{nothing, ◌∪◌}
+use Rattle.hir_told.specs.Bodies.{GradingBodies}
 use Rattle.hir_told.specs.Grading.{Grading}
 use Rattle.std.specs.Prelude.{map}
 
@@ -38,4 +39,11 @@ sizes = record {
       size.owned (size.owned (n ∪ (k ∪ (j ∪ (prelude_size ys ∪ (an_expr ∪ an_expr))))) ∪ (handed_size ys ∪ an_expr));
   coroutine = λ number n. size.owned (n ∪ (an_expr ∪ an_expr));
   owned = λ n. size.owned n;
+}
+
+-- `self`, what the coroutine owns, with its prelude, and what the outside hands the parameters to
+abbrev pub bodies_sized : GradingBodies sizes
+bodies_sized = record {
+  coroutine_body = λ skipped f n k j. let ys = formals_data skipped f.formals in
+      n ∪ (size.owned (k ∪ (j ∪ (self_let_size f.receiver ∪ (prelude_size ys ∪ (an_expr ∪ an_expr))))) ∪ handed_size ys);
 }

@@ -1,6 +1,7 @@
 //! What lowering tells, by one induction for all that is told of its steps. A law is a function whose contract is the law.
 #![tactic(auto)]
 
+ghost use Rattle.hir_told.specs.Laws.{BodiesEnter, BodiesFit, BodiesReport};
 ghost use Rattle.hir_told.specs.Laws.{ExprsEnter, ExprsFit, ExprsNote, ExprsReport, PatsNote, TargetsNote, TypesNote};
 
 /// A `yield` is noted where one is told of an expression, and nowhere else.
@@ -36,4 +37,20 @@ pub fn exprs_enter()
 /// As much is stored as is told of an expression, or there is no room for it.
 pub fn exprs_fit()
     ensures { ExprsFit }
+{}
+
+/// The faults of a body behind its parameters come behind those that were met before, in the order in which they are told, also where it
+/// is a coroutine.
+pub fn bodies_report()
+    ensures { BodiesReport }
+{}
+
+/// So do the numbers of the blocks that it enters.
+pub fn bodies_enter()
+    ensures { BodiesEnter }
+{}
+
+/// As much is stored as is told of a body behind its parameters, or there is no room for it.
+pub fn bodies_fit()
+    ensures { BodiesFit }
 {}
