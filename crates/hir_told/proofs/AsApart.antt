@@ -20,7 +20,7 @@ use Rattle.hir_steps.proofs.Steps.{Correct, correct_as}
 use Rattle.hir_told.specs.Silent.{silent}
 use Rattle.hir_told.proofs.Answering.{Answering}
 use Rattle.hir_told.proofs.CorrectWhere.{correct_where}
-use Rattle.hir_told.proofs.Graded.{Graded}
+use Rattle.hir_told.proofs.Graded.{Graded, settled_by}
 use Rattle.hir_told.proofs.Tree.{expr_part_graded}
 
 pub apart_where : {A B : Type 0} {P : A → Type 0} {p : Lowering A} {f : A → Lowering B} → Correct p Apart → Answering P p
@@ -31,11 +31,20 @@ abbrev pub apart_graded : Graded silent
 apart_graded = record {
   Claim = λ g p. Correct p Apart;
   Made = λ g p. Correct p Apart;
+  Hands = λ t g p. Correct p Apart;
   made_is = λ h. h;
   pure_is = λ a. pure_apart a;
   bind_is = λ h t k. apart_where h t k;
   makes_is = λ h t k. apart_where h t k;
   end_is = λ h k. then_apart h k;
+  hands_pure_is = λ a t u e. pure_apart (a, u);
+  hands_as_is = λ e h. h;
+  hands_bind_is = λ h t k. apart_where h t k;
+  beside_is = λ h t k. apart_where h t k;
+  hands_end_is = λ h k. then_apart h k;
+  beside_end_is = λ h k. then_apart h k;
+  new_name_is = λ u is t with_it e. then_apart (binding_apart (new_binding u) is) (λ b. pure_apart (b, with_it b));
+  top_is = λ h. then_apart h (λ r. then_apart (settled_by (λ p. Correct p Apart) (pure_apart (tt {0})) (λ p f h k. then_apart h k) (λ b problem. set_problem_apart b problem) r.1) (λ u. pure_apart r.0));
   type_is = λ t at. stored_type_apart t at;
   lifetime_is = λ l at. stored_lifetime_apart l at;
   pat_is = λ p at. stored_pat_apart p at;
@@ -45,7 +54,6 @@ apart_graded = record {
   point_field_is = λ i at. point_field_apart i at;
   binding_is = λ u is. binding_apart (new_binding u) is;
   define_is = λ b p. define_apart b p;
-  problem_is = λ b problem. set_problem_apart b problem;
   field_is = λ p at. point_pat_field_apart p at;
   fault_is = λ d. report_apart d;
   super_is = λ w. counted_apart (super_read w);

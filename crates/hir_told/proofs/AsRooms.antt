@@ -44,7 +44,7 @@ use Rattle.hir_told.specs.Sizes.{bodies_sized, sizes}
 use Rattle.hir_told.specs.Bodies.{grade_self}
 use Rattle.hir_told.proofs.Answering.{Answering, AnsweredTo}
 use Rattle.hir_told.proofs.Bodies.{GradedBodies, body_graded}
-use Rattle.hir_told.proofs.Graded.{Graded}
+use Rattle.hir_told.proofs.Graded.{Graded, settled_by}
 use Rattle.hir_told.proofs.Tree.{expr_part_graded}
 use Rattle.hir_one_result.specs.Laws.{GrownUnless}
 
@@ -162,11 +162,20 @@ abbrev pub rooms_graded : Graded sizes
 rooms_graded = record {
   Claim = λ n p. Takes n p;
   Made = λ n p. Takes n p × IsLast p;
+  Hands = λ t n p. Takes n p;
   made_is = λ h. h.0;
   pure_is = λ a. takes_pure a;
   bind_is = λ h t k. takes_of (tells_then (given h t) (λ a x. tells_any (k a x)));
   makes_is = λ h t k. (takes_of (tells_then (given h t) (λ a x. tells_any (k a x).0)), last_where t (λ a x. (k a x).1));
   end_is = λ h k. takes_end h k;
+  hands_pure_is = λ a t u e. takes_pure (a, u);
+  hands_as_is = λ e h. h;
+  hands_bind_is = λ h t k. takes_of (tells_then (given h t) (λ a x. tells_any (k a x)));
+  beside_is = λ h t k. takes_of (tells_then (given h t) (λ a x. tells_any (k a x)));
+  hands_end_is = λ h k. takes_end h k;
+  beside_end_is = λ h k. takes_end h k;
+  new_name_is = λ u is t with_it e. takes_end (takes_binding (new_binding u)) (λ b. takes_pure (b, with_it b));
+  top_is = λ h. takes_end h (λ r. takes_end (settled_by (λ p. Takes nothing p) (takes_pure (tt {0})) (λ p f h k. takes_end h k) (λ b problem. takes_problem b problem) r.1) (λ u. takes_pure r.0));
   type_is = λ t at. takes_type t at;
   lifetime_is = λ l at. takes_lifetime l at;
   pat_is = λ p at. takes_pat p at;
@@ -176,7 +185,6 @@ rooms_graded = record {
   point_field_is = λ i at. takes_point_field i at;
   binding_is = λ u is. takes_binding (new_binding u);
   define_is = λ b p. takes_define b p;
-  problem_is = λ b problem. takes_problem b problem;
   field_is = λ p at. takes_point_pat_field p at;
   fault_is = λ d. takes_report d;
   super_is = λ w. takes_of (counted_tells w);

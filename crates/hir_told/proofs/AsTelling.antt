@@ -41,7 +41,7 @@ use Rattle.hir_told.specs.Lists.{bodies_listed, listed}
 use Rattle.hir_told.proofs.Answering.{Answering}
 use Rattle.hir_told.proofs.Bodies.{GradedBodies, body_graded}
 use Rattle.hir_told.proofs.CorrectWhere.{correct_where, correct_with}
-use Rattle.hir_told.proofs.Graded.{Graded}
+use Rattle.hir_told.proofs.Graded.{Graded, settled_by}
 use Rattle.hir_told.proofs.Tree.{expr_part_graded}
 
 module _ {X : Type 0} (L : Listing X) where
@@ -114,11 +114,20 @@ module _ {X : Type 0} (L : Listing X) where
   tells_graded = record {
     Claim = λ D p. Correct p (Tells L D);
     Made = λ D p. Correct p (Tells L D);
+    Hands = λ t D p. Correct p (Tells L D);
     made_is = λ h. h;
     pure_is = λ a. tells_pure L a;
     bind_is = λ h t k. tells_where h t k;
     makes_is = λ h t k. tells_where h t k;
     end_is = λ h k. tells_end L h k;
+    hands_pure_is = λ a t u e. tells_pure L (a, u);
+    hands_as_is = λ e h. h;
+    hands_bind_is = λ h t k. tells_where h t k;
+    beside_is = λ h t k. tells_where h t k;
+    hands_end_is = λ h k. tells_end L h k;
+    beside_end_is = λ h k. tells_end L h k;
+    new_name_is = λ u is t with_it e. tells_end L (tells_binding L (new_binding u)) (λ b. tells_pure L (b, with_it b));
+    top_is = λ h. tells_end L h (λ r. tells_end L (settled_by (λ p. Correct p (Tells L (nothing L))) (tells_pure L (tt {0})) (λ p f h k. tells_end L h k) problem_tells r.1) (λ u. tells_pure L r.0));
     type_is = λ t at. tells_aside L (aside_type t at);
     lifetime_is = λ l at. tells_aside L (aside_lifetime l at);
     pat_is = λ p at. tells_pat L p at;
@@ -128,7 +137,6 @@ module _ {X : Type 0} (L : Listing X) where
     point_field_is = λ i at. tells_point_field L i at;
     binding_is = λ u is. tells_binding L (new_binding u);
     define_is = λ b p. tells_define L b p;
-    problem_is = λ b problem. problem_tells b problem;
     field_is = λ p at. field_tells p at;
     fault_is = λ d. tells_report L d;
     super_is = λ w. tells_aside L (counted_aside (super_read w));

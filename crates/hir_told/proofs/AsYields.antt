@@ -10,7 +10,7 @@ use Rattle.hir_lower_form.specs.Made.{made_bind_form}
 use Rattle.hir_lower_form.specs.Pats.{new_binding}
 use Rattle.hir_lower_form.specs.Walks.{super_read}
 use Rattle.hir_steps.specs.Keeps.{Paired}
-use Rattle.hir_steps.proofs.Apart.{Apart, point_apart, try_target_apart}
+use Rattle.hir_steps.proofs.Apart.{Apart, binding_apart, point_apart, set_problem_apart, try_target_apart}
 use Rattle.hir_steps.proofs.Barriers.{raises_yield, still_closure, still_constant, still_coroutine, still_inner}
 use Rattle.hir_steps.proofs.CoroutineClosures.{still_coroutine_closure}
 use Rattle.hir_steps.proofs.MadeSteps.{correct_made_number}
@@ -28,7 +28,7 @@ use Rattle.hir_told.specs.Laws.{ExprsNote, PatsNote, TargetsNote, TypesNote}
 use Rattle.hir_told.specs.Yields.{yields}
 use Rattle.hir_told.proofs.Answering.{Answering, AnsweredTo}
 use Rattle.hir_told.proofs.AsApart.{apart_graded, apart_where}
-use Rattle.hir_told.proofs.Graded.{Graded}
+use Rattle.hir_told.proofs.Graded.{Graded, settled_by}
 use Rattle.hir_told.proofs.Tree.{expr_part_graded, part_graded, target_graded, top_graded}
 
 abbrev pub Notes : {A : Type 0} → Bool → Lowering A → Type 0
@@ -75,11 +75,28 @@ abbrev pub yields_graded : Graded yields
 yields_graded = let apart = apart_graded in record {
   Claim = λ y p. Notes y p;
   Made = λ y p. Notes y p;
+  Hands = λ t y p. Notes y p;
   made_is = λ h. h;
   pure_is = λ a. (apart.pure_is a, raises_pure a);
   bind_is = λ h t k. (apart_where h.0 t (λ a x. (k a x).0), raises_where h.1 t (λ a x. (k a x).1));
   makes_is = λ h t k. (apart_where h.0 t (λ a x. (k a x).0), raises_where h.1 t (λ a x. (k a x).1));
   end_is = λ h k. (apart.end_is h.0 (λ a. (k a).0), raises_end h.1 (λ a. (k a).1));
+  hands_pure_is = λ a t u e. (apart.hands_pure_is a t u e, raises_pure (a, u));
+  hands_as_is = λ e h. h;
+  hands_bind_is = λ h t k. (apart_where h.0 t (λ a x. (k a x).0), raises_where h.1 t (λ a x. (k a x).1));
+  beside_is = λ h t k. (apart_where h.0 t (λ a x. (k a x).0), raises_where h.1 t (λ a x. (k a x).1));
+  hands_end_is = λ h k. (apart.end_is h.0 (λ a. (k a).0), raises_end h.1 (λ a. (k a).1));
+  beside_end_is = λ h k. (apart.end_is h.0 (λ a. (k a).0), raises_end h.1 (λ a. (k a).1));
+  new_name_is = λ u is t with_it e. (
+    apart.new_name_is u is t with_it e,
+    raises_end (raises_still (binding_apart (new_binding u) is) (still_binding (new_binding u))) (λ b. raises_pure (b, with_it b)),
+  );
+  top_is = λ h. (
+    apart.top_is h.0,
+    raises_end h.1 (λ r. raises_end (settled_by (λ p. Raises false p) (raises_pure (tt {0}))
+        (λ p f h k. raises_end h k) (λ b problem. raises_still (set_problem_apart b problem) (still_problem b problem)) r.1)
+        (λ u. raises_pure r.0)),
+  );
   type_is = λ t at. off (apart.type_is t at) (still_type t at);
   lifetime_is = λ l at. off (apart.lifetime_is l at) (still_lifetime l at);
   pat_is = λ p at. off (apart.pat_is p at) (still_pat p at);
@@ -92,7 +109,6 @@ yields_graded = let apart = apart_graded in record {
   point_field_is = λ i at. off (apart.point_field_is i at) (still_point_field i at);
   binding_is = λ u is. off (apart.binding_is u is) (still_binding (new_binding u));
   define_is = λ b p. off (apart.define_is b p) (still_define b p);
-  problem_is = λ b problem. off (apart.problem_is b problem) (still_problem b problem);
   field_is = λ p at. off (apart.field_is p at) (still_point_pat_field p at);
   fault_is = λ d. off (apart.fault_is d) (still_report d);
   super_is = λ w. off (apart.super_is w) (counted_still (super_read w));

@@ -1,5 +1,5 @@
 -- Claims that are closed under steps, and steps of which it is known besides what they answer.
-use Rattle.std.proofs.Common.{◌≡◌, ℕ, Bool, Option, Some, None}
+use Rattle.std.proofs.Common.{◌≡◌, refl, ℕ, suc, Bool, List, [], ◌∷◌, ◌++◌, Option, Some, None}
 use Rattle.hir_binding.specs.declared.binding.BindingAnnotation.{BindingAnnotation}
 use Rattle.hir_binding.specs.declared.binding.BindingProblems.{BindingProblems}
 use Rattle.hir_store.specs.Names.{IsWritten}
@@ -30,7 +30,7 @@ use Rattle.hir_lower_form.specs.Lowering.{alloc_type, close, define, enter_block
 use Rattle.hir_lower_form.specs.Lowering.{open_try, owning, point, point_field, point_pat_field, report, set_problem, try_target}
 use Rattle.hir_lower_form.specs.Made.{made_bind_form}
 use Rattle.hir_lower_form.specs.Paths.{counted}
-use Rattle.hir_lower_form.specs.Pats.{counted_dots, new_binding}
+use Rattle.hir_lower_form.specs.Pats.{Key, Notes, Table, counted_dots, key_of, new_binding, no_names, settle, settle_from}
 use Rattle.hir_lower_form.specs.Preludes.{coroutine_closure_form}
 use Rattle.hir_lower_form.specs.Ranges.{inner_form}
 use Rattle.hir_lower_form.specs.Walks.{super_read, supers}
@@ -52,6 +52,25 @@ pub record Graded {ℓ} (S : Grading {ℓ}) : Type (ℓ ⊔ 1) where
   -- where nothing comes after
   pub end_is : {A B : Type 0} {g : S.G} {p : Lowering A} {f : A → Lowering B} → Claim g p → ((a : A) → Claim S.none (f a))
       → Claim g (p >>= f)
+  -- of steps that hand on the names of a top pattern, of which this table knows some, and others are bound since
+  pub Hands : {A : Type 0} → Table → S.G → Lowering (A × Table) → Type 0
+  pub hands_pure_is : {A : Type 0} (a : A) (t u : Table) → u.bindings ≡ t.bindings → Hands t S.none (pure (a, u))
+  pub hands_as_is : {A : Type 0} {t u : Table} {g : S.G} {p : Lowering (A × Table)} → u.bindings ≡ t.bindings → Hands u g p → Hands t g p
+  pub hands_bind_is : {A B : Type 0} {P : A × Table → Type 0} {t : Table} {g h : S.G} {p : Lowering (A × Table)}
+      {f : A × Table → Lowering (B × Table)} → Hands t g p → Answering P p → ((r : A × Table) → P r → Hands r.1 h (f r))
+      → Hands t (S.then' g h) (p >>= f)
+  pub beside_is : {A B : Type 0} {P : A → Type 0} {t : Table} {g h : S.G} {p : Lowering A} {f : A → Lowering (B × Table)} → Claim g p
+      → Answering P p → ((a : A) → P a → Hands t h (f a)) → Hands t (S.then' g h) (p >>= f)
+  pub hands_end_is : {A B : Type 0} {t : Table} {g : S.G} {p : Lowering (A × Table)} {f : A × Table → Lowering (B × Table)}
+      → Hands t g p → ((r : A × Table) → Hands r.1 S.none (f r)) → Hands t g (p >>= f)
+  pub beside_end_is : {A B : Type 0} {t : Table} {g : S.G} {p : Lowering A} {f : A → Lowering (B × Table)} → Claim g p
+      → ((a : A) → Hands t S.none (f a)) → Hands t g (p >>= f)
+  -- a written name that is bound
+  pub new_name_is : (u : Use) → IsWritten u.name → (t : Table) (with_it : BindingId → Table)
+      → ((b : BindingId) → (with_it b).bindings ≡ t.bindings ++ (key_of u, b) ∷ [])
+      → Hands t S.binding (alloc_binding (new_binding u) >>= (λ b. pure (b, with_it b)))
+  -- of a whole pattern, whose names get their problems in the end
+  pub top_is : {g : S.G} {p : Lowering (PatId × Table)} → Hands no_names g p → Claim g (p >>= (λ r. settle r.1 >>= (λ _. pure r.0)))
   pub type_is : (t : TypeRef) (at : Option Pointer) → Claim (S.type_at at) (alloc_type t at)
   pub lifetime_is : (l : LifetimeRef) (at : Option Pointer) → Claim (S.lifetime_at at) (alloc_lifetime l at)
   pub pat_is : (p : HirPat) (at : Option Pointer) → Claim (S.pat_at at) (alloc_pat p at)
@@ -64,7 +83,6 @@ pub record Graded {ℓ} (S : Grading {ℓ}) : Type (ℓ ⊔ 1) where
   -- of a written name
   pub binding_is : (u : Use) → IsWritten u.name → Claim S.binding (alloc_binding (new_binding u))
   pub define_is : (b : BindingId) (p : PatId) → Claim S.none (define b p)
-  pub problem_is : (b : BindingId) (problem : Option BindingProblems) → Claim S.none (set_problem b problem)
   pub field_is : (p : PatId) (at : Pointer) → Claim S.none (point_pat_field p at)
   pub fault_is : (d : ExpressionStoreDiagnostics) → Claim (S.fault d) (report d)
   pub super_is : (w : PathWalk) → Claim (S.super (supers w.kind)) (counted (super_read w))
@@ -162,3 +180,73 @@ module _ {ℓ} {S : Grading {ℓ}} (L : Graded S) where
   pub told_last : {A B : Type 0} {Q : B → Type 0} {g : S.G} {p : Lowering A} (f : A → B) → L.Claim g p → ((a : A) → Q (f a))
       → Told L g Q (p >>= (λ a. pure (f a)))
   told_last f h k = told_map f (told_any h) (λ a u. k a)
+
+-- the same of steps that hand a table on
+pub record HandsTold {ℓ} {S : Grading {ℓ}} (L : Graded S) {A : Type 0} (t : Table) (g : S.G) (P : A × Table → Type 0)
+    (p : Lowering (A × Table)) : Type 0 where
+  pub claim : L.Hands t g p
+  pub known : Answering P p
+
+module _ {ℓ} {S : Grading {ℓ}} (L : Graded S) {A : Type 0} {t : Table} where
+  pub hand_pure : {P : A × Table → Type 0} (a : A) (u : Table) → u.bindings ≡ t.bindings → P (a, u)
+      → HandsTold L t S.none P (pure (a, u))
+  hand_pure a u e h = record { claim = L.hands_pure_is a t u e; known = answering_pure (a, u) h }
+
+  pub hand_as : {P : A × Table → Type 0} {u : Table} {g : S.G} {p : Lowering (A × Table)} → u.bindings ≡ t.bindings → HandsTold L u g P p
+      → HandsTold L t g P p
+  hand_as e h = record { claim = L.hands_as_is e h.claim; known = h.known }
+
+  pub hand_less : {P Q : A × Table → Type 0} {g : S.G} {p : Lowering (A × Table)} → ((r : A × Table) → P r → Q r) → HandsTold L t g P p
+      → HandsTold L t g Q p
+  hand_less less h = record { claim = h.claim; known = answering_less less h.known }
+
+  pub hand_then : {B : Type 0} {P : A × Table → Type 0} {Q : B × Table → Type 0} {g h : S.G} {p : Lowering (A × Table)}
+      {f : A × Table → Lowering (B × Table)} → HandsTold L t g P p → ((r : A × Table) → P r → HandsTold L r.1 h Q (f r))
+      → HandsTold L t (S.then' g h) Q (p >>= f)
+  hand_then x k = record {
+    claim = L.hands_bind_is x.claim x.known (λ r y. (k r y).claim);
+    known = answering_then x.known (λ r y. (k r y).known);
+  }
+
+  -- behind steps that hand none on
+  pub hand_beside : {B : Type 0} {P : A → Type 0} {Q : B × Table → Type 0} {g h : S.G} {p : Lowering A} {f : A → Lowering (B × Table)}
+      → Told L g P p → ((a : A) → P a → HandsTold L t h Q (f a)) → HandsTold L t (S.then' g h) Q (p >>= f)
+  hand_beside x k = record {
+    claim = L.beside_is x.claim x.known (λ a y. (k a y).claim);
+    known = answering_then x.known (λ a y. (k a y).known);
+  }
+
+  -- what comes after tells nothing
+  pub hand_end : {B : Type 0} {P : A × Table → Type 0} {Q : B × Table → Type 0} {g : S.G} {p : Lowering (A × Table)}
+      {f : A × Table → Lowering (B × Table)} → HandsTold L t g P p → ((r : A × Table) → L.Hands r.1 S.none (f r))
+      → ((r : A × Table) → P r → Answering Q (f r)) → HandsTold L t g Q (p >>= f)
+  hand_end x k more = record { claim = L.hands_end_is x.claim k; known = answering_then x.known more }
+
+  pub hand_map : {B : Type 0} {P : A × Table → Type 0} {Q : B × Table → Type 0} {g : S.G} {p : Lowering (A × Table)} (f : A × Table → B)
+      → HandsTold L t g P p → ((r : A × Table) → P r → Q (f r, r.1)) → HandsTold L t g Q (p >>= (λ r. pure (f r, r.1)))
+  hand_map f x k = hand_end x (λ r. L.hands_pure_is (f r) r.1 r.1 refl) (λ r y. answering_pure (f r, r.1) (k r y))
+
+  -- behind steps that hand none on, where what comes after tells nothing
+  pub hand_beside_end : {B : Type 0} {Q : B × Table → Type 0} {g : S.G} {p : Lowering A} {f : A → Lowering (B × Table)} → L.Claim g p
+      → ((a : A) → HandsTold L t S.none Q (f a)) → HandsTold L t g Q (p >>= f)
+  hand_beside_end {p = p} h k = record {
+    claim = L.beside_end_is h (λ a. (k a).claim);
+    known = answering_then (answering_any p) (λ a x. (k a).known);
+  }
+
+module _ {ℓ} {S : Grading {ℓ}} (L : Graded S) {A B : Type 0} {t : Table} where
+  -- steps that hand none on, and then this table
+  pub hand_last : {Q : B × Table → Type 0} {g : S.G} {p : Lowering A} (f : A → B) (u : Table) → u.bindings ≡ t.bindings → L.Claim g p
+      → ((a : A) → Q (f a, u)) → HandsTold L t g Q (p >>= (λ a. pure (f a, u)))
+  hand_last f u e h k = hand_beside_end L h (λ a. hand_pure L (f a) u e (k a))
+
+-- to set problems tells nothing where to set one tells nothing
+pub settled_by : (Claim : Lowering (Unit {0}) → Type 0) → Claim (pure tt)
+    → ((p : Lowering (Unit {0})) (f : Unit {0} → Lowering (Unit {0})) → Claim p → ((u : Unit {0}) → Claim (f u)) → Claim (p >>= f))
+    → ((b : BindingId) (problem : Option BindingProblems) → Claim (set_problem b problem)) → (t : Table) → Claim (settle t)
+unfolding settle
+settled_by Claim none next problem t = by t.noted 0 t.bindings
+  where
+    by : (notes : Notes) (number : ℕ) (es : List (Key × BindingId)) → Claim (settle_from notes number es)
+    by notes number [] = none
+    by notes number (e ∷ es) = next _ _ (problem e.1 (notes number).problem) (λ u. by notes (suc number) es)

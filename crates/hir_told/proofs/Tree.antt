@@ -50,6 +50,7 @@ use Rattle.hir_one_result.proofs.PatRooms.{none_keyed, from_none}
 use Rattle.hir_told.specs.Grading.{Grading, grade_try}
 use Rattle.hir_told.specs.Grades as g
 use Rattle.hir_told.proofs.Graded.{Graded, Told, next, made_next, map_is, told_any, told_less, told_map, told_pure, told_then, told_last}
+use Rattle.hir_told.proofs.Graded.{hand_pure, hand_as, hand_less, hand_then, hand_map, hand_last}
 use Rattle.hir_told.proofs.TypeForms as forms
 use Rattle.hir_told.proofs.PatForms as pats
 use Rattle.hir_told.proofs.PatForms.{PatTold, PartsTold, LaterTold}
@@ -279,10 +280,10 @@ module _ {ℓ} {S : Grading {ℓ}} (L : Graded S) where
 
     later_graded : (ps : Pats) (us : FirstUses)
         → LaterTold L (g.grade_pats S ps us) us (names_after_each ps us) ps (λ done t. lower_later ps done t)
-    later_graded tree.no_pats us done t k = told_pure L _ (k, ([], sym (append-nil done), tt))
+    later_graded tree.no_pats us done t k = hand_pure L done t refl (k, ([], sym (append-nil done), tt))
     later_graded (tree.more_pats p ps) us done t k =
-        told_then L (pat_graded p us (next_alternative t) (record { each = k.each })) (λ r e.
-        told_less L (λ s x. (x.0, (r.0 ∷ x.1.0, x.1.1 ∙ append_assoc done (r.0 ∷ []) x.1.0, x.1.2)))
+        hand_then L (hand_as L refl (pat_graded p us (next_alternative t) (record { each = k.each }))) (λ r e.
+        hand_less L (λ s x. (x.0, (r.0 ∷ x.1.0, x.1.1 ∙ append_assoc done (r.0 ∷ []) x.1.0, x.1.2)))
         (later_graded ps (names_after p us) (done ++ r.0 ∷ []) r.1 e))
 
     pat_part_graded : (p : OptionPat) (us : FirstUses) → PatTold L (g.grade_pat_part S p us) us (names_after_part p us) (pat_part p)
@@ -290,31 +291,31 @@ module _ {ℓ} {S : Grading {ℓ}} (L : Graded S) where
     pat_part_graded (tree.some_pat p) us t k = pat_graded p us t k
 
     subpat_graded : (p : OptionPat) (us : FirstUses) → PatTold L (g.grade_subpat S p us) us (names_after_part p us) (present_pat p)
-    subpat_graded tree.no_pat us t k = told_pure L _ k
-    subpat_graded (tree.some_pat p) us t k = told_map L _ (pat_graded p us t k) (λ r e. e)
+    subpat_graded tree.no_pat us t k = hand_pure L None t refl k
+    subpat_graded (tree.some_pat p) us t k = hand_map L (λ r. Some r.0) (pat_graded p us t k) (λ r e. e)
 
     pats_graded : (ps : Pats) (us : FirstUses) (done : List PatId)
         → PatTold L (g.grade_pats S ps us) us (names_after_each ps us) (lower_pats done ps)
-    pats_graded tree.no_pats us done t k = told_pure L _ k
+    pats_graded tree.no_pats us done t k = hand_pure L done t refl k
     pats_graded (tree.more_pats p ps) us done t k =
-        told_then L (pat_graded p us t k) (λ r e. pats_graded ps (names_after p us) _ r.1 e)
+        hand_then L (pat_graded p us t k) (λ r e. pats_graded ps (names_after p us) _ r.1 e)
 
     elements_graded : (ps : Pats) (us : FirstUses)
         → PartsTold L (g.grade_elements S ps us) us (names_after_each ps us) (dots_among ps) (λ done t. lower_elements done ps t)
-    elements_graded tree.no_pats us done t k = told_pure L _ (k, no_dots (length done.0) done.1)
+    elements_graded tree.no_pats us done t k = hand_pure L done t refl (k, no_dots (length done.0) done.1)
     elements_graded (tree.more_pats p ps) us done t k =
         pats.element_graded L p (pat_graded p us) (elements_graded ps (names_after p us)) done t k
 
     pat_fields_graded : (fs : PatFields) (us : FirstUses) (done : List RecordFieldPat)
         → PatTold L (g.grade_pat_fields S fs us) us (names_after_fields fs us) (lower_pat_fields done fs)
-    pat_fields_graded tree.no_pat_fields us done t k = told_pure L _ k
+    pat_fields_graded tree.no_pat_fields us done t k = hand_pure L done t refl k
     pat_fields_graded (tree.more_pat_fields f fs) us done t k =
-        told_then L (pat_field_graded f us t k) (λ r e. pat_fields_graded fs (names_after_field f us) _ r.1 e)
+        hand_then L (pat_field_graded f us t k) (λ r e. pat_fields_graded fs (names_after_field f us) _ r.1 e)
 
     pat_field_graded : (f : PatField) (us : FirstUses)
         → PatTold L (g.grade_pat_field S f us) us (names_after_field f us) (lower_pat_field f)
-    pat_field_graded (tree.disabled_pat_field at by f) us t k = told_last L _ (L.fault_is _) (λ u. k)
-    pat_field_graded tree.partless_pat_field us t k = told_pure L _ k
+    pat_field_graded (tree.disabled_pat_field at by f) us t k = hand_last L (λ u. None) t refl (L.fault_is _) (λ u. k)
+    pat_field_graded tree.partless_pat_field us t k = hand_pure L None t refl k
     pat_field_graded (tree.pat_field at n p) us t k = pats.pat_field_graded L at n (pat_graded p us) t k
 
     side_graded : (s : Side) → L.Claim (g.grade_side S s) (lower_side s)
@@ -326,8 +327,7 @@ module _ {ℓ} {S : Grading {ℓ}} (L : Graded S) where
 
     pub top_graded : (p : OptionPat) → L.Claim (g.grade_top S p) (lower_top p)
     top_graded tree.no_pat = pats.missing_pat_graded L
-    top_graded (tree.some_pat p) =
-        L.end_is (pat_graded p [] no_names none_keyed).claim (λ r. L.end_is (pats.settle_graded L r.1) (λ u. L.pure_is _))
+    top_graded (tree.some_pat p) = L.top_is (pat_graded p [] no_names none_keyed).claim
 
     -- ---- what is assigned to
 

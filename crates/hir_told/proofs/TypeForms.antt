@@ -20,6 +20,7 @@ use Rattle.hir_lower_form.specs.declared.walk.Reading.TheVariants.{Refused, Ende
 use Rattle.hir_lower_form.specs.Forms.{ExprSteps}
 use Rattle.hir_lower_form.specs.Lowering.{Lowering, ◌>>=◌}
 use Rattle.hir_lower_form.specs.Walks.{supers, super_read}
+use Rattle.hir_lower_form.specs.Pats.{Table}
 use Rattle.hir_lower_form.specs.Paths as steps
 use Rattle.hir_lower_form.specs.Paths.{proceed, whole, counted, with_trait, parens_form, or_else, segment_args_form}
 use Rattle.hir_lower_form.specs.Types.{TypeSteps, error_type, unit_type, lower_lifetime, lower_lifetime_option, lower_use, lower_uses}
@@ -29,7 +30,7 @@ use Rattle.hir_one_result.specs.PathRoom.{Seen, Read, goes_on, after, one_more, 
 use Rattle.hir_one_result.proofs.PathRooms.{seen, seen_of, option_seen, Gives, GivesPath, Yields}
 use Rattle.hir_told.specs.Grading.{Grading, if_so, before, grade_lifetime, grade_use, grade_uses}
 use Rattle.hir_told.proofs.Answering.{anything}
-use Rattle.hir_told.proofs.Graded.{Graded, Told, next, map_is, told_any, told_pure, told_then, told_last}
+use Rattle.hir_told.proofs.Graded.{HandsTold, hand_beside, Graded, Told, next, map_is, told_any, told_pure, told_then, told_last}
 use Rattle.hir_told.proofs.Knowing.{counted_gives, projected_is}
 
 module _ {ℓ} {S : Grading {ℓ}} (L : Graded S) where
@@ -44,6 +45,12 @@ module _ {ℓ} {S : Grading {ℓ}} (L : Graded S) where
       (k : Option Seen → S.G) → Told L g (GivesPath x) p → ((o : Option HirPath) → L.Claim (k (option_seen o)) (f o))
       → L.Claim (S.then' g (k x)) (p >>= f)
   claim_by_path k h more = (told_by_path k (λ y. anything) h (λ o. told_any L (more o))).claim
+
+  pub hand_by_path : {A : Type 0} {t : Table} {g : S.G} {x : Option Seen} {p : Lowering (Option HirPath)}
+      {f : Option HirPath → Lowering (A × Table)} (k : Option Seen → S.G) (P : Option Seen → A × Table → Type 0) → Told L g (GivesPath x) p
+      → ((o : Option HirPath) → HandsTold L t (k (option_seen o)) (P (option_seen o)) (f o))
+      → HandsTold L t (S.then' g (k x)) (P x) (p >>= f)
+  hand_by_path {t = t} {f = f} k P h more = hand_beside L h (λ o e. subst (λ y. HandsTold L t (k y) (P y) (f o)) e (more o))
 
   pub made_by_path : {g : S.G} {x : Option Seen} {p : Lowering (Option HirPath)} {f : Option HirPath → ExprSteps} (k : Option Seen → S.G)
       → Told L g (GivesPath x) p → ((o : Option HirPath) → L.Made (k (option_seen o)) (f o)) → L.Made (S.then' g (k x)) (p >>= f)
