@@ -121,11 +121,11 @@ module _ {X : Type 0} (L : Listing X) where
     makes_is = λ h t k. tells_where h t k;
     end_is = λ h k. tells_end L h k;
     hands_pure_is = λ a t u e. tells_pure L (a, u);
-    hands_as_is = λ e h. h;
-    hands_bind_is = λ h t k. tells_where h t k;
-    beside_is = λ h t k. tells_where h t k;
-    hands_end_is = λ h k. tells_end L h k;
-    beside_end_is = λ h k. tells_end L h k;
+    hands_as_is = λ t u e h. h;
+    hands_bind_is = λ table h t k. tells_where h t k;
+    beside_is = λ table h t k. tells_where h t k;
+    hands_end_is = λ table h k. tells_end L h k;
+    beside_end_is = λ table h k. tells_end L h k;
     new_name_is = λ u is t with_it e. tells_end L (tells_binding L (new_binding u)) (λ b. tells_pure L (b, with_it b));
     top_is = λ h. tells_end L h (λ r. tells_end L (settled_by (λ p. Correct p (Tells L (nothing L))) (tells_pure L (tt {0})) (λ p f h k. tells_end L h k) problem_tells r.1) (λ u. tells_pure L r.0));
     type_is = λ t at. tells_aside L (aside_type t at);

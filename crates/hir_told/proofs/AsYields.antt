@@ -82,11 +82,11 @@ yields_graded = let apart = apart_graded in record {
   makes_is = λ h t k. (apart_where h.0 t (λ a x. (k a x).0), raises_where h.1 t (λ a x. (k a x).1));
   end_is = λ h k. (apart.end_is h.0 (λ a. (k a).0), raises_end h.1 (λ a. (k a).1));
   hands_pure_is = λ a t u e. (apart.hands_pure_is a t u e, raises_pure (a, u));
-  hands_as_is = λ e h. h;
-  hands_bind_is = λ h t k. (apart_where h.0 t (λ a x. (k a x).0), raises_where h.1 t (λ a x. (k a x).1));
-  beside_is = λ h t k. (apart_where h.0 t (λ a x. (k a x).0), raises_where h.1 t (λ a x. (k a x).1));
-  hands_end_is = λ h k. (apart.end_is h.0 (λ a. (k a).0), raises_end h.1 (λ a. (k a).1));
-  beside_end_is = λ h k. (apart.end_is h.0 (λ a. (k a).0), raises_end h.1 (λ a. (k a).1));
+  hands_as_is = λ t u e h. h;
+  hands_bind_is = λ table h t k. (apart_where h.0 t (λ a x. (k a x).0), raises_where h.1 t (λ a x. (k a x).1));
+  beside_is = λ table h t k. (apart_where h.0 t (λ a x. (k a x).0), raises_where h.1 t (λ a x. (k a x).1));
+  hands_end_is = λ table h k. (apart.end_is h.0 (λ a. (k a).0), raises_end h.1 (λ a. (k a).1));
+  beside_end_is = λ table h k. (apart.end_is h.0 (λ a. (k a).0), raises_end h.1 (λ a. (k a).1));
   new_name_is = λ u is t with_it e. (
     apart.new_name_is u is t with_it e,
     raises_end (raises_still (binding_apart (new_binding u) is) (still_binding (new_binding u))) (λ b. raises_pure (b, with_it b)),

@@ -55,15 +55,15 @@ pub record Graded {ℓ} (S : Grading {ℓ}) : Type (ℓ ⊔ 1) where
   -- of steps that hand on the names of a top pattern, of which this table knows some, and others are bound since
   pub Hands : {A : Type 0} → Table → S.G → Lowering (A × Table) → Type 0
   pub hands_pure_is : {A : Type 0} (a : A) (t u : Table) → u.bindings ≡ t.bindings → Hands t S.none (pure (a, u))
-  pub hands_as_is : {A : Type 0} {t u : Table} {g : S.G} {p : Lowering (A × Table)} → u.bindings ≡ t.bindings → Hands u g p → Hands t g p
-  pub hands_bind_is : {A B : Type 0} {P : A × Table → Type 0} {t : Table} {g h : S.G} {p : Lowering (A × Table)}
+  pub hands_as_is : {A : Type 0} (t u : Table) {g : S.G} {p : Lowering (A × Table)} → u.bindings ≡ t.bindings → Hands u g p → Hands t g p
+  pub hands_bind_is : {A B : Type 0} {P : A × Table → Type 0} (t : Table) {g h : S.G} {p : Lowering (A × Table)}
       {f : A × Table → Lowering (B × Table)} → Hands t g p → Answering P p → ((r : A × Table) → P r → Hands r.1 h (f r))
       → Hands t (S.then' g h) (p >>= f)
-  pub beside_is : {A B : Type 0} {P : A → Type 0} {t : Table} {g h : S.G} {p : Lowering A} {f : A → Lowering (B × Table)} → Claim g p
+  pub beside_is : {A B : Type 0} {P : A → Type 0} (t : Table) {g h : S.G} {p : Lowering A} {f : A → Lowering (B × Table)} → Claim g p
       → Answering P p → ((a : A) → P a → Hands t h (f a)) → Hands t (S.then' g h) (p >>= f)
-  pub hands_end_is : {A B : Type 0} {t : Table} {g : S.G} {p : Lowering (A × Table)} {f : A × Table → Lowering (B × Table)}
+  pub hands_end_is : {A B : Type 0} (t : Table) {g : S.G} {p : Lowering (A × Table)} {f : A × Table → Lowering (B × Table)}
       → Hands t g p → ((r : A × Table) → Hands r.1 S.none (f r)) → Hands t g (p >>= f)
-  pub beside_end_is : {A B : Type 0} {t : Table} {g : S.G} {p : Lowering A} {f : A → Lowering (B × Table)} → Claim g p
+  pub beside_end_is : {A B : Type 0} (t : Table) {g : S.G} {p : Lowering A} {f : A → Lowering (B × Table)} → Claim g p
       → ((a : A) → Hands t S.none (f a)) → Hands t g (p >>= f)
   -- a written name that is bound
   pub new_name_is : (u : Use) → IsWritten u.name → (t : Table) (with_it : BindingId → Table)
@@ -192,9 +192,9 @@ module _ {ℓ} {S : Grading {ℓ}} (L : Graded S) {A : Type 0} {t : Table} where
       → HandsTold L t S.none P (pure (a, u))
   hand_pure a u e h = record { claim = L.hands_pure_is a t u e; known = answering_pure (a, u) h }
 
-  pub hand_as : {P : A × Table → Type 0} {u : Table} {g : S.G} {p : Lowering (A × Table)} → u.bindings ≡ t.bindings → HandsTold L u g P p
+  pub hand_as : {P : A × Table → Type 0} (u : Table) {g : S.G} {p : Lowering (A × Table)} → u.bindings ≡ t.bindings → HandsTold L u g P p
       → HandsTold L t g P p
-  hand_as e h = record { claim = L.hands_as_is e h.claim; known = h.known }
+  hand_as u e h = record { claim = L.hands_as_is t u e h.claim; known = h.known }
 
   pub hand_less : {P Q : A × Table → Type 0} {g : S.G} {p : Lowering (A × Table)} → ((r : A × Table) → P r → Q r) → HandsTold L t g P p
       → HandsTold L t g Q p
@@ -204,7 +204,7 @@ module _ {ℓ} {S : Grading {ℓ}} (L : Graded S) {A : Type 0} {t : Table} where
       {f : A × Table → Lowering (B × Table)} → HandsTold L t g P p → ((r : A × Table) → P r → HandsTold L r.1 h Q (f r))
       → HandsTold L t (S.then' g h) Q (p >>= f)
   hand_then x k = record {
-    claim = L.hands_bind_is x.claim x.known (λ r y. (k r y).claim);
+    claim = L.hands_bind_is t x.claim x.known (λ r y. (k r y).claim);
     known = answering_then x.known (λ r y. (k r y).known);
   }
 
@@ -212,7 +212,7 @@ module _ {ℓ} {S : Grading {ℓ}} (L : Graded S) {A : Type 0} {t : Table} where
   pub hand_beside : {B : Type 0} {P : A → Type 0} {Q : B × Table → Type 0} {g h : S.G} {p : Lowering A} {f : A → Lowering (B × Table)}
       → Told L g P p → ((a : A) → P a → HandsTold L t h Q (f a)) → HandsTold L t (S.then' g h) Q (p >>= f)
   hand_beside x k = record {
-    claim = L.beside_is x.claim x.known (λ a y. (k a y).claim);
+    claim = L.beside_is t x.claim x.known (λ a y. (k a y).claim);
     known = answering_then x.known (λ a y. (k a y).known);
   }
 
@@ -220,7 +220,7 @@ module _ {ℓ} {S : Grading {ℓ}} (L : Graded S) {A : Type 0} {t : Table} where
   pub hand_end : {B : Type 0} {P : A × Table → Type 0} {Q : B × Table → Type 0} {g : S.G} {p : Lowering (A × Table)}
       {f : A × Table → Lowering (B × Table)} → HandsTold L t g P p → ((r : A × Table) → L.Hands r.1 S.none (f r))
       → ((r : A × Table) → P r → Answering Q (f r)) → HandsTold L t g Q (p >>= f)
-  hand_end x k more = record { claim = L.hands_end_is x.claim k; known = answering_then x.known more }
+  hand_end x k more = record { claim = L.hands_end_is t x.claim k; known = answering_then x.known more }
 
   pub hand_map : {B : Type 0} {P : A × Table → Type 0} {Q : B × Table → Type 0} {g : S.G} {p : Lowering (A × Table)} (f : A × Table → B)
       → HandsTold L t g P p → ((r : A × Table) → P r → Q (f r, r.1)) → HandsTold L t g Q (p >>= (λ r. pure (f r, r.1)))
@@ -230,7 +230,7 @@ module _ {ℓ} {S : Grading {ℓ}} (L : Graded S) {A : Type 0} {t : Table} where
   pub hand_beside_end : {B : Type 0} {Q : B × Table → Type 0} {g : S.G} {p : Lowering A} {f : A → Lowering (B × Table)} → L.Claim g p
       → ((a : A) → HandsTold L t S.none Q (f a)) → HandsTold L t g Q (p >>= f)
   hand_beside_end {p = p} h k = record {
-    claim = L.beside_end_is h (λ a. (k a).claim);
+    claim = L.beside_end_is t h (λ a. (k a).claim);
     known = answering_then (answering_any p) (λ a x. (k a).known);
   }
 

@@ -131,7 +131,7 @@ module _ {ℓ} {S : Grading {ℓ}} (L : Graded S) where
       {later : List PatId → Table → Lowering (List PatId × Table)} → PatTold g us vs first → LaterTold h vs ws ps later
       → PatTold (S.then' g (S.then' h (grade_or S at ps))) us ws (forms.or_form at first later)
   unfolding forms.or_form
-  or_graded at ps one more t k = hand_then L (hand_as L refl (one (enter_or t) (record { each = k.each }))) (λ r e.
+  or_graded at ps one more t k = hand_then L (hand_as L (enter_or t) refl (one (enter_or t) (record { each = k.each }))) (λ r e.
       hand_then L (more (r.0 ∷ []) r.1 e) (λ rs x.
       hand_last L (λ i. i) (leave_or rs.1) refl (subst (λ is. L.Claim (grade_or S at ps) (forms.or_of at is)) (sym x.1.1)
       (or_of_graded at ps r.0 x.1.0 x.1.2)) (λ i. record { each = x.0.each })))
@@ -209,7 +209,7 @@ module _ {ℓ} {S : Grading {ℓ}} (L : Graded S) where
         → PatTold g us vs (forms.pat_field_form at n p)
     unfolding forms.pat_field_form
     pat_field_graded n h t k =
-        hand_end L (h t k) (λ r. L.beside_end_is (named_graded at n r.0) (λ f. L.hands_pure_is f r.1 r.1 refl))
+        hand_end L (h t k) (λ r. L.beside_end_is r.1 (named_graded at n r.0) (λ f. L.hands_pure_is f r.1 r.1 refl))
         (λ r e. answering_then (answering_any _) (λ f x. answering_pure (f, r.1) e))
 
     pub slice_graded : {f g h : S.G} {us vs ws xs : FirstUses} {b a : Table → Lowering (List PatId × Table)}

@@ -282,7 +282,7 @@ module _ {ℓ} {S : Grading {ℓ}} (L : Graded S) where
         → LaterTold L (g.grade_pats S ps us) us (names_after_each ps us) ps (λ done t. lower_later ps done t)
     later_graded tree.no_pats us done t k = hand_pure L done t refl (k, ([], sym (append-nil done), tt))
     later_graded (tree.more_pats p ps) us done t k =
-        hand_then L (hand_as L refl (pat_graded p us (next_alternative t) (record { each = k.each }))) (λ r e.
+        hand_then L (hand_as L (next_alternative t) refl (pat_graded p us (next_alternative t) (record { each = k.each }))) (λ r e.
         hand_less L (λ s x. (x.0, (r.0 ∷ x.1.0, x.1.1 ∙ append_assoc done (r.0 ∷ []) x.1.0, x.1.2)))
         (later_graded ps (names_after p us) (done ++ r.0 ∷ []) r.1 e))
 
