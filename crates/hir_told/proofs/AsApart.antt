@@ -8,10 +8,10 @@ use Rattle.hir_lower_form.specs.Walks.{super_read}
 use Rattle.hir_steps.proofs.Apart.{Apart, apart_trans, binding_apart, closure_apart, constant_apart, coroutine_apart, define_apart}
 use Rattle.hir_steps.proofs.Apart.{enter_block_apart, expr_apart, inner_apart, jump_apart, made_apart, named_apart, opened_apart}
 use Rattle.hir_steps.proofs.Apart.{opened_try_apart, owning_apart, point_apart, point_field_apart, point_pat_field_apart, pure_apart}
-use Rattle.hir_steps.proofs.Apart.{report_apart, set_problem_apart, stored_lifetime_apart, stored_pat_apart, stored_type_apart, then_apart}
+use Rattle.hir_steps.proofs.Apart.{report_apart, stored_lifetime_apart, stored_pat_apart, stored_type_apart, then_apart}
 use Rattle.hir_steps.proofs.Apart.{try_target_apart}
 use Rattle.hir_steps.proofs.ApartForms.{coroutine_block_apart}
-use Rattle.hir_steps.proofs.ApartPats.{dots_apart}
+use Rattle.hir_steps.proofs.ApartPats.{dots_apart, settle_apart}
 use Rattle.hir_steps.proofs.ApartPreludes.{coroutine_closure_apart}
 use Rattle.hir_steps.proofs.ApartTypes.{counted_apart}
 use Rattle.hir_steps.proofs.Barriers.{correct_yield}
@@ -20,7 +20,7 @@ use Rattle.hir_steps.proofs.Steps.{Correct, correct_as}
 use Rattle.hir_told.specs.Silent.{silent}
 use Rattle.hir_told.proofs.Answering.{Answering}
 use Rattle.hir_told.proofs.CorrectWhere.{correct_where}
-use Rattle.hir_told.proofs.Graded.{Graded, settled_by}
+use Rattle.hir_told.proofs.Graded.{Graded}
 use Rattle.hir_told.proofs.Tree.{expr_part_graded}
 
 pub apart_where : {A B : Type 0} {P : A → Type 0} {p : Lowering A} {f : A → Lowering B} → Correct p Apart → Answering P p
@@ -44,7 +44,7 @@ apart_graded = record {
   hands_end_is = λ table h k. then_apart h k;
   beside_end_is = λ table h k. then_apart h k;
   new_name_is = λ u is t with_it e. then_apart (binding_apart (new_binding u) is) (λ b. pure_apart (b, with_it b));
-  top_is = λ h. then_apart h (λ r. then_apart (settled_by (λ p. Correct p Apart) (pure_apart (tt {0})) (λ p f h k. then_apart h k) (λ b problem. set_problem_apart b problem) r.1) (λ u. pure_apart r.0));
+  top_is = λ h. then_apart h (λ r. then_apart (settle_apart r.1) (λ u. pure_apart r.0));
   type_is = λ t at. stored_type_apart t at;
   lifetime_is = λ l at. stored_lifetime_apart l at;
   pat_is = λ p at. stored_pat_apart p at;

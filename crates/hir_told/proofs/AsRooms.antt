@@ -1,6 +1,7 @@
 -- As much as is told is stored, or there is no room for it: an instance. Of steps that make an expression it is claimed besides that it is
 -- the last one.
-use Rattle.std.proofs.Common.{◌≡◌, refl, sym, [], subst, add-one, ℕ, suc, ◌^◌, nat_lt, if◌then◌else◌, Bool, true, false, Option, Some, None, Ok, Err}
+use Rattle.std.proofs.Common.{◌≡◌, refl, sym, subst, add-one, ℕ, suc, ◌^◌, nat_lt, if◌then◌else◌, Bool, true, false}
+use Rattle.std.proofs.Common.{[], Option, Some, None, Ok, Err}
 use Rattle.std.proofs.lemmas.Bool.{ltb-false}
 use Rattle.hir_binding.specs.declared.binding.BindingAnnotation.{BindingAnnotation}
 use Rattle.hir_store.specs.Pointers.{Pointer}
@@ -8,15 +9,11 @@ use Rattle.hir_store.specs.declared.hir.Expr.TheVariants as hir
 use Rattle.hir_store.specs.declared.ids.ExprId.{ExprId}
 use Rattle.hir_store.specs.declared.ids.LabelId.{LabelId}
 use Rattle.hir_store.specs.declared.ids.PatId.{PatId}
+use Rattle.hir_store.specs.declared.hir.CoroutineKind.{CoroutineKind}
 use Rattle.hir_env.specs.Answered as tree
 use Rattle.hir_env.specs.Answered.{Formals, Label, OptionExpr, SelfFormal}
-use Rattle.hir_store.specs.declared.hir.CoroutineKind.{CoroutineKind}
-use Rattle.hir_lower_form.specs.Lower.{lower_part}
-use Rattle.hir_one_result.specs.Formals.{coroutine_body, each_formal, lower_self}
-use Rattle.hir_one_result.specs.Room.{self_size}
-use Rattle.hir_one_result.proofs.FunctionRooms.{coroutine_body_takes}
 use Rattle.hir_data.specs.Patterns.{moved_by}
-use Rattle.hir_steps.specs.Keeps.{Paired}
+use Rattle.hir_lower_form.specs.Lower.{lower_part}
 use Rattle.hir_lower_form.specs.Builder.{Builder}
 use Rattle.hir_lower_form.specs.Forms.{ExprSteps, StoredContents, paren_form, value_form, yield_form}
 use Rattle.hir_lower_form.specs.Lowering.{Checked, go_on, Lowering, ◌>>=◌, pure, close, count_out, made_number, note_yield}
@@ -24,17 +21,23 @@ use Rattle.hir_lower_form.specs.Lowering.{open_label, open_try, point}
 use Rattle.hir_lower_form.specs.Made.{made_bind_form}
 use Rattle.hir_lower_form.specs.Pats.{counted_dots, counted_place, moved_dots, new_binding, small_place}
 use Rattle.hir_meaning.specs.InnerWritten.{constant_body, limit_body}
+use Rattle.hir_steps.specs.Keeps.{Paired}
+use Rattle.hir_one_result.specs.Formals.{coroutine_body, each_formal, lower_self}
+use Rattle.hir_one_result.specs.Room.{self_size}
 use Rattle.hir_one_result.specs.Size.{Size, dots_behind, nothing, a_label, a_made_name, ◌∪◌}
+use Rattle.hir_one_result.specs.Laws.{GrownUnless}
+use Rattle.hir_one_result.proofs.FunctionRooms.{coroutine_body_takes}
 use Rattle.hir_one_result.proofs.ClosureRooms.{closure_takes, coroutine_takes, takes_owned, takes_owning}
 use Rattle.hir_one_result.proofs.CoroutineRooms.{coroutine_closure_takes}
 use Rattle.hir_one_result.proofs.Last.{EndsWith, IsLast, coroutine_last, hands_pure, hands_then, last_alloc}
 use Rattle.hir_one_result.proofs.Last.{last_hands, last_made, last_then, owning_last, paren_last, quiet_close}
 use Rattle.hir_one_result.proofs.LastTree.{closure_last, coroutine_block_last, coroutine_closure_last}
 use Rattle.hir_one_result.proofs.MadeRooms.{made_bind_takes, takes_made, takes_number, takes_target, takes_try}
+use Rattle.hir_one_result.proofs.PatRooms.{settle_takes}
 use Rattle.hir_one_result.proofs.PathRooms.{counted_tells, counts_out}
 use Rattle.hir_one_result.proofs.Rooms.{Takes, takes_alloc, takes_as, takes_begin, takes_binding, takes_block, takes_close, takes_constant}
 use Rattle.hir_one_result.proofs.Rooms.{takes_define, takes_end, takes_inner, takes_jump, takes_lifetime, takes_note, takes_open, takes_pat}
-use Rattle.hir_one_result.proofs.Rooms.{takes_point, takes_point_field, takes_point_pat_field, takes_problem, takes_pure, takes_report}
+use Rattle.hir_one_result.proofs.Rooms.{takes_point, takes_point_field, takes_point_pat_field, takes_pure, takes_report}
 use Rattle.hir_one_result.proofs.Rooms.{takes_then, takes_type}
 use Rattle.hir_one_result.proofs.Tellings as known
 use Rattle.hir_one_result.proofs.Tellings.{takes_of, tells_any, tells_then}
@@ -44,9 +47,8 @@ use Rattle.hir_told.specs.Sizes.{bodies_sized, sizes}
 use Rattle.hir_told.specs.Bodies.{grade_self}
 use Rattle.hir_told.proofs.Answering.{Answering, AnsweredTo}
 use Rattle.hir_told.proofs.Bodies.{GradedBodies, body_graded}
-use Rattle.hir_told.proofs.Graded.{Graded, settled_by}
+use Rattle.hir_told.proofs.Graded.{Graded}
 use Rattle.hir_told.proofs.Tree.{expr_part_graded}
-use Rattle.hir_one_result.specs.Laws.{GrownUnless}
 
 pub given : {A : Type 0} {P : A → Type 0} {n : Size} {p : Lowering A} → Takes n p → Answering P p → known.Tells n P p
 given {A = A} {P = P} {n = n} {p = p} h t = record { tells = λ b d. by b (p b).0 (p b).1 (h.takes b d) (t.answers b) }
@@ -175,7 +177,7 @@ rooms_graded = record {
   hands_end_is = λ table h k. takes_end h k;
   beside_end_is = λ table h k. takes_end h k;
   new_name_is = λ u is t with_it e. takes_end (takes_binding (new_binding u)) (λ b. takes_pure (b, with_it b));
-  top_is = λ h. takes_end h (λ r. takes_end (settled_by (λ p. Takes nothing p) (takes_pure (tt {0})) (λ p f h k. takes_end h k) (λ b problem. takes_problem b problem) r.1) (λ u. takes_pure r.0));
+  top_is = λ h. takes_end h (λ r. takes_end (settle_takes r.1) (λ u. takes_pure r.0));
   type_is = λ t at. takes_type t at;
   lifetime_is = λ l at. takes_lifetime l at;
   pat_is = λ p at. takes_pat p at;

@@ -1,19 +1,17 @@
 -- What is added to a list of what is stored, as faults or entered blocks: an instance for both.
 use Rattle.std.proofs.Common.{◌≡◌, ◌∙◌, refl, sym, ap, subst, ℕ, List, [], ◌∷◌, ◌++◌, Bool, Option, Some, None, Ok}
 use Rattle.hir_binding.specs.declared.binding.BindingAnnotation.{BindingAnnotation}
-use Rattle.hir_binding.specs.declared.binding.BindingProblems.{BindingProblems}
 use Rattle.hir_store.specs.Pointers.{Pointer}
 use Rattle.hir_store.specs.Stored.{Stored}
 use Rattle.hir_store.proofs.Extending.{extends_refl}
 use Rattle.hir_store.specs.declared.diagnostics.ExpressionStoreDiagnostics.{ExpressionStoreDiagnostics}
 use Rattle.hir_store.specs.declared.hir.Expr.{Expr as HirExpr}
-use Rattle.hir_store.specs.declared.ids.BindingId.{BindingId}
 use Rattle.hir_store.specs.declared.ids.LabelId.{LabelId}
 use Rattle.hir_store.specs.declared.ids.PatId.{PatId}
 use Rattle.hir_scope.specs.Scopes.{Scope, block_scope, loop_scope, try_scope}
 use Rattle.hir_lower_form.specs.Builder.{Builder}
 use Rattle.hir_lower_form.specs.Forms.{ExprSteps, StoredContents}
-use Rattle.hir_lower_form.specs.Lowering.{Lowering, ◌>>=◌, alloc_made, close, open_try, point_pat_field, set_problem, try_target}
+use Rattle.hir_lower_form.specs.Lowering.{Lowering, ◌>>=◌, alloc_made, close, open_try, point_pat_field, try_target}
 use Rattle.hir_lower_form.specs.Made.{made_bind_form}
 use Rattle.hir_lower_form.specs.Pats.{counted_dots, counted_place, new_binding, small_place}
 use Rattle.hir_lower_form.specs.Walks.{super_read}
@@ -22,7 +20,7 @@ use Rattle.hir_steps.proofs.Aside.{aside_lifetime, aside_type, counted_aside}
 use Rattle.hir_steps.proofs.Barriers.{correct_yield}
 use Rattle.hir_steps.proofs.Frames.{block_at, loop_at, ribs, ribs_frames}
 use Rattle.hir_steps.proofs.MadeSteps.{correct_alloc_made, correct_opened_try, correct_try_target, made_label, put_made}
-use Rattle.hir_steps.proofs.PatSteps.{correct_point_pat_field, correct_set_problem, with_field_pat, with_problem_of}
+use Rattle.hir_steps.proofs.PatSteps.{correct_point_pat_field, with_field_pat}
 use Rattle.hir_steps.proofs.Steps.{Correct, correct_as, correct_count_out}
 use Rattle.hir_one_result.specs.Diagnostics.{Around}
 use Rattle.hir_one_result.proofs.AfterLowering.{after_lowering}
@@ -30,7 +28,7 @@ use Rattle.hir_one_result.proofs.Around.{block_is_rib, in_loop, loop_is_rib, try
 use Rattle.hir_one_result.proofs.ClosureTelling.{closure_tells, coroutine_tells}
 use Rattle.hir_one_result.proofs.CoroutineTelling.{coroutine_body_tells, coroutine_closure_tells}
 use Rattle.hir_one_result.proofs.MadeTelling.{tells_number}
-use Rattle.hir_one_result.proofs.PatTelling.{tells_binding, tells_define, tells_pat}
+use Rattle.hir_one_result.proofs.PatTelling.{settle_tells, tells_binding, tells_define, tells_pat}
 use Rattle.hir_one_result.proofs.Telling.{Added, Listing, Tells, added_none, added_then, constant_tells, inner_tells, nothing, opened_tells}
 use Rattle.hir_one_result.proofs.Telling.{owning_tells, rooted_tells, tells_alloc, tells_aside, tells_bind, tells_end, tells_enter_block}
 use Rattle.hir_one_result.proofs.Telling.{tells_point, tells_point_field, tells_pure, tells_report, tells_target}
@@ -41,7 +39,7 @@ use Rattle.hir_told.specs.Lists.{bodies_listed, listed}
 use Rattle.hir_told.proofs.Answering.{Answering}
 use Rattle.hir_told.proofs.Bodies.{GradedBodies, body_graded}
 use Rattle.hir_told.proofs.CorrectWhere.{correct_where, correct_with}
-use Rattle.hir_told.proofs.Graded.{Graded, settled_by}
+use Rattle.hir_told.proofs.Graded.{Graded}
 use Rattle.hir_told.proofs.Tree.{expr_part_graded}
 
 module _ {X : Type 0} (L : Listing X) where
@@ -66,11 +64,6 @@ module _ {X : Type 0} (L : Listing X) where
   pub dots_tell : (comma : Bool) (place : Option ℕ) → Correct (counted_dots comma place) (Tells L (nothing L))
   dots_tell comma None = tells_pure L None
   dots_tell comma (Some n) = place_tells (small_place comma n)
-
-  pub problem_tells : (b : BindingId) (problem : Option BindingProblems) → Correct (set_problem b problem) (Tells L (nothing L))
-  problem_tells b problem = correct_as (correct_set_problem b problem) (λ final ps m m' u g row. record {
-    told = λ ss e. added_none L (ap L.list row.stored ∙ L.unchanged m.stored (with_problem_of b problem m.stored) refl refl);
-  })
 
   pub field_tells : (p : PatId) (at : Pointer) → Correct (point_pat_field p at) (Tells L (nothing L))
   field_tells p at = correct_as (correct_point_pat_field p at) (λ final ps m m' u g row. record {
@@ -127,7 +120,7 @@ module _ {X : Type 0} (L : Listing X) where
     hands_end_is = λ table h k. tells_end L h k;
     beside_end_is = λ table h k. tells_end L h k;
     new_name_is = λ u is t with_it e. tells_end L (tells_binding L (new_binding u)) (λ b. tells_pure L (b, with_it b));
-    top_is = λ h. tells_end L h (λ r. tells_end L (settled_by (λ p. Correct p (Tells L (nothing L))) (tells_pure L (tt {0})) (λ p f h k. tells_end L h k) problem_tells r.1) (λ u. tells_pure L r.0));
+    top_is = λ h. tells_end L h (λ r. tells_end L (settle_tells L r.1) (λ u. tells_pure L r.0));
     type_is = λ t at. tells_aside L (aside_type t at);
     lifetime_is = λ l at. tells_aside L (aside_lifetime l at);
     pat_is = λ p at. tells_pat L p at;

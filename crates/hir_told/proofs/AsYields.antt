@@ -10,25 +10,27 @@ use Rattle.hir_lower_form.specs.Made.{made_bind_form}
 use Rattle.hir_lower_form.specs.Pats.{new_binding}
 use Rattle.hir_lower_form.specs.Walks.{super_read}
 use Rattle.hir_steps.specs.Keeps.{Paired}
-use Rattle.hir_steps.proofs.Apart.{Apart, binding_apart, point_apart, set_problem_apart, try_target_apart}
+use Rattle.hir_steps.proofs.Apart.{Apart, binding_apart, point_apart, try_target_apart}
+use Rattle.hir_steps.proofs.ApartPats.{settle_apart}
 use Rattle.hir_steps.proofs.Barriers.{raises_yield, still_closure, still_constant, still_coroutine, still_inner}
 use Rattle.hir_steps.proofs.CoroutineClosures.{still_coroutine_closure}
 use Rattle.hir_steps.proofs.MadeSteps.{correct_made_number}
 use Rattle.hir_steps.proofs.Opening.{raises_close, raises_open_label, raises_open_try}
 use Rattle.hir_steps.proofs.Owning.{raises_owning, still_owning}
 use Rattle.hir_steps.proofs.PatSteps.{correct_alloc_binding, correct_alloc_pat, correct_define}
-use Rattle.hir_steps.proofs.StillPats.{dots_still}
+use Rattle.hir_steps.proofs.StillPats.{dots_still, settle_still}
 use Rattle.hir_steps.proofs.StillTypes.{counted_still}
 use Rattle.hir_steps.proofs.Steps.{Correct}
 use Rattle.hir_steps.proofs.Yields.{RaisedTo, Raises, Still, or_assoc, raises_begin, raises_end, raises_pure, raises_still, raises_then}
-use Rattle.hir_steps.proofs.Yields.{still_binding, still_define, still_enter_block, still_expr, still_jump_target, still_lifetime, still_made}
-use Rattle.hir_steps.proofs.Yields.{still_made_number, still_pat, still_point, still_point_field, still_point_pat_field, still_problem}
+use Rattle.hir_steps.proofs.Yields.{still_binding, still_define, still_enter_block, still_expr, still_jump_target, still_lifetime}
+use Rattle.hir_steps.proofs.Yields.{still_made}
+use Rattle.hir_steps.proofs.Yields.{still_made_number, still_pat, still_point, still_point_field, still_point_pat_field}
 use Rattle.hir_steps.proofs.Yields.{still_report, still_try_target, still_type}
 use Rattle.hir_told.specs.Laws.{ExprsNote, PatsNote, TargetsNote, TypesNote}
 use Rattle.hir_told.specs.Yields.{yields}
 use Rattle.hir_told.proofs.Answering.{Answering, AnsweredTo}
 use Rattle.hir_told.proofs.AsApart.{apart_graded, apart_where}
-use Rattle.hir_told.proofs.Graded.{Graded, settled_by}
+use Rattle.hir_told.proofs.Graded.{Graded}
 use Rattle.hir_told.proofs.Tree.{expr_part_graded, part_graded, target_graded, top_graded}
 
 abbrev pub Notes : {A : Type 0} → Bool → Lowering A → Type 0
@@ -93,9 +95,7 @@ yields_graded = let apart = apart_graded in record {
   );
   top_is = λ h. (
     apart.top_is h.0,
-    raises_end h.1 (λ r. raises_end (settled_by (λ p. Raises false p) (raises_pure (tt {0}))
-        (λ p f h k. raises_end h k) (λ b problem. raises_still (set_problem_apart b problem) (still_problem b problem)) r.1)
-        (λ u. raises_pure r.0)),
+    raises_end h.1 (λ r. raises_end (raises_still (settle_apart r.1) (settle_still r.1)) (λ u. raises_pure r.0)),
   );
   type_is = λ t at. off (apart.type_is t at) (still_type t at);
   lifetime_is = λ l at. off (apart.lifetime_is l at) (still_lifetime l at);

@@ -1,7 +1,6 @@
 -- Claims that are closed under steps, and steps of which it is known besides what they answer.
-use Rattle.std.proofs.Common.{◌≡◌, refl, ℕ, suc, Bool, List, [], ◌∷◌, ◌++◌, Option, Some, None}
+use Rattle.std.proofs.Common.{◌≡◌, refl, ℕ, Bool, [], ◌∷◌, ◌++◌, Option, Some, None}
 use Rattle.hir_binding.specs.declared.binding.BindingAnnotation.{BindingAnnotation}
-use Rattle.hir_binding.specs.declared.binding.BindingProblems.{BindingProblems}
 use Rattle.hir_store.specs.Names.{IsWritten}
 use Rattle.hir_store.specs.Pointers.{Pointer}
 use Rattle.hir_store.specs.declared.diagnostics.ExpressionStoreDiagnostics.{ExpressionStoreDiagnostics}
@@ -27,10 +26,10 @@ use Rattle.hir_lower_form.specs.Forms.{coroutine_form, no_closure_params, value_
 use Rattle.hir_lower_form.specs.Lower.{lower_params, lower_part, present_type}
 use Rattle.hir_lower_form.specs.Lowering.{Lowering, ◌>>=◌, pure, alloc_binding, alloc_expr, alloc_lifetime, alloc_made, alloc_pat}
 use Rattle.hir_lower_form.specs.Lowering.{alloc_type, close, define, enter_block, jump_target, made_number, open_label}
-use Rattle.hir_lower_form.specs.Lowering.{open_try, owning, point, point_field, point_pat_field, report, set_problem, try_target}
+use Rattle.hir_lower_form.specs.Lowering.{open_try, owning, point, point_field, point_pat_field, report, try_target}
 use Rattle.hir_lower_form.specs.Made.{made_bind_form}
 use Rattle.hir_lower_form.specs.Paths.{counted}
-use Rattle.hir_lower_form.specs.Pats.{Key, Notes, Table, counted_dots, key_of, new_binding, no_names, settle, settle_from}
+use Rattle.hir_lower_form.specs.Pats.{Table, counted_dots, key_of, new_binding, no_names, settle}
 use Rattle.hir_lower_form.specs.Preludes.{coroutine_closure_form}
 use Rattle.hir_lower_form.specs.Ranges.{inner_form}
 use Rattle.hir_lower_form.specs.Walks.{super_read, supers}
@@ -44,15 +43,15 @@ pub record Graded {ℓ} (S : Grading {ℓ}) : Type (ℓ ⊔ 1) where
   pub Made : S.G → ExprSteps → Type 0
   pub made_is : {g : S.G} {p : ExprSteps} → Made g p → Claim g p
   pub pure_is : {A : Type 0} (a : A) → Claim S.none (pure a)
-  -- where it is known what the first answers
+  -- ---- one after another, where it is known what the first answers, or where nothing is told of what comes after
   pub bind_is : {A B : Type 0} {P : A → Type 0} {g h : S.G} {p : Lowering A} {f : A → Lowering B} → Claim g p → Answering P p
       → ((a : A) → P a → Claim h (f a)) → Claim (S.then' g h) (p >>= f)
   pub makes_is : {A : Type 0} {P : A → Type 0} {g h : S.G} {p : Lowering A} {f : A → ExprSteps} → Claim g p → Answering P p
       → ((a : A) → P a → Made h (f a)) → Made (S.then' g h) (p >>= f)
-  -- where nothing comes after
   pub end_is : {A B : Type 0} {g : S.G} {p : Lowering A} {f : A → Lowering B} → Claim g p → ((a : A) → Claim S.none (f a))
       → Claim g (p >>= f)
-  -- of steps that hand on the names of a top pattern, of which this table knows some, and others are bound since
+  -- ---- steps that hand on the names of a top pattern, of which this table knew some, and others were bound since; behind such steps,
+  -- and beside steps that hand none on
   pub Hands : {A : Type 0} → Table → S.G → Lowering (A × Table) → Type 0
   pub hands_pure_is : {A : Type 0} (a : A) (t u : Table) → u.bindings ≡ t.bindings → Hands t S.none (pure (a, u))
   pub hands_as_is : {A : Type 0} (t u : Table) {g : S.G} {p : Lowering (A × Table)} → u.bindings ≡ t.bindings → Hands u g p → Hands t g p
@@ -71,6 +70,7 @@ pub record Graded {ℓ} (S : Grading {ℓ}) : Type (ℓ ⊔ 1) where
       → Hands t S.binding (alloc_binding (new_binding u) >>= (λ b. pure (b, with_it b)))
   -- of a whole pattern, whose names get their problems in the end
   pub top_is : {g : S.G} {p : Lowering (PatId × Table)} → Hands no_names g p → Claim g (p >>= (λ r. settle r.1 >>= (λ _. pure r.0)))
+  -- ---- what is stored
   pub type_is : (t : TypeRef) (at : Option Pointer) → Claim (S.type_at at) (alloc_type t at)
   pub lifetime_is : (l : LifetimeRef) (at : Option Pointer) → Claim (S.lifetime_at at) (alloc_lifetime l at)
   pub pat_is : (p : HirPat) (at : Option Pointer) → Claim (S.pat_at at) (alloc_pat p at)
@@ -84,6 +84,7 @@ pub record Graded {ℓ} (S : Grading {ℓ}) : Type (ℓ ⊔ 1) where
   pub binding_is : (u : Use) → IsWritten u.name → Claim S.binding (alloc_binding (new_binding u))
   pub define_is : (b : BindingId) (p : PatId) → Claim S.none (define b p)
   pub field_is : (p : PatId) (at : Pointer) → Claim S.none (point_pat_field p at)
+  -- ---- what is reported, counted, entered and asked
   pub fault_is : (d : ExpressionStoreDiagnostics) → Claim (S.fault d) (report d)
   pub super_is : (w : PathWalk) → Claim (S.super (supers w.kind)) (counted (super_read w))
   pub dots_is : (comma : Bool) (place : Option ℕ) → Claim (S.dots (moved_by comma place)) (counted_dots comma place)
@@ -239,14 +240,3 @@ module _ {ℓ} {S : Grading {ℓ}} (L : Graded S) {A B : Type 0} {t : Table} whe
   pub hand_last : {Q : B × Table → Type 0} {g : S.G} {p : Lowering A} (f : A → B) (u : Table) → u.bindings ≡ t.bindings → L.Claim g p
       → ((a : A) → Q (f a, u)) → HandsTold L t g Q (p >>= (λ a. pure (f a, u)))
   hand_last f u e h k = hand_beside_end L h (λ a. hand_pure L (f a) u e (k a))
-
--- to set problems tells nothing where to set one tells nothing
-pub settled_by : (Claim : Lowering (Unit {0}) → Type 0) → Claim (pure tt)
-    → ((p : Lowering (Unit {0})) (f : Unit {0} → Lowering (Unit {0})) → Claim p → ((u : Unit {0}) → Claim (f u)) → Claim (p >>= f))
-    → ((b : BindingId) (problem : Option BindingProblems) → Claim (set_problem b problem)) → (t : Table) → Claim (settle t)
-unfolding settle
-settled_by Claim none next problem t = by t.noted 0 t.bindings
-  where
-    by : (notes : Notes) (number : ℕ) (es : List (Key × BindingId)) → Claim (settle_from notes number es)
-    by notes number [] = none
-    by notes number (e ∷ es) = next _ _ (problem e.1 (notes number).problem) (λ u. by notes (suc number) es)

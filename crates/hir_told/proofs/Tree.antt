@@ -16,7 +16,8 @@ use Rattle.hir_env.specs.Answered as tree
 use Rattle.hir_env.specs.Answered.{Binder, Type_, OptionType, Parts, Path, OptionPath, Segments, Segment, SegmentArgs, OptionParens}
 use Rattle.hir_env.specs.Answered.{OptionRet, OptionArgs, Args, Arg, Bounds, Bound, Side, TypePat, OptionTypePat, TypePats, Limit}
 use Rattle.hir_env.specs.Answered.{Pat, OptionPat, Pats, PatFields, PatField, Target, Targets, TargetFields, TargetField, Constant, Expr}
-use Rattle.hir_env.specs.Answered.{OptionExpr, Exprs, Fields, Field, Spread, Block, OptionBlock, Stmts, Stmt, Arms, Arm, Guard, Param, Params}
+use Rattle.hir_env.specs.Answered.{OptionExpr, Exprs, Fields, Field, Spread, Block, OptionBlock, Stmts, Stmt, Arms, Arm, Guard}
+use Rattle.hir_env.specs.Answered.{Param, Params}
 use Rattle.hir_env.specs.Targets.{head_pointer}
 use Rattle.hir_data.specs.Patterns.{dots_among}
 use Rattle.hir_data.specs.Targets.{target_dots}

@@ -6,7 +6,8 @@ use Rattle.hir_env.specs.Answered as tree
 use Rattle.hir_env.specs.Answered.{Type_, OptionType, Parts, Path, OptionPath, Segments, Segment, SegmentArgs, OptionParens, OptionRet}
 use Rattle.hir_env.specs.Answered.{OptionArgs, Args, Arg, Bounds, Bound, Side, TypePat, OptionTypePat, TypePats, Limit}
 use Rattle.hir_env.specs.Answered.{Pat, OptionPat, Pats, PatFields, PatField, Target, Targets, TargetFields, TargetField, Constant, Expr}
-use Rattle.hir_env.specs.Answered.{OptionExpr, Exprs, Fields, Field, Spread, Block, OptionBlock, Stmts, Stmt, Arms, Arm, Guard, Param, Params}
+use Rattle.hir_env.specs.Answered.{OptionExpr, Exprs, Fields, Field, Spread, Block, OptionBlock, Stmts, Stmt, Arms, Arm, Guard}
+use Rattle.hir_env.specs.Answered.{Param, Params}
 use Rattle.hir_data.specs.Patterns.{is_dots, ellipsis_of}
 use Rattle.hir_data.specs.Targets.{target_dots}
 use Rattle.hir_data.specs.Uses.{FirstUses}
@@ -283,7 +284,8 @@ module _ {ℓ} (S : Grading {ℓ}) where
     grade_expr (tree.itemless_expr at) = S.expr
     grade_expr (tree.try_expr at item tree.no_type number ss e) = grade_try S false number ss e (grade_stmts ss (grade_kept e))
     -- and then a `let` of that type in a block
-    grade_expr (tree.try_expr at item (tree.some_type t) number ss e) = S.then' (grade_try S true number ss e (grade_stmts ss (grade_kept e)))
+    grade_expr (tree.try_expr at item (tree.some_type t) number ss e) =
+        S.then' (grade_try S true number ss e (grade_stmts ss (grade_kept e)))
         (S.then' S.made_name (S.then' (grade_type t) (S.then' (made_bind S) (S.then' S.expr S.expr))))
     grade_expr (tree.coroutine_expr at kind moves number ss e) = S.coroutine number (grade_stmts ss (grade_kept e))
     grade_expr (tree.call_expr at f has_list es) = S.then' (grade_expr_part f) (S.then' (grade_exprs es) S.expr)

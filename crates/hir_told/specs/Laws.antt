@@ -77,4 +77,4 @@ BodiesEnter = WhereBodyLowered (λ kind skipped f e old new. (ss : List Scope) �
 
 abbrev pub BodiesFit : Type 0
 BodiesFit = (kind : Option CoroutineKind) (skipped : Bool) (f : Formals) (e : OptionExpr) (old : Builder) → Paired old.stored
-    → GrownUnless (grade_body sizes bodies_sized kind skipped f e) old (lower_body kind skipped f e old).0 (lower_body kind skipped f e old).1
+    → let r = lower_body kind skipped f e old in GrownUnless (grade_body sizes bodies_sized kind skipped f e) old r.0 r.1

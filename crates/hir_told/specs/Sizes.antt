@@ -1,15 +1,15 @@
 -- How much a tree becomes.
+use Rattle.std.specs.Prelude.{map}
 use Rattle.hir_data.specs.Patterns.{written_pat}
 use Rattle.hir_data.specs.Tops.{params_tops}
 use Rattle.hir_meaning.specs.InnerWritten.{constant_body, limit_body}
 use Rattle.hir_one_result.specs.PreludeRoom.{handed_size, prelude_size, self_let_size}
 use Rattle.hir_one_result.specs.Room.{formals_data, label_size}
 use Rattle.hir_one_result.specs.Size as size
-use Rattle.hir_one_result.specs.Size.{Size, a_binding, a_body, a_label, a_lifetime, a_made_name, a_pat, a_super, a_type, an_expr, dots_behind}
-use Rattle.hir_one_result.specs.Size.{nothing, ◌∪◌}
+use Rattle.hir_one_result.specs.Size.{Size, a_binding, a_body, a_label, a_lifetime, a_made_name, a_pat, a_super, a_type}
+use Rattle.hir_one_result.specs.Size.{an_expr, dots_behind, nothing, ◌∪◌}
 use Rattle.hir_told.specs.Bodies.{GradingBodies}
 use Rattle.hir_told.specs.Grading.{Grading}
-use Rattle.std.specs.Prelude.{map}
 
 abbrev pub sizes : Grading {1}
 sizes = record {
