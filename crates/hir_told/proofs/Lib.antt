@@ -8,6 +8,7 @@ pub mod ExprForms
 pub mod MadeForms
 pub mod Tree
 pub mod Bodies
+pub mod PathsAgree
 pub mod CorrectWhere
 pub mod AsApart
 pub mod AsYields
