@@ -9,6 +9,7 @@ pub mod MadeForms
 pub mod Tree
 pub mod Bodies
 pub mod PathsAgree
+pub mod BlocksAgree
 pub mod CorrectWhere
 pub mod AsApart
 pub mod AsYields

@@ -1,6 +1,7 @@
 //! What lowering tells, by one induction for all that is told of its steps. A law is a function whose contract is the law.
 #![tactic(auto)]
 
+ghost use Rattle.hir_one_result.specs.Laws.{BlocksAre};
 ghost use Rattle.hir_told.specs.Laws.{BodiesEnter, BodiesFit, BodiesReport};
 ghost use Rattle.hir_told.specs.Laws.{ExprsEnter, ExprsFit, ExprsNote, ExprsReport, PatsNote, TargetsNote, TypesNote};
 
@@ -53,4 +54,9 @@ pub fn bodies_enter()
 /// As much is stored as is told of a body behind its parameters, or there is no room for it.
 pub fn bodies_fit()
     ensures { BodiesFit }
+{}
+
+/// What is claimed of the numbers of blocks by `hir_one_result` follows from what is told.
+pub fn blocks_follow()
+    ensures { BlocksAre }
 {}
