@@ -1,5 +1,6 @@
 -- The numbers of blocks that are told of a tree are those that `Blocks` lists.
-use Rattle.std.proofs.Common.{◌≡◌, ◌∙◌, refl, sym, ap, Bool, true, false, true≢false, not, ◌||◌, List, [], ◌∷◌, ◌++◌, append-nil, append_assoc}
+use Rattle.std.proofs.Common.{◌≡◌, ◌∙◌, refl, sym, ap, Bool, true, false}
+use Rattle.std.proofs.Common.{true≢false, not, ◌||◌, List, [], ◌∷◌, ◌++◌, append-nil, append_assoc}
 use Rattle.std.proofs.Common.{option_to_list, Option, Some, None, is_some}
 use Rattle.hir_store.specs.Pointers.{Pointer}
 use Rattle.hir_store.specs.declared.diagnostics.AwaitLocation.{AwaitLocation}
@@ -10,7 +11,8 @@ use Rattle.hir_env.specs.Answered as tree
 use Rattle.hir_env.specs.Answered.{Type_, OptionType, Parts, Path, OptionPath, Segments, Segment, SegmentArgs, OptionParens, OptionRet}
 use Rattle.hir_env.specs.Answered.{OptionArgs, Args, Arg, Bounds, Bound, Constant, Expr, OptionExpr, Exprs, Fields, Field, Spread, Block}
 use Rattle.hir_env.specs.Answered.{OptionBlock, Stmts, Stmt, Arms, Arm, Guard, Pat, OptionPat, Pats, PatFields, PatField, Side, TypePat}
-use Rattle.hir_env.specs.Answered.{OptionTypePat, TypePats, Limit, Param, Params, Target, Targets, TargetFields, TargetField, Label, Lifetime}
+use Rattle.hir_env.specs.Answered.{OptionTypePat, TypePats, Limit, Param, Params}
+use Rattle.hir_env.specs.Answered.{Target, Targets, TargetFields, TargetField, Label, Lifetime}
 use Rattle.hir_env.specs.Answered.{Listing, RangeForm, UseRead}
 use Rattle.hir_data.specs.Patterns.{is_dots}
 use Rattle.hir_data.specs.Uses.{FirstUses}
@@ -393,7 +395,8 @@ mutual
       both (expr_part_is h ss) (both (top_is q ss) (behind (behind (expr_part_is b (loop_scope label ∷ ss)))))
   expr_is (tree.question_expr at items e) ss = behind (expr_part_is e ss)
   expr_is (tree.itemless_expr at) ss = refl
-  expr_is (tree.try_expr at item tree.no_type number st e) ss = try_is false number st e ss (λ inside. stmts_are st e (λ at. kept_part_is e at) inside) ∙ sym (append-nil _)
+  expr_is (tree.try_expr at item tree.no_type number st e) ss =
+      try_is false number st e ss (λ inside. stmts_are st e (λ at. kept_part_is e at) inside) ∙ sym (append-nil _)
   expr_is (tree.try_expr at item (tree.some_type t) number st e) ss =
       both (try_is true number st e ss (λ inside. stmts_are st e (λ at. kept_part_is e at) inside)) (behind (type_is t ss))
   expr_is (tree.coroutine_expr at kind moves number st e) ss = both refl (stmts_are st e (λ at. kept_part_is e at) (barrier ∷ ss))

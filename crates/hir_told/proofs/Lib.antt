@@ -10,6 +10,7 @@ pub mod Tree
 pub mod Bodies
 pub mod PathsAgree
 pub mod BlocksAgree
+pub mod FaultsAgree
 pub mod CorrectWhere
 pub mod AsApart
 pub mod AsYields

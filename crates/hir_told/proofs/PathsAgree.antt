@@ -9,7 +9,8 @@ use Rattle.hir_data.specs.Rule as rule
 use Rattle.hir_data.specs.Rule.{Item, Named, PathRead, empty_list, ended, ends, names, names_of, read, refused, refuses}
 use Rattle.hir_data.specs.Written.{items, type_data, outer, path_of, segments, what, written_path}
 use Rattle.hir_one_result.specs.PathRoom as walk
-use Rattle.hir_one_result.specs.PathRoom.{Read, Seen, after, at_first, found, nothing_seen, outer_read, path_read, segment_read, segments_read}
+use Rattle.hir_one_result.specs.PathRoom.{Read, Seen, after, at_first, found}
+use Rattle.hir_one_result.specs.PathRoom.{nothing_seen, outer_read, path_read, segment_read, segments_read}
 use Rattle.hir_one_result.specs.PathRoom.{whole_read}
 
 -- ---- lists
@@ -170,37 +171,50 @@ first_like false s is x h k = k x h
 mutual
   segment_like : (leading first : Bool) (s : Segment) (is : List Item) (x : Seen) → IsRead is (walk.goes_on x)
       → IsRead (item leading first s ∷ is) (segment_read first s x)
-  segment_like leading first tree.absent_segment is x h = goes_on_now (item leading first tree.absent_segment) is x h (record x { named = true }) refl refl refl
+  segment_like leading first tree.absent_segment is x h =
+      goes_on_now (item leading first tree.absent_segment) is x h (record x { named = true }) refl refl refl
   segment_like leading first tree.broken_segment is x h = refused_now (item leading first tree.broken_segment) is x h refl
-  segment_like leading first (tree.name_segment n w as') is x h = goes_on_now (item leading first (tree.name_segment n w as')) is x h (record x { named = true }) refl refl refl
-  segment_like leading first tree.self_type_segment is x h = goes_on_now (item leading first tree.self_type_segment) is x h (record x { named = true }) refl refl refl
-  segment_like leading first tree.super_segment is x h = goes_on_now (item leading first tree.super_segment) is x h (walk.one_more x) refl refl h.1.1
+  segment_like leading first (tree.name_segment n w as') is x h =
+      goes_on_now (item leading first (tree.name_segment n w as')) is x h (record x { named = true }) refl refl refl
+  segment_like leading first tree.self_type_segment is x h =
+      goes_on_now (item leading first tree.self_type_segment) is x h (record x { named = true }) refl refl refl
+  segment_like leading first tree.super_segment is x h =
+      goes_on_now (item leading first tree.super_segment) is x h (walk.one_more x) refl refl h.1.1
   segment_like leading false tree.crate_segment is x h = refused_now (item leading false tree.crate_segment) is x h refl
-  segment_like leading true tree.crate_segment is x h = ended_now (item leading true tree.crate_segment) is x h (walk.anew x) refl refl h.1.1
-  segment_like leading false (tree.dollar_crate_segment root) is x h = refused_now (item leading false (tree.dollar_crate_segment root)) is x h refl
-  segment_like leading true (tree.dollar_crate_segment root) is x h = ended_now (item leading true (tree.dollar_crate_segment root)) is x h (walk.anew x) refl refl h.1.1
+  segment_like leading true tree.crate_segment is x h =
+      ended_now (item leading true tree.crate_segment) is x h (walk.anew x) refl refl h.1.1
+  segment_like leading false (tree.dollar_crate_segment root) is x h =
+      refused_now (item leading false (tree.dollar_crate_segment root)) is x h refl
+  segment_like leading true (tree.dollar_crate_segment root) is x h =
+      ended_now (item leading true (tree.dollar_crate_segment root)) is x h (walk.anew x) refl refl h.1.1
   segment_like leading false tree.self_segment is x h = refused_now (item leading false tree.self_segment) is x h refl
   segment_like leading true tree.self_segment is x h = self_like leading is x h
   segment_like leading false (tree.type_segment t) is x h = refused_now (item leading false (tree.type_segment t)) is x h refl
-  segment_like leading true (tree.type_segment t) is x h = goes_on_now (item leading true (tree.type_segment t)) is x h (walk.anew x) refl refl h.1.1
+  segment_like leading true (tree.type_segment t) is x h =
+      goes_on_now (item leading true (tree.type_segment t)) is x h (walk.anew x) refl refl h.1.1
   segment_like leading false (tree.trait_segment t at p) is x h = refused_now (item leading false (tree.trait_segment t at p)) is x h refl
-  segment_like leading true (tree.trait_segment t at p) is x h = trait_like (type_data None t) leading (path_of p) (whole_read p) (path_like p) is x h
+  segment_like leading true (tree.trait_segment t at p) is x h =
+      trait_like (type_data None t) leading (path_of p) (whole_read p) (path_like p) is x h
 
   segments_like : (ss : Segments) (is : List Item) (r : Read) → IsRead is r → IsRead (items ss is) (after r (λ x. segments_read ss x))
   segments_like tree.no_segments is walk.refused h = h
   segments_like tree.no_segments is (walk.ended x) h = h
   segments_like tree.no_segments is (walk.goes_on x) h = h
-  segments_like (tree.more_segments s ss) is walk.refused h = still_refused (item false false s) (items ss is) (segments_like ss is walk.refused h)
-  segments_like (tree.more_segments s ss) is (walk.ended x) h = still_ended (item false false s) (items ss is) x (segments_like ss is (walk.ended x) h)
+  segments_like (tree.more_segments s ss) is walk.refused h =
+      still_refused (item false false s) (items ss is) (segments_like ss is walk.refused h)
+  segments_like (tree.more_segments s ss) is (walk.ended x) h =
+      still_ended (item false false s) (items ss is) x (segments_like ss is (walk.ended x) h)
   segments_like (tree.more_segments s ss) is (walk.goes_on x) h =
       in_front (item false false s) (items ss is) (segments_read ss x) (λ y. segment_read false s y)
       (segments_like ss is (walk.goes_on x) h) (λ y k. segment_like false false s (items ss is) y k)
 
   whole_like : (p : Path) (is : List Item) (r : Read) → IsRead is r → IsRead (segments p is) (after r (λ x. path_read p x))
   whole_like (tree.path leading first rest use_) is walk.refused h =
-      outer_like use_ (item leading true first ∷ items rest is) walk.refused (still_refused (item leading true first) (items rest is) (segments_like rest is walk.refused h))
+      outer_like use_ (item leading true first ∷ items rest is) walk.refused
+          (still_refused (item leading true first) (items rest is) (segments_like rest is walk.refused h))
   whole_like (tree.path leading first rest use_) is (walk.ended x) h =
-      outer_like use_ (item leading true first ∷ items rest is) (walk.ended x) (still_ended (item leading true first) (items rest is) x (segments_like rest is (walk.ended x) h))
+      outer_like use_ (item leading true first ∷ items rest is) (walk.ended x)
+          (still_ended (item leading true first) (items rest is) x (segments_like rest is (walk.ended x) h))
   whole_like (tree.path leading first rest use_) is (walk.goes_on x) h = outer_like use_ (item leading true first ∷ items rest is)
       (after (segments_read rest x) (λ y. segment_read true first (at_first leading y)))
       (in_front (item leading true first) (items rest is) (segments_read rest x) (λ y. segment_read true first (at_first leading y))

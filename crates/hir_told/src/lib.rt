@@ -1,7 +1,7 @@
 //! What lowering tells, by one induction for all that is told of its steps. A law is a function whose contract is the law.
 #![tactic(auto)]
 
-ghost use Rattle.hir_one_result.specs.Laws.{BlocksAre};
+ghost use Rattle.hir_one_result.specs.Laws.{BlocksAre, DiagnosticsAre};
 ghost use Rattle.hir_told.specs.Laws.{BodiesEnter, BodiesFit, BodiesReport};
 ghost use Rattle.hir_told.specs.Laws.{ExprsEnter, ExprsFit, ExprsNote, ExprsReport, PatsNote, TargetsNote, TypesNote};
 
@@ -59,4 +59,9 @@ pub fn bodies_fit()
 /// What is claimed of the numbers of blocks by `hir_one_result` follows from what is told.
 pub fn blocks_follow()
     ensures { BlocksAre }
+{}
+
+/// And what is claimed of the faults.
+pub fn faults_follow()
+    ensures { DiagnosticsAre }
 {}
