@@ -1,0 +1,5 @@
+use Rattle.hir_told.proofs.AsRooms.{bodies_fit as proved}
+use Rattle.hir_told.proofs.bodies_fit.Goals as goal
+
+pub returns : goal.returns
+returns c = proved

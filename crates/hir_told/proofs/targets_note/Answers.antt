@@ -1,0 +1,5 @@
+use Rattle.hir_told.proofs.AsYields.{targets_note as proved}
+use Rattle.hir_told.proofs.targets_note.Goals as goal
+
+pub returns : goal.returns
+returns c = proved

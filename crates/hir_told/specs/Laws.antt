@@ -1,0 +1,80 @@
+-- What is told of a tree, claimed of its lowering from whatever builder.
+use Rattle.std.specs.Prelude.{Bool, Option, ◌≡◌, ◌||◌, ◌++◌, [], List, None, Ok, option_to_list}
+use Rattle.hir_store.specs.declared.diagnostics.ExpressionStoreDiagnostics.{ExpressionStoreDiagnostics}
+use Rattle.hir_store.specs.declared.hir.CoroutineKind.{CoroutineKind}
+use Rattle.hir_store.specs.declared.ids.BlockId.{BlockId}
+use Rattle.hir_store.specs.declared.ids.ExprId.{ExprId}
+use Rattle.hir_store.specs.declared.ids.PatId.{PatId}
+use Rattle.hir_store.specs.declared.ids.TypeRefId.{TypeRefId}
+use Rattle.hir_env.specs.Answered.{Formals, OptionExpr, OptionPat, OptionType, Target}
+use Rattle.hir_scope.specs.Scopes.{Scope}
+use Rattle.hir_lower_form.specs.Builder.{Builder}
+use Rattle.hir_lower_form.specs.Lower.{lower_part, lower_target, lower_top, type_part}
+use Rattle.hir_steps.specs.Keeps.{Paired}
+use Rattle.hir_one_result.specs.Diagnostics.{Around}
+use Rattle.hir_one_result.specs.Formals.{Given, lower_body}
+use Rattle.hir_one_result.specs.Laws.{GrownUnless, WhereLowered}
+use Rattle.hir_told.specs.Grades.{grade_expr_part, grade_part, grade_target, grade_top}
+use Rattle.hir_told.specs.Bodies.{grade_body}
+use Rattle.hir_told.specs.Grading.{Grading}
+use Rattle.hir_told.specs.Lists.{bodies_listed, listed}
+use Rattle.hir_told.specs.Sizes.{bodies_sized, sizes}
+use Rattle.hir_told.specs.Yields.{yields}
+
+-- ---- a `yield` is noted where one is told of, and nowhere else
+
+abbrev pub ExprsNote : Type 0
+ExprsNote = WhereLowered (λ e old id new. new.yields ≡ (old.yields || grade_expr_part yields e))
+
+abbrev pub TypesNote : Type 0
+TypesNote = (t : OptionType) (old new : Builder) (i : TypeRefId) → Paired old.stored → type_part None t old ≡ (Ok i, new)
+    → new.yields ≡ (old.yields || grade_part yields t)
+
+abbrev pub PatsNote : Type 0
+PatsNote = (p : OptionPat) (old new : Builder) (i : PatId) → Paired old.stored → lower_top p old ≡ (Ok i, new)
+    → new.yields ≡ (old.yields || grade_top yields p)
+
+abbrev pub TargetsNote : Type 0
+TargetsNote = (t : Target) (old new : Builder) (i : PatId) → Paired old.stored → lower_target t old ≡ (Ok i, new)
+    → new.yields ≡ (old.yields || grade_target yields t)
+
+-- ---- faults and numbers of blocks come behind those that were there, in the order in which they are told, in whatever scopes
+
+abbrev pub faults : Grading {0}
+faults = listed {X = ExpressionStoreDiagnostics} (λ ds. ds) (λ n. [])
+
+abbrev pub blocks : Grading {0}
+blocks = listed {X = BlockId} (λ ds. []) option_to_list
+
+abbrev pub ExprsReport : Type 0
+ExprsReport = WhereLowered (λ e old id new. (ss : List Scope) → Around ss old.scopes
+    → new.stored.diagnostics ≡ old.stored.diagnostics ++ grade_expr_part faults e ss)
+
+abbrev pub ExprsEnter : Type 0
+ExprsEnter = WhereLowered (λ e old id new. (ss : List Scope) → Around ss old.scopes
+    → new.stored.block_scopes ≡ old.stored.block_scopes ++ grade_expr_part blocks e ss)
+
+-- ---- as much is stored as is told, or there is no room for it
+
+abbrev pub ExprsFit : Type 0
+ExprsFit = (e : OptionExpr) (old : Builder) → Paired old.stored
+    → GrownUnless (grade_expr_part sizes e) old (lower_part e old).0 (lower_part e old).1
+
+-- ---- bodies behind their parameters, which may be of functions that are coroutines
+
+-- what is claimed where such a body is lowered into a `Paired` store
+abbrev pub WhereBodyLowered : (Option CoroutineKind → Bool → Formals → OptionExpr → Builder → Builder → Type 0) → Type 0
+WhereBodyLowered R = (kind : Option CoroutineKind) (skipped : Bool) (f : Formals) (e : OptionExpr) (old new : Builder) (r : Given × ExprId)
+    → Paired old.stored → lower_body kind skipped f e old ≡ (Ok r, new) → R kind skipped f e old new
+
+abbrev pub BodiesReport : Type 0
+BodiesReport = WhereBodyLowered (λ kind skipped f e old new. (ss : List Scope) → Around ss old.scopes
+    → new.stored.diagnostics ≡ old.stored.diagnostics ++ grade_body faults (bodies_listed (λ ds. ds) (λ n. [])) kind skipped f e ss)
+
+abbrev pub BodiesEnter : Type 0
+BodiesEnter = WhereBodyLowered (λ kind skipped f e old new. (ss : List Scope) → Around ss old.scopes
+    → new.stored.block_scopes ≡ old.stored.block_scopes ++ grade_body blocks (bodies_listed (λ ds. []) option_to_list) kind skipped f e ss)
+
+abbrev pub BodiesFit : Type 0
+BodiesFit = (kind : Option CoroutineKind) (skipped : Bool) (f : Formals) (e : OptionExpr) (old : Builder) → Paired old.stored
+    → let r = lower_body kind skipped f e old in GrownUnless (grade_body sizes bodies_sized kind skipped f e) old r.0 r.1

@@ -1,0 +1,31 @@
+-- Where nothing is told.
+use Rattle.hir_told.specs.Grading.{Grading}
+
+abbrev pub silent : Grading {0}
+silent = record {
+  G = Unit;
+  none = tt;
+  then' = λ g h. tt;
+  type_at = λ at. tt;
+  lifetime_at = λ at. tt;
+  pat_at = λ at. tt;
+  expr = tt;
+  binding = tt;
+  fault = λ d. tt;
+  super = λ n. tt;
+  dots = λ n. tt;
+  jump = λ j. tt;
+  block = λ n. tt;
+  made_name = tt;
+  yielding = λ g. tt;
+  looped = λ label g. tt;
+  labelled = λ l g. tt;
+  tried = λ typed g h k. tt;
+  inner = λ l g. tt;
+  constant = λ e g. tt;
+  rooted = λ e g. tt;
+  closure = λ g h k. tt;
+  coroutine_closure = λ xs g h k. tt;
+  coroutine = λ n g. tt;
+  owned = λ g. tt;
+}

@@ -1,0 +1,32 @@
+-- Whether a `yield` stands in it: one that stands in a body inside counts there.
+use Rattle.std.specs.Prelude.{Bool, true, false, ◌||◌}
+use Rattle.hir_told.specs.Grading.{Grading}
+
+abbrev pub yields : Grading {0}
+yields = record {
+  G = Bool;
+  none = false;
+  then' = λ y z. y || z;
+  type_at = λ at. false;
+  lifetime_at = λ at. false;
+  pat_at = λ at. false;
+  expr = false;
+  binding = false;
+  fault = λ d. false;
+  super = λ n. false;
+  dots = λ n. false;
+  jump = λ j. false;
+  block = λ n. false;
+  made_name = false;
+  yielding = λ y. true;
+  looped = λ label y. y;
+  labelled = λ l y. y;
+  tried = λ typed x y z. x || (y || z);
+  inner = λ l y. false;
+  constant = λ e y. false;
+  rooted = λ e y. false;
+  closure = λ x y z. false;
+  coroutine_closure = λ xs x y z. false;
+  coroutine = λ n y. false;
+  owned = λ y. y;
+}

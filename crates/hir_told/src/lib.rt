@@ -1,0 +1,67 @@
+//! What lowering tells, by one induction for all that is told of its steps. A law is a function whose contract is the law.
+#![tactic(auto)]
+
+ghost use Rattle.hir_one_result.specs.Laws.{BlocksAre, DiagnosticsAre};
+ghost use Rattle.hir_told.specs.Laws.{BodiesEnter, BodiesFit, BodiesReport};
+ghost use Rattle.hir_told.specs.Laws.{ExprsEnter, ExprsFit, ExprsNote, ExprsReport, PatsNote, TargetsNote, TypesNote};
+
+/// A `yield` is noted where one is told of an expression, and nowhere else.
+pub fn exprs_note()
+    ensures { ExprsNote }
+{}
+
+/// Of a type likewise.
+pub fn types_note()
+    ensures { TypesNote }
+{}
+
+/// Of a whole pattern likewise.
+pub fn pats_note()
+    ensures { PatsNote }
+{}
+
+/// Of what is assigned to likewise.
+pub fn targets_note()
+    ensures { TargetsNote }
+{}
+
+/// The faults of an expression come behind those that were met before, in the order in which they are told.
+pub fn exprs_report()
+    ensures { ExprsReport }
+{}
+
+/// So do the numbers of the blocks that it enters.
+pub fn exprs_enter()
+    ensures { ExprsEnter }
+{}
+
+/// As much is stored as is told of an expression, or there is no room for it.
+pub fn exprs_fit()
+    ensures { ExprsFit }
+{}
+
+/// The faults of a body behind its parameters come behind those that were met before, in the order in which they are told, also where it
+/// is a coroutine.
+pub fn bodies_report()
+    ensures { BodiesReport }
+{}
+
+/// So do the numbers of the blocks that it enters.
+pub fn bodies_enter()
+    ensures { BodiesEnter }
+{}
+
+/// As much is stored as is told of a body behind its parameters, or there is no room for it.
+pub fn bodies_fit()
+    ensures { BodiesFit }
+{}
+
+/// What is claimed of the numbers of blocks by `hir_one_result` follows from what is told.
+pub fn blocks_follow()
+    ensures { BlocksAre }
+{}
+
+/// And what is claimed of the faults.
+pub fn faults_follow()
+    ensures { DiagnosticsAre }
+{}
