@@ -1,6 +1,6 @@
 -- One expression more in a count of calls.
-use Rattle.std.proofs.Common.{arith, ◌≡◌, ◌∙◌, refl, sym, ap, ℕ, ◌+◌, ◌<◌, ◌≤◌, Bool, true, false, true≢false, List, take, length, count_by}
-use Rattle.std.proofs.Common.{Option, Some, None, ◌⊎◌, inl, inr, slice_get, get_or}
+use Rattle.std.proofs.Common.{arith, ◌≡◌, ◌∙◌, sym, ap, ℕ, ◌+◌, ◌<◌, ◌≤◌, true, false, true≢false, List, take, length, count_by}
+use Rattle.std.proofs.Common.{Some, None, ◌⊎◌, inl, inr, slice_get, get_or}
 use Rattle.std.proofs.lemmas.List.Sums.{count_by_more_yes, count_by_more_no}
 use Rattle.std.proofs.lemmas.Option.{slice_get_cases}
 use Rattle.hir_store.specs.declared.hir.Expr.{Expr}
