@@ -1,0 +1,8 @@
+//! Uses of `hir_lower`, which its page `CALLING.md` quotes.
+#![tactic(auto)]
+
+pub mod bodies;
+pub mod calls;
+pub mod nodes;
+pub mod owners;
+pub mod plain;

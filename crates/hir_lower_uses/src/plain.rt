@@ -1,0 +1,86 @@
+//! An environment of its own.
+
+use hir_base::node::{InFile, NodeId, PredId};
+use hir_env::env::LowerEnv;
+use hir_env::lang::LangItems;
+use hir_env::resolved::{Resolved, Shadow};
+use hir_store::ids::{
+    BlockId, CfgId, CrateId, CtxId, DefWithBodyId, HygieneId, ItemContainerId, MacroDefId, ModuleId,
+};
+use hir_store::path::ModPath;
+
+/// All is enabled and nothing is decided; there is one module, one hygiene and no macro; no name stands for anything.
+#[derive(Clone, Copy)]
+pub struct Plain {
+    pub items: LangItems,
+}
+
+impl LowerEnv for Plain {
+    ghost use Rattle.hir_lower_uses.specs.Plain.{plain_answers};
+
+    ghost answers = { λ env. plain_answers env.items };
+
+    fn cfg(&self, _node: InFile<NodeId>) -> Result<(), CfgId> {
+        Ok(())
+    }
+
+    fn cfg_pred(&self, _pred: Option<PredId>) -> Option<bool> {
+        None
+    }
+
+    fn hygiene(&self, _node: InFile<NodeId>) -> HygieneId {
+        HygieneId::ROOT
+    }
+
+    fn context(&self, _node: InFile<NodeId>) -> CtxId {
+        CtxId(0)
+    }
+
+    fn crate_root(&self, _context: CtxId) -> Option<CrateId> {
+        None
+    }
+
+    fn context_parent(&self, context: CtxId) -> CtxId {
+        context
+    }
+
+    fn opaque(&self, _context: CtxId) -> HygieneId {
+        HygieneId::ROOT
+    }
+
+    fn outer_macro(&self, _context: CtxId) -> Option<MacroDefId> {
+        None
+    }
+
+    fn block(&self, _node: InFile<NodeId>, _inside: ModuleId) -> Option<(BlockId, ModuleId)> {
+        None
+    }
+
+    fn skip(&self, _owner: DefWithBodyId) -> bool {
+        false
+    }
+
+    fn container(&self, _owner: DefWithBodyId) -> ItemContainerId {
+        ItemContainerId::ModuleId(ModuleId(0))
+    }
+
+    fn module_of(&self, _container: ItemContainerId) -> ModuleId {
+        ModuleId(0)
+    }
+
+    fn resolve(&self, _inside: ModuleId, _path: &ModPath, _shadow: Shadow) -> Resolved {
+        Resolved {
+            types: None,
+            values: None,
+            rest: None,
+        }
+    }
+
+    fn lang_items(&self) -> &LangItems {
+        &self.items
+    }
+
+    fn new_range(&self, _inside: ModuleId) -> bool {
+        false
+    }
+}
