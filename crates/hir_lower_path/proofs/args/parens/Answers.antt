@@ -1,0 +1,33 @@
+use Rattle.std.proofs.Common.{arith}
+use Rattle.std.proofs.lemmas.Grind.{common_steps}
+use Rattle.hir_lower_form.specs.Paths.{parens_form}
+use Rattle.hir_lower_path.proofs.Sugar.{sugared_has}
+use Rattle.hir_lower_path.proofs.args.parens.Goals as goal
+
+pub returns-in_default : goal.returns-in_default
+unfolding parens_form
+returns-in_default g c = grind (arith, common_steps, sugared_has)
+
+pub returns : goal.returns
+unfolding parens_form
+returns g c = grind (arith, common_steps, sugared_has)
+
+pub returns-in_err-tuple : goal.returns-in_err-tuple
+unfolding parens_form
+returns-in_err-tuple g c = grind (arith, common_steps, sugared_has)
+
+pub type_args-requires : goal.type_args-requires
+unfolding parens_form
+type_args-requires g c = grind (arith, common_steps, sugared_has)
+
+pub alloc_type-requires : goal.alloc_type-requires
+unfolding parens_form
+alloc_type-requires g c = grind (arith, common_steps, sugared_has)
+
+pub returns-in_err-output : goal.returns-in_err-output
+unfolding parens_form
+returns-in_err-output g c = grind (arith, common_steps, sugared_has)
+
+pub output-requires : goal.output-requires
+unfolding parens_form
+output-requires g c = grind (arith, common_steps, sugared_has)

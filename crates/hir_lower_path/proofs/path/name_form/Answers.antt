@@ -1,0 +1,21 @@
+use Rattle.std.proofs.Common.{arith}
+use Rattle.std.proofs.lemmas.Grind.{common_steps}
+use Rattle.hir_lower_path.proofs.path.name_form.Goals as goal
+
+pub returns-in_err-args : goal.returns-in_err-args
+returns-in_err-args g c = grind (arith, common_steps)
+
+pub returns-then-not-first : goal.returns-then-not-first
+returns-then-not-first g c = grind (arith, common_steps)
+
+pub returns : goal.returns
+returns g c = grind (arith, common_steps)
+
+pub returns-in_default : goal.returns-in_default
+returns-in_default g c = grind (arith, common_steps)
+
+pub segment_args-requires : goal.segment_args-requires
+segment_args-requires g c = grind (arith, common_steps)
+
+pub returns-then-eq : goal.returns-then-eq
+returns-then-eq g c = grind (arith, common_steps)
