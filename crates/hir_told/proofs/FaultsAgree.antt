@@ -427,10 +427,10 @@ mutual
   expr_is (tree.itemless_expr at) ss = same _
   expr_is (tree.try_expr at item tree.no_type number st e) ss =
       then_none (try_is false number st e (g.grade_stmts faults st (g.grade_kept faults e)) ss
-          (stmts_are st e (λ at. kept_part_is e at) (try_scope false ∷ ss)))
+      (stmts_are st e (λ at. kept_part_is e at) (try_scope false ∷ ss)))
   expr_is (tree.try_expr at item (tree.some_type t) number st e) ss =
       both (try_is true number st e (g.grade_stmts faults st (g.grade_kept faults e)) ss
-          (stmts_are st e (λ at. kept_part_is e at) (try_scope true ∷ ss))) (behind (type_is t ss))
+      (stmts_are st e (λ at. kept_part_is e at) (try_scope true ∷ ss))) (behind (type_is t ss))
   expr_is (tree.coroutine_expr at kind moves number st e) ss = stmts_are st e (λ at. kept_part_is e at) (barrier ∷ ss)
   expr_is (tree.call_expr at f has_list es) ss = both (expr_part_is f ss) (behind (exprs_are es ss))
   expr_is (tree.path_expr at q h) ss = behind (whole_is q ss)
