@@ -122,6 +122,12 @@ fn behind_self<E: LowerEnv>(
 
 /// Lowers parameters, `self` first, and behind them a body that is a coroutine. It begins with a `let` of each parameter; what the
 /// outside hands its arguments to comes last.
+///
+/// `async fn f(self, (y, z): T) b` becomes, with a coroutine for its body,
+///
+/// ```text
+/// fn f(self, mut made) || { let self = self; let mut made = made; let (y, z) = made; b }
+/// ```
 #[tactic(auto, unfolding(hir_one_result::specs::Formals::coroutine_body, crate::specs::Formals::behind_self))]
 pub(crate) fn coroutine_form<E: LowerEnv>(
     alloc: Global,

@@ -90,6 +90,12 @@ fn stored_const<P: LowerParts, N: WrittenBlock>(
 }
 
 /// A `const` block, of which neither a label nor a type counts. It owns the bindings that are made in it.
+///
+/// `const { s; t }` becomes a constant, as the length of an array is one, around
+///
+/// ```text
+/// { s; t }
+/// ```
 #[tactic(auto, unfolding(hir_lower_form::specs::Lowering::owning))]
 pub(crate) fn const_form<P: LowerParts, N: WrittenBlock>(
     lowerer: &Lowerer<P>,

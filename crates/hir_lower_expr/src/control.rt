@@ -187,6 +187,12 @@ fn turn_form<P: LowerParts, E: ExprPart, B: BlockPart>(
 }
 
 /// A loop over such a turn. The condition lies under the label as the body does.
+///
+/// `'a: while c b` becomes
+///
+/// ```text
+/// 'a: loop { if c b else { break } }
+/// ```
 #[tactic(auto, unfolding(hir_lower_form::specs::Forms::loop_form))]
 pub fn while_form<P: LowerParts, E: ExprPart, B: BlockPart>(
     lowerer: &Lowerer<P>,

@@ -137,6 +137,12 @@ fn bordered_coroutine_closure<P: LowerParts, A: ParamsPart, R: RetPart, E: ExprP
 }
 
 /// A closure with `async`, `gen` or both, which owns what the outside hands its parameters to.
+///
+/// `async |x, (y, z)| b` becomes, around a coroutine,
+///
+/// ```text
+/// |mut x, mut made| || { let x = x; let mut made = made; let (y, z) = made; b }
+/// ```
 #[tactic(auto, unfolding(hir_lower_form::specs::Lowering::owning))]
 pub(crate) fn coroutine_closure_form<P: LowerParts, A: ParamsPart, R: RetPart, E: ExprPart>(
     lowerer: &Lowerer<P>,

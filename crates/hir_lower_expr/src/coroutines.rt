@@ -90,6 +90,12 @@ fn bordered_coroutine<P: LowerParts, N: WrittenBlock>(
 }
 
 /// Such a block, of which neither a label nor a type counts. The coroutine owns the bindings that are made in it.
+///
+/// `async { s; t }` becomes, as a coroutine without parameters,
+///
+/// ```text
+/// || { s; t }
+/// ```
 #[tactic(auto, unfolding(hir_lower_form::specs::Lowering::owning))]
 pub(crate) fn coroutine_form<P: LowerParts, N: WrittenBlock>(
     lowerer: &Lowerer<P>,

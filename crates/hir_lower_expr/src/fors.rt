@@ -352,6 +352,14 @@ fn for_with<P: LowerParts, Q: PatPart, E: ExprPart, B: BodyPart>(
 }
 
 /// Where the language lacks one of the items, a `for` is missing, and nothing in it is lowered.
+///
+/// `'a: for p in h b` becomes
+///
+/// ```text
+/// match into_iter(h) {
+///     mut made => 'a: loop { match next(&mut made) { None => break, Some(p) => b } },
+/// }
+/// ```
 pub fn for_form<P: LowerParts, Q: PatPart, E: ExprPart, B: BodyPart>(
     lowerer: &Lowerer<P>,
     state: &mut BodyBuilder,

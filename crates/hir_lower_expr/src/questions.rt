@@ -173,6 +173,15 @@ fn question_with<P: LowerParts, E: ExprPart>(
 }
 
 /// Where the language lacks an item that a `?` can't do without, it is missing, and nothing in it is lowered.
+///
+/// `e?` becomes
+///
+/// ```text
+/// match branch(e) {
+///     Continue(value) => value,
+///     Break(residual) => break 'try into_try_type(residual), // outside of a `try`: return from_residual(residual)
+/// }
+/// ```
 pub fn question_form<P: LowerParts, E: ExprPart>(
     lowerer: &Lowerer<P>,
     state: &mut BodyBuilder,

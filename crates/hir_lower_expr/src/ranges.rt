@@ -220,6 +220,14 @@ fn made_of(
 }
 
 /// The ends from left to right, whatever it is made as.
+///
+/// `a..b` and `a..=b` become, and with the newer items the last,
+///
+/// ```text
+/// Range { start: a, end: b }
+/// RangeInclusiveNew(a, b)
+/// RangeInclusiveCopy { start: a, last: b }
+/// ```
 #[tactic(auto, unfolding(hir_lower_form::specs::Ranges::range_form))]
 pub fn range_form<P: LowerParts, E: ExprPart>(
     lowerer: &Lowerer<P>,

@@ -41,6 +41,13 @@ fn typed_try<P: LowerParts>(
 }
 
 /// A `try` block, whose type may be absent.
+///
+/// `try { s; t }` becomes, and within it `try: T { s; t }`
+///
+/// ```text
+/// 'try: { s; from_output(t) }
+/// { let made: T = 'try: { s; from_output(t) }; made }
+/// ```
 pub(crate) fn try_form<P: LowerParts>(
     lowerer: &Lowerer<P>,
     state: &mut BodyBuilder,
