@@ -1,4 +1,6 @@
+use Rattle.std.proofs.lemmas.Grind.{common_steps}
 use Rattle.std.proofs.Common.{arith, rules}
+use Rattle.hir_lower_form.specs.Forms.{coroutine_block_form}
 use Rattle.hir_lower_form.proofs.BlockLemmas.{settled_in_range}
 use Rattle.hir_lower_form.specs.Lower.{coroutine_block_form}
 use Rattle.hir_lower_expr.proofs.blocks.coroutine_node.Goals as goal
@@ -18,3 +20,7 @@ alloc_expr-requires g c =
 pub returns : goal.returns
 unfolding coroutine_block_form
 returns g c = search rules
+
+pub alloc_expr-requires-2 : goal.alloc_expr-requires-2
+unfolding coroutine_block_form
+alloc_expr-requires-2 g c = grind (arith, common_steps)

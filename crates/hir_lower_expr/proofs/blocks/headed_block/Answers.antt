@@ -1,4 +1,36 @@
+use Rattle.std.proofs.Common.{arith}
+use Rattle.std.proofs.lemmas.Grind.{common_steps}
 use Rattle.hir_lower_expr.proofs.blocks.headed_block.Goals as goal
 
 pub returns-in-None : goal.returns-in-None
 returns-in-None g c = rw c.in-None.is c.labelled_block.ensures
+
+pub try_form-requires-clause-block : goal.try_form-requires-clause-block
+try_form-requires-clause-block g c = grind (arith, common_steps)
+
+pub returns-in-Some-Const : goal.returns-in-Some-Const
+returns-in-Some-Const g c = grind (arith, common_steps)
+
+pub lower-requires-clause-role : goal.lower-requires-clause-role
+lower-requires-clause-role g c = grind (arith, common_steps)
+
+pub returns-in-Some-Gen : goal.returns-in-Some-Gen
+returns-in-Some-Gen g c = grind (arith, common_steps)
+
+pub returns-in-Some-Try : goal.returns-in-Some-Try
+returns-in-Some-Try g c = grind (arith, common_steps)
+
+pub try_form-requires-clause-ty : goal.try_form-requires-clause-ty
+try_form-requires-clause-ty g c = grind (arith, common_steps)
+
+pub returns-in-Some-Async : goal.returns-in-Some-Async
+returns-in-Some-Async g c = grind (arith, common_steps)
+
+pub returns-in-Some-AsyncGen : goal.returns-in-Some-AsyncGen
+returns-in-Some-AsyncGen g c = grind (arith, common_steps)
+
+pub returns-in-Some-Unsafe : goal.returns-in-Some-Unsafe
+returns-in-Some-Unsafe g c = grind (arith, common_steps)
+
+pub const_form-requires : goal.const_form-requires
+const_form-requires g c = grind (arith, common_steps)

@@ -1,4 +1,6 @@
 use Rattle.std.proofs.Common.{arith}
+use Rattle.std.proofs.lemmas.Grind.{common_steps}
+use Rattle.hir_lower_form.specs.Made.{try_block_form}
 use Rattle.hir_lower_form.proofs.BlockLemmas.{settled_in_range}
 use Rattle.hir_lower_expr.proofs.blocks.try_node.Goals as goal
 
@@ -21,3 +23,11 @@ alloc_expr-requires g c =
       omega (arith, has.2, closed, wrapped),
       omega (arith, has.3, closed, wrapped),
     )
+
+pub returns : goal.returns
+unfolding try_block_form
+returns g c = grind (arith, common_steps)
+
+pub returns-in_err-tail : goal.returns-in_err-tail
+unfolding try_block_form
+returns-in_err-tail g c = grind (arith, common_steps)

@@ -1,4 +1,6 @@
-use Rattle.std.proofs.Common.{rules}
+use Rattle.std.proofs.Common.{arith, rules}
+use Rattle.std.proofs.lemmas.Grind.{common_steps}
+use Rattle.hir_lower_form.specs.Forms.{list_form}
 use Rattle.hir_lower_form.specs.Lower.{list_form}
 use Rattle.hir_lower_expr.proofs.lists.tuple_form.Goals as goal
 
@@ -21,3 +23,7 @@ returns-in_err-first g c = search rules
 pub returns-in_err-exprs-2 : goal.returns-in_err-exprs-2
 unfolding list_form
 returns-in_err-exprs-2 g c = search rules
+
+pub alloc_expr-requires-2 : goal.alloc_expr-requires-2
+unfolding list_form
+alloc_expr-requires-2 g c = grind (arith, common_steps)

@@ -1,7 +1,18 @@
-use Rattle.std.proofs.Common.{rules}
+use Rattle.std.proofs.Common.{arith, rules}
+use Rattle.std.proofs.lemmas.Grind.{common_steps}
+use Rattle.hir_lower_form.specs.Forms.{operands_form}
+use Rattle.hir_lower_form.proofs.Binaries.{binary_is}
 use Rattle.hir_lower_form.specs.Lower.{operands_form}
 use Rattle.hir_lower_expr.proofs.operators.binary_form.Goals as goal
 
 pub returns : goal.returns
 unfolding operands_form
 returns g c = search rules
+
+pub returns-in_err-lhs : goal.returns-in_err-lhs
+unfolding operands_form
+returns-in_err-lhs g c = grind (arith, common_steps, binary_is)
+
+pub returns-in_err-rhs : goal.returns-in_err-rhs
+unfolding operands_form
+returns-in_err-rhs g c = grind (arith, common_steps, binary_is)

@@ -1,4 +1,5 @@
-use Rattle.std.proofs.Common.{rules}
+use Rattle.std.proofs.Common.{arith, rules}
+use Rattle.std.proofs.lemmas.Grind.{common_steps}
 use Rattle.hir_lower_form.specs.Pats.{slice_pat_form}
 use Rattle.hir_lower_pat.proofs.alternatives.slice_form.Goals as goal
 
@@ -17,3 +18,7 @@ returns-in_err-suffix g c = search rules
 pub returns : goal.returns
 unfolding slice_pat_form
 returns g c = search rules
+
+pub alloc_pat-requires : goal.alloc_pat-requires
+unfolding slice_pat_form
+alloc_pat-requires g c = grind (arith, common_steps)

@@ -1,3 +1,5 @@
+use Rattle.std.proofs.Common.{arith}
+use Rattle.std.proofs.lemmas.Grind.{common_steps}
 use Rattle.hir_env.specs.Whole.{answered}
 use Rattle.hir_lower_pat.proofs.AimSteps.{argless_lowers, call_lowers, calleeless_lowers, pathless_lowers}
 use Rattle.hir_lower_pat.proofs.target_lists.call_aim.Goals as goal
@@ -25,3 +27,18 @@ returns-in-Some-callee_path g c =
     let spot = g.T.Here.spot c.args.parts.now in
     call_lowers spot c.args.at (answered spot c.args.node.now) c.args.callee.now c.args.args.now _ _ _ _ c.args.state.now _ _
     c.requires.is c.in-Some.is c.in-Some-args.is c.get.ensures c.in-Some-callee_path.ensures c.called_aim.ensures
+
+pub place-requires-in-None-args : goal.place-requires-in-None-args
+place-requires-in-None-args g c = grind (arith, common_steps)
+
+pub called_aim-requires-clause-path : goal.called_aim-requires-clause-path
+called_aim-requires-clause-path g c = grind (arith, common_steps)
+
+pub place-requires-in-None-callee_path : goal.place-requires-in-None-callee_path
+place-requires-in-None-callee_path g c = grind (arith, common_steps)
+
+pub called_aim-requires-clause-args : goal.called_aim-requires-clause-args
+called_aim-requires-clause-args g c = grind (arith, common_steps)
+
+pub place-requires : goal.place-requires
+place-requires g c = grind (arith, common_steps)

@@ -1,4 +1,5 @@
-use Rattle.std.proofs.Common.{◌∙◌}
+use Rattle.std.proofs.Common.{arith, ◌∙◌}
+use Rattle.std.proofs.lemmas.Grind.{common_steps}
 use Rattle.hir_env.specs.Whole.{exprs_part}
 use Rattle.hir_lower_form.specs.Pats.{no_elements}
 use Rattle.hir_lower_pat.specs.Aims.{elements_read, found_at}
@@ -18,3 +19,18 @@ returns-in_err-done g c =
     let is = element_refused spot l.left.now c.one-item.result l.state c.element.new.state l.done _ c.one-item.is
     c.in-len1-up.len_at_least h.0 in
     (l.invariant.so_far ∙ is, h.1))
+
+pub element-requires-clause-part : goal.element-requires-clause-part
+element-requires-clause-part g c = grind (arith, common_steps)
+
+pub loop-left-preserved : goal.loop-left-preserved
+loop-left-preserved g c = grind (arith, common_steps)
+
+pub returns : goal.returns
+returns g c = grind (arith, common_steps)
+
+pub loop-left-init : goal.loop-left-init
+loop-left-init g c = grind (arith, common_steps)
+
+pub loop-left-smaller : goal.loop-left-smaller
+loop-left-smaller g c = grind (arith, common_steps)

@@ -1,4 +1,5 @@
-use Rattle.std.proofs.Common.{Some, []}
+use Rattle.std.proofs.Common.{arith, Some, []}
+use Rattle.std.proofs.lemmas.Grind.{common_steps}
 use Rattle.hir_store.specs.Range.{HasPat}
 use Rattle.hir_env.specs.Spot.{Spot}
 use Rattle.hir_lower_form.specs.Lower.{lower_path, lower_target_fields}
@@ -16,3 +17,7 @@ returns-in-Some g c =
     behind_first HasPat (lower_path (g.W.PathPart.read spot c.args.path.now))
     (record_target_of c.args.at (g.L.TargetRecord.has_dots list) (g.L.TargetRecord.spread spot list) fields)
     (Some c.in-Some.path) c.args.state.now c.path.new.state _ _ path.0 path.1 c.record.ensures
+
+pub returns-in-None : goal.returns-in-None
+unfolding record_target_form
+returns-in-None g c = grind (arith, common_steps)

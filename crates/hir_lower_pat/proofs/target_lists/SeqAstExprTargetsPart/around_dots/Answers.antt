@@ -1,4 +1,5 @@
-use Rattle.std.proofs.Common.{◌∙◌, None, []}
+use Rattle.std.proofs.Common.{arith, ◌∙◌, None, []}
+use Rattle.std.proofs.lemmas.Grind.{common_steps}
 use Rattle.hir_env.specs.Whole.{exprs_part}
 use Rattle.hir_lower_pat.specs.Aims.{HasArrayParts, array_read, found_at}
 use Rattle.hir_lower_pat.proofs.AimTurns.{array_refused}
@@ -16,3 +17,18 @@ returns-in_err-done g c =
     let is = array_refused spot l.left.now c.one-item.result l.state c.array_element.new.state l.done _ c.one-item.is
     c.in-len1-up.len_at_least h.0 in
     (l.invariant.so_far ∙ is, h.1))
+
+pub loop-left-preserved : goal.loop-left-preserved
+loop-left-preserved g c = grind (arith, common_steps)
+
+pub loop-left-smaller : goal.loop-left-smaller
+loop-left-smaller g c = grind (arith, common_steps)
+
+pub array_element-requires-clause-part : goal.array_element-requires-clause-part
+array_element-requires-clause-part g c = grind (arith, common_steps)
+
+pub loop-left-init : goal.loop-left-init
+loop-left-init g c = grind (arith, common_steps)
+
+pub returns : goal.returns
+returns g c = grind (arith, common_steps)

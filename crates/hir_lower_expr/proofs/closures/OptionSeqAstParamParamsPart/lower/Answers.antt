@@ -1,0 +1,15 @@
+use Rattle.std.proofs.Common.{arith}
+use Rattle.std.proofs.lemmas.Grind.{common_steps}
+use Rattle.hir_lower_expr.proofs.closures.OptionSeqAstParamParamsPart.lower.Goals as goal
+
+pub returns-in-Some : goal.returns-in-Some
+returns-in-Some g c = grind (arith, common_steps)
+
+pub returns-in-None : goal.returns-in-None
+returns-in-None g c = grind (arith, common_steps)
+
+pub params-requires-clause-parts : goal.params-requires-clause-parts
+params-requires-clause-parts g c = grind (arith, common_steps)
+
+pub params-requires-clause-params : goal.params-requires-clause-params
+params-requires-clause-params g c = grind (arith, common_steps)

@@ -1,0 +1,32 @@
+use Rattle.std.proofs.Common.{arith}
+use Rattle.std.proofs.lemmas.Grind.{common_steps}
+use Rattle.hir_lower_form.specs.Made.{for_form}
+use Rattle.hir_lower_expr.proofs.fors.for_with.Goals as goal
+
+pub returns-in_err-iterator : goal.returns-in_err-iterator
+unfolding for_form
+returns-in_err-iterator g c = grind (arith, common_steps)
+
+pub returns-in_err-turns : goal.returns-in_err-turns
+unfolding for_form
+returns-in_err-turns g c = grind (arith, common_steps)
+
+pub returns-in_err-expr : goal.returns-in_err-expr
+unfolding for_form
+returns-in_err-expr g c = grind (arith, common_steps)
+
+pub returns : goal.returns
+unfolding for_form
+returns g c = grind (arith, common_steps)
+
+pub returns-in_err-pat : goal.returns-in_err-pat
+unfolding for_form
+returns-in_err-pat g c = grind (arith, common_steps)
+
+pub returns-in_err-number : goal.returns-in_err-number
+unfolding for_form
+returns-in_err-number g c = grind (arith, common_steps)
+
+pub alloc_expr-requires : goal.alloc_expr-requires
+unfolding for_form
+alloc_expr-requires g c = grind (arith, common_steps)

@@ -1,0 +1,16 @@
+use Rattle.std.proofs.Common.{arith}
+use Rattle.std.proofs.lemmas.Grind.{common_steps}
+use Rattle.hir_lower_form.specs.Made.{for_turn_form}
+use Rattle.hir_lower_expr.proofs.fors.turn.Goals as goal
+
+pub returns : goal.returns
+unfolding for_turn_form
+returns g c = grind (arith, common_steps)
+
+pub alloc_made-requires : goal.alloc_made-requires
+unfolding for_turn_form
+alloc_made-requires g c = grind (arith, common_steps)
+
+pub returns-in_err-value : goal.returns-in_err-value
+unfolding for_turn_form
+returns-in_err-value g c = grind (arith, common_steps)

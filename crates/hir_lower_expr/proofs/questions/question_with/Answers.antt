@@ -1,0 +1,12 @@
+use Rattle.std.proofs.Common.{arith}
+use Rattle.std.proofs.lemmas.Grind.{common_steps}
+use Rattle.hir_lower_form.specs.Made.{question_form}
+use Rattle.hir_lower_expr.proofs.questions.question_with.Goals as goal
+
+pub alloc_expr-requires : goal.alloc_expr-requires
+unfolding question_form
+alloc_expr-requires g c = grind (arith, common_steps)
+
+pub returns : goal.returns
+unfolding question_form
+returns g c = grind (arith, common_steps)

@@ -1,0 +1,25 @@
+use Rattle.std.proofs.Common.{arith}
+use Rattle.std.proofs.lemmas.Grind.{common_steps}
+use Rattle.hir_lower_pat.proofs.AimLemmas.{only_places}
+use Rattle.hir_lower_pat.proofs.targets.kept_aim.Goals as goal
+
+pub returns-in-CallExpr : goal.returns-in-CallExpr
+returns-in-CallExpr g c = grind (arith, common_steps, only_places)
+
+pub call_aim-requires-clause-place : goal.call_aim-requires-clause-place
+call_aim-requires-clause-place g c = grind (arith, common_steps, only_places)
+
+pub returns-in-UnderscoreExpr : goal.returns-in-UnderscoreExpr
+returns-in-UnderscoreExpr g c = grind (arith, common_steps, only_places)
+
+pub returns-in_default : goal.returns-in_default
+returns-in_default g c = grind (arith, common_steps, only_places)
+
+pub other_aim-requires : goal.other_aim-requires
+other_aim-requires g c = grind (arith, common_steps, only_places)
+
+pub record_aim-requires-clause-place : goal.record_aim-requires-clause-place
+record_aim-requires-clause-place g c = grind (arith, common_steps, only_places)
+
+pub returns-in-RecordExpr : goal.returns-in-RecordExpr
+returns-in-RecordExpr g c = grind (arith, common_steps, only_places)

@@ -1,0 +1,7 @@
+use Rattle.std.proofs.Common.{arith}
+use Rattle.std.proofs.lemmas.Grind.{common_steps}
+use Rattle.hir_lower_pat.proofs.AimLemmas.{other_is}
+use Rattle.hir_lower_pat.proofs.targets.other_aim.Goals as goal
+
+pub returns : goal.returns
+returns g c = grind (arith, common_steps, other_is)
