@@ -15,6 +15,15 @@ use Rattle.hir_env.specs.Answering.{asked, expr_at, expr_or_none, for_items, for
 use Rattle.hir_env.specs.Answering.{question_items, question_of}
 use Rattle.hir_env.specs.Answered.{Expr, ForItems, IsWrittenLabel, Label, OptionExpr, OptionPat, QuestionItems}
 use Rattle.hir_env.specs.Paths.{pat_or_none}
+use Rattle.hir_env.specs.Answers.{Answers}
+use Rattle.hir_env.specs.Calls.{around, around_if, asked_call, call_pointer, called, entered_expr, expr_in, gone_in}
+use Rattle.hir_env.specs.Answered as tree
+use Rattle.hir_env.specs.Answered.{Called, Gone}
+use Rattle.hir_env.specs.declared.expand.FragmentKind.TheVariants as kind
+use Rattle.hir_env.specs.Layers.{Entering}
+use Rattle.hir_env.specs.declared.place.Place.{Place}
+use Rattle.hir_syntax.specs.declared.macros.MacroCall.{MacroCall as AstMacroCall}
+use Rattle.hir_env.specs.Whole.{into}
 use Rattle.hir_env.specs.Targets.{pointer_of}
 use Rattle.hir_env.specs.Whole.{read_expr, own_level, written, reader, answered, kept_expr, kind_pointer, own_pointer, pointer_at}
 use Rattle.hir_env.proofs.Levels.{expr_is_level, block_is_level}
@@ -22,6 +31,14 @@ use Rattle.hir_env.proofs.Levels.{expr_is_level, block_is_level}
 asked_pointer : (s : Pointer) (r : Result (Unit {0}) CfgId) (e : Expr) → pointer_of (asked s r e) ≡ pointer_of e
 asked_pointer s (Ok _) e = refl
 asked_pointer s (Err by) e = refl
+
+around_if_pointer : (o : Option Gone) (s : Pointer) (c : Called) (e : OptionExpr) → pointer_of (around_if o s c e) ≡ s
+around_if_pointer None s c e = refl
+around_if_pointer (Some why) s c e = refl
+
+around_pointer : (s : Pointer) (c : Called) (e : OptionExpr) → pointer_of (around s c e) ≡ s
+around_pointer s c tree.no_expr = refl
+around_pointer s c (tree.some_expr e) = around_if_pointer (gone_in e) s c (tree.some_expr e)
 
 -- that of a block as an expression is the block's, whatever its modifier
 own_block_pointer : (at : Spot) (m : Option BlockModifier) (b : AstBlockExpr)
@@ -43,18 +60,23 @@ for_pointer : (items : Option ForItems) (s : Pointer) (label : Option Label) (w 
 for_pointer None s label w p h b = refl
 for_pointer (Some items) s label w p h b = refl
 
+macro_pointer : (env : Answers) (into : Option Entering) (c : AstMacroCall) (p : Place) (s : Pointer)
+    → pointer_of (entered_expr env into c p s) ≡ s
+macro_pointer env None c p s = refl
+macro_pointer env (Some i) c p s = let x = asked_call env kind.Expr c p in around_pointer s (called (call_pointer p c) x) (expr_in i p x)
+
 kept_pointer : (at : Spot) (k : ExprKindLayer written) (s : Pointer)
-    → pointer_of (expr_at at.answers (reader at.answers) k at.place s) ≡ kind_pointer at.place k s
+    → pointer_of (expr_at at.answers (reader at.answers (into at)) k at.place s) ≡ kind_pointer at.place k s
 kept_pointer at (ExprKind-F.BlockExpr b) s = ap pointer_of (block_is_level at b) ∙ own_block_pointer at (out-BlockExpr b).mod_ b
 kept_pointer at (ExprKind-F.IfExpr c t e) s = refl
 kept_pointer at (ExprKind-F.LoopExpr l b) s = refl
 kept_pointer at (ExprKind-F.WhileExpr l c b) s = refl
 kept_pointer at (ExprKind-F.ForExpr l x h b) s = for_pointer (for_items at.answers.lang_items) s
     (option_map (label_of at.answers at.place) l) (label_written at.answers at.place l)
-    (pat_or_none (reader at.answers).pat x at.place) (expr_or_none (reader at.answers).expr h at.place)
-    (asked_or_none (reader at.answers).block_expr b at.place)
+    (pat_or_none (reader at.answers (into at)).pat x at.place) (expr_or_none (reader at.answers (into at)).expr h at.place)
+    (asked_or_none (reader at.answers (into at)).block_expr b at.place)
 kept_pointer at (ExprKind-F.TryExpr e) s =
-    question_pointer (question_items at.answers.lang_items) s (expr_or_none (read_expr at.answers) e at.place)
+    question_pointer (question_items at.answers.lang_items) s (expr_or_none (read_expr at.answers (into at)) e at.place)
 kept_pointer at (ExprKind-F.CallExpr f es) s = refl
 kept_pointer at (ExprKind-F.PathExpr x) s = refl
 kept_pointer at (ExprKind-F.ContinueExpr l) s = refl
@@ -92,6 +114,8 @@ kept_pointer at (ExprKind-F.CfgPredExpr pred) s = refl
 kept_pointer at (ExprKind-F.LetExpr x e) s = refl
 kept_pointer at (ExprKind-F.MatchExpr e arms) s = refl
 kept_pointer at (ExprKind-F.RangeExpr o a b) s = refl
+kept_pointer at (ExprKind-F.MacroExpr None) s = refl
+kept_pointer at (ExprKind-F.MacroExpr (Some c)) s = macro_pointer at.answers (into at) c at.place s
 kept_pointer at ExprKind-F.UnderscoreExpr s = refl
 kept_pointer at ExprKind-F.IncludeBytesExpr s = refl
 kept_pointer at ExprKind-F.AsmExpr s = refl

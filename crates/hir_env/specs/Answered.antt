@@ -1,6 +1,9 @@
 -- A tree with all that the environment says of it written into it. What lowering does, how a body runs and what is
 -- wrong with it are each a recursion over this one family.
-use Rattle.std.specs.Prelude.{List, Option, Some, None, Bool}
+use Rattle.std.specs.Prelude.{List, ℕ, Option, Some, None, Bool}
+use Rattle.hir_base.specs.declared.node.HirFileId.{HirFileId}
+use Rattle.hir_store.specs.declared.path.ModPath.{ModPath}
+use Rattle.hir_store.specs.declared.ids.MacroDefId.{MacroDefId}
 use Rattle.hir_base.specs.declared.op.UnaryOp.{UnaryOp}
 use Rattle.hir_base.specs.declared.op.LogicOp.{LogicOp}
 use Rattle.hir_base.specs.declared.op.BinaryOp.{BinaryOp}
@@ -22,7 +25,7 @@ use Rattle.hir_store.specs.declared.type_ref.LifetimeRef.{LifetimeRef}
 use Rattle.hir_store.specs.declared.type_ref.ExternAbi.{ExternAbi}
 use Rattle.hir_store.specs.declared.diagnostics.AwaitLocation.{AwaitLocation}
 use Rattle.hir_env.specs.declared.place.ImplTrait.{ImplTrait}
-use Rattle.hir_env.specs.Answers.{Contexts}
+use Rattle.hir_env.specs.Answers.{Contexts, Eager}
 
 -- a label, with the hygiene of its node; its name is missing where it has no lifetime
 pub record Label : Type 0 where
@@ -159,6 +162,30 @@ pub data PatUnary : Type 0 where
   box_of : PatUnary
   deref_of : PatUnary
 
+-- a call that is entered: its node, the file of its expansion, and what was expanded for it
+pub record Entered : Type 0 where
+  pub call : Pointer
+  pub file : HirFileId
+  pub eager : List Eager
+
+-- what a call of a macro comes to before that is read which it stands for
+pub data Called : Type 0 where
+  -- that the text lacks
+  callless : Called
+  -- without an expansion, or one too deep
+  unentered : Called
+  -- with its node and the path of its macro
+  unresolved : Pointer → ModPath → Called
+  entered : Entered → Called
+  -- one that stood for statements, of which this is what stands behind them
+  spliced : Called
+
+-- Why nothing is left of an expression: the calls that were entered to find that out, outermost first, and the condition that disables
+-- it. A call that the text lacks is gone without one.
+pub record Gone : Type 0 where
+  pub entered : List Entered
+  pub condition : Option (Pointer × CfgId)
+
 mutual
   pub data Type_ : Type 0 where
     paren_type : OptionType → Type_
@@ -179,6 +206,9 @@ mutual
     dyn_type : Pointer → Bounds → Type_
     -- what the pattern is as such, and what it is in a type
     pattern_type : Pointer → OptionType → OptionPat → OptionTypePat → Type_
+
+    -- what it stands for, where it is entered and that is a type
+    macro_type : Pointer → Called → OptionType → Type_
 
   pub data OptionType : Type 0 where
     no_type : OptionType
@@ -264,7 +294,8 @@ mutual
     constant : OptionExpr → Constant
 
   pub data Expr : Type 0 where
-    disabled_expr : Pointer → CfgId → Expr → Expr
+    -- nothing is left of it
+    disabled_expr : Gone → Expr → Expr
     if_expr : Pointer → OptionExpr → OptionBlock → OptionExpr → Expr
     block_expr : Block → Expr
     loop_expr : Pointer → (label : Option Label) → IsWrittenLabel label → OptionBlock → Expr
@@ -318,6 +349,8 @@ mutual
     let_expr : Pointer → OptionPat → OptionExpr → Expr
     match_expr : Pointer → OptionExpr → Arms → Expr
     range_expr : Pointer → RangeForm → OptionExpr → OptionExpr → Expr
+    -- what it stands for, where it is entered and that is an expression
+    macro_expr : Pointer → Called → OptionExpr → Expr
     -- what is assigned to, as an expression and as a target, and the value
     assign_expr : Pointer → OptionExpr → Target → OptionExpr → Expr
 
@@ -388,6 +421,10 @@ mutual
     disabled_stmt : Pointer → CfgId → Stmt → Stmt
     expr_stmt : OptionExpr → Bool → Stmt
     item_stmt : Stmt
+    -- a call that stood here for the statements behind it
+    call_stmt : Entered → Stmt
+    -- the definition of a macro: how many of its name were counted before it in the block, and its number, without which it is an item
+    macro_stmt : ℕ → Option MacroDefId → Stmt
     let_stmt : OptionPat → OptionType → OptionExpr → OptionBlock → Stmt
 
   pub data Pat : Type 0 where
@@ -411,6 +448,8 @@ mutual
     literal_pat : Pointer → Option Pointer → Signed → Pat
     -- without its operator it is missing
     range_pat : Pointer → Option RangeOp → Side → Side → Pat
+    -- what it stands for, where it is entered and that is a pattern
+    macro_pat : Pointer → Called → OptionPat → Pat
 
   pub data OptionPat : Type 0 where
     no_pat : OptionPat
@@ -446,6 +485,7 @@ mutual
     not_null_type_pat : Pointer → TypePat
     or_type_pat : Pointer → TypePats → TypePat
     range_type_pat : Pointer → Limit → Limit → TypePat
+    macro_type_pat : Pointer → Called → OptionTypePat → TypePat
     -- another one, which is missing
     other_type_pat : Pointer → TypePat
 
@@ -471,6 +511,8 @@ mutual
     -- any other expression, in its outermost parentheses, and the node of these
     place_target : Pointer → Expr → Target
     wild_target : Pointer → Target
+    -- a call that is a target whatever it stands for
+    macro_target : Pointer → Called → Target → Target
     -- a path that stands for a constant, a variant, a struct, a union or an enum, with the hygiene of its node
     path_target : Pointer → Path → HygieneId → Target
     tuple_target : Pointer → Targets → Target

@@ -39,6 +39,9 @@ use Rattle.hir_env.specs.Paths.{answer_or_none, closure_params_or_none, ret_type
 use Rattle.hir_env.specs.Ranges.{range_form}
 use Rattle.hir_env.specs.Targets.{resolves, target_of}
 use Rattle.hir_env.specs.Layers.{BlockReading, StmtReading, RecordReading, Sorts, Reader, ElseBranchLayer, ExprKindLayer}
+use Rattle.hir_env.specs.Layers.{Defined, ExprReading, KindReading, MacroCallLayer, Spliced}
+use Rattle.hir_env.specs.Calls.{lacking_call, append, entered_expr, entered_splice, nothing, splice_of, times, value_or_none}
+use Rattle.hir_store.specs.declared.ids.MacroDefId.{MacroDefId}
 use Rattle.hir_env.specs.Layers.{StmtKindLayer, BlockExprLayer, ExprLayer, RecordExprFieldLayer}
 use Rattle.hir_env.specs.Layers.{RecordExprFieldListLayer, StmtLayer, MatchArmLayer}
 use Rattle.hir_env.specs.Answered as tree
@@ -182,9 +185,12 @@ numbered env p id = by p.mode
     by mode.Analysis = env.block (record { file_id = p.file_id; value = id }) p.module_id
     by mode.Untracked = None
 
+abbrev pub module_or : Option (BlockId × ModuleId) → ModuleId → ModuleId
+module_or None m = m
+module_or (Some n) m = n.1
+
 abbrev pub inside : Option (BlockId × ModuleId) → Place → Place
-inside None p = p
-inside (Some n) p = record p { module_id = n.1 }
+inside number p = record p { module_id = module_or number p.module_id }
 
 -- parts that may be absent, and lists
 
@@ -246,19 +252,48 @@ let_else_or_none read (Some x) p = read x p
 abbrev pub Contents : Type 0
 Contents = Stmts × OptionExpr
 
-abbrev pub contents_of : {A : Type 0} → (A → Place → StmtReading) → List A → (Place → OptionExpr) → Place → Contents
-contents_of read [] tail p = (tree.no_stmts, tail p)
-contents_of read (s ∷ ss) tail p =
-    let r = read s p in
-    let rest = contents_of read ss tail r.place in
-    (r.before rest.0, rest.1)
+abbrev pub contents_of : {A B : Type 0} → (A → Place → Defined → StmtReading) → (B → Place → Defined → Spliced) → List A → Option B
+    → Place → Contents
+contents_of stmt value ss e p = let c = splice_of stmt value ss e p [] in (c.stmts, c.last)
+
+-- the expression by itself
+abbrev pub whole_value : Expr → Defined → Spliced
+whole_value e d = record { stmts = tree.no_stmts; last = tree.some_expr e; defined = d }
+
+abbrev pub alone : Stmt → Defined → StmtReading
+alone s d = record { stmts = tree.more_stmts s tree.no_stmts; defined = d }
+
+-- an expression statement
+abbrev pub ended : Bool → Spliced → StmtReading
+ended semi r = record { stmts = append r.stmts (tree.more_stmts (tree.expr_stmt r.last semi) tree.no_stmts); defined = r.defined }
+
+-- one that a condition disables stands for nothing
+abbrev pub asked_splice : Pointer → Result (Unit {0}) CfgId → Spliced → Defined → Spliced
+asked_splice s (Ok _) r d = r
+asked_splice s (Err by) r d =
+    record { stmts = tree.more_stmts (tree.disabled_stmt s by tree.item_stmt) tree.no_stmts; last = tree.no_expr; defined = d }
+
+abbrev pub def_named : Answers → Place → Option AstName → Option MacroDefId
+def_named env p None = None
+def_named env p (Some n) = env.macro_def p.module_id (name.Text n.t)
+
+-- one without a name isn't counted
+abbrev pub rules_named : Answers → Place → Option AstName → Defined → StmtReading
+rules_named env p None d = alone (tree.macro_stmt 0 None) d
+rules_named env p (Some n) d =
+    let k = times (name.Text n.t) d in
+    alone (tree.macro_stmt k (env.legacy_macro p.module_id (name.Text n.t) k)) (name.Text n.t ∷ d)
+
+abbrev pub asked_rules : Pointer → Result (Unit {0}) CfgId → StmtReading → Defined → StmtReading
+asked_rules s (Ok _) r d = r
+asked_rules s (Err by) r d = alone (tree.disabled_stmt s by tree.item_stmt) d
 
 -- one level
 
 -- the expression, with the condition that disables it
 abbrev pub asked : Pointer → Result (Unit {0}) CfgId → Expr → Expr
 asked s (Ok _) e = e
-asked s (Err by) e = tree.disabled_expr s by e
+asked s (Err by) e = tree.disabled_expr (record { entered = []; condition = Some (s, by) }) e
 
 -- the field, with the condition that disables it
 abbrev pub asked_field : Pointer → Result (Unit {0}) CfgId → Field → Field
@@ -333,6 +368,8 @@ module _ (env : Answers) {S : Sorts} (part : Reader S) where
   expr_at (ExprKind-F.RangeExpr o a b) p s =
       tree.range_expr s (range_form env.lang_items (env.new_range p.module_id) o (is_some a) (is_some b))
       (expr_or_none part.expr a p) (expr_or_none part.expr b p)
+  expr_at (ExprKind-F.MacroExpr None) p s = lacking_call s
+  expr_at (ExprKind-F.MacroExpr (Some c)) p s = entered_expr env part.into (part.macro_call c) p s
   expr_at ExprKind-F.UnderscoreExpr p s = tree.leaf_expr s tree.underscore
   expr_at ExprKind-F.IncludeBytesExpr p s = tree.leaf_expr s tree.include_bytes
   expr_at ExprKind-F.AsmExpr p s = tree.leaf_expr s tree.left_out
@@ -341,8 +378,20 @@ module _ (env : Answers) {S : Sorts} (part : Reader S) where
   abbrev pub expr_kind : ExprKindLayer S → AstPtr → Place → Expr
   expr_kind k n p = let s = in_file p n in asked s (env.cfg (site_of s)) (expr_at k p s)
 
-  abbrev pub expr_step : ExprLayer S → Place → Expr
-  expr_step e = part.expr_kind e.kind (ptr e.id e.range)
+  abbrev pub value_kind : ExprKindLayer S → AstPtr → Place → Defined → Spliced
+  value_kind (ExprKind-F.MacroExpr None) n p d = let s = in_file p n in asked_splice s (env.cfg (site_of s)) (nothing d) d
+  value_kind (ExprKind-F.MacroExpr (Some c)) n p d = let s = in_file p n in
+      asked_splice s (env.cfg (site_of s)) (entered_splice env part.into (part.macro_call c) p s d) d
+  value_kind k n p d = whole_value (expr_kind k n p) d
+
+  abbrev pub kind_step : ExprKindLayer S → KindReading
+  kind_step k = record { expr = expr_kind k; value = value_kind k }
+
+  abbrev pub expr_step : ExprLayer S → ExprReading
+  expr_step e = record { expr = part.expr_kind e.kind (ptr e.id e.range); value = part.value_kind e.kind (ptr e.id e.range) }
+
+  abbrev pub call_step : MacroCallLayer S → Unit {0}
+  call_step c = tt
 
   abbrev pub field_at : RecordExprFieldLayer S → Place → Pointer → Field
   field_at x p s = asked_field s (env.cfg (site_of s)) (field_of s x.name (expr_or_none part.expr x.expr p))
@@ -370,13 +419,13 @@ module _ (env : Answers) {S : Sorts} (part : Reader S) where
   abbrev pub block_at : BlockExprLayer S → BlockHead → Place → Block
   block_at b head p =
       let number = numbered env p b.id in
-      let c = contents_of part.stmt b.stmts (expr_or_none part.expr b.tail) (inside number p) in
+      let c = contents_of part.stmt part.value b.stmts b.tail (inside number p) in
       tree.block (in_file p (ptr b.id b.range)) head.is_unsafe head.label head.written (option_map (λ n. n.0) number) c.0 c.1
 
   abbrev pub try_at : BlockExprLayer S → Place → Expr
   try_at b p =
       let number = numbered env p b.id in
-      let c = contents_of part.stmt b.stmts (expr_or_none part.expr b.tail) (inside number p) in
+      let c = contents_of part.stmt part.value b.stmts b.tail (inside number p) in
       tree.try_expr (in_file p (ptr b.id b.range)) env.lang_items.try_trait_from_output (type_or_none part.type_ b.ty p)
       (option_map (λ n. n.0) number) c.0 c.1
 
@@ -384,7 +433,7 @@ module _ (env : Answers) {S : Sorts} (part : Reader S) where
   abbrev pub coroutine_at : CoroutineKind → BlockExprLayer S → Place → Expr
   coroutine_at kind b p =
       let number = numbered env p b.id in
-      let c = contents_of part.stmt b.stmts (expr_or_none part.expr b.tail) (inside number p) in
+      let c = contents_of part.stmt part.value b.stmts b.tail (inside number p) in
       tree.coroutine_expr (in_file p (ptr b.id b.range)) kind b.move_ (option_map (λ n. n.0) number) c.0 c.1
 
   -- A label counts only where no modifier stands, and a type only behind `try`. What is in a `const` block is a plain block.
@@ -407,16 +456,18 @@ module _ (env : Answers) {S : Sorts} (part : Reader S) where
   abbrev pub let_else_step : Option S.BlockExpr → Place → OptionBlock
   let_else_step x p = plain_or_none part.block_expr x p
 
-  -- the one statement that it stands for
-  abbrev pub stmt_at : StmtKindLayer S → Place → Pointer → Stmt
-  stmt_at (StmtKind-F.LetStmt x t e b) p s = asked_stmt s (env.cfg (site_of s))
+  -- what it stands for
+  abbrev pub stmt_at : StmtKindLayer S → Place → Pointer → Defined → StmtReading
+  stmt_at (StmtKind-F.LetStmt x t e b) p s d = alone (asked_stmt s (env.cfg (site_of s))
       (tree.let_stmt (pat_or_none part.pat x p) (type_or_none part.type_ t p) (expr_or_none part.expr e p)
-      (let_else_or_none let_else_step b p))
-  stmt_at (StmtKind-F.ExprStmt e semi) p s = tree.expr_stmt (expr_or_none part.expr e p) semi
-  stmt_at StmtKind-F.Item p s = tree.item_stmt
+      (let_else_or_none let_else_step b p))) d
+  stmt_at (StmtKind-F.ExprStmt e semi) p s d = ended semi (value_or_none part.stmt part.value e p d)
+  stmt_at (StmtKind-F.MacroRules x) p s d = asked_rules s (env.cfg (site_of s)) (rules_named env p x d) d
+  stmt_at (StmtKind-F.MacroDef x) p s d = alone (asked_stmt s (env.cfg (site_of s)) (tree.macro_stmt 0 (def_named env p x))) d
+  stmt_at StmtKind-F.Item p s d = alone tree.item_stmt d
 
-  abbrev pub stmt_kind : StmtKindLayer S → AstPtr → Place → StmtReading
-  stmt_kind k n p = record { before = tree.more_stmts (stmt_at k p (in_file p n)); place = p }
+  abbrev pub stmt_kind : StmtKindLayer S → AstPtr → Place → Defined → StmtReading
+  stmt_kind k n p d = stmt_at k p (in_file p n) d
 
-  abbrev pub stmt_step : StmtLayer S → Place → StmtReading
+  abbrev pub stmt_step : StmtLayer S → Place → Defined → StmtReading
   stmt_step s = part.stmt_kind s.kind (ptr s.id s.range)

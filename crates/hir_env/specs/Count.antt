@@ -22,6 +22,7 @@ abbrev mutual
   count_type (tree.nested_impl at) = 1
   count_type (tree.dyn_type at bs) = suc (count_bounds bs)
   count_type (tree.pattern_type at t p q) = suc (count_option_type t + count_option_pat p)
+  count_type (tree.macro_type at called t) = suc (count_option_type t)
 
   pub count_option_type : OptionType → ℕ
   count_option_type tree.no_type = 0
@@ -94,7 +95,7 @@ abbrev mutual
   count_constant (tree.constant e) = suc (count_option_expr e)
 
   pub count_expr : Expr → ℕ
-  count_expr (tree.disabled_expr at by e) = suc (count_expr e)
+  count_expr (tree.disabled_expr why e) = suc (count_expr e)
   count_expr (tree.if_expr at c t e) = suc (count_option_expr c + (count_option_block t + count_option_expr e))
   count_expr (tree.block_expr b) = suc (count_block b)
   count_expr (tree.loop_expr at label _ b) = suc (count_option_block b)
@@ -131,6 +132,7 @@ abbrev mutual
   count_expr (tree.let_expr at p e) = suc (count_option_pat p + count_option_expr e)
   count_expr (tree.match_expr at e arms) = suc (count_option_expr e + count_arms arms)
   count_expr (tree.range_expr at form a b) = suc (count_option_expr a + count_option_expr b)
+  count_expr (tree.macro_expr at called e) = suc (count_option_expr e)
   count_expr (tree.assign_expr at a target b) = suc (count_option_expr a + count_option_expr b)
 
   pub count_params : Params → ℕ
@@ -190,6 +192,8 @@ abbrev mutual
   count_stmt (tree.disabled_stmt at by s) = count_stmt s
   count_stmt (tree.expr_stmt e semi) = count_option_expr e
   count_stmt tree.item_stmt = 0
+  count_stmt (tree.call_stmt c) = 1
+  count_stmt (tree.macro_stmt k d) = 0
   count_stmt (tree.let_stmt p t e b) = count_option_pat p + (count_option_type t + (count_option_expr e + count_option_block b))
 
   pub count_pat : Pat → ℕ
@@ -205,6 +209,7 @@ abbrev mutual
   count_pat (tree.slice_pat at ps p qs) = suc (count_pats ps + (count_option_pat p + count_pats qs))
   count_pat (tree.over_pat at form p) = suc (count_option_pat p)
   count_pat (tree.literal_pat at from l) = 1
+  count_pat (tree.macro_pat at called p) = suc (count_option_pat p)
   count_pat (tree.range_pat at o a b) = suc (count_side a + count_side b)
 
   pub count_option_pat : OptionPat → ℕ

@@ -1,4 +1,5 @@
--- A whole tree with the answers written into it, by one fold.
+-- A whole tree with the answers written into it, by one fold, in which each step sees what is written too.
+use Rattle.std.specs.Prelude.{ℕ, zero, suc, Option, Some, None}
 use Rattle.hir_syntax.specs.declared.ast.ElseBranch.{ElseBranch as AstElseBranch}
 use Rattle.hir_syntax.specs.declared.ast.ExprKind.{ExprKind as AstExprKind}
 use Rattle.hir_syntax.specs.declared.ast.StmtKind.{StmtKind as AstStmtKind}
@@ -20,21 +21,17 @@ use Rattle.hir_syntax.specs.declared.types.Param.{Param as AstParam}
 use Rattle.hir_syntax.specs.declared.types.PathType.{PathType as AstPathType}
 use Rattle.hir_syntax.specs.declared.types.TypeBound.{TypeBound as AstTypeBound}
 use Rattle.hir_syntax.specs.declared.types.Type_.{Type_ as AstType_}
-use Rattle.hir_syntax.specs.declared.ast.ElseBranch.TheFolds.{fold-ElseBranch, fold-ExprKind, fold-StmtKind, fold-PatKind}
-use Rattle.hir_syntax.specs.declared.ast.ElseBranch.TheFolds.{fold-GenericArg, fold-TypeKind, fold-BlockExpr}
-use Rattle.hir_syntax.specs.declared.ast.ElseBranch.TheFolds.{fold-Expr, fold-Path, fold-PathSegment, fold-RecordExprField}
-use Rattle.hir_syntax.specs.declared.ast.ElseBranch.TheFolds.{fold-RecordExprFieldList, fold-Stmt}
-use Rattle.hir_syntax.specs.declared.ast.ElseBranch.TheFolds.{fold-MatchArm, fold-Pat, fold-RecordPatField, fold-AssocTypeArg}
-use Rattle.hir_syntax.specs.declared.ast.ElseBranch.TheFolds.{fold-Param, fold-PathType}
-use Rattle.hir_syntax.specs.declared.ast.ElseBranch.TheFolds.{fold-TypeBound, fold-Type_}
+use Rattle.hir_syntax.specs.declared.macros.MacroCall.{MacroCall as AstMacroCall}
+use Rattle.hir_syntax.specs.declared.ast.ElseBranch.TheFolds as folds
 use Rattle.hir_base.specs.declared.node.AstPtr.{AstPtr}
 use Rattle.hir_env.specs.declared.place.Place.{Place}
 use Rattle.hir_env.specs.Wrapped.{AstConstArg, AstGuard, AstLetElse, AstRetType, AstTypeArg, AstParenArgs, AstGenericArgList}
 use Rattle.hir_env.specs.Answers.{Answers}
 use Rattle.hir_env.specs.Layers.{BlockReading, StmtReading, RecordReading, ParamReading, PathTypeReading, Sorts, Reader, readings}
-use Rattle.hir_env.specs.Layers.{itself}
+use Rattle.hir_env.specs.Layers.{itself, Defined, Entering, ExprReading, KindReading, Spliced}
+pub use Rattle.hir_env.specs.Layers.{written}
 use Rattle.hir_env.specs.Answering.{constant_step, guard_step, let_else_step}
-use Rattle.hir_env.specs.Answering.{else_branch, expr_kind, stmt_kind, block_step, expr_step, field_step}
+use Rattle.hir_env.specs.Answering.{else_branch, kind_step, call_step, stmt_kind, block_step, expr_step, field_step}
 use Rattle.hir_env.specs.Answering.{record_step, stmt_step, arm_step}
 use Rattle.hir_env.specs.Paths.{ret_type_step, type_arg_step, paren_args_step, generic_arg_list_step}
 use Rattle.hir_env.specs.Paths.{generic_arg_step, type_kind_step, path_step, segment_step, assoc_type_arg_step}
@@ -44,286 +41,388 @@ use Rattle.hir_env.specs.Pats.{pat_kind_step, pat_step, pat_field_step}
 use Rattle.hir_env.specs.Answered.{Type_, OptionType, Parts, Path, Segment, Args, Arg, Bound, Constant, Expr, OptionExpr, Field}
 use Rattle.hir_env.specs.Answered.{OptionBlock, Arm, Pat, PatField}
 
-abbrev pub written : Sorts
-written = record {
-  ElseBranch = AstElseBranch;
-  ExprKind = AstExprKind;
-  StmtKind = AstStmtKind;
-  PatKind = AstPatKind;
-  GenericArg = AstGenericArg;
-  TypeKind = AstTypeKind;
-  BlockExpr = AstBlockExpr;
-  Expr = AstExpr;
-  Path = AstPath;
-  PathSegment = AstPathSegment;
-  RecordExprField = AstRecordExprField;
-  RecordExprFieldList = AstRecordExprFieldList;
-  Stmt = AstStmt;
-  MatchArm = AstMatchArm;
-  Pat = AstPat;
-  RecordPatField = AstRecordPatField;
-  AssocTypeArg = AstAssocTypeArg;
-  Param = AstParam;
-  PathType = AstPathType;
-  TypeBound = AstTypeBound;
-  Type_ = AstType_;
-}
-
-module _ (env : Answers) where
-  unfoldable pub read_else_branch : AstElseBranch → Place → Expr
-  read_else_branch = fold-ElseBranch
+module _ (env : Answers) (into : Option Entering) where
+  unfoldable pub fold_else_branch : AstElseBranch → Place → Expr
+  fold_else_branch = folds.para-ElseBranch
       readings.ElseBranch readings.ExprKind readings.StmtKind readings.PatKind readings.GenericArg readings.TypeKind
       readings.BlockExpr readings.Expr readings.Path readings.PathSegment readings.RecordExprField readings.RecordExprFieldList
-      readings.Stmt readings.MatchArm readings.Pat readings.RecordPatField readings.AssocTypeArg readings.Param readings.PathType
-      readings.TypeBound readings.Type_
-      (else_branch env itself) (expr_kind env itself) (stmt_kind env itself) (pat_kind_step env itself)
-      (generic_arg_step env itself) (type_kind_step env itself) (block_step env itself) (expr_step env itself)
-      (path_step env itself) (segment_step env itself) (field_step env itself) (record_step env itself) (stmt_step env itself)
-      (arm_step env itself) (pat_step env itself) (pat_field_step env itself) (assoc_type_arg_step env itself)
-      (param_step env itself) (path_type_step env itself) (type_bound_step env itself) (type_step env itself)
+      readings.Stmt readings.MatchArm readings.MacroCall readings.Pat readings.RecordPatField readings.AssocTypeArg readings.Param
+      readings.PathType readings.TypeBound readings.Type_
+      (else_branch env (itself into)) (kind_step env (itself into)) (stmt_kind env (itself into)) (pat_kind_step env (itself into))
+      (generic_arg_step env (itself into)) (type_kind_step env (itself into)) (block_step env (itself into))
+      (expr_step env (itself into)) (path_step env (itself into)) (segment_step env (itself into)) (field_step env (itself into))
+      (record_step env (itself into)) (stmt_step env (itself into)) (arm_step env (itself into)) (call_step env (itself into))
+      (pat_step env (itself into)) (pat_field_step env (itself into)) (assoc_type_arg_step env (itself into))
+      (param_step env (itself into)) (path_type_step env (itself into)) (type_bound_step env (itself into))
+      (type_step env (itself into))
 
-  unfoldable pub read_expr_kind : AstExprKind → AstPtr → Place → Expr
-  read_expr_kind = fold-ExprKind
+  unfoldable pub fold_expr_kind : AstExprKind → KindReading
+  fold_expr_kind = folds.para-ExprKind
       readings.ElseBranch readings.ExprKind readings.StmtKind readings.PatKind readings.GenericArg readings.TypeKind
       readings.BlockExpr readings.Expr readings.Path readings.PathSegment readings.RecordExprField readings.RecordExprFieldList
-      readings.Stmt readings.MatchArm readings.Pat readings.RecordPatField readings.AssocTypeArg readings.Param readings.PathType
-      readings.TypeBound readings.Type_
-      (else_branch env itself) (expr_kind env itself) (stmt_kind env itself) (pat_kind_step env itself)
-      (generic_arg_step env itself) (type_kind_step env itself) (block_step env itself) (expr_step env itself)
-      (path_step env itself) (segment_step env itself) (field_step env itself) (record_step env itself) (stmt_step env itself)
-      (arm_step env itself) (pat_step env itself) (pat_field_step env itself) (assoc_type_arg_step env itself)
-      (param_step env itself) (path_type_step env itself) (type_bound_step env itself) (type_step env itself)
+      readings.Stmt readings.MatchArm readings.MacroCall readings.Pat readings.RecordPatField readings.AssocTypeArg readings.Param
+      readings.PathType readings.TypeBound readings.Type_
+      (else_branch env (itself into)) (kind_step env (itself into)) (stmt_kind env (itself into)) (pat_kind_step env (itself into))
+      (generic_arg_step env (itself into)) (type_kind_step env (itself into)) (block_step env (itself into))
+      (expr_step env (itself into)) (path_step env (itself into)) (segment_step env (itself into)) (field_step env (itself into))
+      (record_step env (itself into)) (stmt_step env (itself into)) (arm_step env (itself into)) (call_step env (itself into))
+      (pat_step env (itself into)) (pat_field_step env (itself into)) (assoc_type_arg_step env (itself into))
+      (param_step env (itself into)) (path_type_step env (itself into)) (type_bound_step env (itself into))
+      (type_step env (itself into))
 
-  unfoldable pub read_stmt_kind : AstStmtKind → AstPtr → Place → StmtReading
-  read_stmt_kind = fold-StmtKind
+  unfoldable pub fold_stmt_kind : AstStmtKind → AstPtr → Place → Defined → StmtReading
+  fold_stmt_kind = folds.para-StmtKind
       readings.ElseBranch readings.ExprKind readings.StmtKind readings.PatKind readings.GenericArg readings.TypeKind
       readings.BlockExpr readings.Expr readings.Path readings.PathSegment readings.RecordExprField readings.RecordExprFieldList
-      readings.Stmt readings.MatchArm readings.Pat readings.RecordPatField readings.AssocTypeArg readings.Param readings.PathType
-      readings.TypeBound readings.Type_
-      (else_branch env itself) (expr_kind env itself) (stmt_kind env itself) (pat_kind_step env itself)
-      (generic_arg_step env itself) (type_kind_step env itself) (block_step env itself) (expr_step env itself)
-      (path_step env itself) (segment_step env itself) (field_step env itself) (record_step env itself) (stmt_step env itself)
-      (arm_step env itself) (pat_step env itself) (pat_field_step env itself) (assoc_type_arg_step env itself)
-      (param_step env itself) (path_type_step env itself) (type_bound_step env itself) (type_step env itself)
+      readings.Stmt readings.MatchArm readings.MacroCall readings.Pat readings.RecordPatField readings.AssocTypeArg readings.Param
+      readings.PathType readings.TypeBound readings.Type_
+      (else_branch env (itself into)) (kind_step env (itself into)) (stmt_kind env (itself into)) (pat_kind_step env (itself into))
+      (generic_arg_step env (itself into)) (type_kind_step env (itself into)) (block_step env (itself into))
+      (expr_step env (itself into)) (path_step env (itself into)) (segment_step env (itself into)) (field_step env (itself into))
+      (record_step env (itself into)) (stmt_step env (itself into)) (arm_step env (itself into)) (call_step env (itself into))
+      (pat_step env (itself into)) (pat_field_step env (itself into)) (assoc_type_arg_step env (itself into))
+      (param_step env (itself into)) (path_type_step env (itself into)) (type_bound_step env (itself into))
+      (type_step env (itself into))
 
-  unfoldable pub read_pat_kind : AstPatKind → AstPtr → Place → Pat
-  read_pat_kind = fold-PatKind
+  unfoldable pub fold_pat_kind : AstPatKind → AstPtr → Place → Pat
+  fold_pat_kind = folds.para-PatKind
       readings.ElseBranch readings.ExprKind readings.StmtKind readings.PatKind readings.GenericArg readings.TypeKind
       readings.BlockExpr readings.Expr readings.Path readings.PathSegment readings.RecordExprField readings.RecordExprFieldList
-      readings.Stmt readings.MatchArm readings.Pat readings.RecordPatField readings.AssocTypeArg readings.Param readings.PathType
-      readings.TypeBound readings.Type_
-      (else_branch env itself) (expr_kind env itself) (stmt_kind env itself) (pat_kind_step env itself)
-      (generic_arg_step env itself) (type_kind_step env itself) (block_step env itself) (expr_step env itself)
-      (path_step env itself) (segment_step env itself) (field_step env itself) (record_step env itself) (stmt_step env itself)
-      (arm_step env itself) (pat_step env itself) (pat_field_step env itself) (assoc_type_arg_step env itself)
-      (param_step env itself) (path_type_step env itself) (type_bound_step env itself) (type_step env itself)
+      readings.Stmt readings.MatchArm readings.MacroCall readings.Pat readings.RecordPatField readings.AssocTypeArg readings.Param
+      readings.PathType readings.TypeBound readings.Type_
+      (else_branch env (itself into)) (kind_step env (itself into)) (stmt_kind env (itself into)) (pat_kind_step env (itself into))
+      (generic_arg_step env (itself into)) (type_kind_step env (itself into)) (block_step env (itself into))
+      (expr_step env (itself into)) (path_step env (itself into)) (segment_step env (itself into)) (field_step env (itself into))
+      (record_step env (itself into)) (stmt_step env (itself into)) (arm_step env (itself into)) (call_step env (itself into))
+      (pat_step env (itself into)) (pat_field_step env (itself into)) (assoc_type_arg_step env (itself into))
+      (param_step env (itself into)) (path_type_step env (itself into)) (type_bound_step env (itself into))
+      (type_step env (itself into))
 
-  unfoldable pub read_generic_arg : AstGenericArg → Place → Arg
-  read_generic_arg = fold-GenericArg
+  unfoldable pub fold_generic_arg : AstGenericArg → Place → Arg
+  fold_generic_arg = folds.para-GenericArg
       readings.ElseBranch readings.ExprKind readings.StmtKind readings.PatKind readings.GenericArg readings.TypeKind
       readings.BlockExpr readings.Expr readings.Path readings.PathSegment readings.RecordExprField readings.RecordExprFieldList
-      readings.Stmt readings.MatchArm readings.Pat readings.RecordPatField readings.AssocTypeArg readings.Param readings.PathType
-      readings.TypeBound readings.Type_
-      (else_branch env itself) (expr_kind env itself) (stmt_kind env itself) (pat_kind_step env itself)
-      (generic_arg_step env itself) (type_kind_step env itself) (block_step env itself) (expr_step env itself)
-      (path_step env itself) (segment_step env itself) (field_step env itself) (record_step env itself) (stmt_step env itself)
-      (arm_step env itself) (pat_step env itself) (pat_field_step env itself) (assoc_type_arg_step env itself)
-      (param_step env itself) (path_type_step env itself) (type_bound_step env itself) (type_step env itself)
+      readings.Stmt readings.MatchArm readings.MacroCall readings.Pat readings.RecordPatField readings.AssocTypeArg readings.Param
+      readings.PathType readings.TypeBound readings.Type_
+      (else_branch env (itself into)) (kind_step env (itself into)) (stmt_kind env (itself into)) (pat_kind_step env (itself into))
+      (generic_arg_step env (itself into)) (type_kind_step env (itself into)) (block_step env (itself into))
+      (expr_step env (itself into)) (path_step env (itself into)) (segment_step env (itself into)) (field_step env (itself into))
+      (record_step env (itself into)) (stmt_step env (itself into)) (arm_step env (itself into)) (call_step env (itself into))
+      (pat_step env (itself into)) (pat_field_step env (itself into)) (assoc_type_arg_step env (itself into))
+      (param_step env (itself into)) (path_type_step env (itself into)) (type_bound_step env (itself into))
+      (type_step env (itself into))
 
-  unfoldable pub read_type_kind : AstTypeKind → AstPtr → Place → Type_
-  read_type_kind = fold-TypeKind
+  unfoldable pub fold_type_kind : AstTypeKind → AstPtr → Place → Type_
+  fold_type_kind = folds.para-TypeKind
       readings.ElseBranch readings.ExprKind readings.StmtKind readings.PatKind readings.GenericArg readings.TypeKind
       readings.BlockExpr readings.Expr readings.Path readings.PathSegment readings.RecordExprField readings.RecordExprFieldList
-      readings.Stmt readings.MatchArm readings.Pat readings.RecordPatField readings.AssocTypeArg readings.Param readings.PathType
-      readings.TypeBound readings.Type_
-      (else_branch env itself) (expr_kind env itself) (stmt_kind env itself) (pat_kind_step env itself)
-      (generic_arg_step env itself) (type_kind_step env itself) (block_step env itself) (expr_step env itself)
-      (path_step env itself) (segment_step env itself) (field_step env itself) (record_step env itself) (stmt_step env itself)
-      (arm_step env itself) (pat_step env itself) (pat_field_step env itself) (assoc_type_arg_step env itself)
-      (param_step env itself) (path_type_step env itself) (type_bound_step env itself) (type_step env itself)
+      readings.Stmt readings.MatchArm readings.MacroCall readings.Pat readings.RecordPatField readings.AssocTypeArg readings.Param
+      readings.PathType readings.TypeBound readings.Type_
+      (else_branch env (itself into)) (kind_step env (itself into)) (stmt_kind env (itself into)) (pat_kind_step env (itself into))
+      (generic_arg_step env (itself into)) (type_kind_step env (itself into)) (block_step env (itself into))
+      (expr_step env (itself into)) (path_step env (itself into)) (segment_step env (itself into)) (field_step env (itself into))
+      (record_step env (itself into)) (stmt_step env (itself into)) (arm_step env (itself into)) (call_step env (itself into))
+      (pat_step env (itself into)) (pat_field_step env (itself into)) (assoc_type_arg_step env (itself into))
+      (param_step env (itself into)) (path_type_step env (itself into)) (type_bound_step env (itself into))
+      (type_step env (itself into))
 
-  unfoldable pub read_block : AstBlockExpr → BlockReading
-  read_block = fold-BlockExpr
+  unfoldable pub fold_block : AstBlockExpr → BlockReading
+  fold_block = folds.para-BlockExpr
       readings.ElseBranch readings.ExprKind readings.StmtKind readings.PatKind readings.GenericArg readings.TypeKind
       readings.BlockExpr readings.Expr readings.Path readings.PathSegment readings.RecordExprField readings.RecordExprFieldList
-      readings.Stmt readings.MatchArm readings.Pat readings.RecordPatField readings.AssocTypeArg readings.Param readings.PathType
-      readings.TypeBound readings.Type_
-      (else_branch env itself) (expr_kind env itself) (stmt_kind env itself) (pat_kind_step env itself)
-      (generic_arg_step env itself) (type_kind_step env itself) (block_step env itself) (expr_step env itself)
-      (path_step env itself) (segment_step env itself) (field_step env itself) (record_step env itself) (stmt_step env itself)
-      (arm_step env itself) (pat_step env itself) (pat_field_step env itself) (assoc_type_arg_step env itself)
-      (param_step env itself) (path_type_step env itself) (type_bound_step env itself) (type_step env itself)
+      readings.Stmt readings.MatchArm readings.MacroCall readings.Pat readings.RecordPatField readings.AssocTypeArg readings.Param
+      readings.PathType readings.TypeBound readings.Type_
+      (else_branch env (itself into)) (kind_step env (itself into)) (stmt_kind env (itself into)) (pat_kind_step env (itself into))
+      (generic_arg_step env (itself into)) (type_kind_step env (itself into)) (block_step env (itself into))
+      (expr_step env (itself into)) (path_step env (itself into)) (segment_step env (itself into)) (field_step env (itself into))
+      (record_step env (itself into)) (stmt_step env (itself into)) (arm_step env (itself into)) (call_step env (itself into))
+      (pat_step env (itself into)) (pat_field_step env (itself into)) (assoc_type_arg_step env (itself into))
+      (param_step env (itself into)) (path_type_step env (itself into)) (type_bound_step env (itself into))
+      (type_step env (itself into))
 
-  unfoldable pub read_expr : AstExpr → Place → Expr
-  read_expr = fold-Expr
+  unfoldable pub fold_expr : AstExpr → ExprReading
+  fold_expr = folds.para-Expr
       readings.ElseBranch readings.ExprKind readings.StmtKind readings.PatKind readings.GenericArg readings.TypeKind
       readings.BlockExpr readings.Expr readings.Path readings.PathSegment readings.RecordExprField readings.RecordExprFieldList
-      readings.Stmt readings.MatchArm readings.Pat readings.RecordPatField readings.AssocTypeArg readings.Param readings.PathType
-      readings.TypeBound readings.Type_
-      (else_branch env itself) (expr_kind env itself) (stmt_kind env itself) (pat_kind_step env itself)
-      (generic_arg_step env itself) (type_kind_step env itself) (block_step env itself) (expr_step env itself)
-      (path_step env itself) (segment_step env itself) (field_step env itself) (record_step env itself) (stmt_step env itself)
-      (arm_step env itself) (pat_step env itself) (pat_field_step env itself) (assoc_type_arg_step env itself)
-      (param_step env itself) (path_type_step env itself) (type_bound_step env itself) (type_step env itself)
+      readings.Stmt readings.MatchArm readings.MacroCall readings.Pat readings.RecordPatField readings.AssocTypeArg readings.Param
+      readings.PathType readings.TypeBound readings.Type_
+      (else_branch env (itself into)) (kind_step env (itself into)) (stmt_kind env (itself into)) (pat_kind_step env (itself into))
+      (generic_arg_step env (itself into)) (type_kind_step env (itself into)) (block_step env (itself into))
+      (expr_step env (itself into)) (path_step env (itself into)) (segment_step env (itself into)) (field_step env (itself into))
+      (record_step env (itself into)) (stmt_step env (itself into)) (arm_step env (itself into)) (call_step env (itself into))
+      (pat_step env (itself into)) (pat_field_step env (itself into)) (assoc_type_arg_step env (itself into))
+      (param_step env (itself into)) (path_type_step env (itself into)) (type_bound_step env (itself into))
+      (type_step env (itself into))
 
-  unfoldable pub read_path : AstPath → Place → Path
-  read_path = fold-Path
+  unfoldable pub fold_path : AstPath → Place → Path
+  fold_path = folds.para-Path
       readings.ElseBranch readings.ExprKind readings.StmtKind readings.PatKind readings.GenericArg readings.TypeKind
       readings.BlockExpr readings.Expr readings.Path readings.PathSegment readings.RecordExprField readings.RecordExprFieldList
-      readings.Stmt readings.MatchArm readings.Pat readings.RecordPatField readings.AssocTypeArg readings.Param readings.PathType
-      readings.TypeBound readings.Type_
-      (else_branch env itself) (expr_kind env itself) (stmt_kind env itself) (pat_kind_step env itself)
-      (generic_arg_step env itself) (type_kind_step env itself) (block_step env itself) (expr_step env itself)
-      (path_step env itself) (segment_step env itself) (field_step env itself) (record_step env itself) (stmt_step env itself)
-      (arm_step env itself) (pat_step env itself) (pat_field_step env itself) (assoc_type_arg_step env itself)
-      (param_step env itself) (path_type_step env itself) (type_bound_step env itself) (type_step env itself)
+      readings.Stmt readings.MatchArm readings.MacroCall readings.Pat readings.RecordPatField readings.AssocTypeArg readings.Param
+      readings.PathType readings.TypeBound readings.Type_
+      (else_branch env (itself into)) (kind_step env (itself into)) (stmt_kind env (itself into)) (pat_kind_step env (itself into))
+      (generic_arg_step env (itself into)) (type_kind_step env (itself into)) (block_step env (itself into))
+      (expr_step env (itself into)) (path_step env (itself into)) (segment_step env (itself into)) (field_step env (itself into))
+      (record_step env (itself into)) (stmt_step env (itself into)) (arm_step env (itself into)) (call_step env (itself into))
+      (pat_step env (itself into)) (pat_field_step env (itself into)) (assoc_type_arg_step env (itself into))
+      (param_step env (itself into)) (path_type_step env (itself into)) (type_bound_step env (itself into))
+      (type_step env (itself into))
 
-  unfoldable pub read_segment : AstPathSegment → Place → Segment
-  read_segment = fold-PathSegment
+  unfoldable pub fold_segment : AstPathSegment → Place → Segment
+  fold_segment = folds.para-PathSegment
       readings.ElseBranch readings.ExprKind readings.StmtKind readings.PatKind readings.GenericArg readings.TypeKind
       readings.BlockExpr readings.Expr readings.Path readings.PathSegment readings.RecordExprField readings.RecordExprFieldList
-      readings.Stmt readings.MatchArm readings.Pat readings.RecordPatField readings.AssocTypeArg readings.Param readings.PathType
-      readings.TypeBound readings.Type_
-      (else_branch env itself) (expr_kind env itself) (stmt_kind env itself) (pat_kind_step env itself)
-      (generic_arg_step env itself) (type_kind_step env itself) (block_step env itself) (expr_step env itself)
-      (path_step env itself) (segment_step env itself) (field_step env itself) (record_step env itself) (stmt_step env itself)
-      (arm_step env itself) (pat_step env itself) (pat_field_step env itself) (assoc_type_arg_step env itself)
-      (param_step env itself) (path_type_step env itself) (type_bound_step env itself) (type_step env itself)
+      readings.Stmt readings.MatchArm readings.MacroCall readings.Pat readings.RecordPatField readings.AssocTypeArg readings.Param
+      readings.PathType readings.TypeBound readings.Type_
+      (else_branch env (itself into)) (kind_step env (itself into)) (stmt_kind env (itself into)) (pat_kind_step env (itself into))
+      (generic_arg_step env (itself into)) (type_kind_step env (itself into)) (block_step env (itself into))
+      (expr_step env (itself into)) (path_step env (itself into)) (segment_step env (itself into)) (field_step env (itself into))
+      (record_step env (itself into)) (stmt_step env (itself into)) (arm_step env (itself into)) (call_step env (itself into))
+      (pat_step env (itself into)) (pat_field_step env (itself into)) (assoc_type_arg_step env (itself into))
+      (param_step env (itself into)) (path_type_step env (itself into)) (type_bound_step env (itself into))
+      (type_step env (itself into))
 
-  unfoldable pub read_field : AstRecordExprField → Place → Field
-  read_field = fold-RecordExprField
+  unfoldable pub fold_field : AstRecordExprField → Place → Field
+  fold_field = folds.para-RecordExprField
       readings.ElseBranch readings.ExprKind readings.StmtKind readings.PatKind readings.GenericArg readings.TypeKind
       readings.BlockExpr readings.Expr readings.Path readings.PathSegment readings.RecordExprField readings.RecordExprFieldList
-      readings.Stmt readings.MatchArm readings.Pat readings.RecordPatField readings.AssocTypeArg readings.Param readings.PathType
-      readings.TypeBound readings.Type_
-      (else_branch env itself) (expr_kind env itself) (stmt_kind env itself) (pat_kind_step env itself)
-      (generic_arg_step env itself) (type_kind_step env itself) (block_step env itself) (expr_step env itself)
-      (path_step env itself) (segment_step env itself) (field_step env itself) (record_step env itself) (stmt_step env itself)
-      (arm_step env itself) (pat_step env itself) (pat_field_step env itself) (assoc_type_arg_step env itself)
-      (param_step env itself) (path_type_step env itself) (type_bound_step env itself) (type_step env itself)
+      readings.Stmt readings.MatchArm readings.MacroCall readings.Pat readings.RecordPatField readings.AssocTypeArg readings.Param
+      readings.PathType readings.TypeBound readings.Type_
+      (else_branch env (itself into)) (kind_step env (itself into)) (stmt_kind env (itself into)) (pat_kind_step env (itself into))
+      (generic_arg_step env (itself into)) (type_kind_step env (itself into)) (block_step env (itself into))
+      (expr_step env (itself into)) (path_step env (itself into)) (segment_step env (itself into)) (field_step env (itself into))
+      (record_step env (itself into)) (stmt_step env (itself into)) (arm_step env (itself into)) (call_step env (itself into))
+      (pat_step env (itself into)) (pat_field_step env (itself into)) (assoc_type_arg_step env (itself into))
+      (param_step env (itself into)) (path_type_step env (itself into)) (type_bound_step env (itself into))
+      (type_step env (itself into))
 
-  unfoldable pub read_record : AstRecordExprFieldList → Place → RecordReading
-  read_record = fold-RecordExprFieldList
+  unfoldable pub fold_record : AstRecordExprFieldList → Place → RecordReading
+  fold_record = folds.para-RecordExprFieldList
       readings.ElseBranch readings.ExprKind readings.StmtKind readings.PatKind readings.GenericArg readings.TypeKind
       readings.BlockExpr readings.Expr readings.Path readings.PathSegment readings.RecordExprField readings.RecordExprFieldList
-      readings.Stmt readings.MatchArm readings.Pat readings.RecordPatField readings.AssocTypeArg readings.Param readings.PathType
-      readings.TypeBound readings.Type_
-      (else_branch env itself) (expr_kind env itself) (stmt_kind env itself) (pat_kind_step env itself)
-      (generic_arg_step env itself) (type_kind_step env itself) (block_step env itself) (expr_step env itself)
-      (path_step env itself) (segment_step env itself) (field_step env itself) (record_step env itself) (stmt_step env itself)
-      (arm_step env itself) (pat_step env itself) (pat_field_step env itself) (assoc_type_arg_step env itself)
-      (param_step env itself) (path_type_step env itself) (type_bound_step env itself) (type_step env itself)
+      readings.Stmt readings.MatchArm readings.MacroCall readings.Pat readings.RecordPatField readings.AssocTypeArg readings.Param
+      readings.PathType readings.TypeBound readings.Type_
+      (else_branch env (itself into)) (kind_step env (itself into)) (stmt_kind env (itself into)) (pat_kind_step env (itself into))
+      (generic_arg_step env (itself into)) (type_kind_step env (itself into)) (block_step env (itself into))
+      (expr_step env (itself into)) (path_step env (itself into)) (segment_step env (itself into)) (field_step env (itself into))
+      (record_step env (itself into)) (stmt_step env (itself into)) (arm_step env (itself into)) (call_step env (itself into))
+      (pat_step env (itself into)) (pat_field_step env (itself into)) (assoc_type_arg_step env (itself into))
+      (param_step env (itself into)) (path_type_step env (itself into)) (type_bound_step env (itself into))
+      (type_step env (itself into))
 
-  unfoldable pub read_stmt : AstStmt → Place → StmtReading
-  read_stmt = fold-Stmt
+  unfoldable pub fold_stmt : AstStmt → Place → Defined → StmtReading
+  fold_stmt = folds.para-Stmt
       readings.ElseBranch readings.ExprKind readings.StmtKind readings.PatKind readings.GenericArg readings.TypeKind
       readings.BlockExpr readings.Expr readings.Path readings.PathSegment readings.RecordExprField readings.RecordExprFieldList
-      readings.Stmt readings.MatchArm readings.Pat readings.RecordPatField readings.AssocTypeArg readings.Param readings.PathType
-      readings.TypeBound readings.Type_
-      (else_branch env itself) (expr_kind env itself) (stmt_kind env itself) (pat_kind_step env itself)
-      (generic_arg_step env itself) (type_kind_step env itself) (block_step env itself) (expr_step env itself)
-      (path_step env itself) (segment_step env itself) (field_step env itself) (record_step env itself) (stmt_step env itself)
-      (arm_step env itself) (pat_step env itself) (pat_field_step env itself) (assoc_type_arg_step env itself)
-      (param_step env itself) (path_type_step env itself) (type_bound_step env itself) (type_step env itself)
+      readings.Stmt readings.MatchArm readings.MacroCall readings.Pat readings.RecordPatField readings.AssocTypeArg readings.Param
+      readings.PathType readings.TypeBound readings.Type_
+      (else_branch env (itself into)) (kind_step env (itself into)) (stmt_kind env (itself into)) (pat_kind_step env (itself into))
+      (generic_arg_step env (itself into)) (type_kind_step env (itself into)) (block_step env (itself into))
+      (expr_step env (itself into)) (path_step env (itself into)) (segment_step env (itself into)) (field_step env (itself into))
+      (record_step env (itself into)) (stmt_step env (itself into)) (arm_step env (itself into)) (call_step env (itself into))
+      (pat_step env (itself into)) (pat_field_step env (itself into)) (assoc_type_arg_step env (itself into))
+      (param_step env (itself into)) (path_type_step env (itself into)) (type_bound_step env (itself into))
+      (type_step env (itself into))
 
-  unfoldable pub read_arm : AstMatchArm → Place → Arm
-  read_arm = fold-MatchArm
+  unfoldable pub fold_arm : AstMatchArm → Place → Arm
+  fold_arm = folds.para-MatchArm
       readings.ElseBranch readings.ExprKind readings.StmtKind readings.PatKind readings.GenericArg readings.TypeKind
       readings.BlockExpr readings.Expr readings.Path readings.PathSegment readings.RecordExprField readings.RecordExprFieldList
-      readings.Stmt readings.MatchArm readings.Pat readings.RecordPatField readings.AssocTypeArg readings.Param readings.PathType
-      readings.TypeBound readings.Type_
-      (else_branch env itself) (expr_kind env itself) (stmt_kind env itself) (pat_kind_step env itself)
-      (generic_arg_step env itself) (type_kind_step env itself) (block_step env itself) (expr_step env itself)
-      (path_step env itself) (segment_step env itself) (field_step env itself) (record_step env itself) (stmt_step env itself)
-      (arm_step env itself) (pat_step env itself) (pat_field_step env itself) (assoc_type_arg_step env itself)
-      (param_step env itself) (path_type_step env itself) (type_bound_step env itself) (type_step env itself)
+      readings.Stmt readings.MatchArm readings.MacroCall readings.Pat readings.RecordPatField readings.AssocTypeArg readings.Param
+      readings.PathType readings.TypeBound readings.Type_
+      (else_branch env (itself into)) (kind_step env (itself into)) (stmt_kind env (itself into)) (pat_kind_step env (itself into))
+      (generic_arg_step env (itself into)) (type_kind_step env (itself into)) (block_step env (itself into))
+      (expr_step env (itself into)) (path_step env (itself into)) (segment_step env (itself into)) (field_step env (itself into))
+      (record_step env (itself into)) (stmt_step env (itself into)) (arm_step env (itself into)) (call_step env (itself into))
+      (pat_step env (itself into)) (pat_field_step env (itself into)) (assoc_type_arg_step env (itself into))
+      (param_step env (itself into)) (path_type_step env (itself into)) (type_bound_step env (itself into))
+      (type_step env (itself into))
 
-  unfoldable pub read_pat : AstPat → Place → Pat
-  read_pat = fold-Pat
+  unfoldable pub fold_call : AstMacroCall → Unit {0}
+  fold_call = folds.para-MacroCall
       readings.ElseBranch readings.ExprKind readings.StmtKind readings.PatKind readings.GenericArg readings.TypeKind
       readings.BlockExpr readings.Expr readings.Path readings.PathSegment readings.RecordExprField readings.RecordExprFieldList
-      readings.Stmt readings.MatchArm readings.Pat readings.RecordPatField readings.AssocTypeArg readings.Param readings.PathType
-      readings.TypeBound readings.Type_
-      (else_branch env itself) (expr_kind env itself) (stmt_kind env itself) (pat_kind_step env itself)
-      (generic_arg_step env itself) (type_kind_step env itself) (block_step env itself) (expr_step env itself)
-      (path_step env itself) (segment_step env itself) (field_step env itself) (record_step env itself) (stmt_step env itself)
-      (arm_step env itself) (pat_step env itself) (pat_field_step env itself) (assoc_type_arg_step env itself)
-      (param_step env itself) (path_type_step env itself) (type_bound_step env itself) (type_step env itself)
+      readings.Stmt readings.MatchArm readings.MacroCall readings.Pat readings.RecordPatField readings.AssocTypeArg readings.Param
+      readings.PathType readings.TypeBound readings.Type_
+      (else_branch env (itself into)) (kind_step env (itself into)) (stmt_kind env (itself into)) (pat_kind_step env (itself into))
+      (generic_arg_step env (itself into)) (type_kind_step env (itself into)) (block_step env (itself into))
+      (expr_step env (itself into)) (path_step env (itself into)) (segment_step env (itself into)) (field_step env (itself into))
+      (record_step env (itself into)) (stmt_step env (itself into)) (arm_step env (itself into)) (call_step env (itself into))
+      (pat_step env (itself into)) (pat_field_step env (itself into)) (assoc_type_arg_step env (itself into))
+      (param_step env (itself into)) (path_type_step env (itself into)) (type_bound_step env (itself into))
+      (type_step env (itself into))
 
-  unfoldable pub read_pat_field : AstRecordPatField → Place → PatField
-  read_pat_field = fold-RecordPatField
+  unfoldable pub fold_pat : AstPat → Place → Pat
+  fold_pat = folds.para-Pat
       readings.ElseBranch readings.ExprKind readings.StmtKind readings.PatKind readings.GenericArg readings.TypeKind
       readings.BlockExpr readings.Expr readings.Path readings.PathSegment readings.RecordExprField readings.RecordExprFieldList
-      readings.Stmt readings.MatchArm readings.Pat readings.RecordPatField readings.AssocTypeArg readings.Param readings.PathType
-      readings.TypeBound readings.Type_
-      (else_branch env itself) (expr_kind env itself) (stmt_kind env itself) (pat_kind_step env itself)
-      (generic_arg_step env itself) (type_kind_step env itself) (block_step env itself) (expr_step env itself)
-      (path_step env itself) (segment_step env itself) (field_step env itself) (record_step env itself) (stmt_step env itself)
-      (arm_step env itself) (pat_step env itself) (pat_field_step env itself) (assoc_type_arg_step env itself)
-      (param_step env itself) (path_type_step env itself) (type_bound_step env itself) (type_step env itself)
+      readings.Stmt readings.MatchArm readings.MacroCall readings.Pat readings.RecordPatField readings.AssocTypeArg readings.Param
+      readings.PathType readings.TypeBound readings.Type_
+      (else_branch env (itself into)) (kind_step env (itself into)) (stmt_kind env (itself into)) (pat_kind_step env (itself into))
+      (generic_arg_step env (itself into)) (type_kind_step env (itself into)) (block_step env (itself into))
+      (expr_step env (itself into)) (path_step env (itself into)) (segment_step env (itself into)) (field_step env (itself into))
+      (record_step env (itself into)) (stmt_step env (itself into)) (arm_step env (itself into)) (call_step env (itself into))
+      (pat_step env (itself into)) (pat_field_step env (itself into)) (assoc_type_arg_step env (itself into))
+      (param_step env (itself into)) (path_type_step env (itself into)) (type_bound_step env (itself into))
+      (type_step env (itself into))
 
-  unfoldable pub read_assoc_type_arg : AstAssocTypeArg → Place → Arg
-  read_assoc_type_arg = fold-AssocTypeArg
+  unfoldable pub fold_pat_field : AstRecordPatField → Place → PatField
+  fold_pat_field = folds.para-RecordPatField
       readings.ElseBranch readings.ExprKind readings.StmtKind readings.PatKind readings.GenericArg readings.TypeKind
       readings.BlockExpr readings.Expr readings.Path readings.PathSegment readings.RecordExprField readings.RecordExprFieldList
-      readings.Stmt readings.MatchArm readings.Pat readings.RecordPatField readings.AssocTypeArg readings.Param readings.PathType
-      readings.TypeBound readings.Type_
-      (else_branch env itself) (expr_kind env itself) (stmt_kind env itself) (pat_kind_step env itself)
-      (generic_arg_step env itself) (type_kind_step env itself) (block_step env itself) (expr_step env itself)
-      (path_step env itself) (segment_step env itself) (field_step env itself) (record_step env itself) (stmt_step env itself)
-      (arm_step env itself) (pat_step env itself) (pat_field_step env itself) (assoc_type_arg_step env itself)
-      (param_step env itself) (path_type_step env itself) (type_bound_step env itself) (type_step env itself)
+      readings.Stmt readings.MatchArm readings.MacroCall readings.Pat readings.RecordPatField readings.AssocTypeArg readings.Param
+      readings.PathType readings.TypeBound readings.Type_
+      (else_branch env (itself into)) (kind_step env (itself into)) (stmt_kind env (itself into)) (pat_kind_step env (itself into))
+      (generic_arg_step env (itself into)) (type_kind_step env (itself into)) (block_step env (itself into))
+      (expr_step env (itself into)) (path_step env (itself into)) (segment_step env (itself into)) (field_step env (itself into))
+      (record_step env (itself into)) (stmt_step env (itself into)) (arm_step env (itself into)) (call_step env (itself into))
+      (pat_step env (itself into)) (pat_field_step env (itself into)) (assoc_type_arg_step env (itself into))
+      (param_step env (itself into)) (path_type_step env (itself into)) (type_bound_step env (itself into))
+      (type_step env (itself into))
 
-  unfoldable pub read_param : AstParam → Place → ParamReading
-  read_param = fold-Param
+  unfoldable pub fold_assoc_type_arg : AstAssocTypeArg → Place → Arg
+  fold_assoc_type_arg = folds.para-AssocTypeArg
       readings.ElseBranch readings.ExprKind readings.StmtKind readings.PatKind readings.GenericArg readings.TypeKind
       readings.BlockExpr readings.Expr readings.Path readings.PathSegment readings.RecordExprField readings.RecordExprFieldList
-      readings.Stmt readings.MatchArm readings.Pat readings.RecordPatField readings.AssocTypeArg readings.Param readings.PathType
-      readings.TypeBound readings.Type_
-      (else_branch env itself) (expr_kind env itself) (stmt_kind env itself) (pat_kind_step env itself)
-      (generic_arg_step env itself) (type_kind_step env itself) (block_step env itself) (expr_step env itself)
-      (path_step env itself) (segment_step env itself) (field_step env itself) (record_step env itself) (stmt_step env itself)
-      (arm_step env itself) (pat_step env itself) (pat_field_step env itself) (assoc_type_arg_step env itself)
-      (param_step env itself) (path_type_step env itself) (type_bound_step env itself) (type_step env itself)
+      readings.Stmt readings.MatchArm readings.MacroCall readings.Pat readings.RecordPatField readings.AssocTypeArg readings.Param
+      readings.PathType readings.TypeBound readings.Type_
+      (else_branch env (itself into)) (kind_step env (itself into)) (stmt_kind env (itself into)) (pat_kind_step env (itself into))
+      (generic_arg_step env (itself into)) (type_kind_step env (itself into)) (block_step env (itself into))
+      (expr_step env (itself into)) (path_step env (itself into)) (segment_step env (itself into)) (field_step env (itself into))
+      (record_step env (itself into)) (stmt_step env (itself into)) (arm_step env (itself into)) (call_step env (itself into))
+      (pat_step env (itself into)) (pat_field_step env (itself into)) (assoc_type_arg_step env (itself into))
+      (param_step env (itself into)) (path_type_step env (itself into)) (type_bound_step env (itself into))
+      (type_step env (itself into))
 
-  unfoldable pub read_path_type : AstPathType → Place → PathTypeReading
-  read_path_type = fold-PathType
+  unfoldable pub fold_param : AstParam → Place → ParamReading
+  fold_param = folds.para-Param
       readings.ElseBranch readings.ExprKind readings.StmtKind readings.PatKind readings.GenericArg readings.TypeKind
       readings.BlockExpr readings.Expr readings.Path readings.PathSegment readings.RecordExprField readings.RecordExprFieldList
-      readings.Stmt readings.MatchArm readings.Pat readings.RecordPatField readings.AssocTypeArg readings.Param readings.PathType
-      readings.TypeBound readings.Type_
-      (else_branch env itself) (expr_kind env itself) (stmt_kind env itself) (pat_kind_step env itself)
-      (generic_arg_step env itself) (type_kind_step env itself) (block_step env itself) (expr_step env itself)
-      (path_step env itself) (segment_step env itself) (field_step env itself) (record_step env itself) (stmt_step env itself)
-      (arm_step env itself) (pat_step env itself) (pat_field_step env itself) (assoc_type_arg_step env itself)
-      (param_step env itself) (path_type_step env itself) (type_bound_step env itself) (type_step env itself)
+      readings.Stmt readings.MatchArm readings.MacroCall readings.Pat readings.RecordPatField readings.AssocTypeArg readings.Param
+      readings.PathType readings.TypeBound readings.Type_
+      (else_branch env (itself into)) (kind_step env (itself into)) (stmt_kind env (itself into)) (pat_kind_step env (itself into))
+      (generic_arg_step env (itself into)) (type_kind_step env (itself into)) (block_step env (itself into))
+      (expr_step env (itself into)) (path_step env (itself into)) (segment_step env (itself into)) (field_step env (itself into))
+      (record_step env (itself into)) (stmt_step env (itself into)) (arm_step env (itself into)) (call_step env (itself into))
+      (pat_step env (itself into)) (pat_field_step env (itself into)) (assoc_type_arg_step env (itself into))
+      (param_step env (itself into)) (path_type_step env (itself into)) (type_bound_step env (itself into))
+      (type_step env (itself into))
 
-  unfoldable pub read_type_bound : AstTypeBound → Place → Bound
-  read_type_bound = fold-TypeBound
+  unfoldable pub fold_path_type : AstPathType → Place → PathTypeReading
+  fold_path_type = folds.para-PathType
       readings.ElseBranch readings.ExprKind readings.StmtKind readings.PatKind readings.GenericArg readings.TypeKind
       readings.BlockExpr readings.Expr readings.Path readings.PathSegment readings.RecordExprField readings.RecordExprFieldList
-      readings.Stmt readings.MatchArm readings.Pat readings.RecordPatField readings.AssocTypeArg readings.Param readings.PathType
-      readings.TypeBound readings.Type_
-      (else_branch env itself) (expr_kind env itself) (stmt_kind env itself) (pat_kind_step env itself)
-      (generic_arg_step env itself) (type_kind_step env itself) (block_step env itself) (expr_step env itself)
-      (path_step env itself) (segment_step env itself) (field_step env itself) (record_step env itself) (stmt_step env itself)
-      (arm_step env itself) (pat_step env itself) (pat_field_step env itself) (assoc_type_arg_step env itself)
-      (param_step env itself) (path_type_step env itself) (type_bound_step env itself) (type_step env itself)
+      readings.Stmt readings.MatchArm readings.MacroCall readings.Pat readings.RecordPatField readings.AssocTypeArg readings.Param
+      readings.PathType readings.TypeBound readings.Type_
+      (else_branch env (itself into)) (kind_step env (itself into)) (stmt_kind env (itself into)) (pat_kind_step env (itself into))
+      (generic_arg_step env (itself into)) (type_kind_step env (itself into)) (block_step env (itself into))
+      (expr_step env (itself into)) (path_step env (itself into)) (segment_step env (itself into)) (field_step env (itself into))
+      (record_step env (itself into)) (stmt_step env (itself into)) (arm_step env (itself into)) (call_step env (itself into))
+      (pat_step env (itself into)) (pat_field_step env (itself into)) (assoc_type_arg_step env (itself into))
+      (param_step env (itself into)) (path_type_step env (itself into)) (type_bound_step env (itself into))
+      (type_step env (itself into))
 
-  unfoldable pub read_type : AstType_ → Place → Type_
-  read_type = fold-Type_
+  unfoldable pub fold_type_bound : AstTypeBound → Place → Bound
+  fold_type_bound = folds.para-TypeBound
       readings.ElseBranch readings.ExprKind readings.StmtKind readings.PatKind readings.GenericArg readings.TypeKind
       readings.BlockExpr readings.Expr readings.Path readings.PathSegment readings.RecordExprField readings.RecordExprFieldList
-      readings.Stmt readings.MatchArm readings.Pat readings.RecordPatField readings.AssocTypeArg readings.Param readings.PathType
-      readings.TypeBound readings.Type_
-      (else_branch env itself) (expr_kind env itself) (stmt_kind env itself) (pat_kind_step env itself)
-      (generic_arg_step env itself) (type_kind_step env itself) (block_step env itself) (expr_step env itself)
-      (path_step env itself) (segment_step env itself) (field_step env itself) (record_step env itself) (stmt_step env itself)
-      (arm_step env itself) (pat_step env itself) (pat_field_step env itself) (assoc_type_arg_step env itself)
-      (param_step env itself) (path_type_step env itself) (type_bound_step env itself) (type_step env itself)
+      readings.Stmt readings.MatchArm readings.MacroCall readings.Pat readings.RecordPatField readings.AssocTypeArg readings.Param
+      readings.PathType readings.TypeBound readings.Type_
+      (else_branch env (itself into)) (kind_step env (itself into)) (stmt_kind env (itself into)) (pat_kind_step env (itself into))
+      (generic_arg_step env (itself into)) (type_kind_step env (itself into)) (block_step env (itself into))
+      (expr_step env (itself into)) (path_step env (itself into)) (segment_step env (itself into)) (field_step env (itself into))
+      (record_step env (itself into)) (stmt_step env (itself into)) (arm_step env (itself into)) (call_step env (itself into))
+      (pat_step env (itself into)) (pat_field_step env (itself into)) (assoc_type_arg_step env (itself into))
+      (param_step env (itself into)) (path_type_step env (itself into)) (type_bound_step env (itself into))
+      (type_step env (itself into))
+
+  unfoldable pub fold_type : AstType_ → Place → Type_
+  fold_type = folds.para-Type_
+      readings.ElseBranch readings.ExprKind readings.StmtKind readings.PatKind readings.GenericArg readings.TypeKind
+      readings.BlockExpr readings.Expr readings.Path readings.PathSegment readings.RecordExprField readings.RecordExprFieldList
+      readings.Stmt readings.MatchArm readings.MacroCall readings.Pat readings.RecordPatField readings.AssocTypeArg readings.Param
+      readings.PathType readings.TypeBound readings.Type_
+      (else_branch env (itself into)) (kind_step env (itself into)) (stmt_kind env (itself into)) (pat_kind_step env (itself into))
+      (generic_arg_step env (itself into)) (type_kind_step env (itself into)) (block_step env (itself into))
+      (expr_step env (itself into)) (path_step env (itself into)) (segment_step env (itself into)) (field_step env (itself into))
+      (record_step env (itself into)) (stmt_step env (itself into)) (arm_step env (itself into)) (call_step env (itself into))
+      (pat_step env (itself into)) (pat_field_step env (itself into)) (assoc_type_arg_step env (itself into))
+      (param_step env (itself into)) (path_type_step env (itself into)) (type_bound_step env (itself into))
+      (type_step env (itself into))
+
+  abbrev pub read_else_branch : AstElseBranch → Place → Expr
+  read_else_branch = fold_else_branch
+
+  abbrev pub read_expr_kind : AstExprKind → AstPtr → Place → Expr
+  read_expr_kind e = (fold_expr_kind e).expr
+
+  abbrev pub read_stmt_kind : AstStmtKind → AstPtr → Place → Defined → StmtReading
+  read_stmt_kind = fold_stmt_kind
+
+  abbrev pub read_pat_kind : AstPatKind → AstPtr → Place → Pat
+  read_pat_kind = fold_pat_kind
+
+  abbrev pub read_generic_arg : AstGenericArg → Place → Arg
+  read_generic_arg = fold_generic_arg
+
+  abbrev pub read_type_kind : AstTypeKind → AstPtr → Place → Type_
+  read_type_kind = fold_type_kind
+
+  abbrev pub read_block : AstBlockExpr → BlockReading
+  read_block = fold_block
+
+  abbrev pub read_expr : AstExpr → Place → Expr
+  read_expr e = (fold_expr e).expr
+
+  abbrev pub read_path : AstPath → Place → Path
+  read_path = fold_path
+
+  abbrev pub read_segment : AstPathSegment → Place → Segment
+  read_segment = fold_segment
+
+  abbrev pub read_field : AstRecordExprField → Place → Field
+  read_field = fold_field
+
+  abbrev pub read_record : AstRecordExprFieldList → Place → RecordReading
+  read_record = fold_record
+
+  abbrev pub read_stmt : AstStmt → Place → Defined → StmtReading
+  read_stmt = fold_stmt
+
+  abbrev pub read_arm : AstMatchArm → Place → Arm
+  read_arm = fold_arm
+
+  abbrev pub read_pat : AstPat → Place → Pat
+  read_pat = fold_pat
+
+  abbrev pub read_pat_field : AstRecordPatField → Place → PatField
+  read_pat_field = fold_pat_field
+
+  abbrev pub read_assoc_type_arg : AstAssocTypeArg → Place → Arg
+  read_assoc_type_arg = fold_assoc_type_arg
+
+  abbrev pub read_param : AstParam → Place → ParamReading
+  read_param = fold_param
+
+  abbrev pub read_path_type : AstPathType → Place → PathTypeReading
+  read_path_type = fold_path_type
+
+  abbrev pub read_type_bound : AstTypeBound → Place → Bound
+  read_type_bound = fold_type_bound
+
+  abbrev pub read_type : AstType_ → Place → Type_
+  read_type = fold_type
+
+  abbrev pub read_value_kind : AstExprKind → AstPtr → Place → Defined → Spliced
+  read_value_kind e = (fold_expr_kind e).value
+
+  -- in statement or tail place
+  abbrev pub read_value : AstExpr → Place → Defined → Spliced
+  read_value e = (fold_expr e).value
 
   abbrev pub reader : Reader written
   reader = record {
+    into = into;
     else_branch = read_else_branch;
     expr_kind = read_expr_kind;
     stmt_kind = read_stmt_kind;
@@ -338,6 +437,7 @@ module _ (env : Answers) where
     field_list = read_record;
     stmt = read_stmt;
     arm = read_arm;
+    macro_call = λ c. c;
     pat = read_pat;
     pat_field = read_pat_field;
     assoc_type_arg = read_assoc_type_arg;
@@ -345,6 +445,8 @@ module _ (env : Answers) where
     path_type = read_path_type;
     type_bound = read_type_bound;
     type_ = read_type;
+    value_kind = read_value_kind;
+    value = read_value;
   }
 
   -- the parts that are no nodes of their own
@@ -368,3 +470,15 @@ module _ (env : Answers) where
 
   abbrev pub read_generic_arg_list : AstGenericArgList → Place → Args
   read_generic_arg_list = generic_arg_list_step env reader
+
+-- how that is read which calls stand for, where so many may be entered one in the other
+abbrev pub entering : Answers → ℕ → Option Entering
+entering env zero = None
+entering env (suc n) = Some (record {
+  left = n;
+  expr = read_expr env (entering env n);
+  value = read_value env (entering env n);
+  stmt = read_stmt env (entering env n);
+  pat = read_pat env (entering env n);
+  type_ = read_type env (entering env n);
+})

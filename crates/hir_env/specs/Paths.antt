@@ -26,6 +26,7 @@ use Rattle.hir_store.specs.declared.type_ref.LifetimeRef.{LifetimeRef}
 use Rattle.hir_store.specs.declared.type_ref.LifetimeRef.TheVariants as lifetime
 use Rattle.hir_store.specs.declared.type_ref.ExternAbi.{ExternAbi}
 use Rattle.hir_store.specs.declared.type_ref.ExternAbi.TheVariants as abi
+use Rattle.hir_store.specs.declared.diagnostics.AwaitLocation.{AwaitLocation}
 use Rattle.hir_store.specs.declared.diagnostics.AwaitLocation.TheVariants as location
 use Rattle.hir_env.specs.declared.place.Place.{Place}
 use Rattle.hir_env.specs.declared.place.ImplTrait.{ImplTrait}
@@ -34,6 +35,7 @@ use Rattle.hir_env.specs.Answers.{Answers}
 use Rattle.hir_env.specs.Spot.{in_file, ptr, site_of}
 use Rattle.hir_env.specs.Layers.{Sorts, Reader}
 use Rattle.hir_env.specs.TypePats.{type_pat_or_none, name_given}
+use Rattle.hir_env.specs.Calls.{entered_type}
 use Rattle.hir_env.specs.TypeLayers.{ParamReading, PathTypeReading, GenericArgLayer, TypeKindLayer, PathLayer, PathSegmentLayer}
 use Rattle.hir_env.specs.TypeLayers.{AssocTypeArgLayer, ParamLayer, PathTypeLayer}
 use Rattle.hir_env.specs.TypeLayers.{TypeBoundLayer, Type_Layer}
@@ -115,16 +117,18 @@ inside_constant p = record p { impl_trait = becomes.Error }
 abbrev pub inside_const_block : Place → Place
 inside_const_block p = record p { await_location = Some location.ConstantBlock }
 
+abbrev pub awaits : CoroutineKind → Option AwaitLocation
+awaits coroutine.Async = None
+awaits coroutine.Gen = Some location.NonAsyncGenBlock
+awaits coroutine.AsyncGen = None
+
 -- Inside of an `async`, `gen` or `async gen` block, of which one that is only `gen` is what an `await` there stands in.
 abbrev pub inside_coroutine : CoroutineKind → Place → Place
-inside_coroutine coroutine.Async p = record p { await_location = None }
-inside_coroutine coroutine.Gen p = record p { await_location = Some location.NonAsyncGenBlock }
-inside_coroutine coroutine.AsyncGen p = record p { await_location = None }
+inside_coroutine kind p = record p { await_location = awaits kind }
 
 -- Inside of the body of a closure, which is what an `await` there stands in, where the closure isn't async.
 abbrev pub inside_closure : Bool → Place → Place
-inside_closure true p = record p { await_location = None }
-inside_closure false p = record p { await_location = Some location.NonAsyncClosure }
+inside_closure is_async p = record p { await_location = if is_async then None else Some location.NonAsyncClosure }
 
 -- segments
 
@@ -301,6 +305,10 @@ module _ {A : Type 0} where
 
 -- one level
 
+abbrev pub macro_type_at : Answers → {S : Sorts} → Reader S → Option S.MacroCall → Place → Pointer → Type_
+macro_type_at env part None p s = tree.macro_type s tree.callless tree.no_type
+macro_type_at env part (Some c) p s = entered_type env part.into (part.macro_call c) p s
+
 module _ (env : Answers) {S : Sorts} (part : Reader S) where
   abbrev pub constant_step : Option S.Expr → Place → Constant
   constant_step x p = tree.constant (expr_or_none part.expr x (inside_constant p))
@@ -333,6 +341,7 @@ module _ (env : Answers) {S : Sorts} (part : Reader S) where
   type_at (TypeKind-F.DynTraitType bs) p s = tree.dyn_type s (bounds_of part.type_bound bs p)
   type_at (TypeKind-F.PatternType t x) p s = let q = pat_or_none part.pat x (inside_constant p) in
       tree.pattern_type s (type_or_none part.type_ t p) q (type_pat_or_none env.lang_items q)
+  type_at (TypeKind-F.MacroType call) p s = macro_type_at env part call p s
   type_at TypeKind-F.NeverType p s = tree.leaf_type s tree.never_leaf
   type_at TypeKind-F.InferType p s = tree.leaf_type s tree.infer_leaf
 

@@ -27,6 +27,7 @@ use Rattle.hir_env.specs.PatLayers.{PatKindLayer, PatLayer, RecordPatFieldLayer}
 use Rattle.hir_env.specs.Paths.{path_or_none, pat_or_none, mutability}
 use Rattle.hir_env.specs.TypePats.{is_plain}
 use Rattle.hir_env.specs.Answering.{name_or_missing, name_written, truth}
+use Rattle.hir_env.specs.Calls.{entered_pat}
 use Rattle.hir_env.specs.Answered as tree
 use Rattle.hir_env.specs.Answered.{Use, Pat, OptionPat, Pats, PatFields, PatField, Side}
 
@@ -121,6 +122,10 @@ pat_fields_of read (x ∷ xs) p = tree.more_pat_fields (read x p) (pat_fields_of
 
 -- one level
 
+abbrev pub macro_pat_at : Answers → {S : Sorts} → Reader S → Option S.MacroCall → Place → Pointer → Pat
+macro_pat_at env part None p s = tree.macro_pat s tree.callless tree.no_pat
+macro_pat_at env part (Some c) p s = entered_pat env part.into (part.macro_call c) p s
+
 module _ (env : Answers) {S : Sorts} (part : Reader S) where
   abbrev pub pat_at : PatKindLayer S → Place → Pointer → Pat
   pat_at (PatKind-F.IdentPat n is_ref is_mut x) p s =
@@ -142,6 +147,7 @@ module _ (env : Answers) {S : Sorts} (part : Reader S) where
   pat_at (PatKind-F.RangePat o x y) p s =
       tree.range_pat s o (side_of (pat_or_none part.pat x p)) (side_of (pat_or_none part.pat y p))
   pat_at (PatKind-F.CfgPredPat pred) p s = tree.literal_pat s None (record { minus = false; literal = truth (env.cfg_pred pred) })
+  pat_at (PatKind-F.MacroPat call) p s = macro_pat_at env part call p s
   pat_at PatKind-F.WildcardPat p s = tree.leaf_pat s tree.wild_leaf
   pat_at PatKind-F.RestPat p s = tree.leaf_pat s tree.rest_leaf
   pat_at PatKind-F.NotNullPat p s = tree.leaf_pat s tree.not_null_leaf

@@ -1,8 +1,15 @@
 -- The answers of tables.
-use Rattle.std.specs.Prelude.{Bool, true, false, ◌&&◌, nat_eq, List, [], find, Option, Some, None, Result, Ok, Err, unwrap_or}
+use Rattle.std.specs.Prelude.{ℕ, Bool, true, false, ◌&&◌, nat_eq, List, [], find, Option, Some, None, Result, Ok, Err, unwrap_or}
 use lib.Pointwise.{pointwise}
-use Rattle.hir_env.specs.Answers.{Contexts, Answers}
-use Rattle.hir_env.specs.NodeMap.{Site, found, pred_found, context_found}
+use Rattle.hir_env.specs.Answers.{Contexts, Answers, Expanding, unresolved, no_expansion, expanded}
+use Rattle.hir_env.specs.declared.table.MacroEntry.{MacroEntry}
+use Rattle.hir_env.specs.declared.table.MacroAnswer.{MacroAnswer}
+use Rattle.hir_env.specs.declared.table.MacroAnswer.TheVariants as answer
+use Rattle.hir_env.specs.declared.table.DefEntry.{DefEntry}
+use Rattle.hir_env.specs.declared.table.LegacyEntry.{LegacyEntry}
+use Rattle.hir_store.specs.declared.ids.MacroDefId.{MacroDefId}
+use Rattle.hir_store.specs.declared.name.Name.{Name}
+use Rattle.hir_env.specs.NodeMap.{Site, same_site, found, pred_found, context_found}
 use Rattle.hir_env.specs.declared.table.Context.{Context}
 use Rattle.hir_env.specs.declared.table.PathEntry.{PathEntry}
 use Rattle.hir_env.specs.declared.lang.LangItems.{LangItems}
@@ -31,6 +38,10 @@ pub record Tables : Type 0 where
   pub paths : List PathEntry
   pub lang_items : LangItems
   pub new_range : Bool
+  pub macros : List MacroEntry
+  pub macro_defs : List DefEntry
+  pub legacy : List LegacyEntry
+  pub limit : ℕ
 
 -- each item has the number of its place
 abbrev pub numbered_items : LangItems
@@ -72,6 +83,10 @@ empty container = record {
   paths = [];
   lang_items = numbered_items;
   new_range = false;
+  macros = [];
+  macro_defs = [];
+  legacy = [];
+  limit = 16;
 }
 
 abbrev pub enabled : Option CfgId → Result (Unit {0}) CfgId
@@ -132,6 +147,44 @@ abbrev pub resolved_by : Option PathEntry → Resolved
 resolved_by None = record { types = None; values = None; rest = None }
 resolved_by (Some e) = e.resolved
 
+-- ---- macros
+
+abbrev pub macro_entry : Site → MacroAnswer → MacroEntry
+macro_entry s a = record { call = s; answer = a }
+
+abbrev pub def_entry : ModuleId → Name → MacroDefId → DefEntry
+def_entry inside n d = record { inside = inside; name = n; def = d }
+
+abbrev pub legacy_entry : ModuleId → Name → ℕ → MacroDefId → LegacyEntry
+legacy_entry inside n k d = record { inside = inside; name = n; place = k; def = d }
+
+abbrev pub calls : Site → MacroEntry → Bool
+calls s e = same_site e.call s
+
+-- a call of which nothing is said has no expansion
+abbrev pub expanded_by : Option MacroEntry → Expanding
+expanded_by None = no_expansion
+expanded_by (Some e) = said_of e.answer
+  where
+    said_of : MacroAnswer → Expanding
+    said_of (answer.Unresolved x) = unresolved x
+    said_of answer.NoExpansion = no_expansion
+    said_of (answer.Expanded f root es) = expanded f root es
+
+abbrev pub names_def : ModuleId → Name → DefEntry → Bool
+names_def inside n e = nat_eq e.inside.0 inside.0 && same_name e.name n
+
+abbrev pub def_by : Option DefEntry → Option MacroDefId
+def_by None = None
+def_by (Some e) = Some e.def
+
+abbrev pub names_legacy : ModuleId → Name → ℕ → LegacyEntry → Bool
+names_legacy inside n k e = nat_eq e.inside.0 inside.0 && (same_name e.name n && nat_eq e.place k)
+
+abbrev pub legacy_by : Option LegacyEntry → Option MacroDefId
+legacy_by None = None
+legacy_by (Some e) = Some e.def
+
 abbrev pub answers_of : Tables → Answers
 answers_of t = record {
   cfg = λ s. enabled (found t.disabled s);
@@ -148,4 +201,8 @@ answers_of t = record {
   resolve = λ inside p _. resolved_by (find (says_of inside p) t.paths);
   lang_items = t.lang_items;
   new_range = λ _. t.new_range;
+  expand = λ s c inside k. expanded_by (find (calls s) t.macros);
+  macro_def = λ inside n. def_by (find (names_def inside n) t.macro_defs);
+  legacy_macro = λ inside n k. legacy_by (find (names_legacy inside n k) t.legacy);
+  expansion_limit = t.limit;
 }

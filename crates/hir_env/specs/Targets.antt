@@ -19,7 +19,7 @@ block_pointer (tree.block at is_unsafe label _ number ss e) = at
 
 -- the node of an expression
 abbrev pub pointer_of : Expr → Pointer
-pointer_of (tree.disabled_expr at by e) = pointer_of e
+pointer_of (tree.disabled_expr why e) = pointer_of e
 pointer_of (tree.if_expr at c t e) = at
 pointer_of (tree.block_expr b) = block_pointer b
 pointer_of (tree.loop_expr at label _ b) = at
@@ -57,6 +57,7 @@ pointer_of (tree.let_expr at p e) = at
 pointer_of (tree.match_expr at e arms) = at
 pointer_of (tree.range_expr at form a b) = at
 pointer_of (tree.assign_expr at e t v) = at
+pointer_of (tree.macro_expr at called e) = at
 
 -- the node of the head of a `for`, which is the form's where the head is absent
 abbrev pub head_pointer : Pointer → OptionExpr → Pointer
@@ -91,13 +92,13 @@ module _ (env : Answers) (p : Place) where
 
 -- `..`, a range without start and end
 abbrev pub is_dots : Expr → Bool
-is_dots (tree.disabled_expr at by e) = is_dots e
+is_dots (tree.disabled_expr why e) = is_dots e
 is_dots (tree.range_expr at form tree.no_expr tree.no_expr) = true
 is_dots _ = false
 
 -- the path of a callee, where the callee is a path as it stands
 abbrev pub callee_path : Expr → Option OptionPath
-callee_path (tree.disabled_expr at by e) = callee_path e
+callee_path (tree.disabled_expr why e) = callee_path e
 callee_path (tree.path_expr at p h) = Some p
 callee_path _ = None
 
@@ -143,7 +144,13 @@ module _ (is_found : Path → Bool) where
     target_or place (tree.path_expr at p h) = path_or place at p h
     target_or place (tree.record_expr at p head fs s) =
         if head.has_list then tree.record_target at p (target_fields fs) head.has_dots (spread_pointer s) else place
+    target_or place (tree.macro_expr at called e) = tree.macro_target at called (target_in e)
     target_or place _ = place
+
+    -- what a call stands for
+    pub target_in : OptionExpr → Target
+    target_in tree.no_expr = tree.absent_target
+    target_in (tree.some_expr e) = target_or (place_of e) e
 
     -- of a tuple or a call
     pub elements : Exprs → Targets

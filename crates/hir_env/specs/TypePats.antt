@@ -26,6 +26,7 @@ pat_pointer (tree.slice_pat at ps middle qs) = at
 pat_pointer (tree.over_pat at form p) = at
 pat_pointer (tree.literal_pat at from l) = at
 pat_pointer (tree.range_pat at o a b) = at
+pat_pointer (tree.macro_pat at called p) = at
 
 -- a plain name: without `ref`, `mut` and `@`
 abbrev pub is_unannotated : BindingAnnotation → Bool
@@ -56,6 +57,8 @@ module _ (items : LangItems) where
     type_pat_of (tree.leaf_pat at tree.not_null_leaf) = tree.not_null_type_pat at
     type_pat_of (tree.or_pat at ps) = tree.or_type_pat at (type_pats_of ps)
     type_pat_of (tree.range_pat at o a b) = tree.range_type_pat at (start_limit items a) (end_limit items o b)
+    type_pat_of (tree.macro_pat at called tree.no_pat) = tree.macro_type_pat at called tree.no_type_pat
+    type_pat_of (tree.macro_pat at called (tree.some_pat p)) = tree.macro_type_pat at called (tree.some_type_pat (type_pat_of p))
     type_pat_of p = tree.other_type_pat (pat_pointer p)
 
     pub type_pats_of : Pats → TypePats

@@ -54,6 +54,9 @@ use Rattle.hir_env.specs.Paths.{constant_or_absent, type_at, generic_arg_step, p
 use Rattle.hir_env.specs.Paths.{generic_arg_list_step, param_step, paren_args_step, path_type_step, ret_type_step, type_arg_step}
 use Rattle.hir_env.specs.Paths.{type_bound_step, pat_or_none, names_or_none}
 use Rattle.hir_env.specs.TypeLayers.{ParamReading, PathTypeReading}
+use Rattle.hir_env.specs.Layers.{Defined, Entering, Spliced, StmtReading}
+use Rattle.hir_env.specs.Answering.{Contents, contents_of, value_kind}
+pub use Rattle.hir_env.specs.Folds.{entering, read_value}
 pub use Rattle.hir_env.specs.Folds.{written, reader, read_else_branch, read_expr_kind, read_stmt_kind, read_generic_arg}
 pub use Rattle.hir_env.specs.Folds.{read_type_kind, read_block, read_constant, read_expr, read_path, read_segment, read_field}
 pub use Rattle.hir_env.specs.Folds.{read_record, read_stmt, read_assoc_type_arg, read_generic_arg_list, read_param, read_paren_args}
@@ -65,140 +68,144 @@ use Rattle.hir_env.specs.Answered.{SegmentArgs, OptionParens, OptionRet, OptionA
 use Rattle.hir_env.specs.Answered.{Expr, OptionExpr, Exprs, Fields, Field, Spread, Block, OptionBlock, Stmts, Stmt, Constant}
 use Rattle.hir_env.specs.Answered.{Arms, Arm, Guard, Param, Params, Pat, OptionPat, Pats, PatFields, PatField, OptionTypePat, Target}
 
+-- how that is read which calls stand for there
+abbrev pub into : Spot → Option Entering
+into at = entering at.answers at.place.left
+
 -- read at a spot
 
 abbrev pub answered : Spot → AstExpr → Expr
-answered at e = read_expr at.answers e at.place
+answered at e = read_expr at.answers (into at) e at.place
 
 abbrev pub answered_plain : Spot → AstBlockExpr → Block
-answered_plain at b = (read_block at.answers b).plain at.place
+answered_plain at b = (read_block at.answers (into at) b).plain at.place
 
 abbrev pub answered_block : Spot → AstBlockExpr → Expr
-answered_block at b = (read_block at.answers b).own at.place
+answered_block at b = (read_block at.answers (into at) b).own at.place
 
 -- as an expression that a condition may disable
 abbrev pub answered_body : Spot → AstBlockExpr → Expr
-answered_body at b = (read_block at.answers b).asked at.place
+answered_body at b = (read_block at.answers (into at) b).asked at.place
 
 abbrev pub answered_else : Spot → AstElseBranch → Expr
-answered_else at e = read_else_branch at.answers e at.place
+answered_else at e = read_else_branch at.answers (into at) e at.place
 
 abbrev pub answered_field : Spot → AstRecordExprField → Field
-answered_field at x = read_field at.answers x at.place
+answered_field at x = read_field at.answers (into at) x at.place
 
 abbrev pub answered_record : Spot → AstRecordExprFieldList → RecordReading
-answered_record at x = read_record at.answers x at.place
+answered_record at x = read_record at.answers (into at) x at.place
 
 abbrev pub answered_constant : Spot → AstConstArg → Constant
-answered_constant at x = read_constant at.answers x at.place
+answered_constant at x = read_constant at.answers (into at) x at.place
 
 abbrev pub answered_guard : Spot → AstGuard → OptionExpr
-answered_guard at x = read_guard at.answers x at.place
+answered_guard at x = read_guard at.answers (into at) x at.place
 
 abbrev pub answered_let_else : Spot → AstLetElse → OptionBlock
-answered_let_else at x = read_let_else at.answers x at.place
+answered_let_else at x = read_let_else at.answers (into at) x at.place
 
 abbrev pub answered_arm : Spot → AstMatchArm → Arm
-answered_arm at x = read_arm at.answers x at.place
+answered_arm at x = read_arm at.answers (into at) x at.place
 
 abbrev pub answered_pat : Spot → AstPat → Pat
-answered_pat at x = read_pat at.answers x at.place
+answered_pat at x = read_pat at.answers (into at) x at.place
 
 abbrev pub answered_pat_field : Spot → AstRecordPatField → PatField
-answered_pat_field at x = read_pat_field at.answers x at.place
+answered_pat_field at x = read_pat_field at.answers (into at) x at.place
 
 abbrev pub answered_type : Spot → AstType_ → Type_
-answered_type at x = read_type at.answers x at.place
+answered_type at x = read_type at.answers (into at) x at.place
 
 abbrev pub answered_param : Spot → AstParam → ParamReading
-answered_param at x = read_param at.answers x at.place
+answered_param at x = read_param at.answers (into at) x at.place
 
 -- the same as a parameter of a closure
 abbrev pub answered_closure_param : Spot → AstParam → Param
 answered_closure_param at x = (answered_param at x).own
 
 abbrev pub answered_ret : Spot → AstRetType → OptionType
-answered_ret at x = read_ret_type at.answers x at.place
+answered_ret at x = read_ret_type at.answers (into at) x at.place
 
 abbrev pub answered_path : Spot → AstPath → Path
-answered_path at x = read_path at.answers x at.place
+answered_path at x = read_path at.answers (into at) x at.place
 
 abbrev pub answered_segment : Spot → AstPathSegment → Segment
-answered_segment at x = read_segment at.answers x at.place
+answered_segment at x = read_segment at.answers (into at) x at.place
 
 abbrev pub answered_path_type : Spot → AstPathType → PathTypeReading
-answered_path_type at x = read_path_type at.answers x at.place
+answered_path_type at x = read_path_type at.answers (into at) x at.place
 
 abbrev pub answered_paren_args : Spot → AstParenArgs → Parts
-answered_paren_args at x = read_paren_args at.answers x at.place
+answered_paren_args at x = read_paren_args at.answers (into at) x at.place
 
 abbrev pub answered_arg_list : Spot → AstGenericArgList → Args
-answered_arg_list at x = read_generic_arg_list at.answers x at.place
+answered_arg_list at x = read_generic_arg_list at.answers (into at) x at.place
 
 abbrev pub answered_arg : Spot → AstGenericArg → Arg
-answered_arg at x = read_generic_arg at.answers x at.place
+answered_arg at x = read_generic_arg at.answers (into at) x at.place
 
 abbrev pub answered_type_arg : Spot → AstTypeArg → OptionType
-answered_type_arg at x = read_type_arg at.answers x at.place
+answered_type_arg at x = read_type_arg at.answers (into at) x at.place
 
 abbrev pub answered_assoc_arg : Spot → AstAssocTypeArg → Arg
-answered_assoc_arg at x = read_assoc_type_arg at.answers x at.place
+answered_assoc_arg at x = read_assoc_type_arg at.answers (into at) x at.place
 
 abbrev pub answered_bound : Spot → AstTypeBound → Bound
-answered_bound at x = read_type_bound at.answers x at.place
+answered_bound at x = read_type_bound at.answers (into at) x at.place
 
 -- parts that may be absent, and lists
 abbrev pub expr_part : Spot → Option AstExpr → OptionExpr
-expr_part at e = expr_or_none (read_expr at.answers) e at.place
+expr_part at e = expr_or_none (read_expr at.answers (into at)) e at.place
 
 abbrev pub else_part : Spot → Option AstElseBranch → OptionExpr
-else_part at e = expr_or_none (read_else_branch at.answers) e at.place
+else_part at e = expr_or_none (read_else_branch at.answers (into at)) e at.place
 
 abbrev pub block_part : Spot → Option AstBlockExpr → OptionBlock
-block_part at b = plain_or_none (read_block at.answers) b at.place
+block_part at b = plain_or_none (read_block at.answers (into at)) b at.place
 
 -- the body of a `for`
 abbrev pub body_part : Spot → Option AstBlockExpr → OptionExpr
-body_part at b = asked_or_none (read_block at.answers) b at.place
+body_part at b = asked_or_none (read_block at.answers (into at)) b at.place
 
 abbrev pub exprs_part : Spot → List AstExpr → Exprs
-exprs_part at es = exprs_of (read_expr at.answers) es at.place
+exprs_part at es = exprs_of (read_expr at.answers (into at)) es at.place
 
 abbrev pub args_part : Spot → Option (List AstExpr) → Exprs
-args_part at es = exprs_or_none (read_expr at.answers) es at.place
+args_part at es = exprs_or_none (read_expr at.answers (into at)) es at.place
 
 abbrev pub fields_part : Spot → List AstRecordExprField → Fields
-fields_part at fs = fields_of (read_field at.answers) fs at.place
+fields_part at fs = fields_of (read_field at.answers (into at)) fs at.place
 
 abbrev pub spread_part : Spot → Option AstExpr → Bool → Spread
-spread_part at e dots = spread_or_none (read_expr at.answers) e dots at.place
+spread_part at e dots = spread_or_none (read_expr at.answers (into at)) e dots at.place
 
 abbrev pub record_part : Spot → Option AstRecordExprFieldList → RecordReading
-record_part at x = record_or_empty (read_record at.answers) x at.place
+record_part at x = record_or_empty (read_record at.answers (into at)) x at.place
 
 abbrev pub constant_part : Spot → Option AstConstArg → Constant
-constant_part at x = constant_or_absent (read_constant at.answers) x at.place
+constant_part at x = constant_or_absent (read_constant at.answers (into at)) x at.place
 
 abbrev pub arms_part : Spot → List AstMatchArm → Arms
-arms_part at xs = arms_of (read_arm at.answers) xs at.place
+arms_part at xs = arms_of (read_arm at.answers (into at)) xs at.place
 
 abbrev pub arms_or_none_part : Spot → Option (List AstMatchArm) → Arms
-arms_or_none_part at xs = arms_or_none (read_arm at.answers) xs at.place
+arms_or_none_part at xs = arms_or_none (read_arm at.answers (into at)) xs at.place
 
 abbrev pub guard_part : Spot → Option AstGuard → Guard
-guard_part at x = guard_or_none (read_guard at.answers) x at.place
+guard_part at x = guard_or_none (read_guard at.answers (into at)) x at.place
 
 abbrev pub let_else_part : Spot → Option AstLetElse → OptionBlock
-let_else_part at x = let_else_or_none (read_let_else at.answers) x at.place
+let_else_part at x = let_else_or_none (read_let_else at.answers (into at)) x at.place
 
 abbrev pub pat_part : Spot → Option AstPat → OptionPat
-pat_part at x = pat_or_none (read_pat at.answers) x at.place
+pat_part at x = pat_or_none (read_pat at.answers (into at)) x at.place
 
 abbrev pub pats_part : Spot → List AstPat → Pats
-pats_part at xs = pats_of (read_pat at.answers) xs at.place
+pats_part at xs = pats_of (read_pat at.answers (into at)) xs at.place
 
 abbrev pub pat_fields_part : Spot → List AstRecordPatField → PatFields
-pat_fields_part at xs = pat_fields_of (read_pat_field at.answers) xs at.place
+pat_fields_part at xs = pat_fields_of (read_pat_field at.answers (into at)) xs at.place
 
 -- what is assigned to
 abbrev pub target_part : Spot → Option AstExpr → Target
@@ -209,65 +216,65 @@ abbrev pub type_pat_part : Spot → Option AstPat → OptionTypePat
 type_pat_part at x = type_pat_or_none at.answers.lang_items (pat_part at x)
 
 abbrev pub type_part : Spot → Option AstType_ → OptionType
-type_part at t = type_or_none (read_type at.answers) t at.place
+type_part at t = type_or_none (read_type at.answers (into at)) t at.place
 
 abbrev pub path_part : Spot → Option AstPath → OptionPath
-path_part at x = path_or_none (read_path at.answers) x at.place
+path_part at x = path_or_none (read_path at.answers (into at)) x at.place
 
 abbrev pub segment_part : Spot → Option AstPathSegment → Segment
-segment_part at s = segment_or_absent (read_segment at.answers) s at.place
+segment_part at s = segment_or_absent (read_segment at.answers (into at)) s at.place
 
 abbrev pub segments_part : Spot → List (Option AstPathSegment) → Segments
-segments_part at ss = segments_of (read_segment at.answers) ss at.place
+segments_part at ss = segments_of (read_segment at.answers (into at)) ss at.place
 
 -- the first of a path's segments, which is absent where it has none, and those behind it
 abbrev pub first_part : Spot → List (Option AstPathSegment) → Segment
-first_part at ss = first_of (read_segment at.answers) ss at.place
+first_part at ss = first_of (read_segment at.answers (into at)) ss at.place
 
 abbrev pub rest_part : Spot → List (Option AstPathSegment) → Segments
-rest_part at ss = rest_of (read_segment at.answers) ss at.place
+rest_part at ss = rest_of (read_segment at.answers (into at)) ss at.place
 
 abbrev pub path_type_part : Spot → Option AstPathType → Option PathTypeReading
-path_type_part at t = path_type_or_none (read_path_type at.answers) t at.place
+path_type_part at t = path_type_or_none (read_path_type at.answers (into at)) t at.place
 
 abbrev pub types_part : Spot → List AstType_ → Parts
-types_part at ts = types_of (read_type at.answers) ts at.place
+types_part at ts = types_of (read_type at.answers (into at)) ts at.place
 
 abbrev pub type_args_part : Spot → List AstTypeArg → Parts
-type_args_part at ts = parts_of (read_type_arg at.answers) ts at.place
+type_args_part at ts = parts_of (read_type_arg at.answers (into at)) ts at.place
 
 abbrev pub params_part : Spot → Option (List AstParam) → Parts
-params_part at ps = params_or_none (read_param at.answers) ps at.place
+params_part at ps = params_or_none (read_param at.answers (into at)) ps at.place
 
 abbrev pub varargs_part : Spot → Option (List AstParam) → Bool
-varargs_part at ps = is_varargs (read_param at.answers) ps at.place
+varargs_part at ps = is_varargs (read_param at.answers (into at)) ps at.place
 
 abbrev pub names_part : Spot → Option (List AstParam) → List (Option Name)
-names_part at ps = names_or_none (read_param at.answers) ps at.place
+names_part at ps = names_or_none (read_param at.answers (into at)) ps at.place
 
 abbrev pub closure_params_part : Spot → List AstParam → Params
-closure_params_part at ps = closure_params_of (read_param at.answers) ps at.place
+closure_params_part at ps = closure_params_of (read_param at.answers (into at)) ps at.place
 
 abbrev pub closure_params_or_none_part : Spot → Option (List AstParam) → Params
-closure_params_or_none_part at ps = closure_params_or_none (read_param at.answers) ps at.place
+closure_params_or_none_part at ps = closure_params_or_none (read_param at.answers (into at)) ps at.place
 
 abbrev pub answer_part : Spot → Option AstRetType → OptionType
-answer_part at r = answer_or_none (read_ret_type at.answers) r at.place
+answer_part at r = answer_or_none (read_ret_type at.answers (into at)) r at.place
 
 abbrev pub ret_part : Spot → Option AstRetType → OptionRet
-ret_part at r = ret_or_none (read_ret_type at.answers) r at.place
+ret_part at r = ret_or_none (read_ret_type at.answers (into at)) r at.place
 
 abbrev pub parens_part : Spot → Option AstParenArgs → Option AstRetType → OptionParens
-parens_part at x r = parens_or_none (read_paren_args at.answers) x (ret_part at r) at.place
+parens_part at x r = parens_or_none (read_paren_args at.answers (into at)) x (ret_part at r) at.place
 
 abbrev pub arg_list_part : Spot → Option AstGenericArgList → OptionArgs
-arg_list_part at x = arg_list_or_none (read_generic_arg_list at.answers) x at.place
+arg_list_part at x = arg_list_or_none (read_generic_arg_list at.answers (into at)) x at.place
 
 abbrev pub generic_args_part : Spot → List AstGenericArg → Args
-generic_args_part at as' = generic_args_of (read_generic_arg at.answers) as' at.place
+generic_args_part at as' = generic_args_of (read_generic_arg at.answers (into at)) as' at.place
 
 abbrev pub bounds_part : Spot → List AstTypeBound → Bounds
-bounds_part at bs = bounds_of (read_type_bound at.answers) bs at.place
+bounds_part at bs = bounds_of (read_type_bound at.answers (into at)) bs at.place
 
 abbrev pub label_part : Spot → Option AstLabel → Option Label
 label_part at l = option_map (label_of at.answers at.place) l
@@ -294,18 +301,25 @@ own_pointer at e = kind_pointer at.place (out-ExprKind e.kind) (pointer_at at e.
 
 -- one level
 abbrev pub kept_expr : Spot → AstExpr → Expr
-kept_expr at e = expr_at at.answers (reader at.answers) (out-ExprKind e.kind) at.place (pointer_at at e.id e.range)
+kept_expr at e = expr_at at.answers (reader at.answers (into at)) (out-ExprKind e.kind) at.place (pointer_at at e.id e.range)
 
 abbrev pub asked_expr : Spot → AstExpr → Expr
 asked_expr at e = let s = pointer_at at e.id e.range in asked s (at.answers.cfg (site_of s)) (kept_expr at e)
 
-abbrev pub stmt_level : Spot → AstStmt → Stmt
-stmt_level at s = stmt_at at.answers (reader at.answers) (out-StmtKind s.kind) at.place (pointer_at at s.id s.range)
+abbrev pub stmt_level : Spot → Defined → AstStmt → StmtReading
+stmt_level at d s =
+    stmt_at at.answers (reader at.answers (into at)) (out-StmtKind s.kind) at.place (pointer_at at s.id s.range) d
 
--- so far each statement stands for itself alone, and those after it are read where it is
-abbrev pub stmts_part : Spot → List AstStmt → Stmts
-stmts_part at [] = tree.no_stmts
-stmts_part at (s ∷ ss) = tree.more_stmts (stmt_level at s) (stmts_part at ss)
+-- an expression in statement or tail place
+abbrev pub answered_value : Spot → Defined → AstExpr → Spliced
+answered_value at d e = read_value at.answers (into at) e at.place d
+
+abbrev pub value_level : Spot → Defined → AstExpr → Spliced
+value_level at d e = value_kind at.answers (reader at.answers (into at)) (out-ExprKind e.kind) (ptr e.id e.range) at.place d
+
+-- what is in a block
+abbrev pub contents_part : Spot → List AstStmt → Option AstExpr → Contents
+contents_part at ss e = contents_of (read_stmt at.answers (into at)) (read_value at.answers (into at)) ss e at.place
 
 -- the spot inside of a block
 abbrev pub in_block : Spot → NodeId → Spot
@@ -317,16 +331,16 @@ block_number at id = option_map (λ n. n.0) (numbered at.answers at.place id)
 abbrev pub block_level : Spot → BlockHead → AstBlockExpr → Block
 block_level at head b =
     let level = out-BlockExpr b in
-    let within = in_block at level.id in
+    let c = contents_part (in_block at level.id) level.stmts level.tail in
     tree.block (pointer_at at level.id level.range) head.is_unsafe head.label head.written (block_number at level.id)
-    (stmts_part within level.stmts) (expr_part within level.tail)
+    c.0 c.1
 
 abbrev pub try_level : Spot → AstBlockExpr → Expr
 try_level at b =
     let level = out-BlockExpr b in
-    let within = in_block at level.id in
+    let c = contents_part (in_block at level.id) level.stmts level.tail in
     tree.try_expr (pointer_at at level.id level.range) at.answers.lang_items.try_trait_from_output (type_part at level.ty)
-    (block_number at level.id) (stmts_part within level.stmts) (expr_part within level.tail)
+    (block_number at level.id) c.0 c.1
 
 -- the spot inside of a `const` block
 abbrev pub in_const_block : Spot → Spot
@@ -348,9 +362,9 @@ in_coroutine kind at = record at { place = inside_coroutine kind at.place }
 abbrev pub coroutine_level : CoroutineKind → Spot → AstBlockExpr → Expr
 coroutine_level kind at b =
     let level = out-BlockExpr b in
-    let within = in_block at level.id in
+    let c = contents_part (in_block at level.id) level.stmts level.tail in
     tree.coroutine_expr (pointer_at at level.id level.range) kind level.move_ (block_number at level.id)
-    (stmts_part within level.stmts) (expr_part within level.tail)
+    c.0 c.1
 
 -- a block as an expression, by its modifier
 abbrev pub own_level : Spot → Option BlockModifier → AstBlockExpr → Expr
@@ -370,69 +384,69 @@ body_level at b =
     asked s (at.answers.cfg (site_of s)) (own_level at level.mod_ b)
 
 abbrev pub else_level : Spot → AstElseBranch → Expr
-else_level at e = else_branch at.answers (reader at.answers) (out-ElseBranch e) at.place
+else_level at e = else_branch at.answers (reader at.answers (into at)) (out-ElseBranch e) at.place
 
 abbrev pub field_level : Spot → AstRecordExprField → Field
-field_level at x = field_step at.answers (reader at.answers) (out-RecordExprField x) at.place
+field_level at x = field_step at.answers (reader at.answers (into at)) (out-RecordExprField x) at.place
 
 abbrev pub record_level : Spot → AstRecordExprFieldList → RecordReading
-record_level at x = record_step at.answers (reader at.answers) (out-RecordExprFieldList x) at.place
+record_level at x = record_step at.answers (reader at.answers (into at)) (out-RecordExprFieldList x) at.place
 
 abbrev pub constant_level : Spot → AstConstArg → Constant
-constant_level at x = constant_step at.answers (reader at.answers) x at.place
+constant_level at x = constant_step at.answers (reader at.answers (into at)) x at.place
 
 abbrev pub guard_level : Spot → AstGuard → OptionExpr
-guard_level at x = guard_step at.answers (reader at.answers) x at.place
+guard_level at x = guard_step at.answers (reader at.answers (into at)) x at.place
 
 abbrev pub let_else_level : Spot → AstLetElse → OptionBlock
-let_else_level at x = let_else_step at.answers (reader at.answers) x at.place
+let_else_level at x = let_else_step at.answers (reader at.answers (into at)) x at.place
 
 abbrev pub arm_level : Spot → AstMatchArm → Arm
-arm_level at x = arm_step at.answers (reader at.answers) (out-MatchArm x) at.place
+arm_level at x = arm_step at.answers (reader at.answers (into at)) (out-MatchArm x) at.place
 
 abbrev pub pat_level : Spot → AstPat → Pat
-pat_level at x = pat_at at.answers (reader at.answers) (out-PatKind x.kind) at.place (pointer_at at x.id x.range)
+pat_level at x = pat_at at.answers (reader at.answers (into at)) (out-PatKind x.kind) at.place (pointer_at at x.id x.range)
 
 abbrev pub pat_field_level : Spot → AstRecordPatField → PatField
-pat_field_level at x = pat_field_step at.answers (reader at.answers) (out-RecordPatField x) at.place
+pat_field_level at x = pat_field_step at.answers (reader at.answers (into at)) (out-RecordPatField x) at.place
 
 -- one level of a type or a path
 
 abbrev pub type_level : Spot → AstType_ → Type_
-type_level at x = type_at at.answers (reader at.answers) (out-TypeKind x.kind) at.place (pointer_at at x.id x.range)
+type_level at x = type_at at.answers (reader at.answers (into at)) (out-TypeKind x.kind) at.place (pointer_at at x.id x.range)
 
 abbrev pub param_level : Spot → AstParam → ParamReading
-param_level at x = param_step at.answers (reader at.answers) (out-Param x) at.place
+param_level at x = param_step at.answers (reader at.answers (into at)) (out-Param x) at.place
 
 abbrev pub ret_level : Spot → AstRetType → OptionType
-ret_level at x = ret_type_step at.answers (reader at.answers) x at.place
+ret_level at x = ret_type_step at.answers (reader at.answers (into at)) x at.place
 
 abbrev pub path_level : Spot → AstPath → Path
-path_level at x = path_step at.answers (reader at.answers) (out-Path x) at.place
+path_level at x = path_step at.answers (reader at.answers (into at)) (out-Path x) at.place
 
 abbrev pub segment_level : Spot → AstPathSegment → Segment
-segment_level at x = segment_step at.answers (reader at.answers) (out-PathSegment x) at.place
+segment_level at x = segment_step at.answers (reader at.answers (into at)) (out-PathSegment x) at.place
 
 abbrev pub path_type_level : Spot → AstPathType → PathTypeReading
-path_type_level at x = path_type_step at.answers (reader at.answers) (out-PathType x) at.place
+path_type_level at x = path_type_step at.answers (reader at.answers (into at)) (out-PathType x) at.place
 
 abbrev pub paren_args_level : Spot → AstParenArgs → Parts
-paren_args_level at x = paren_args_step at.answers (reader at.answers) x at.place
+paren_args_level at x = paren_args_step at.answers (reader at.answers (into at)) x at.place
 
 abbrev pub arg_list_level : Spot → AstGenericArgList → Args
-arg_list_level at x = generic_arg_list_step at.answers (reader at.answers) x at.place
+arg_list_level at x = generic_arg_list_step at.answers (reader at.answers (into at)) x at.place
 
 abbrev pub arg_level : Spot → AstGenericArg → Arg
-arg_level at x = generic_arg_step at.answers (reader at.answers) (out-GenericArg x) at.place
+arg_level at x = generic_arg_step at.answers (reader at.answers (into at)) (out-GenericArg x) at.place
 
 abbrev pub type_arg_level : Spot → AstTypeArg → OptionType
-type_arg_level at x = type_arg_step at.answers (reader at.answers) x at.place
+type_arg_level at x = type_arg_step at.answers (reader at.answers (into at)) x at.place
 
 abbrev pub assoc_arg_level : Spot → AstAssocTypeArg → Arg
-assoc_arg_level at x = assoc_type_arg_step at.answers (reader at.answers) (out-AssocTypeArg x) at.place
+assoc_arg_level at x = assoc_type_arg_step at.answers (reader at.answers (into at)) (out-AssocTypeArg x) at.place
 
 abbrev pub bound_level : Spot → AstTypeBound → Bound
-bound_level at x = type_bound_step at.answers (reader at.answers) (out-TypeBound x) at.place
+bound_level at x = type_bound_step at.answers (reader at.answers (into at)) (out-TypeBound x) at.place
 
 -- what stands behind the name of a segment
 abbrev pub segment_args_level : Spot → AstPathSegment → SegmentArgs

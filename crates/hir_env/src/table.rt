@@ -6,14 +6,17 @@ ghost use Rattle.hir_env.specs.Tables as spec;
 ghost use Rattle.hir_env.specs.NodeMap.{with_first, with_first_pred, with_first_context};
 
 use crate::env::LowerEnv;
+use crate::expand::{Expansion, FragmentKind};
 use crate::lang::LangItems;
 use crate::resolved::{Resolved, Shadow};
-use hir_base::node::{InFile, NodeId, PredId};
+use hir_base::node::{HirFileId, InFile, NodeId, PredId};
 use hir_store::first_map::FirstMap;
 use hir_store::ids::{
     BlockId, CfgId, CrateId, CtxId, DefWithBodyId, HygieneId, ItemContainerId, MacroDefId, ModuleId,
 };
+use hir_store::name::Name;
 use hir_store::path::ModPath;
+use hir_syntax::ast::{self, Fragment};
 use hir_syntax::Seq;
 use std::alloc::{AllocError, Global};
 use std::marker::Model;
@@ -45,6 +48,42 @@ impl Drop for PathEntry {
     }
 }
 
+/// What is said of a call of a macro.
+#[derive(Drop)]
+pub enum MacroAnswer {
+    Unresolved(ModPath),
+    NoExpansion,
+    Expanded {
+        file: HirFileId,
+        root: Option<Fragment>,
+        eager: Seq<(InFile<NodeId>, HirFileId)>,
+    },
+}
+
+/// What is said of the call at a node.
+#[derive(Drop)]
+pub struct MacroEntry {
+    pub call: InFile<NodeId>,
+    pub answer: MacroAnswer,
+}
+
+/// The macro of a name in a module.
+#[derive(Drop)]
+pub struct DefEntry {
+    pub inside: ModuleId,
+    pub name: Name,
+    pub def: MacroDefId,
+}
+
+/// The macro that `macro_rules` has defined, of which so many others of its name stand before it.
+#[derive(Drop)]
+pub struct LegacyEntry {
+    pub inside: ModuleId,
+    pub name: Name,
+    pub place: u32,
+    pub def: MacroDefId,
+}
+
 /// An environment that answers all from tables. A node that stands in none is enabled, has root hygiene and no
 /// block. A name's context has the number of its hygiene. A context that stands in no table was made in the root, has
 /// the hygiene of its own number, came from no macro, and its crate has no root. A path that stands in none stands for
@@ -61,6 +100,10 @@ pub struct TableEnv {
     paths: Seq<PathEntry>,
     lang_items: LangItems,
     new_range: bool,
+    macros: Seq<MacroEntry>,
+    macro_defs: Seq<DefEntry>,
+    legacy: Seq<LegacyEntry>,
+    limit: u32,
 }
 
 impl Drop for TableEnv {
@@ -76,6 +119,10 @@ impl Drop for TableEnv {
             paths: _,
             lang_items: _,
             new_range: _,
+            macros: _,
+            macro_defs: _,
+            legacy: _,
+            limit: _,
         } = self;
     }
 }
@@ -83,7 +130,16 @@ impl Drop for TableEnv {
 impl Model for TableEnv {
     ghost use Rattle.hir_env.specs.Tables.{Tables};
 
+    ghost use Rattle.std.specs.Coded.{codes};
+    ghost use Rattle.hir_syntax.specs.contracts.ast.Expr as expr_tree;
+    ghost use Rattle.hir_syntax.specs.contracts.ast.Stmt as stmt_tree;
+    ghost use Rattle.hir_syntax.specs.contracts.pats.Pat as pat_tree;
+    ghost use Rattle.hir_syntax.specs.contracts.types.Type_ as type_tree;
+
     ghost Value = { Tables };
+
+    ghost coded = { Prim.hlevel (codes, expr_tree.the_row.coded, stmt_tree.the_row.coded, pat_tree.the_row.coded,
+        type_tree.the_row.coded) };
 
     ghost view = { λ t. record {
       disabled = t.disabled;
@@ -96,6 +152,10 @@ impl Model for TableEnv {
       paths = t.paths;
       lang_items = t.lang_items;
       new_range = t.new_range;
+      macros = t.macros;
+      macro_defs = t.macro_defs;
+      legacy = t.legacy;
+      limit = t.limit;
     } };
 }
 
@@ -116,6 +176,10 @@ impl TableEnv {
             paths: Seq::new(alloc),
             lang_items: LangItems::numbered(),
             new_range: false,
+            macros: Seq::new(alloc),
+            macro_defs: Seq::new(alloc),
+            legacy: Seq::new(alloc),
+            limit: 16,
         }
     }
 
@@ -213,6 +277,51 @@ impl TableEnv {
         self.lang_items = items;
     }
 
+    /// Says what the call at a node is expanded to.
+    pub fn set_macro(&mut self, call: InFile<NodeId>, answer: MacroAnswer) -> Result<(), AllocError>
+        ensures ok { OnOk result (self.new ≡ record self.old {
+            macros = self.old.macros ++ spec.macro_entry call answer ∷ [] }) }
+        ensures err { OnErr result (self.new ≡ self.old) }
+    {
+        self.macros.push(MacroEntry { call, answer })
+    }
+
+    /// Gives a macro of a module its number.
+    pub fn set_macro_def(
+        &mut self,
+        inside: ModuleId,
+        name: Name,
+        def: MacroDefId,
+    ) -> Result<(), AllocError>
+        ensures ok { OnOk result (self.new ≡ record self.old {
+            macro_defs = self.old.macro_defs ++ spec.def_entry inside name def ∷ [] }) }
+        ensures err { OnErr result (self.new ≡ self.old) }
+    {
+        self.macro_defs.push(DefEntry { inside, name, def })
+    }
+
+    /// Gives a macro that `macro_rules` has defined its number.
+    pub fn set_legacy(
+        &mut self,
+        inside: ModuleId,
+        name: Name,
+        place: u32,
+        def: MacroDefId,
+    ) -> Result<(), AllocError>
+        ensures ok { OnOk result (self.new ≡ record self.old {
+            legacy = self.old.legacy ++ spec.legacy_entry inside name place def ∷ [] }) }
+        ensures err { OnErr result (self.new ≡ self.old) }
+    {
+        self.legacy.push(LegacyEntry { inside, name, place, def })
+    }
+
+    /// Says how many calls may be entered one in the other.
+    pub fn set_limit(&mut self, limit: u32)
+        ensures { self.new ≡ record self.old { limit = limit } }
+    {
+        self.limit = limit;
+    }
+
     /// Says whether ranges are made as the newer items.
     pub fn set_new_range(&mut self, new_range: bool)
         ensures { self.new ≡ record self.old { new_range = new_range } }
@@ -233,6 +342,32 @@ fn entry_of<'a>(entries: &'a [PathEntry], inside: ModuleId, path: &ModPath) -> O
     ensures { option_copied result ≡ find (spec.says_of inside path.now) entries.now }
 {
     entries.iter().find(|entry| entry.inside == inside && same_path(&entry.path, path))
+}
+
+/// What is said first of the call at the node.
+fn macro_entry(entries: &[MacroEntry], call: InFile<NodeId>) -> Option<&MacroEntry>
+    ensures { option_copied result ≡ find (spec.calls call) entries.now }
+{
+    entries.iter().find(|entry| entry.call == call)
+}
+
+fn def_entry<'a>(entries: &'a [DefEntry], inside: ModuleId, name: &Name) -> Option<&'a DefEntry>
+    ensures { option_copied result ≡ find (spec.names_def inside name.now) entries.now }
+{
+    entries.iter().find(|entry| entry.inside == inside && entry.name == *name)
+}
+
+fn legacy_entry<'a>(
+    entries: &'a [LegacyEntry],
+    inside: ModuleId,
+    name: &Name,
+    place: u32,
+) -> Option<&'a LegacyEntry>
+    ensures { option_copied result ≡ find (spec.names_legacy inside name.now place) entries.now }
+{
+    entries
+        .iter()
+        .find(|entry| entry.inside == inside && (entry.name == *name && entry.place == place))
 }
 
 impl LowerEnv for TableEnv {
@@ -317,5 +452,42 @@ impl LowerEnv for TableEnv {
 
     fn new_range(&self, _inside: ModuleId) -> bool {
         self.new_range
+    }
+
+    fn expand(
+        &self,
+        node: InFile<NodeId>,
+        _call: &ast::MacroCall,
+        _inside: ModuleId,
+        _kind: FragmentKind,
+    ) -> Expansion<'_> {
+        match macro_entry(self.macros.as_slice(), node) {
+            None => Expansion::NoExpansion,
+            Some(entry) => match &entry.answer {
+                MacroAnswer::Unresolved(path) => Expansion::Unresolved(path),
+                MacroAnswer::NoExpansion => Expansion::NoExpansion,
+                MacroAnswer::Expanded { file, root, eager } => {
+                    Expansion::Expanded(*file, root.as_ref(), eager.as_slice())
+                }
+            },
+        }
+    }
+
+    fn macro_def(&self, inside: ModuleId, name: &Name) -> Option<MacroDefId> {
+        match def_entry(self.macro_defs.as_slice(), inside, name) {
+            Some(entry) => Some(entry.def),
+            None => None,
+        }
+    }
+
+    fn legacy_macro(&self, inside: ModuleId, name: &Name, place: u32) -> Option<MacroDefId> {
+        match legacy_entry(self.legacy.as_slice(), inside, name, place) {
+            Some(entry) => Some(entry.def),
+            None => None,
+        }
+    }
+
+    fn expansion_limit(&self) -> u32 {
+        self.limit
     }
 }

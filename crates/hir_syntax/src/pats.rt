@@ -1,6 +1,7 @@
 //! Patterns.
 
 use crate::ast::{Literal, Name, Path};
+use crate::macros::MacroCall;
 use hir_base::node::{NodeId, PredId, TextRange};
 use hir_base::op::RangeOp;
 use hir_base::{Boxed, Seq};
@@ -101,6 +102,9 @@ pub enum PatKind {
     },
     CfgPredPat {
         pred: Option<PredId>,
+    },
+    MacroPat {
+        call: Option<MacroCall>,
     },
     WildcardPat,
     RestPat,

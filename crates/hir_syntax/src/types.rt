@@ -1,6 +1,7 @@
 //! Types, and the arguments and bounds in them.
 
 use crate::ast::{ConstArg, Lifetime, Name, Path};
+use crate::macros::MacroCall;
 use crate::pats::Pat;
 use hir_base::node::{NodeId, TextRange};
 use hir_base::{Boxed, Seq, Text};
@@ -73,6 +74,9 @@ pub enum TypeKind {
     PatternType {
         ty: Option<Boxed<Type_>>,
         pat: Option<Boxed<Pat>>,
+    },
+    MacroType {
+        call: Option<MacroCall>,
     },
     NeverType,
     InferType,
