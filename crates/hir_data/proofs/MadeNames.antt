@@ -93,6 +93,7 @@ mutual
   pattern_unmade (tree.or_pat at (tree.more_pats p tree.no_pats)) us = pattern_unmade p us
   pattern_unmade (tree.or_pat at (tree.more_pats p (tree.more_pats q ps))) us = plain refl refl
   pattern_unmade (tree.paren_pat at p) us = part_unmade p us
+  pattern_unmade (tree.macro_pat at called p) us = part_unmade p us
   pattern_unmade (tree.slice_pat at before middle behind) us = plain refl refl
   pattern_unmade (tree.over_pat at form p) us = unary_unmade at form (pattern_part_data p us)
   pattern_unmade (tree.literal_pat at own l) us = plain refl refl

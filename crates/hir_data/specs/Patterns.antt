@@ -111,6 +111,7 @@ abbrev mutual
   uses_after (tree.record_pat at p fs dots) us = if_path (path_of p) (λ _. uses_after_fields fs us) us
   uses_after (tree.or_pat at ps) us = uses_after_each ps us
   uses_after (tree.paren_pat at p) us = uses_after_part p us
+  uses_after (tree.macro_pat at called p) us = uses_after_part p us
   uses_after (tree.slice_pat at before middle behind) us =
       uses_after_each behind (uses_after_part middle (uses_after_each before us))
   uses_after (tree.over_pat at form p) us = uses_after_part p us
@@ -152,6 +153,7 @@ abbrev mutual
       (λ d. pat_at (Some at) (datum.record_pattern d (fields_data fs us) dots)) absent_pattern
   pattern_data (tree.or_pat at ps) us = alternatives_data at (patterns_data ps us)
   pattern_data (tree.paren_pat at p) us = pattern_part_data p us
+  pattern_data (tree.macro_pat at called p) us = pattern_part_data p us
   pattern_data (tree.slice_pat at before middle behind) us =
       let between = uses_after_each before us in
       let past = uses_after_part middle between in
@@ -201,6 +203,7 @@ abbrev mutual
   uses_of (tree.record_pat at p fs dots) us = product (if_path (path_of p) (λ _. field_uses fs us) no_parts)
   uses_of (tree.or_pat at ps) us = alternatives (each_uses ps us)
   uses_of (tree.paren_pat at p) us = part_uses p us
+  uses_of (tree.macro_pat at called p) us = part_uses p us
   uses_of (tree.slice_pat at before middle behind) us =
       let between = uses_after_each before us in
       let past = uses_after_part middle between in

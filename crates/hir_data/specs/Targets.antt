@@ -30,6 +30,7 @@ abbrev mutual
   pub target_data : Target → PatData
   target_data tree.absent_target = absent_pattern
   target_data (tree.place_target at e) = pat_at (Some at) datum.place_pattern
+  target_data (tree.macro_target at called t) = target_data t
   target_data (tree.wild_target at) = pat_at (Some at) datum.wild_pattern
   target_data (tree.path_target at p h) = pat_at (Some at) (path_target_of (path_of (tree.some_path p)) h)
   target_data (tree.tuple_target at ts) = pat_at (Some at) (datum.tuple_pattern (target_dots ts) (targets_data ts))

@@ -23,7 +23,7 @@ params_tops (tree.more_params (tree.param p t) ps) = p ∷ params_tops ps
 
 abbrev mutual
   pub expr_tops : Expr → Tops
-  expr_tops (tree.disabled_expr at by e) = []
+  expr_tops (tree.disabled_expr why e) = []
   expr_tops (tree.if_expr at c t e) = block_part_tops t ++ (tops_of e ++ tops_of c)
   expr_tops (tree.block_expr b) = block_tops b
   expr_tops (tree.loop_expr at label _ b) = block_part_tops b
@@ -38,6 +38,7 @@ abbrev mutual
   expr_tops (tree.continue_expr at jump) = []
   expr_tops (tree.break_expr at jump e) = tops_of e
   expr_tops (tree.paren_expr at e) = tops_of e
+  expr_tops (tree.macro_expr at called e) = tops_of e
   expr_tops (tree.literal_expr at l) = []
   expr_tops (tree.leaf_expr at form) = []
   expr_tops (tree.unary_expr at form e) = tops_of e
@@ -103,12 +104,14 @@ abbrev mutual
   stmts_tops (tree.more_stmts (tree.disabled_stmt at by s) ss) = stmts_tops ss
   stmts_tops (tree.more_stmts (tree.expr_stmt e semi) ss) = tops_of e ++ stmts_tops ss
   stmts_tops (tree.more_stmts tree.item_stmt ss) = stmts_tops ss
+  stmts_tops (tree.more_stmts (tree.call_stmt c) ss) = stmts_tops ss
   stmts_tops (tree.more_stmts (tree.let_stmt p t e b) ss) = (p ∷ (tops_of e ++ block_part_tops b)) ++ stmts_tops ss
 
   pub target_tops : Target → Tops
   target_tops tree.absent_target = []
   target_tops (tree.place_target at e) = expr_tops e
   target_tops (tree.wild_target at) = []
+  target_tops (tree.macro_target at called t) = target_tops t
   target_tops (tree.path_target at p h) = []
   target_tops (tree.tuple_target at ts) = targets_tops ts
   target_tops (tree.call_target at p ts) = tops_if_read (path_of p) (targets_tops ts)

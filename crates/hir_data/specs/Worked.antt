@@ -230,12 +230,12 @@ is_long at array t length = type_data None array ≡ datum.typed (Some at) (datu
 
 -- `[T; a]`, `[T; (a)]`, `[T; ]`, the first with a disabled length, and `[T; crate::crate { .. }]`
 abbrev pub LengthsBySites : Type 0
-LengthsBySites = (at here around : Pointer) (t : Type_) (p : OptionPath) (h : HygieneId) (by : CfgId)
+LengthsBySites = (at here around : Pointer) (t : Type_) (p : OptionPath) (h : HygieneId) (why : Gone)
     (head : RecordHead) (fs : Fields) (s : Spread)
     → is_long at (array_of at (tree.some_expr (tree.path_expr here p h)) t) t (Some (site_of here))
     × is_long at (array_of at (tree.some_expr (tree.paren_expr around (tree.some_expr (tree.path_expr here p h)))) t) t
     (Some (site_of here))
     × is_long at (array_of at tree.no_expr t) t None
-    × is_long at (array_of at (tree.some_expr (tree.disabled_expr around by (tree.path_expr here p h))) t) t None
+    × is_long at (array_of at (tree.some_expr (tree.disabled_expr why (tree.path_expr here p h))) t) t None
     × is_long at (array_of at
     (tree.some_expr (tree.record_expr here (whole tree.crate_segment (tree.crate_segment ∷ [])) head fs s)) t) t None

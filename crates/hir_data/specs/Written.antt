@@ -16,7 +16,7 @@ use Rattle.hir_env.specs.declared.place.ImplTrait.TheVariants.{Error, Opaque}
 use Rattle.hir_env.specs.Answered as tree
 use Rattle.hir_env.specs.Answered.{Lifetime, Binder, UseRead, TypeLeaf, TypeUnary, Type_, OptionType, Parts, Path, OptionPath}
 use Rattle.hir_env.specs.Answered.{Segments, Segment, SegmentArgs, OptionParens, OptionRet, OptionArgs, Args, Arg, Bounds, Bound}
-use Rattle.hir_env.specs.Answered.{Constant, Expr, OptionExpr, Block, Side, Limit, TypePat, OptionTypePat, TypePats, Signed}
+use Rattle.hir_env.specs.Answered.{Constant, Called, Expr, OptionExpr, Block, Side, Limit, TypePat, OptionTypePat, TypePats, Signed}
 use Rattle.hir_env.specs.NodeMap.{Site}
 use Rattle.hir_env.specs.Spot.{site_of}
 use Rattle.hir_data.specs.Data as datum
@@ -60,6 +60,11 @@ unit_data = typed None (datum.tuple_shape datum.no_types)
 
 abbrev pub absent_data : TypeData
 absent_data = typed None datum.error_shape
+
+-- the node of an error in place of a call that stands for no type
+abbrev pub call_source : Pointer → Called → Option Pointer
+call_source at tree.callless = Some at
+call_source at _ = None
 
 -- ---- what is absent or refused
 
@@ -148,6 +153,9 @@ abbrev mutual
   -- two the inner does.
   pub type_data : Option Binder → Type_ → TypeData
   type_data b (tree.paren_type t) = part_data b t
+  -- what isn't there is an error, from the node of a call that the text lacks alone
+  type_data b (tree.macro_type at called tree.no_type) = typed (call_source at called) datum.error_shape
+  type_data b (tree.macro_type at called (tree.some_type t)) = type_data b t
   type_data b (tree.for_type binder t) = part_data (Some binder) t
   type_data b (tree.leaf_type at l) = typed (Some at) (leaf_shape l)
   type_data b (tree.over_type at u t) = typed (Some at) (unary_shape u (part_data None t))
@@ -276,6 +284,7 @@ abbrev mutual
 
   pub type_pat_data : TypePat → PatData
   type_pat_data (tree.not_null_type_pat at) = pat_at (Some at) datum.not_null_pattern
+  type_pat_data (tree.macro_type_pat at called p) = type_pat_part_data p
   type_pat_data (tree.or_type_pat at ps) = pat_at (Some at) (datum.or_pattern (type_pats_data ps))
   type_pat_data (tree.range_type_pat at start end) =
       pat_at (Some at) (datum.range_pattern Inclusive (datum.some_side (limit_data start)) (datum.some_side (limit_data end)))
@@ -314,8 +323,11 @@ abbrev mutual
 
   -- parentheses become what is in them
   pub expr_site : Expr → Option Site
-  expr_site (tree.disabled_expr at by e) = None
+  expr_site (tree.disabled_expr why e) = None
   expr_site (tree.paren_expr at e) = part_site e
+  -- what a call doesn't stand for is missing at the call
+  expr_site (tree.macro_expr at called tree.no_expr) = Some (site_of at)
+  expr_site (tree.macro_expr at called (tree.some_expr e)) = expr_site e
   expr_site (tree.block_expr b) = block_site b
   expr_site (tree.record_expr at p head fs s) = record_site at (path_of p)
   expr_site (tree.if_expr at c t e) = Some (site_of at)

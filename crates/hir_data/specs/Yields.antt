@@ -14,7 +14,7 @@ yields_if_read (Some p) y = y
 
 abbrev mutual
   pub expr_yields : Expr → Bool
-  expr_yields (tree.disabled_expr at by e) = false
+  expr_yields (tree.disabled_expr why e) = false
   expr_yields (tree.if_expr at c t e) = block_part_yields t || (yields_in e || yields_in c)
   expr_yields (tree.block_expr b) = block_yields b
   expr_yields (tree.loop_expr at label _ b) = block_part_yields b
@@ -29,6 +29,7 @@ abbrev mutual
   expr_yields (tree.continue_expr at jump) = false
   expr_yields (tree.break_expr at jump e) = yields_in e
   expr_yields (tree.paren_expr at e) = yields_in e
+  expr_yields (tree.macro_expr at called e) = yields_in e
   expr_yields (tree.literal_expr at l) = false
   expr_yields (tree.leaf_expr at form) = false
   expr_yields (tree.unary_expr at form e) = yields_in e
@@ -94,12 +95,14 @@ abbrev mutual
   stmts_yields (tree.more_stmts (tree.disabled_stmt at by s) ss) = stmts_yields ss
   stmts_yields (tree.more_stmts (tree.expr_stmt e semi) ss) = yields_in e || stmts_yields ss
   stmts_yields (tree.more_stmts tree.item_stmt ss) = stmts_yields ss
+  stmts_yields (tree.more_stmts (tree.call_stmt c) ss) = stmts_yields ss
   stmts_yields (tree.more_stmts (tree.let_stmt p t e b) ss) = (yields_in e || block_part_yields b) || stmts_yields ss
 
   pub target_yields : Target → Bool
   target_yields tree.absent_target = false
   target_yields (tree.place_target at e) = expr_yields e
   target_yields (tree.wild_target at) = false
+  target_yields (tree.macro_target at called t) = target_yields t
   target_yields (tree.path_target at p h) = false
   target_yields (tree.tuple_target at ts) = targets_yields ts
   target_yields (tree.call_target at p ts) = yields_if_read (path_of p) (targets_yields ts)

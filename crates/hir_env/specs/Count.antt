@@ -193,7 +193,6 @@ abbrev mutual
   count_stmt (tree.expr_stmt e semi) = count_option_expr e
   count_stmt tree.item_stmt = 0
   count_stmt (tree.call_stmt c) = 1
-  count_stmt (tree.macro_stmt k d) = 0
   count_stmt (tree.let_stmt p t e b) = count_option_pat p + (count_option_type t + (count_option_expr e + count_option_block b))
 
   pub count_pat : Pat → ℕ

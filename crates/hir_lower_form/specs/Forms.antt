@@ -35,9 +35,9 @@ use Rattle.hir_store.specs.declared.ids.PatId.{PatId}
 use Rattle.hir_store.specs.declared.ids.TypeRefId.{TypeRefId}
 use Rattle.hir_store.specs.declared.type_ref.ConstRef.{ConstRef}
 use Rattle.hir_store.specs.declared.diagnostics.AwaitLocation.{AwaitLocation}
-use Rattle.hir_store.specs.declared.diagnostics.ExpressionStoreDiagnostics.TheVariants.{InactiveCode}
 use Rattle.hir_env.specs.Answered as tree
-use Rattle.hir_env.specs.Answered.{Leaf, Unary, Binary, Leaving, Listing, Label, Jump, Expr}
+use Rattle.hir_env.specs.Answered.{Called, Leaf, Unary, Binary, Leaving, Listing, Label, Jump, Expr}
+use Rattle.hir_lower_form.specs.Calls.{note_gone, told}
 use Rattle.hir_lower_form.specs.Lowering.{Lowering, ◌>>=◌, ◌>>◌, pure, alloc_expr, point, point_field, report, enter_block}
 use Rattle.hir_lower_form.specs.Lowering.{report_await, note_yield, open_label, open_barrier, close, close_barrier, jump_target}
 use Rattle.hir_lower_form.specs.Lowering.{enter_root, leave_root}
@@ -280,6 +280,14 @@ paren_form at inner = do
   point at id
   pure id
 
+-- a call that stands for no expression is missing
+unfoldable pub uncalled_form : Pointer → Called → ExprSteps
+uncalled_form at called = told called >> alloc_expr hir.Missing (Some at)
+
+-- the call leads to what it stands for
+unfoldable pub called_form : Pointer → Called → ExprSteps → ExprSteps
+called_form at called inner = told called >> paren_form at inner
+
 unfoldable pub path_form : Pointer → HygieneId → Lowering (Option HirPath) → ExprSteps
 path_form at h path = do
   p ← path
@@ -339,10 +347,10 @@ labelled (Some l) f = do
   close
   pure x
 
--- the expression, where no condition disables it
+-- the expression, where something is left of it
 abbrev pub kept : Expr → ExprSteps → Lowering (Option ExprId)
-kept (tree.disabled_expr at by e) node = do
-  report (InactiveCode at by)
+kept (tree.disabled_expr why e) node = do
+  note_gone why
   pure None
 kept e node = some node
 

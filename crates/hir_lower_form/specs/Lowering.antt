@@ -1,6 +1,8 @@
 -- The steps of lowering: each answers a value, or is refused because an arena is full, and leaves what is stored by then.
 use Rattle.std.specs.Prelude.{◌≡◌, ◌≢◌, ◌⊎◌, ◌^◌, ℕ, suc, nat_lt, if◌then◌else◌}
 use Rattle.std.specs.Prelude.{Bool, true, false, [], ◌∷◌, length, Option, Some, None, option_map, Ok, Err}
+use Rattle.hir_base.specs.declared.node.HirFileId.{HirFileId}
+use Rattle.hir_base.specs.declared.node.TextRange.{TextRange}
 use Rattle.hir_store.specs.Pointers.{Pointer}
 use Rattle.hir_store.specs.Stored.{Stored}
 use Rattle.hir_store.specs.Bindings.{binding_id}
@@ -33,6 +35,7 @@ use Rattle.hir_scope.specs.Ribs.{Try, innermost_try_rib}
 use Rattle.hir_lower_scope.specs.declared.labels.NoTarget.{NoTarget}
 use Rattle.hir_lower_scope.specs.declared.labels.NoTarget.TheVariants as no
 use Rattle.hir_lower_scope.specs.Labels.{rest}
+use Rattle.hir_env.specs.NodeMap.{Site}
 use Rattle.hir_env.specs.Answered.{Label, Jump}
 use Rattle.hir_lower_form.specs.Builder.{Builder}
 
@@ -115,8 +118,15 @@ point_pat node id = stored (storing.point_pat node id)
 unfoldable pub point_pat_field : PatId → Pointer → Lowering (Unit {0})
 point_pat_field id node = stored (storing.point_pat_field id node)
 
+unfoldable pub point_type : Pointer → TypeRefId → Lowering (Unit {0})
+point_type node id = stored (storing.point_type node id)
+
 unfoldable pub report : ExpressionStoreDiagnostics → Lowering (Unit {0})
 report fault = stored (storing.report fault)
+
+-- a call of a macro that was expanded to this file
+unfoldable pub record_expansion : Site → Option TextRange → HirFileId → Lowering (Unit {0})
+record_expansion call range file = stored (storing.record_expansion (record { call = call; range = range; file = file }))
 
 -- what awaits stands in this, which isn't async
 unfoldable pub report_await : Pointer → Option AwaitLocation → Lowering (Unit {0})

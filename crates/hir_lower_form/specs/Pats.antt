@@ -25,9 +25,10 @@ use Rattle.hir_store.specs.declared.path.Path.{Path as HirPath}
 use Rattle.hir_store.specs.declared.path.Path.TheVariants.{BarePath}
 use Rattle.hir_store.specs.declared.path.PathKind.TheVariants as kind
 use Rattle.hir_env.specs.Answered as tree
-use Rattle.hir_env.specs.Answered.{Pat, PatLeaf, PatUnary, Signed, Use}
+use Rattle.hir_env.specs.Answered.{Called, Pat, PatLeaf, PatUnary, Signed, Use}
 use Rattle.hir_lower_form.specs.Lowering.{Lowering, ◌>>=◌, ◌>>◌, pure, alloc_binding, alloc_expr, alloc_pat, count_out, define}
-use Rattle.hir_lower_form.specs.Lowering.{point_pat_field, set_problem}
+use Rattle.hir_lower_form.specs.Lowering.{point_pat, point_pat_field, set_problem}
+use Rattle.hir_lower_form.specs.Calls.{told}
 use Rattle.hir_lower_form.specs.Forms.{root_hygiene}
 
 -- ---- names
@@ -131,6 +132,19 @@ missing_pat = alloc_pat pat.Missing None
 -- what no written pattern is stays missing, from no node
 abbrev pub unwritten_pattern : Lowering PatId
 unwritten_pattern = missing_pat
+
+-- the call leads to what it stands for
+unfoldable pub called_pat_form : {A : Type 0} → Pointer → Called → (A → PatId) → Lowering A → Lowering A
+called_pat_form at called pat_in inner = do
+  told called
+  r ← inner
+  point_pat at (pat_in r)
+  pure r
+
+-- a call that the text lacks is missing without a way to it
+abbrev pub uncalled_pat : Pointer → Called → Lowering PatId
+uncalled_pat at tree.callless = unwritten_pattern
+uncalled_pat at called = called_pat_form at called (λ i. i) unwritten_pattern
 
 -- what no written side of a range is stays absent
 abbrev pub unwritten_side : Lowering (Option ExprId)

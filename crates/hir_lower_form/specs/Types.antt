@@ -25,9 +25,10 @@ use Rattle.hir_store.specs.declared.type_ref.TraitBoundModifier.TheVariants as m
 use Rattle.hir_env.specs.declared.place.ImplTrait.{ImplTrait}
 use Rattle.hir_env.specs.declared.place.ImplTrait.TheVariants as becomes
 use Rattle.hir_env.specs.Answered as tree
-use Rattle.hir_env.specs.Answered.{Binder, FnHead, Lifetime, TypeLeaf, TypeUnary, UseRead}
+use Rattle.hir_env.specs.Answered.{Binder, Called, FnHead, Lifetime, TypeLeaf, TypeUnary, UseRead}
 use Rattle.hir_lower_form.specs.declared.args.ArgLists.{ArgLists}
-use Rattle.hir_lower_form.specs.Lowering.{Lowering, ◌>>=◌, pure, alloc_type, alloc_lifetime}
+use Rattle.hir_lower_form.specs.Calls.{told}
+use Rattle.hir_lower_form.specs.Lowering.{Lowering, ◌>>=◌, ◌>>◌, pure, alloc_type, alloc_lifetime, point_type}
 use Rattle.hir_lower_form.specs.Paths.{or_notation}
 
 -- steps that make a type
@@ -40,6 +41,20 @@ error_type = alloc_type ty.Error None
 
 unfoldable pub unit_type : TypeSteps
 unit_type = alloc_type (ty.Tuple []) None
+
+-- the call leads to what it stands for
+unfoldable pub called_type_form : Pointer → Called → TypeSteps → TypeSteps
+called_type_form at called inner = do
+  told called
+  id ← inner
+  point_type at id
+  pure id
+
+-- A call that the text lacks is an error at its own node; the node of another one that stands for no type leads
+-- to an error that comes from none.
+abbrev pub uncalled_type : Pointer → Called → TypeSteps
+uncalled_type at tree.callless = alloc_type ty.Error (Some at)
+uncalled_type at called = called_type_form at called error_type
 
 -- ---- lifetimes
 
