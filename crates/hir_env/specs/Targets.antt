@@ -144,13 +144,9 @@ module _ (is_found : Path → Bool) where
     target_or place (tree.path_expr at p h) = path_or place at p h
     target_or place (tree.record_expr at p head fs s) =
         if head.has_list then tree.record_target at p (target_fields fs) head.has_dots (spread_pointer s) else place
-    target_or place (tree.macro_expr at called e) = tree.macro_target at called (target_in e)
+    -- calls aren't entered yet in what is assigned to
+    target_or place (tree.macro_expr at called e) = tree.macro_target at tree.unentered tree.absent_target
     target_or place _ = place
-
-    -- what a call stands for
-    pub target_in : OptionExpr → Target
-    target_in tree.no_expr = tree.absent_target
-    target_in (tree.some_expr e) = target_or (place_of e) e
 
     -- of a tuple or a call
     pub elements : Exprs → Targets
