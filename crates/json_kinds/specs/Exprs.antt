@@ -186,6 +186,11 @@ expr_row kind.CfgPredExpr = record {
   groups = group.Expr ∷ [];
   fields = (codes "pred" ∶ sort.Number) ∷ [];
 }
+expr_row kind.MacroExpr = record {
+  word = codes "MacroExpr";
+  groups = group.Expr ∷ [];
+  fields = (codes "call" ∶ sort.Part group.MacroCall) ∷ [];
+}
 expr_row kind.UnderscoreExpr = record { word = codes "UnderscoreExpr"; groups = group.Expr ∷ []; fields = [] }
 expr_row kind.IncludeBytesExpr = record { word = codes "IncludeBytesExpr"; groups = group.Expr ∷ []; fields = [] }
 expr_row kind.AsmExpr = record { word = codes "AsmExpr"; groups = group.Expr ∷ []; fields = [] }

@@ -65,6 +65,16 @@ part_row kind.RecordPatField = record {
   groups = group.PatField ∷ [];
   fields = (codes "name" ∶ sort.Part group.Name) ∷ (codes "pat" ∶ sort.Part group.Pat) ∷ [];
 }
+part_row kind.MacroCall = record {
+  word = codes "MacroCall";
+  groups = group.MacroCall ∷ [];
+  fields = (codes "path" ∶ sort.Part group.Path) ∷ [];
+}
+part_row kind.MacroStmts = record {
+  word = codes "MacroStmts";
+  groups = group.MacroStmts ∷ [];
+  fields = (codes "stmts" ∶ sort.List group.Stmt) ∷ (codes "expr" ∶ sort.Part group.Expr) ∷ [];
+}
 part_row kind.Param = record {
   word = codes "Param";
   groups = group.Param ∷ [];

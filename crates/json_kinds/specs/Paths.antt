@@ -12,7 +12,7 @@ path_row kind.Path = record {
   word = codes "Path";
   groups = group.Path ∷ [];
   fields = (codes "leading" ∶ sort.Flag)
-      ∷ (codes "in_macro" ∶ sort.NotYet)
+      ∷ (codes "in_macro" ∶ sort.Flag)
       ∷ (codes "use" ∶ sort.Part group.Path)
       ∷ (codes "segs" ∶ sort.ListWithNulls group.Segment)
       ∷ [];

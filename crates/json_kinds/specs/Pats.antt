@@ -94,6 +94,11 @@ pat_row kind.CfgPredPat = record {
   groups = group.Pat ∷ [];
   fields = (codes "pred" ∶ sort.Number) ∷ [];
 }
+pat_row kind.MacroPat = record {
+  word = codes "MacroPat";
+  groups = group.Pat ∷ [];
+  fields = (codes "call" ∶ sort.Part group.MacroCall) ∷ [];
+}
 pat_row kind.WildcardPat = record { word = codes "WildcardPat"; groups = group.Pat ∷ []; fields = [] }
 pat_row kind.RestPat = record { word = codes "RestPat"; groups = group.Pat ∷ []; fields = [] }
 pat_row kind.NotNullPat = record { word = codes "NotNullPat"; groups = group.Pat ∷ []; fields = [] }

@@ -21,4 +21,14 @@ stmt_row kind.ExprStmt = record {
   groups = group.Stmt ∷ [];
   fields = (codes "expr" ∶ sort.Part group.Expr) ∷ (codes "semi" ∶ sort.Flag) ∷ [];
 }
+stmt_row kind.MacroRules = record {
+  word = codes "MacroRules";
+  groups = group.Stmt ∷ [];
+  fields = (codes "name" ∶ sort.Part group.Name) ∷ [];
+}
+stmt_row kind.MacroDef = record {
+  word = codes "MacroDef";
+  groups = group.Stmt ∷ [];
+  fields = (codes "name" ∶ sort.Part group.Name) ∷ [];
+}
 stmt_row kind.Item = record { word = codes "Item"; groups = group.Stmt ∷ []; fields = [] }

@@ -121,6 +121,11 @@ abbrev pub type_parts : List Kind
 type_parts = kind.Path path.ParenArgs ∷ kind.Part part.TypeBound ∷ kind.Part part.ForBinder ∷ kind.Part part.RetType
     ∷ kind.Part part.Param ∷ []
 
+-- calls of macros, definitions of macros, and what a call may be expanded to
+abbrev pub macros : List Kind
+macros = kind.Expr expr.MacroExpr ∷ kind.Pat pat.MacroPat ∷ kind.Type_ type.MacroType ∷ kind.Part part.MacroCall
+    ∷ kind.Part part.MacroStmts ∷ kind.Stmt stmt.MacroRules ∷ kind.Stmt stmt.MacroDef ∷ []
+
 -- all other kinds
 abbrev pub others : List Kind
 others = kind.Stmt stmt.ExprStmt ∷ kind.Stmt stmt.Item ∷ kind.Part part.SelfParam ∷ kind.Part part.ParamList
@@ -141,7 +146,7 @@ abbrev pub type_of : List ℕ → Option Kind
 type_of t = or_else (kind_with types t) (kind_with other_types t)
 
 abbrev pub other_of : List ℕ → Option Kind
-other_of t = or_else (kind_with paths t) (or_else (kind_with type_parts t) (kind_with others t))
+other_of t = or_else (kind_with paths t) (or_else (kind_with type_parts t) (or_else (kind_with macros t) (kind_with others t)))
 
 -- the kind with a word
 abbrev pub kind_of : List ℕ → Option Kind

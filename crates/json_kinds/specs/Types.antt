@@ -69,5 +69,10 @@ type_row kind.PatternType = record {
   groups = group.Type_ ∷ [];
   fields = (codes "ty" ∶ sort.Part group.Type_) ∷ (codes "pat" ∶ sort.Part group.Pat) ∷ [];
 }
+type_row kind.MacroType = record {
+  word = codes "MacroType";
+  groups = group.Type_ ∷ [];
+  fields = (codes "call" ∶ sort.Part group.MacroCall) ∷ [];
+}
 type_row kind.NeverType = record { word = codes "NeverType"; groups = group.Type_ ∷ []; fields = [] }
 type_row kind.InferType = record { word = codes "InferType"; groups = group.Type_ ∷ []; fields = [] }

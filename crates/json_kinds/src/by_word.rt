@@ -124,6 +124,22 @@ fn other_pats(word: &str) -> Option<Kind>
     }
 }
 
+/// Calls of macros, definitions of macros, and what a call may be expanded to.
+fn macros(word: &str) -> Option<Kind>
+    ensures { result ≡ kind_with spec.macros word.now }
+{
+    match word {
+        "MacroExpr" => Some(Kind::Expr(ExprNode::MacroExpr)),
+        "MacroPat" => Some(Kind::Pat(PatNode::MacroPat)),
+        "MacroType" => Some(Kind::Type_(TypeNode::MacroType)),
+        "MacroCall" => Some(Kind::Part(PartNode::MacroCall)),
+        "MacroStmts" => Some(Kind::Part(PartNode::MacroStmts)),
+        "MacroRules" => Some(Kind::Stmt(StmtNode::MacroRules)),
+        "MacroDef" => Some(Kind::Stmt(StmtNode::MacroDef)),
+        _ => None,
+    }
+}
+
 fn types(word: &str) -> Option<Kind>
     ensures { result ≡ kind_with spec.types word.now }
 {
@@ -241,6 +257,9 @@ fn other(word: &str) -> Option<Kind>
         return Some(kind);
     }
     if let Some(kind) = type_parts(word) {
+        return Some(kind);
+    }
+    if let Some(kind) = macros(word) {
         return Some(kind);
     }
     others(word)

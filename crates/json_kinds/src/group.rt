@@ -31,6 +31,8 @@ pub enum Group {
     ParamList,
     RecordList,
     RecordField,
+    MacroCall,
+    MacroStmts,
     Label,
     Lifetime,
     Name,

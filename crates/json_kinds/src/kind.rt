@@ -53,6 +53,7 @@ pub enum ExprNode {
     OffsetOfExpr,
     ClosureExpr,
     CfgPredExpr,
+    MacroExpr,
     UnderscoreExpr,
     IncludeBytesExpr,
     AsmExpr,
@@ -64,6 +65,8 @@ pub enum ExprNode {
 pub enum StmtNode {
     LetStmt,
     ExprStmt,
+    MacroRules,
+    MacroDef,
     Item,
 }
 
@@ -84,6 +87,7 @@ pub enum PatNode {
     LiteralPat,
     RangePat,
     CfgPredPat,
+    MacroPat,
     WildcardPat,
     RestPat,
     NotNullPat,
@@ -104,6 +108,7 @@ pub enum TypeNode {
     ImplTraitType,
     DynTraitType,
     PatternType,
+    MacroType,
     NeverType,
     InferType,
 }
@@ -133,6 +138,8 @@ pub enum PartNode {
     RecordExprFieldList,
     RecordExprField,
     RecordPatField,
+    MacroCall,
+    MacroStmts,
     Param,
     SelfParam,
     ParamList,

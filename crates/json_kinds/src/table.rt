@@ -18,8 +18,9 @@ use crate::field::Sort::{
 use crate::group::Group;
 use crate::group::Group::{
     Arm, Binder, Block, Bound, ConstArg, Else, Expr, Fn, GenericArg, GenericArgs, Guard, Label,
-    LetElse, Lifetime, Literal, Name, Param, ParamList, ParenArgs, Pat, PatField, Path, PathType,
-    RecordField, RecordList, Ret, Segment, SelfParam, Stmt, Type_, TypeArg, UseArg,
+    LetElse, Lifetime, Literal, MacroCall, MacroStmts, Name, Param, ParamList, ParenArgs, Pat,
+    PatField, Path, PathType, RecordField, RecordList, Ret, Segment, SelfParam, Stmt, Type_,
+    TypeArg, UseArg,
 };
 use crate::kind::{ExprNode, Kind, PartNode, PatNode, PathNode, StmtNode, TypeNode};
 use crate::words::Words;
@@ -62,6 +63,7 @@ macro_rules! exprs {
                 "static": Flag
             }
             CfgPredExpr [Expr] { "pred": Number }
+            MacroExpr [Expr] { "call": Part(MacroCall) }
             UnderscoreExpr [Expr] {  }
             IncludeBytesExpr [Expr] {  }
             AsmExpr [Expr] {  }
@@ -75,6 +77,8 @@ macro_rules! stmts {
         $use! { StmtNode $at;
             LetStmt [Stmt] { "pat": Part(Pat), "ty": Part(Type_), "init": Part(Expr), "else": Part(LetElse) }
             ExprStmt [Stmt] { "expr": Part(Expr), "semi": Flag }
+            MacroRules [Stmt] { "name": Part(Name) }
+            MacroDef [Stmt] { "name": Part(Name) }
             Item [Stmt] {  }
         }
     };
@@ -97,6 +101,7 @@ macro_rules! pats {
             LiteralPat [Pat] { "lit": Part(Literal), "minus": Flag }
             RangePat [Pat] { "op": WordIfThere(Words::RangeOps), "start": Part(Pat), "end": Part(Pat) }
             CfgPredPat [Pat] { "pred": Number }
+            MacroPat [Pat] { "call": Part(MacroCall) }
             WildcardPat [Pat] {  }
             RestPat [Pat] {  }
             NotNullPat [Pat] {  }
@@ -119,6 +124,7 @@ macro_rules! types {
             ImplTraitType [Type_] { "bounds": List(Bound) }
             DynTraitType [Type_] { "bounds": List(Bound) }
             PatternType [Type_] { "ty": Part(Type_), "pat": Part(Pat) }
+            MacroType [Type_] { "call": Part(MacroCall) }
             NeverType [Type_] {  }
             InferType [Type_] {  }
         }
@@ -128,7 +134,7 @@ macro_rules! types {
 macro_rules! paths {
     ($use:ident $at:expr) => {
         $use! { PathNode $at;
-            Path [Path] { "leading": Flag, "in_macro": NotYet, "use": Part(Path), "segs": ListWithNulls(Segment) }
+            Path [Path] { "leading": Flag, "in_macro": Flag, "use": Part(Path), "segs": ListWithNulls(Segment) }
             PathSegment [Segment] {
                 "seg": WordIfThere(Words::Segments), "name": Part(Name), "generics": Part(GenericArgs),
                 "parens": Part(ParenArgs), "ret": Part(Ret), "rtn": Flag, "ty": Part(Type_), "trait": Part(PathType)
@@ -161,6 +167,8 @@ macro_rules! parts {
             RecordExprFieldList [RecordList] { "fields": List(RecordField), "spread": Part(Expr), "dotdot": Flag }
             RecordExprField [RecordField] { "name": Part(Name), "expr": Part(Expr) }
             RecordPatField [PatField] { "name": Part(Name), "pat": Part(Pat) }
+            MacroCall [MacroCall] { "path": Part(Path) }
+            MacroStmts [MacroStmts] { "stmts": List(Stmt), "expr": Part(Expr) }
             Param [Param] { "pat": Part(Pat), "ty": Part(Type_), "variadic": Flag }
             SelfParam [SelfParam] { "name": Part(Name), "ref": Flag, "mut": Flag, "lifetime": Part(Lifetime), "ty": Part(Type_) }
             ParamList [ParamList] { "self": Part(SelfParam), "params": List(Param) }
