@@ -6,6 +6,8 @@ use Rattle.hir_syntax.specs.declared.branches.MatchArm.{MatchArm}
 use Rattle.hir_syntax.specs.declared.ast.Expr.{Expr}
 use Rattle.hir_syntax.specs.declared.ast.RecordExprFieldList.{RecordExprFieldList}
 use Rattle.hir_syntax.specs.declared.ast.RecordExprField.{RecordExprField}
+use Rattle.hir_syntax.specs.declared.macros.MacroCall.{MacroCall}
+use Rattle.hir_syntax.specs.declared.macros.MacroStmts.{MacroStmts}
 use Rattle.hir_syntax.specs.declared.types.Param.{Param}
 use Rattle.hir_syntax.specs.declared.params.SelfParam.{SelfParam}
 use Rattle.hir_syntax.specs.declared.params.ParamList.{ParamList}
@@ -26,7 +28,7 @@ use Rattle.json_nodes.specs.declared.type_parts.TypeOf.{TypeOf}
 use Rattle.json_nodes.specs.declared.path_parts.PathOf.{PathOf}
 
 abbrev pub CodePart : Type 0
-CodePart = CodeOf Stmt (Option BlockExpr) MatchArm (Option Expr) RecordExprFieldList RecordExprField
+CodePart = CodeOf Stmt (Option BlockExpr) MatchArm (Option Expr) RecordExprFieldList RecordExprField MacroCall MacroStmts
 
 abbrev pub ParamPart : Type 0
 ParamPart = ParamOf Param SelfParam ParamList

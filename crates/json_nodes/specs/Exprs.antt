@@ -10,7 +10,8 @@ use Rattle.json_kinds.specs.declared.kind.ExprNode.{ExprNode}
 use Rattle.json_kinds.specs.declared.kind.ExprNode.TheVariants as kind
 use Rattle.hir_base.specs.declared.node.NodeId.{NodeId}
 use Rattle.hir_base.specs.declared.node.TextRange.{TextRange}
-use Rattle.json_nodes.specs.Groups.{as_expr, as_block, as_else, as_pat, as_path, as_label, as_lifetime, as_name, as_generic_args}
+use Rattle.json_nodes.specs.Groups.{as_expr, as_block, as_else, as_macro_call, as_pat, as_path, as_label, as_lifetime, as_name}
+use Rattle.json_nodes.specs.Groups.{as_generic_args}
 use Rattle.json_nodes.specs.Fields.{flag_of}
 use Rattle.json_nodes.specs.Literals.{literal_of}
 use Rattle.json_nodes.specs.Operators.{unary_op_in, binary_op_in, range_op_in}
@@ -54,9 +55,10 @@ flow h kind.ContinueExpr = Some (whole_expr h (expr.ContinueExpr (part_in h as_l
 flow h kind.BreakExpr = Some (whole_expr h (expr.BreakExpr (part_in h as_lifetime (codes "lifetime")) (part_in h as_expr (codes "expr"))))
 flow h _ = None
 
--- calls, paths, parentheses and ranges
+-- calls, also of macros, paths, parentheses and ranges
 unfoldable pub plain : Here → ExprNode → Option ExprPart
 plain h kind.CallExpr = Some (whole_expr h (expr.CallExpr (part_in h as_expr (codes "expr")) (list_if_there h as_expr (codes "args"))))
+plain h kind.MacroExpr = Some (whole_expr h (expr.MacroExpr (part_in h as_macro_call (codes "call"))))
 plain h kind.PathExpr = Some (whole_expr h (expr.PathExpr (part_in h as_path (codes "path"))))
 plain h kind.ParenExpr = Some (whole_expr h (expr.ParenExpr (part_in h as_expr (codes "expr"))))
 plain h kind.RangeExpr =

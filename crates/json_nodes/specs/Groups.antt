@@ -9,6 +9,8 @@ use Rattle.hir_syntax.specs.declared.ast.Stmt.{Stmt}
 use Rattle.hir_syntax.specs.declared.branches.MatchArm.{MatchArm}
 use Rattle.hir_syntax.specs.declared.ast.RecordExprFieldList.{RecordExprFieldList}
 use Rattle.hir_syntax.specs.declared.ast.RecordExprField.{RecordExprField}
+use Rattle.hir_syntax.specs.declared.macros.MacroCall.{MacroCall}
+use Rattle.hir_syntax.specs.declared.macros.MacroStmts.{MacroStmts}
 use Rattle.hir_syntax.specs.declared.pats.PatLiteral.{PatLiteral}
 use Rattle.hir_syntax.specs.declared.pats.Pat.{Pat}
 use Rattle.hir_syntax.specs.declared.pats.RecordPatField.{RecordPatField}
@@ -97,29 +99,37 @@ abbrev pub pat_literal_of : ExprPart → Option PatLiteral
 pat_literal_of (expr_part.Literal id range l) = Some (record { id = id; range = range; literal = l })
 pat_literal_of _ = None
 
-abbrev pub stmt_of : {S L A D R F : Type 0} → CodeOf S L A D R F → Option S
+abbrev pub stmt_of : {S L A D R F C M : Type 0} → CodeOf S L A D R F C M → Option S
 stmt_of (code_part.Stmt x) = Some x
 stmt_of _ = None
 
-abbrev pub let_else_of : {S L A D R F : Type 0} → CodeOf S L A D R F → Option L
+abbrev pub let_else_of : {S L A D R F C M : Type 0} → CodeOf S L A D R F C M → Option L
 let_else_of (code_part.LetElse x) = Some x
 let_else_of _ = None
 
-abbrev pub arm_of : {S L A D R F : Type 0} → CodeOf S L A D R F → Option A
+abbrev pub arm_of : {S L A D R F C M : Type 0} → CodeOf S L A D R F C M → Option A
 arm_of (code_part.Arm x) = Some x
 arm_of _ = None
 
-abbrev pub guard_of : {S L A D R F : Type 0} → CodeOf S L A D R F → Option D
+abbrev pub guard_of : {S L A D R F C M : Type 0} → CodeOf S L A D R F C M → Option D
 guard_of (code_part.Guard x) = Some x
 guard_of _ = None
 
-abbrev pub record_list_of : {S L A D R F : Type 0} → CodeOf S L A D R F → Option R
+abbrev pub record_list_of : {S L A D R F C M : Type 0} → CodeOf S L A D R F C M → Option R
 record_list_of (code_part.RecordList x) = Some x
 record_list_of _ = None
 
-abbrev pub record_field_of : {S L A D R F : Type 0} → CodeOf S L A D R F → Option F
+abbrev pub record_field_of : {S L A D R F C M : Type 0} → CodeOf S L A D R F C M → Option F
 record_field_of (code_part.RecordField x) = Some x
 record_field_of _ = None
+
+abbrev pub macro_call_of : {S L A D R F C M : Type 0} → CodeOf S L A D R F C M → Option C
+macro_call_of (code_part.MacroCall x) = Some x
+macro_call_of _ = None
+
+abbrev pub macro_stmts_of : {S L A D R F C M : Type 0} → CodeOf S L A D R F C M → Option M
+macro_stmts_of (code_part.MacroStmts x) = Some x
+macro_stmts_of _ = None
 
 abbrev pub pat_of : PatPart → Option Pat
 pat_of (pat_part.Pat x) = Some x
@@ -253,6 +263,12 @@ as_record_list p = option_and_then record_list_of (code_in p)
 
 abbrev pub as_record_field : AnyPart → Option RecordExprField
 as_record_field p = option_and_then record_field_of (code_in p)
+
+abbrev pub as_macro_call : AnyPart → Option MacroCall
+as_macro_call p = option_and_then macro_call_of (code_in p)
+
+abbrev pub as_macro_stmts : AnyPart → Option MacroStmts
+as_macro_stmts p = option_and_then macro_stmts_of (code_in p)
 
 abbrev pub as_pat : AnyPart → Option Pat
 as_pat p = option_and_then pat_of (pat_in p)

@@ -16,3 +16,4 @@ pub mod Args
 pub mod Bounds
 pub mod Params
 pub mod Others
+pub mod Macros

@@ -13,7 +13,7 @@ use Rattle.json_kinds.specs.declared.kind.StmtNode.TheVariants as stmt_kind
 use Rattle.json_kinds.specs.declared.kind.PartNode.{PartNode}
 use Rattle.json_kinds.specs.declared.kind.PartNode.TheVariants as kind
 use Rattle.json_nodes.specs.Fields.{flag_of, text_in}
-use Rattle.json_nodes.specs.Groups.{as_expr, as_stmt, as_label, as_let_else, as_lifetime, as_param_list, as_pat, as_type}
+use Rattle.json_nodes.specs.Groups.{as_expr, as_stmt, as_label, as_let_else, as_lifetime, as_name, as_param_list, as_pat, as_type}
 use Rattle.json_nodes.specs.Parts.{Here, part_in, list_in}
 use Rattle.json_nodes.specs.Any.{CodePart}
 use Rattle.json_nodes.specs.declared.code_parts.CodeOf.TheVariants as code_part
@@ -29,6 +29,8 @@ statement h stmt_kind.LetStmt = stmt.LetStmt
     (part_in h as_expr (codes "init"))
     (part_in h as_let_else (codes "else"))
 statement h stmt_kind.ExprStmt = stmt.ExprStmt (part_in h as_expr (codes "expr")) (flag_of (get (codes "semi") h.value))
+statement h stmt_kind.MacroRules = stmt.MacroRules (part_in h as_name (codes "name"))
+statement h stmt_kind.MacroDef = stmt.MacroDef (part_in h as_name (codes "name"))
 statement h stmt_kind.Item = stmt.Item
 
 abbrev pub of_stmt : Here → StmtNode → Option CodePart

@@ -50,6 +50,7 @@ path h = roll-Path (record {
   id = h.id;
   range = h.range;
   leading = flag_of (get (codes "leading") h.value);
+  in_macro = flag_of (get (codes "in_macro") h.value);
   use_ = part_in h as_path (codes "use");
   segs = list_with_nulls_in h as_segment (codes "segs");
 })

@@ -10,7 +10,7 @@ use Rattle.hir_base.specs.declared.node.NodeId.{NodeId}
 use Rattle.hir_base.specs.declared.node.TextRange.{TextRange}
 use Rattle.json_nodes.specs.Exprs.{pred_in}
 use Rattle.json_nodes.specs.Fields.{flag_of}
-use Rattle.json_nodes.specs.Groups.{as_pat, as_name, as_path, as_pat_field, as_pat_literal}
+use Rattle.json_nodes.specs.Groups.{as_macro_call, as_pat, as_name, as_path, as_pat_field, as_pat_literal}
 use Rattle.json_nodes.specs.Operators.{range_op_in}
 use Rattle.json_nodes.specs.Parts.{Here, part_in, list_in}
 use Rattle.json_nodes.specs.declared.param_parts.PatPart.{PatPart}
@@ -60,12 +60,13 @@ pieces h kind.SlicePat = Some (whole_pat h (pat.SlicePat
     (list_in h as_pat (codes "suffix"))))
 pieces h _ = None
 
--- values, and ranges between two
+-- values, ranges between two, and calls of macros
 unfoldable pub values : Here → PatNode → Option PatPart
 values h kind.LiteralPat =
     Some (whole_pat h (pat.LiteralPat (part_in h as_pat_literal (codes "lit")) (flag_of (get (codes "minus") h.value))))
 values h kind.RangePat =
     Some (whole_pat h (pat.RangePat (range_op_in h.value) (part_in h as_pat (codes "start")) (part_in h as_pat (codes "end"))))
+values h kind.MacroPat = Some (whole_pat h (pat.MacroPat (part_in h as_macro_call (codes "call"))))
 values h _ = None
 
 -- what has no parts

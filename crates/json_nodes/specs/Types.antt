@@ -11,6 +11,7 @@ use Rattle.hir_base.specs.declared.node.NodeId.{NodeId}
 use Rattle.hir_base.specs.declared.node.TextRange.{TextRange}
 use Rattle.json_nodes.specs.Fields.{flag_of, text_in}
 use Rattle.json_nodes.specs.Groups.{as_type, as_pat, as_path, as_lifetime, as_const_arg, as_param, as_ret, as_binder, as_bound}
+use Rattle.json_nodes.specs.Groups.{as_macro_call}
 use Rattle.json_nodes.specs.Parts.{Here, part_in, list_in, list_if_there}
 use Rattle.json_nodes.specs.Any.{TypePart}
 use Rattle.json_nodes.specs.declared.type_parts.TypeOf.TheVariants as type_part
@@ -51,6 +52,7 @@ beside_types h kind.ForType =
     Some (whole_type h (type_kinds.ForType (part_in h as_binder (codes "binder")) (part_in h as_type (codes "ty"))))
 beside_types h kind.PatternType =
     Some (whole_type h (type_kinds.PatternType (part_in h as_type (codes "ty")) (part_in h as_pat (codes "pat"))))
+beside_types h kind.MacroType = Some (whole_type h (type_kinds.MacroType (part_in h as_macro_call (codes "call"))))
 beside_types h _ = None
 
 -- what has bounds, and what is a word

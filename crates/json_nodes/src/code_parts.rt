@@ -1,6 +1,6 @@
 //! Expressions, statements, and their parts.
 
-ghost use Rattle.json_nodes.specs.Groups.{arm_of, block_of, else_of, expr_of, guard_of, let_else_of};
+ghost use Rattle.json_nodes.specs.Groups.{arm_of, block_of, else_of, expr_of, guard_of, let_else_of, macro_call_of, macro_stmts_of};
 ghost use Rattle.std.specs.Prelude.{◌≡◌, Some};
 ghost use Rattle.json_nodes.specs.Kept.{Kept};
 ghost use Rattle.json_nodes.specs.Exprs.{expr_at};
@@ -11,8 +11,8 @@ use crate::sorts::{CodeSort, ExprSort};
 use hir_base::Boxed;
 use hir_base::node::{NodeId, TextRange};
 use hir_syntax::ast::{
-    BlockExpr, ElseBranch, Expr, ExprKind, Guard, LetElse, Literal, MatchArm, PatLiteral,
-    RecordExprField, RecordExprFieldList, Stmt,
+    BlockExpr, ElseBranch, Expr, ExprKind, Guard, LetElse, Literal, MacroCall, MacroStmts,
+    MatchArm, PatLiteral, RecordExprField, RecordExprFieldList, Stmt,
 };
 use std::alloc::Global;
 
@@ -27,17 +27,29 @@ pub enum ExprPart {
 }
 
 /// A part of expressions and statements, whichever types they have.
-pub enum CodeOf<S, L, A, D, R, F> {
+pub enum CodeOf<S, L, A, D, R, F, C, M> {
     Stmt(S),
     LetElse(L),
     Arm(A),
     Guard(D),
     RecordList(R),
     RecordField(F),
+    MacroCall(C),
+    /// What a call may be expanded to, which stands in no field.
+    MacroStmts(M),
 }
 
 /// A part of expressions and statements.
-pub type CodePart = CodeOf<Stmt, LetElse, MatchArm, Guard, RecordExprFieldList, RecordExprField>;
+pub type CodePart = CodeOf<
+    Stmt,
+    LetElse,
+    MatchArm,
+    Guard,
+    RecordExprFieldList,
+    RecordExprField,
+    MacroCall,
+    MacroStmts,
+>;
 
 /// Expressions.
 pub struct Exprs;
@@ -68,6 +80,12 @@ pub struct RecordLists;
 
 /// Fields of a record.
 pub struct RecordFields;
+
+/// Calls of macros.
+pub struct MacroCalls;
+
+/// Statements with an expression behind them.
+pub struct MacroStmtLists;
 
 impl Sorted for Exprs {
     type Sort = ExprSort;
@@ -164,12 +182,12 @@ impl Sorted for Stmts {
     type Sort = CodeSort;
 }
 
-impl<S, L, A, D, R, F> SortGroup<CodeOf<S, L, A, D, R, F>> for Stmts {
+impl<S, L, A, D, R, F, C, M> SortGroup<CodeOf<S, L, A, D, R, F, C, M>> for Stmts {
     type Part = S;
 
     ghost of_sort = { stmt_of };
 
-    fn from_sort(part: CodeOf<S, L, A, D, R, F>) -> Result<S, CodeOf<S, L, A, D, R, F>> {
+    fn from_sort(part: CodeOf<S, L, A, D, R, F, C, M>) -> Result<S, CodeOf<S, L, A, D, R, F, C, M>> {
         match part {
             CodeOf::Stmt(stmt) => Ok(stmt),
             other => Err(other),
@@ -181,12 +199,12 @@ impl Sorted for LetElses {
     type Sort = CodeSort;
 }
 
-impl<S, L, A, D, R, F> SortGroup<CodeOf<S, L, A, D, R, F>> for LetElses {
+impl<S, L, A, D, R, F, C, M> SortGroup<CodeOf<S, L, A, D, R, F, C, M>> for LetElses {
     type Part = L;
 
     ghost of_sort = { let_else_of };
 
-    fn from_sort(part: CodeOf<S, L, A, D, R, F>) -> Result<L, CodeOf<S, L, A, D, R, F>> {
+    fn from_sort(part: CodeOf<S, L, A, D, R, F, C, M>) -> Result<L, CodeOf<S, L, A, D, R, F, C, M>> {
         match part {
             CodeOf::LetElse(let_else) => Ok(let_else),
             other => Err(other),
@@ -198,12 +216,12 @@ impl Sorted for Arms {
     type Sort = CodeSort;
 }
 
-impl<S, L, A, D, R, F> SortGroup<CodeOf<S, L, A, D, R, F>> for Arms {
+impl<S, L, A, D, R, F, C, M> SortGroup<CodeOf<S, L, A, D, R, F, C, M>> for Arms {
     type Part = A;
 
     ghost of_sort = { arm_of };
 
-    fn from_sort(part: CodeOf<S, L, A, D, R, F>) -> Result<A, CodeOf<S, L, A, D, R, F>> {
+    fn from_sort(part: CodeOf<S, L, A, D, R, F, C, M>) -> Result<A, CodeOf<S, L, A, D, R, F, C, M>> {
         match part {
             CodeOf::Arm(arm) => Ok(arm),
             other => Err(other),
@@ -215,12 +233,12 @@ impl Sorted for Guards {
     type Sort = CodeSort;
 }
 
-impl<S, L, A, D, R, F> SortGroup<CodeOf<S, L, A, D, R, F>> for Guards {
+impl<S, L, A, D, R, F, C, M> SortGroup<CodeOf<S, L, A, D, R, F, C, M>> for Guards {
     type Part = D;
 
     ghost of_sort = { guard_of };
 
-    fn from_sort(part: CodeOf<S, L, A, D, R, F>) -> Result<D, CodeOf<S, L, A, D, R, F>> {
+    fn from_sort(part: CodeOf<S, L, A, D, R, F, C, M>) -> Result<D, CodeOf<S, L, A, D, R, F, C, M>> {
         match part {
             CodeOf::Guard(guard) => Ok(guard),
             other => Err(other),
@@ -232,12 +250,12 @@ impl Sorted for RecordLists {
     type Sort = CodeSort;
 }
 
-impl<S, L, A, D, R, F> SortGroup<CodeOf<S, L, A, D, R, F>> for RecordLists {
+impl<S, L, A, D, R, F, C, M> SortGroup<CodeOf<S, L, A, D, R, F, C, M>> for RecordLists {
     type Part = R;
 
     ghost of_sort = { record_list_of };
 
-    fn from_sort(part: CodeOf<S, L, A, D, R, F>) -> Result<R, CodeOf<S, L, A, D, R, F>> {
+    fn from_sort(part: CodeOf<S, L, A, D, R, F, C, M>) -> Result<R, CodeOf<S, L, A, D, R, F, C, M>> {
         match part {
             CodeOf::RecordList(list) => Ok(list),
             other => Err(other),
@@ -249,14 +267,48 @@ impl Sorted for RecordFields {
     type Sort = CodeSort;
 }
 
-impl<S, L, A, D, R, F> SortGroup<CodeOf<S, L, A, D, R, F>> for RecordFields {
+impl<S, L, A, D, R, F, C, M> SortGroup<CodeOf<S, L, A, D, R, F, C, M>> for RecordFields {
     type Part = F;
 
     ghost of_sort = { record_field_of };
 
-    fn from_sort(part: CodeOf<S, L, A, D, R, F>) -> Result<F, CodeOf<S, L, A, D, R, F>> {
+    fn from_sort(part: CodeOf<S, L, A, D, R, F, C, M>) -> Result<F, CodeOf<S, L, A, D, R, F, C, M>> {
         match part {
             CodeOf::RecordField(field) => Ok(field),
+            other => Err(other),
+        }
+    }
+}
+
+impl Sorted for MacroCalls {
+    type Sort = CodeSort;
+}
+
+impl<S, L, A, D, R, F, C, M> SortGroup<CodeOf<S, L, A, D, R, F, C, M>> for MacroCalls {
+    type Part = C;
+
+    ghost of_sort = { macro_call_of };
+
+    fn from_sort(part: CodeOf<S, L, A, D, R, F, C, M>) -> Result<C, CodeOf<S, L, A, D, R, F, C, M>> {
+        match part {
+            CodeOf::MacroCall(call) => Ok(call),
+            other => Err(other),
+        }
+    }
+}
+
+impl Sorted for MacroStmtLists {
+    type Sort = CodeSort;
+}
+
+impl<S, L, A, D, R, F, C, M> SortGroup<CodeOf<S, L, A, D, R, F, C, M>> for MacroStmtLists {
+    type Part = M;
+
+    ghost of_sort = { macro_stmts_of };
+
+    fn from_sort(part: CodeOf<S, L, A, D, R, F, C, M>) -> Result<M, CodeOf<S, L, A, D, R, F, C, M>> {
+        match part {
+            CodeOf::MacroStmts(stmts) => Ok(stmts),
             other => Err(other),
         }
     }

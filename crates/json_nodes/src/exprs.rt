@@ -4,7 +4,7 @@ ghost use Rattle.std.specs.Prelude.{◌≡◌};
 ghost use Rattle.json_nodes.specs.Kept.{Kept};
 ghost use Rattle.json_nodes.specs.Exprs as spec;
 
-use crate::code_parts::{Blocks, Elses, ExprPart, Exprs};
+use crate::code_parts::{Blocks, Elses, ExprPart, Exprs, MacroCalls};
 use crate::fields::{AllIfThere, Fields, InBox, One};
 use crate::literal::literal;
 use crate::name_parts::{Labels, Lifetimes};
@@ -117,7 +117,7 @@ pub fn flow<F: Fields>(node: &F, refused: &mut bool, kind: ExprNode) -> Option<E
     }
 }
 
-/// Calls, paths, parentheses and ranges.
+/// Calls, also of macros, paths, parentheses and ranges.
 #[tactic(auto, unfolding(crate::specs::Exprs::plain))]
 pub fn plain<F: Fields>(node: &F, refused: &mut bool, kind: ExprNode) -> Option<ExprPart>
     requires { F.can node.now }
@@ -128,6 +128,10 @@ pub fn plain<F: Fields>(node: &F, refused: &mut bool, kind: ExprNode) -> Option<
             let expr = node.field::<InBox<Exprs>>(refused, "expr");
             let args = node.field::<AllIfThere<Exprs>>(refused, "args");
             whole::<Exprs, F>(node, refused, ExprKind::CallExpr { expr, args })
+        }
+        ExprNode::MacroExpr => {
+            let call = node.field::<One<MacroCalls>>(refused, "call");
+            whole::<Exprs, F>(node, refused, ExprKind::MacroExpr { call })
         }
         ExprNode::PathExpr => {
             let path = node.field::<InBox<Paths>>(refused, "path");

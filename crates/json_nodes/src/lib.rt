@@ -10,6 +10,7 @@ pub mod field;
 pub mod fields;
 pub mod leaving;
 pub mod literal;
+pub mod macros;
 pub mod members;
 pub mod name_parts;
 pub mod node;

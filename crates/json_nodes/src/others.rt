@@ -9,7 +9,7 @@ ghost use Rattle.json_nodes.specs.Others as spec;
 use crate::code_parts::{CodePart, ExprPart, Exprs, LetElses, Stmts, block_in_box};
 use crate::field::{flag, text};
 use crate::fields::{All, Fields, InBox, One, Written};
-use crate::name_parts::{Labels, Lifetimes, NamePart};
+use crate::name_parts::{Labels, Lifetimes, NamePart, Names};
 use crate::param_parts::{ParamLists, Pats};
 use crate::type_parts::Types;
 use hir_syntax::ast::{BlockExpr, BlockModifier, Fn, Label, Lifetime, Name, Stmt, StmtKind};
@@ -38,6 +38,14 @@ fn statement<F: Fields>(node: &F, refused: &mut bool, kind: StmtNode) -> StmtKin
             let expr = node.field::<InBox<Exprs>>(refused, "expr");
             let semi = flag(node.value(), "semi");
             StmtKind::ExprStmt { expr, semi }
+        }
+        StmtNode::MacroRules => {
+            let name = node.field::<One<Names>>(refused, "name");
+            StmtKind::MacroRules { name }
+        }
+        StmtNode::MacroDef => {
+            let name = node.field::<One<Names>>(refused, "name");
+            StmtKind::MacroDef { name }
         }
         StmtNode::Item => StmtKind::Item,
     }

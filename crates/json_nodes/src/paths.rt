@@ -73,6 +73,7 @@ pub fn path<F: Fields>(node: &F, refused: &mut bool) -> Path
         id: node.id(),
         range: node.range(),
         leading: flag(node.value(), "leading"),
+        in_macro: flag(node.value(), "in_macro"),
         use_,
         segs,
     }

@@ -4,7 +4,7 @@ ghost use Rattle.std.specs.Prelude.{◌≡◌};
 ghost use Rattle.json_nodes.specs.Kept.{Kept};
 ghost use Rattle.json_nodes.specs.Pats as spec;
 
-use crate::code_parts::PatLiterals;
+use crate::code_parts::{MacroCalls, PatLiterals};
 use crate::field::flag;
 use crate::fields::{All, Fields, InBox, One};
 use crate::name_parts::Names;
@@ -123,7 +123,7 @@ fn pieces<F: Fields>(node: &F, refused: &mut bool, kind: PatNode) -> Option<PatP
     }
 }
 
-/// Values, and ranges between two.
+/// Values, ranges between two, and calls of macros.
 #[tactic(auto, unfolding(crate::specs::Pats::values))]
 fn values<F: Fields>(node: &F, refused: &mut bool, kind: PatNode) -> Option<PatPart>
     requires { F.can node.now }
@@ -140,6 +140,10 @@ fn values<F: Fields>(node: &F, refused: &mut bool, kind: PatNode) -> Option<PatP
             let end = node.field::<InBox<Pats>>(refused, "end");
             let op = range_op(node.value());
             whole::<Pats, F>(node, refused, PatKind::RangePat { op, start, end })
+        }
+        PatNode::MacroPat => {
+            let call = node.field::<One<MacroCalls>>(refused, "call");
+            whole::<Pats, F>(node, refused, PatKind::MacroPat { call })
         }
         _ => None,
     }

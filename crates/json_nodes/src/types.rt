@@ -4,6 +4,7 @@ ghost use Rattle.std.specs.Prelude.{◌≡◌};
 ghost use Rattle.json_nodes.specs.Kept.{Kept};
 ghost use Rattle.json_nodes.specs.Types as spec;
 
+use crate::code_parts::MacroCalls;
 use crate::field::flag;
 use crate::fields::{All, AllIfThere, Fields, InBox, One, Written};
 use crate::name_parts::Lifetimes;
@@ -88,6 +89,10 @@ fn beside_types<F: Fields>(node: &F, refused: &mut bool, kind: TypeNode) -> Opti
             let ty = node.field::<InBox<Types>>(refused, "ty");
             let pat = node.field::<InBox<Pats>>(refused, "pat");
             whole::<Types, F>(node, refused, TypeKind::PatternType { ty, pat })
+        }
+        TypeNode::MacroType => {
+            let call = node.field::<One<MacroCalls>>(refused, "call");
+            whole::<Types, F>(node, refused, TypeKind::MacroType { call })
         }
         _ => None,
     }

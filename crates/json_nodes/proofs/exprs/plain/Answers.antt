@@ -31,3 +31,10 @@ returns-in-RangeExpr g c = λ e.
     let end = c.field-end.ensures made.0 in
     let start = c.field-start.ensures end.0 in
     (start.0, rw (c.in-RangeExpr.is, made.1, c.range_op-op.ensures, c.value.ensures, start.1, end.1))
+
+pub returns-in-MacroExpr : goal.returns-in-MacroExpr
+unfolding plain
+returns-in-MacroExpr g c = λ e.
+    let made = c.whole-in-MacroExpr.ensures e in
+    let call = c.field-call.ensures made.0 in
+    (call.0, rw c.in-MacroExpr.is (rw made.1 (rw call.1 refl)))

@@ -16,3 +16,15 @@ unfolding statement
 returns-in-ExprStmt g c = λ e.
     let expr = c.field-expr.ensures e in
     (expr.0, rw (c.in-ExprStmt.is, expr.1, c.flag-semi.ensures, c.value.ensures))
+
+pub returns-in-MacroRules : goal.returns-in-MacroRules
+unfolding statement
+returns-in-MacroRules g c = λ e.
+    let name = c.field-name.ensures e in
+    (name.0, rw c.in-MacroRules.is (rw name.1 refl))
+
+pub returns-in-MacroDef : goal.returns-in-MacroDef
+unfolding statement
+returns-in-MacroDef g c = λ e.
+    let name = c.field-name-in-MacroDef.ensures e in
+    (name.0, rw c.in-MacroDef.is (rw name.1 refl))

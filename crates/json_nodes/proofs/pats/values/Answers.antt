@@ -15,3 +15,10 @@ returns-in-RangePat g c = λ e.
     let end = c.field-end.ensures made.0 in
     let start = c.field-start.ensures end.0 in
     (start.0, rw (c.in-RangePat.is, made.1, c.range_op-op.ensures, c.value-in-RangePat.ensures, start.1, end.1))
+
+pub returns-in-MacroPat : goal.returns-in-MacroPat
+unfolding values
+returns-in-MacroPat g c = λ e.
+    let made = c.whole-in-MacroPat.ensures e in
+    let call = c.field-call.ensures made.0 in
+    (call.0, rw (c.in-MacroPat.is, made.1, call.1))

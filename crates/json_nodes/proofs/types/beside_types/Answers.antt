@@ -40,3 +40,10 @@ returns-in-FnPtrType g c = λ e.
     let made = c.whole-in-FnPtrType.ensures e in
     let kind = c.function_pointer-kind.ensures made.0 in
     (kind.0, rw (c.in-FnPtrType.is, made.1, kind.1))
+
+pub returns-in-MacroType : goal.returns-in-MacroType
+unfolding beside_types
+returns-in-MacroType g c = λ e.
+    let made = c.whole-in-MacroType.ensures e in
+    let call = c.field-call.ensures made.0 in
+    (call.0, rw c.in-MacroType.is (rw made.1 (rw call.1 refl)))
