@@ -133,6 +133,7 @@ module _ (is_found : Path → Bool) where
 
   abbrev mutual
     -- Parentheses are what stands in them. With what it is as a place: a disabled expression is one, and each that isn't named here.
+    -- So is a call so far, whatever it stands for.
     pub target_or : Target → Expr → Target
     target_or place (tree.leaf_expr at tree.underscore) = tree.wild_target at
     target_or place (tree.paren_expr at tree.no_expr) = place
@@ -144,8 +145,6 @@ module _ (is_found : Path → Bool) where
     target_or place (tree.path_expr at p h) = path_or place at p h
     target_or place (tree.record_expr at p head fs s) =
         if head.has_list then tree.record_target at p (target_fields fs) head.has_dots (spread_pointer s) else place
-    -- calls aren't entered yet in what is assigned to
-    target_or place (tree.macro_expr at called e) = tree.macro_target at tree.unentered tree.absent_target
     target_or place _ = place
 
     -- of a tuple or a call
