@@ -18,12 +18,12 @@ use Rattle.hir_env.specs.Pats.{name_hygiene, pat_at}
 use Rattle.hir_env.specs.Answered as tree
 use Rattle.hir_env.specs.Answered.{Pat, OptionPat, Pats, PatFields, PatField, Signed, Use}
 use Rattle.hir_env.specs.PatLayers.{PatKindLayer}
-use Rattle.hir_env.specs.Whole.{reader, written}
+use Rattle.hir_env.specs.Whole.{into, reader, written}
 use Rattle.hir_lower_form.specs.Builder.{Builder}
 use Rattle.hir_lower_form.specs.Lowering.{Checked, Lowering, alloc_pat}
 use Rattle.hir_lower_form.specs.Lower as spec
 use Rattle.hir_lower_form.specs.Pats.{Elements, no_elements, stored_pat_leaf, name_pat_of, path_pat_form, literal_pat_form}
-use Rattle.hir_lower_form.specs.Pats.{range_pat_form, missing_pat}
+use Rattle.hir_lower_form.specs.Pats.{range_pat_form, missing_pat, uncalled_pat}
 use Rattle.hir_lower_pat.specs.Bindings.{LowersNamed}
 use Rattle.hir_lower_pat.specs.declared.bindings.Bindings.{Bindings}
 
@@ -88,6 +88,7 @@ IsPlain (PatKind-F.PathPat x) = Unit {0}
 IsPlain (PatKind-F.LiteralPat l minus) = Unit {0}
 IsPlain (PatKind-F.RangePat op low high) = Unit {0}
 IsPlain (PatKind-F.CfgPredPat pred) = Unit {0}
+IsPlain (PatKind-F.MacroPat call) = Unit {0}
 IsPlain PatKind-F.WildcardPat = Unit {0}
 IsPlain PatKind-F.RestPat = Unit {0}
 IsPlain PatKind-F.NotNullPat = Unit {0}
@@ -101,6 +102,7 @@ lower_plain (tree.name_pat at u _) = alloc_pat (name_pat_of u) (Some at)
 lower_plain (tree.path_pat at p) = path_pat_form at (spec.lower_path p)
 lower_plain (tree.literal_pat at node l) = literal_pat_form at node l
 lower_plain (tree.range_pat at op low high) = range_pat_form at op (spec.lower_side low) (spec.lower_side high)
+lower_plain (tree.macro_pat at called tree.no_pat) = uncalled_pat at called
 lower_plain _ = missing_pat
 
 -- the literal of a predicate
@@ -109,7 +111,7 @@ plain_truth holds = record { minus = false; literal = truth holds }
 
 -- a pattern of this kind, at this node
 abbrev pub kind_at : Spot → Pointer → AstPatKind → Pat
-kind_at at s k = pat_at at.answers (reader at.answers) (out-PatKind k) at.place s
+kind_at at s k = pat_at at.answers (reader at.answers (into at)) (out-PatKind k) at.place s
 
 -- a use of a name in this mode
 abbrev pub use_with : Spot → Option AstName → BindingAnnotation → Use

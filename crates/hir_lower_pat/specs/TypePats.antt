@@ -29,4 +29,5 @@ abbrev pub IsOther : PatKindLayer written → Type 0
 IsOther PatKind-F.NotNullPat = ⊥
 IsOther (PatKind-F.OrPat ps) = ⊥
 IsOther (PatKind-F.RangePat o low high) = ⊥
+IsOther (PatKind-F.MacroPat call) = ⊥
 IsOther _ = Unit {0}

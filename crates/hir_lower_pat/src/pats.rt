@@ -127,6 +127,7 @@ pub(crate) fn pat_form<S: PatParts>(
         | ast::PatKind::LiteralPat { .. }
         | ast::PatKind::RangePat { .. }
         | ast::PatKind::CfgPredPat { .. }
+        | ast::PatKind::MacroPat { .. }
         | ast::PatKind::WildcardPat
         | ast::PatKind::RestPat
         | ast::PatKind::NotNullPat

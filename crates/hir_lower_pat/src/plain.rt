@@ -2,6 +2,7 @@
 
 ghost use Rattle.hir_syntax.specs.declared.pats.PatKind.{out-PatKind};
 ghost use Rattle.hir_store.specs.Range.{HasPat};
+ghost use Rattle.hir_env.specs.Answered as tree;
 ghost use Rattle.hir_lower_form.specs.Lower.{lower_path};
 ghost use Rattle.hir_lower_form.specs.Lowering.{Lowers};
 ghost use Rattle.hir_lower_form.specs.Nests.{KidsOfPat};
@@ -38,7 +39,20 @@ fn path_form<H: Here, W: PathPart>(
     }
 }
 
-/// A pattern that knows of no name.
+/// A call that isn't entered, whose node leads to the pattern that is missing.
+#[tactic(auto, unfolding(hir_lower_form::specs::Pats::called_pat_form))]
+pub(crate) fn unentered_form(
+    state: &mut BodyBuilder,
+    at: InFile<AstPtr>,
+) -> Result<PatId, StoreFault>
+    ensures { Lowers HasPat (spec.uncalled_pat at tree.unentered) state.old result state.new }
+{
+    let id = state.missing_pat()?;
+    state.point_pat(at, id)?;
+    Ok(id)
+}
+
+/// A pattern that knows of no name. A call isn't entered yet, and one that the text lacks is missing without a way to it.
 #[tactic(auto, using(crate::proofs::KindLemmas::only_plain))]
 pub(crate) fn plain_kind<S: PatParts>(
     parts: &S,
@@ -57,6 +71,8 @@ pub(crate) fn plain_kind<S: PatParts>(
             range_form(parts, state, at, *op, start, end)
         }
         ast::PatKind::CfgPredPat { pred } => predicate_form(parts, state, at, *pred),
+        ast::PatKind::MacroPat { call: None } => state.missing_pat(),
+        ast::PatKind::MacroPat { call: Some(_) } => unentered_form(state, at),
         ast::PatKind::WildcardPat => state.alloc_pat(Pat::Wild, Some(at)),
         ast::PatKind::RestPat => state.alloc_pat(Pat::Rest, Some(at)),
         ast::PatKind::NotNullPat => state.alloc_pat(Pat::NotNull, Some(at)),

@@ -214,6 +214,7 @@ fn side_form<H: Here>(
         | ast::PatKind::DerefPat { .. }
         | ast::PatKind::RangePat { .. }
         | ast::PatKind::CfgPredPat { .. }
+        | ast::PatKind::MacroPat { .. }
         | ast::PatKind::WildcardPat
         | ast::PatKind::RestPat
         | ast::PatKind::NotNullPat
