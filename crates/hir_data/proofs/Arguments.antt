@@ -12,7 +12,7 @@ use Rattle.hir_env.specs.declared.place.Place.{Place}
 use Rattle.hir_env.specs.Answered.{OptionArgs, OptionType, Args, Bounds}
 use Rattle.hir_env.specs.TypeLayers.{GenericArgLayer}
 use Rattle.hir_env.specs.Paths as of
-use Rattle.hir_env.specs.Whole.{written, reader, read_generic_arg, answered_arg, answered_assoc_arg, answered_arg_list}
+use Rattle.hir_env.specs.Whole.{written, reader, into, read_generic_arg, answered_arg, answered_assoc_arg, answered_arg_list}
 use Rattle.hir_env.proofs.PathLevels.{arg_is_level, assoc_arg_is_level}
 use Rattle.hir_data.specs.Data.{ArgumentData, ArgumentsData, BindingData, BindingsData}
 use Rattle.hir_data.specs.Written.{arguments_of, argument_of, put_argument, bindings_of, binding_of, put_binding}
@@ -47,7 +47,7 @@ argument_is : (at : Spot) (a : AstGenericArg) → is_some (argument_of (answered
 argument_is at a = ap (λ x. is_some (argument_of x)) (arg_is_level at a) ∙ by (out-GenericArg a)
   where
     by : (x : GenericArgLayer written)
-        → is_some (argument_of (of.generic_arg_step at.answers (reader at.answers) x at.place)) ≡ argument_stands x
+        → is_some (argument_of (of.generic_arg_step at.answers (reader at.answers (into at)) x at.place)) ≡ argument_stands x
     by (GenericArg-F.TypeArg x) = refl
     by (GenericArg-F.AssocTypeArg b) = ap is_some (assoc_is_none at b)
     by (GenericArg-F.LifetimeArg x) = lifetime_is at.place x.lifetime
@@ -92,7 +92,7 @@ put_bound f a as' xs b h e = by (f a) refl b h
     by (Some x) k false g = absurd (clash g)
 
 abbrev listed : Spot → List AstGenericArg → Args
-listed at as' = of.generic_args_of (read_generic_arg at.answers) as' at.place
+listed at as' = of.generic_args_of (read_generic_arg at.answers (into at)) as' at.place
 
 all_arguments : (at : Spot) (as' : List AstGenericArg)
     → map Some (arguments_in (arguments_of (listed at as'))) ≡ map (λ a. argument_of (answered_arg at a)) (arguments_among as')
@@ -109,7 +109,7 @@ one_binding : (at : Spot) (a : AstGenericArg) (bs : List AstAssocTypeArg) (xs : 
 one_binding at a bs xs e = ap (λ x. map Some (bindings_in (put_binding (binding_of x) xs))) (arg_is_level at a) ∙ by (out-GenericArg a)
   where
     by : (x : GenericArgLayer written)
-        → map Some (bindings_in (put_binding (binding_of (of.generic_arg_step at.answers (reader at.answers) x at.place)) xs))
+        → map Some (bindings_in (put_binding (binding_of (of.generic_arg_step at.answers (reader at.answers (into at)) x at.place)) xs))
         ≡ map (bound at) (put_written x bs)
     by (GenericArg-F.TypeArg x) = e
     by (GenericArg-F.AssocTypeArg b) = put_bound (bound at) b bs xs (binding_stands b) (assoc_is at b) e

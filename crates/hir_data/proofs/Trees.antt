@@ -19,7 +19,7 @@ use Rattle.hir_env.specs.TypeLayers.{ParamLayer, PathTypeLayer, TypeBoundLayer}
 use Rattle.hir_env.specs.Paths as of
 use Rattle.hir_env.specs.Answered as tree
 use Rattle.hir_env.specs.Answered.{FnHead, Type_, OptionType, Parts, Segment, SegmentArgs, Arg}
-use Rattle.hir_env.specs.Whole.{written, reader}
+use Rattle.hir_env.specs.Whole.{written, reader, into}
 use Rattle.hir_env.specs.Whole.{answered_type, answered_param, answered_path, answered_segment, answered_path_type}
 use Rattle.hir_env.specs.Whole.{answered_arg, answered_assoc_arg}
 use Rattle.hir_env.specs.Whole.{answered_bound, in_impl, in_binding}
@@ -35,44 +35,44 @@ use Rattle.hir_data.specs.Trees.{plain_param, dots_param, VarargsAtTheEnd}
 
 module _ (at : Spot) where
   type_made : (n : ℕ) (k : TypeKindLayer written)
-      → answered_type at (type_at n k) ≡ of.type_at at.answers (reader at.answers) k at.place (pointer at n)
+      → answered_type at (type_at n k) ≡ of.type_at at.answers (reader at.answers (into at)) k at.place (pointer at n)
   type_made n k = type_is_level at (type_at n k)
-      ∙ ap (λ x. of.type_at at.answers (reader at.answers) x at.place (pointer at n)) (out-roll-TypeKind k)
+      ∙ ap (λ x. of.type_at at.answers (reader at.answers (into at)) x at.place (pointer at n)) (out-roll-TypeKind k)
 
   path_made : (x : PathLayer written)
-      → answered_path at (roll-Path x) ≡ of.path_step at.answers (reader at.answers) x at.place
+      → answered_path at (roll-Path x) ≡ of.path_step at.answers (reader at.answers (into at)) x at.place
   path_made x = path_is_level at (roll-Path x)
-      ∙ ap (λ l. of.path_step at.answers (reader at.answers) l at.place) (out-roll-Path x)
+      ∙ ap (λ l. of.path_step at.answers (reader at.answers (into at)) l at.place) (out-roll-Path x)
 
   segment_made : (x : PathSegmentLayer written)
-      → answered_segment at (roll-PathSegment x) ≡ of.segment_step at.answers (reader at.answers) x at.place
+      → answered_segment at (roll-PathSegment x) ≡ of.segment_step at.answers (reader at.answers (into at)) x at.place
   segment_made x = segment_is_level at (roll-PathSegment x)
-      ∙ ap (λ l. of.segment_step at.answers (reader at.answers) l at.place) (out-roll-PathSegment x)
+      ∙ ap (λ l. of.segment_step at.answers (reader at.answers (into at)) l at.place) (out-roll-PathSegment x)
 
   path_type_made : (x : PathTypeLayer written)
-      → answered_path_type at (roll-PathType x) ≡ of.path_type_step at.answers (reader at.answers) x at.place
+      → answered_path_type at (roll-PathType x) ≡ of.path_type_step at.answers (reader at.answers (into at)) x at.place
   path_type_made x = path_type_is_level at (roll-PathType x)
-      ∙ ap (λ l. of.path_type_step at.answers (reader at.answers) l at.place) (out-roll-PathType x)
+      ∙ ap (λ l. of.path_type_step at.answers (reader at.answers (into at)) l at.place) (out-roll-PathType x)
 
   bound_made : (x : TypeBoundLayer written)
-      → answered_bound at (roll-TypeBound x) ≡ of.type_bound_step at.answers (reader at.answers) x at.place
+      → answered_bound at (roll-TypeBound x) ≡ of.type_bound_step at.answers (reader at.answers (into at)) x at.place
   bound_made x = bound_is_level at (roll-TypeBound x)
-      ∙ ap (λ l. of.type_bound_step at.answers (reader at.answers) l at.place) (out-roll-TypeBound x)
+      ∙ ap (λ l. of.type_bound_step at.answers (reader at.answers (into at)) l at.place) (out-roll-TypeBound x)
 
   arg_made : (x : GenericArgLayer written)
-      → answered_arg at (roll-GenericArg x) ≡ of.generic_arg_step at.answers (reader at.answers) x at.place
+      → answered_arg at (roll-GenericArg x) ≡ of.generic_arg_step at.answers (reader at.answers (into at)) x at.place
   arg_made x = arg_is_level at (roll-GenericArg x)
-      ∙ ap (λ l. of.generic_arg_step at.answers (reader at.answers) l at.place) (out-roll-GenericArg x)
+      ∙ ap (λ l. of.generic_arg_step at.answers (reader at.answers (into at)) l at.place) (out-roll-GenericArg x)
 
   assoc_arg_made : (x : AssocTypeArgLayer written)
-      → answered_assoc_arg at (roll-AssocTypeArg x) ≡ of.assoc_type_arg_step at.answers (reader at.answers) x at.place
+      → answered_assoc_arg at (roll-AssocTypeArg x) ≡ of.assoc_type_arg_step at.answers (reader at.answers (into at)) x at.place
   assoc_arg_made x = assoc_arg_is_level at (roll-AssocTypeArg x)
-      ∙ ap (λ l. of.assoc_type_arg_step at.answers (reader at.answers) l at.place) (out-roll-AssocTypeArg x)
+      ∙ ap (λ l. of.assoc_type_arg_step at.answers (reader at.answers (into at)) l at.place) (out-roll-AssocTypeArg x)
 
   param_made : (x : ParamLayer written)
-      → answered_param at (roll-Param x) ≡ of.param_step at.answers (reader at.answers) x at.place
+      → answered_param at (roll-Param x) ≡ of.param_step at.answers (reader at.answers (into at)) x at.place
   param_made x = param_is_level at (roll-Param x)
-      ∙ ap (λ l. of.param_step at.answers (reader at.answers) l at.place) (out-roll-Param x)
+      ∙ ap (λ l. of.param_step at.answers (reader at.answers (into at)) l at.place) (out-roll-Param x)
 
 -- ---- an `impl` inside of one
 

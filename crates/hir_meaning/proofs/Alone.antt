@@ -30,10 +30,11 @@ module _ (turns : ℕ) (outer : List Scope) where
 
   mutual
     expr_alone : (e : Expr) (inner : List Scope) → run_expr turns e (inner ++ barrier ∷ outer) ≡ run_expr turns e inner
-    expr_alone (tree.disabled_expr at by e) inner = refl
+    expr_alone (tree.disabled_expr why e) inner = refl
     expr_alone (tree.literal_expr at l) inner = refl
     expr_alone (tree.path_expr at x h) inner = refl
     expr_alone (tree.paren_expr at e) inner = part_alone e inner
+    expr_alone (tree.macro_expr at called e) inner = part_alone e inner
     expr_alone (tree.call_expr at f has_list es) inner = λ i.
         part_alone f inner i >>= (λ v. each_alone es inner i >>= (λ vs. ask call (v ∷ vs) (Some (site_of at))))
     expr_alone (tree.if_expr at c t e) inner = λ i.
@@ -138,6 +139,7 @@ module _ (turns : ℕ) (outer : List Scope) where
     places_alone tree.absent_target inner m n h = h
     places_alone (tree.place_target at e) inner m n h = λ i. expr_alone e inner i >>= (λ v. h i >>= (λ vs. pure (v ∷ vs)))
     places_alone (tree.wild_target at) inner m n h = h
+    places_alone (tree.macro_target at called t) inner m n h = places_alone t inner m n h
     places_alone (tree.path_target at p l) inner m n h = h
     places_alone (tree.tuple_target at ts) inner m n h = each_place_alone ts inner m n h
     places_alone (tree.call_target at p ts) inner m n h = λ i. if_read (path_of p) (each_place_alone ts inner m n h i) (h i)
@@ -194,6 +196,7 @@ module _ (turns : ℕ) (outer : List Scope) where
     stmts_alone tree.no_stmts has_tail out tail h inner = ap out (h inner)
     stmts_alone (tree.more_stmts (tree.disabled_stmt at by s) ss) has_tail out tail h inner = stmts_alone ss has_tail out tail h inner
     stmts_alone (tree.more_stmts tree.item_stmt ss) has_tail out tail h inner = stmts_alone ss has_tail out tail h inner
+    stmts_alone (tree.more_stmts (tree.call_stmt c) ss) has_tail out tail h inner = stmts_alone ss has_tail out tail h inner
     stmts_alone (tree.more_stmts (tree.let_stmt p t e b) ss) has_tail out tail h inner = λ i.
         present_alone e inner i >>= (λ vs. binds (written_pat p) (written_option_type t) vs
         >>= (λ fits. else_alone b fits inner (stmts_alone ss has_tail out tail h inner) i))

@@ -1,10 +1,8 @@
 -- What small bodies do, computed.
-use Rattle.std.proofs.Common.{◌≡◌, ℕ, Bool, not, ◌&&◌, if◌then◌else◌, List, [], ◌∷◌, Some, refl, ap, subst, ◌∙◌}
-use Rattle.hir_store.specs.Pointers.{Pointer}
-use Rattle.hir_store.specs.declared.ids.CfgId.{CfgId}
+use Rattle.std.proofs.Common.{◌≡◌, ℕ, Bool, false, not, ◌&&◌, if◌then◌else◌, List, [], ◌∷◌, Some, refl, ap, subst, ◌∙◌}
 use Rattle.hir_env.specs.Answering.{site_of}
 use Rattle.hir_env.specs.Answered as tree
-use Rattle.hir_env.specs.Answered.{Expr, OptionExpr, Stmts, Stmt}
+use Rattle.hir_env.specs.Answered.{OptionExpr, Stmts, Stmt}
 use Rattle.hir_data.specs.Patterns.{written_pat}
 use Rattle.hir_data.specs.Reading.{stored_path}
 use Rattle.hir_data.specs.Written.{written_option_type}
@@ -14,6 +12,7 @@ use Rattle.hir_scope.specs.Scopes.{Scope, scopes_in_block}
 use Rattle.hir_meaning.specs.Left.{is_left, stmt_is_left, none_left}
 use Rattle.hir_meaning.specs.Syntax.{SyntaxRun, run_part, run_present, run_else, run_stmts, run_tail, catching, as_it_is}
 use Rattle.hir_meaning.specs.Store.{run_store, run_to}
+use Rattle.hir_meaning.specs.Macros.{CallIsNothing}
 use Rattle.hir_meaning.specs.Worked.{RunsAsWorked}
 use Rattle.hir_meaning.specs.Rows.{LeavesTheLoop, LeavesTheBlock, HasNoTurn, StraysFromBlock, HasTwoSites, EntersItsNumber}
 use Rattle.hir_meaning.specs.Rows.{MissingIsNoLiteral, ParenthesesAreSilent, DisabledIsNothing, joined, disabled_stmt}
@@ -88,36 +87,47 @@ missing_is_no_literal h = let e = h.events 0 [] in subst nothing_happened e tt
 pub parentheses_are_silent : ParenthesesAreSilent
 parentheses_are_silent p e = refl
 
-module _ (q : Pointer) (by : CfgId) (e : Expr) (semi : Bool) (after : Stmts) where
-  -- with the disabled statement before what follows, and without
+-- of a statement of which nothing is left, and in front of what follows does nothing
+module _ (x : Stmt) (after : Stmts) (gone : stmt_is_left x ≡ false)
+    (nothing : (turns : ℕ) (has_tail : Bool) (tail : List Scope → SyntaxRun Value) (scopes : List Scope)
+    → run_stmts turns (tree.more_stmts x after) has_tail as_it_is tail scopes ≡ run_stmts turns after has_tail as_it_is tail scopes) where
+  -- with it before what follows
   abbrev more : Stmts → Stmts
-  more before = joined before (tree.more_stmts (disabled_stmt q by e semi) after)
+  more before = joined before (tree.more_stmts x after)
 
   none_more : (before : Stmts) → none_left (more before) ≡ none_left (joined before after)
-  none_more tree.no_stmts = refl
+  none_more tree.no_stmts = ap (λ b. not b && none_left after) gone
   none_more (tree.more_stmts s ss) = ap (λ t. not (stmt_is_left s) && t) (none_more ss)
 
   -- a statement before others, of which `none` says whether none is left and whose run this is
   abbrev before_others : ℕ → Bool → List Scope → OptionExpr → Bool → Bool → SyntaxRun Value → SyntaxRun Value
-  before_others turns has_tail scopes x s none others =
-      if is_left x
-      then (if not s && (none && not has_tail) then run_part turns x scopes else (run_part turns x scopes >> others))
+  before_others turns has_tail scopes e semi none others =
+      if is_left e
+      then (if not semi && (none && not has_tail) then run_part turns e scopes else (run_part turns e scopes >> others))
       else others
 
   run_more : (turns : ℕ) (has_tail : Bool) (tail : List Scope → SyntaxRun Value) (scopes : List Scope) (before : Stmts)
       → run_stmts turns (more before) has_tail as_it_is tail scopes ≡ run_stmts turns (joined before after) has_tail as_it_is tail scopes
-  run_more turns has_tail tail scopes tree.no_stmts = refl
+  run_more turns has_tail tail scopes tree.no_stmts = nothing turns has_tail tail scopes
   run_more turns has_tail tail scopes (tree.more_stmts tree.item_stmt ss) = run_more turns has_tail tail scopes ss
+  run_more turns has_tail tail scopes (tree.more_stmts (tree.call_stmt c) ss) = run_more turns has_tail tail scopes ss
   run_more turns has_tail tail scopes (tree.more_stmts (tree.disabled_stmt at c s) ss) = run_more turns has_tail tail scopes ss
-  run_more turns has_tail tail scopes (tree.more_stmts (tree.let_stmt p t x b) ss) =
-      ap (λ m. run_present turns x scopes >>= (λ vs. binds (written_pat p) (written_option_type t) vs
+  run_more turns has_tail tail scopes (tree.more_stmts (tree.let_stmt p t e b) ss) =
+      ap (λ m. run_present turns e scopes >>= (λ vs. binds (written_pat p) (written_option_type t) vs
       >>= (λ fits. run_else turns b fits m scopes))) (run_more turns has_tail tail scopes ss)
-  run_more turns has_tail tail scopes (tree.more_stmts (tree.expr_stmt x s) ss) =
-      ap (λ t. before_others turns has_tail scopes x s t (run_stmts turns (more ss) has_tail as_it_is tail scopes))
+  run_more turns has_tail tail scopes (tree.more_stmts (tree.expr_stmt e semi) ss) =
+      ap (λ t. before_others turns has_tail scopes e semi t (run_stmts turns (more ss) has_tail as_it_is tail scopes))
       (none_more ss)
-      ∙ ap (λ m. before_others turns has_tail scopes x s (none_left (joined ss after)) m) (run_more turns has_tail tail scopes ss)
+      ∙ ap (λ m. before_others turns has_tail scopes e semi (none_left (joined ss after)) m) (run_more turns has_tail tail scopes ss)
 
 pub disabled_is_nothing : DisabledIsNothing
-disabled_is_nothing turns p q is_unsafe label w number before after by e semi tail ss =
+disabled_is_nothing turns p is_unsafe label w number before after why e semi tail ss =
     ap (λ m. entering is_unsafe number (Some (site_of p)) (catching label m))
-    (run_more q by e semi after turns (is_left tail) (run_tail turns tail) (scopes_in_block label ss) before)
+    (run_more (disabled_stmt why e semi) after refl (λ turns has_tail tail scopes. refl) turns (is_left tail) (run_tail turns tail)
+    (scopes_in_block label ss) before)
+
+pub call_is_nothing : CallIsNothing
+call_is_nothing turns p is_unsafe label w number before after c tail ss =
+    ap (λ m. entering is_unsafe number (Some (site_of p)) (catching label m))
+    (run_more (tree.call_stmt c) after refl (λ turns has_tail tail scopes. refl) turns (is_left tail) (run_tail turns tail)
+    (scopes_in_block label ss) before)

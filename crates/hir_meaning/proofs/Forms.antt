@@ -47,10 +47,10 @@ unfolding ends event ◌>>=◌ loop block run_store run_to stored_path
 leaves_out_the_second = record { written = record { events = refl; ends = refl }; stored = record { events = refl; ends = refl } }
 
 pub element_is_nothing : ElementIsNothing
-element_is_nothing turns tree.no_exprs after q by e ss = refl
-element_is_nothing turns (tree.more_exprs x xs) after q by e ss = ap
+element_is_nothing turns tree.no_exprs after why e ss = refl
+element_is_nothing turns (tree.more_exprs x xs) after why e ss = ap
     (λ m. if is_kept x then (run_expr turns x ss >>= (λ v. m >>= (λ vs. pure (v ∷ vs)))) else m)
-    (element_is_nothing turns xs after q by e ss)
+    (element_is_nothing turns xs after why e ss)
 
 pub enters_the_unsafe : EntersTheUnsafe
 unfolding ends event ◌>>=◌ loop block run_store run_to stored_path

@@ -43,7 +43,7 @@ leaves_by_its_head = (
 )
 
 pub head_as_written : HeadAsWritten
-head_as_written n m c l o = (refl, refl, refl)
+head_as_written n m why l o = (refl, refl, refl)
 
 pub for_itemless_is_missing : ForItemlessIsMissing
 unfolding ends event ◌>>=◌ loop block run_store run_to stored_path stored_pat stored_option_type readers takes looks_up

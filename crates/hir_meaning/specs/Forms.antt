@@ -5,16 +5,14 @@ use Rattle.hir_base.specs.declared.op.BinaryOp.{BinaryOp}
 use Rattle.hir_base.specs.declared.op.BinaryOp.TheVariants as ast
 use Rattle.hir_base.specs.declared.op.LogicOp.{LogicOp}
 use Rattle.hir_base.specs.declared.op.LogicOp.TheVariants as logic
-use Rattle.hir_store.specs.Pointers.{Pointer}
 use Rattle.hir_store.specs.declared.hir.Expr.{Expr as Stored}
 use Rattle.hir_store.specs.declared.hir.Expr.TheVariants as hir
 use Rattle.hir_store.specs.declared.hir.RecordSpread.TheVariants as spread
 use Rattle.hir_store.specs.declared.ids.BlockId.{BlockId}
-use Rattle.hir_store.specs.declared.ids.CfgId.{CfgId}
 use Rattle.hir_store.specs.declared.name.Name.{Name}
 use Rattle.hir_store.specs.declared.name.Name.TheVariants as name
 use Rattle.hir_env.specs.Answered as tree
-use Rattle.hir_env.specs.Answered.{Expr, Exprs}
+use Rattle.hir_env.specs.Answered.{Gone, Expr, Exprs}
 use Rattle.hir_scope.specs.Scopes.{Scope}
 use Rattle.hir_meaning.specs.Run.{unit, answered, truth, Event, Answer, test, is_true, enter, operator, tuple, missing, returned}
 use Rattle.hir_data.specs.Data.{no_args}
@@ -136,10 +134,14 @@ front_missing = record {
 abbrev pub MissesItsFront : Type 0
 MissesItsFront = BothDo front_missing 0 [] [] (left missing)
 
+-- by the condition at this node
+abbrev pub disabled_at : ℕ → Gone
+disabled_at n = record { entered = []; condition = Some (at n, record { 0 = 0 }) }
+
 abbrev pub second_disabled : Example
 second_disabled = record {
   written = tree.some_expr (tree.list_expr (at 0) (tree.tuple_of false)
-      (tree.more_exprs name_a (tree.more_exprs (tree.disabled_expr (at 2) (record { 0 = 0 }) name_b) tree.no_exprs)));
+      (tree.more_exprs name_a (tree.more_exprs (tree.disabled_expr (disabled_at 2) name_b) tree.no_exprs)));
   nodes = (stored_a, Some 1) ∷ (hir.Tuple (id 0 ∷ []), Some 0) ∷ [];
   root = 1;
 }
@@ -258,8 +260,8 @@ followed (tree.more_exprs e es) after = tree.more_exprs e (followed es after)
 -- So a disabled element of any list is nothing, wherever it stands.
 abbrev pub ElementIsNothing : Type 0
 ElementIsNothing =
-    (turns : ℕ) (before after : Exprs) (q : Pointer) (by : CfgId) (e : Expr) (ss : List Scope)
-    → run_each turns (followed before (tree.more_exprs (tree.disabled_expr q by e) after)) ss ≡ run_each turns (followed before after) ss
+    (turns : ℕ) (before after : Exprs) (why : Gone) (e : Expr) (ss : List Scope)
+    → run_each turns (followed before (tree.more_exprs (tree.disabled_expr why e) after)) ss ≡ run_each turns (followed before after) ss
 
 -- `unsafe { 1 }`, as a scope of items or not
 

@@ -9,7 +9,6 @@ use Rattle.hir_store.specs.declared.hir.Mutability.TheVariants as mutability
 use Rattle.hir_store.specs.declared.hir.Rawness.{Rawness}
 use Rattle.hir_store.specs.declared.hir.Rawness.TheVariants as rawness
 use Rattle.hir_store.specs.declared.hir.Statement.TheVariants as statement
-use Rattle.hir_store.specs.declared.ids.CfgId.{CfgId}
 use Rattle.hir_store.specs.declared.ids.HygieneId.{HygieneId}
 use Rattle.hir_store.specs.declared.ids.LabelId.{LabelId}
 use Rattle.hir_store.specs.declared.ids.LangItemId.{LangItemId}
@@ -20,7 +19,7 @@ use Rattle.hir_store.specs.declared.path.Path.TheVariants.{LangItem}
 use Rattle.hir_env.specs.Answering.{for_of, for_items_if}
 use Rattle.hir_env.specs.Answered as tree
 use Rattle.hir_env.specs.Targets.{head_pointer}
-use Rattle.hir_env.specs.Answered.{Block, Expr, ForItems, Jump, OptionExpr, OptionPat}
+use Rattle.hir_env.specs.Answered.{Block, Expr, ForItems, Gone, Jump, OptionExpr, OptionPat}
 use Rattle.hir_data.specs.Data as datum
 use Rattle.hir_data.specs.Data.{PatData, item_path}
 use Rattle.hir_meaning.specs.Run.{answered, unit, item, mutable_to, Event, event_at, call, reference, test, matches}
@@ -252,9 +251,9 @@ LeavesByItsHead =
 -- The iterator is made from the node of the head as it is written: that of the parentheses around it, and its own where it is disabled.
 -- Where there is none it is made from the node of the `for`.
 abbrev pub HeadAsWritten : Type 0
-HeadAsWritten = (n m : ℕ) (c : CfgId) (l : AstLiteral) (o : OptionExpr)
+HeadAsWritten = (n m : ℕ) (why : Gone) (l : AstLiteral) (o : OptionExpr)
     → (head_pointer (at n) (tree.some_expr (tree.paren_expr (at m) o)) ≡ at m)
-    × (head_pointer (at n) (tree.some_expr (tree.disabled_expr (at m) c (literal_at m l))) ≡ at m)
+    × (head_pointer (at n) (tree.some_expr (tree.disabled_expr why (literal_at m l))) ≡ at m)
     × (head_pointer (at n) tree.no_expr ≡ at n)
 
 -- a `for` for which these items are there

@@ -150,6 +150,7 @@ abbrev mutual
 
   pub type_bodies : Type_ → Bodies
   type_bodies (tree.paren_type t) = part_bodies t
+  type_bodies (tree.macro_type at called t) = part_bodies t
   type_bodies (tree.for_type binder t) = part_bodies t
   type_bodies (tree.leaf_type at l) = []
   type_bodies (tree.over_type at u t) = part_bodies t
@@ -184,6 +185,7 @@ abbrev mutual
   pub type_pat_bodies : TypePat → Bodies
   type_pat_bodies (tree.not_null_type_pat at) = []
   type_pat_bodies (tree.or_type_pat at ps) = type_pats_bodies ps
+  type_pat_bodies (tree.macro_type_pat at called p) = type_pat_part_bodies p
   type_pat_bodies (tree.range_type_pat at start end) = limit_bodies start ++ limit_bodies end
   type_pat_bodies (tree.other_type_pat at) = []
 
@@ -281,7 +283,7 @@ abbrev mutual
   -- ---- expressions
 
   pub expr_bodies : Expr → Bodies
-  expr_bodies (tree.disabled_expr at by e) = []
+  expr_bodies (tree.disabled_expr why e) = []
   expr_bodies (tree.if_expr at c t e) = bodies_in c ++ (block_part_bodies t ++ bodies_in e)
   expr_bodies (tree.block_expr b) = block_bodies b
   expr_bodies (tree.loop_expr at label _ b) = block_part_bodies b
@@ -297,6 +299,7 @@ abbrev mutual
   expr_bodies (tree.continue_expr at jump) = []
   expr_bodies (tree.break_expr at jump e) = bodies_in e
   expr_bodies (tree.paren_expr at e) = bodies_in e
+  expr_bodies (tree.macro_expr at called e) = bodies_in e
   expr_bodies (tree.literal_expr at l) = []
   expr_bodies (tree.leaf_expr at form) = []
   expr_bodies (tree.unary_expr at form e) = bodies_in e
@@ -392,6 +395,7 @@ abbrev mutual
   pub stmt_bodies : Stmt → Bodies
   stmt_bodies (tree.expr_stmt e semi) = bodies_in e
   stmt_bodies tree.item_stmt = []
+  stmt_bodies (tree.call_stmt c) = []
   stmt_bodies (tree.disabled_stmt at by s) = []
   stmt_bodies (tree.let_stmt p t e b) = pat_part_bodies p ++ (part_bodies t ++ (bodies_in e ++ block_part_bodies b))
 
@@ -407,6 +411,7 @@ abbrev mutual
   pat_bodies (tree.record_pat at p fs dots) = if_read (path_of p) (path_bodies p ++ pat_fields_bodies fs)
   pat_bodies (tree.or_pat at ps) = pats_bodies ps
   pat_bodies (tree.paren_pat at p) = pat_part_bodies p
+  pat_bodies (tree.macro_pat at called p) = pat_part_bodies p
   pat_bodies (tree.slice_pat at before middle behind) = pats_bodies before ++ (pat_part_bodies middle ++ pats_bodies behind)
   pat_bodies (tree.over_pat at form p) = pat_part_bodies p
   pat_bodies (tree.literal_pat at own l) = []
@@ -432,6 +437,7 @@ abbrev mutual
   target_bodies tree.absent_target = []
   target_bodies (tree.place_target at e) = expr_bodies e
   target_bodies (tree.wild_target at) = []
+  target_bodies (tree.macro_target at called t) = target_bodies t
   target_bodies (tree.path_target at p h) = in_held (held_of (path_of (tree.some_path p)) (path_parts p []))
   target_bodies (tree.tuple_target at ts) = targets_bodies ts
   target_bodies (tree.call_target at p ts) = if_read (path_of p) (path_bodies p ++ targets_bodies ts)

@@ -6,7 +6,7 @@ use Rattle.hir_store.specs.declared.name.Name.{Name}
 use Rattle.hir_env.specs.Answered.{Expr, OptionExpr, Fields, Stmts, Stmt}
 
 abbrev pub is_kept : Expr → Bool
-is_kept (tree.disabled_expr at by e) = false
+is_kept (tree.disabled_expr why e) = false
 is_kept _ = true
 
 abbrev pub is_left : OptionExpr → Bool
@@ -23,6 +23,7 @@ abbrev pub stmt_is_left : Stmt → Bool
 stmt_is_left (tree.disabled_stmt at by s) = false
 stmt_is_left (tree.expr_stmt e semi) = is_left e
 stmt_is_left tree.item_stmt = true
+stmt_is_left (tree.call_stmt c) = false
 stmt_is_left (tree.let_stmt p t e b) = true
 
 abbrev pub none_left : Stmts → Bool

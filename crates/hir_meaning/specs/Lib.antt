@@ -18,6 +18,7 @@ pub mod Rows
 pub mod Turns
 pub mod Worked
 pub mod Forms
+pub mod Macros
 pub mod Typed
 pub mod InnerRows
 pub mod Endings

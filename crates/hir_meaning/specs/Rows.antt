@@ -3,10 +3,9 @@ use Rattle.std.specs.Prelude.{◌≡◌, ℕ, Bool, true, false, List, [], ◌�
 use Rattle.hir_store.specs.Pointers.{Pointer}
 use Rattle.hir_store.specs.declared.hir.Expr.TheVariants as hir
 use Rattle.hir_store.specs.declared.hir.Statement.TheVariants as statement
-use Rattle.hir_store.specs.declared.ids.CfgId.{CfgId}
 use Rattle.hir_store.specs.declared.ids.BlockId.{BlockId}
 use Rattle.hir_env.specs.Answered as tree
-use Rattle.hir_env.specs.Answered.{Label, IsWrittenLabel, Expr, OptionExpr, Stmt, Stmts}
+use Rattle.hir_env.specs.Answered.{Gone, Label, IsWrittenLabel, Expr, OptionExpr, Stmt, Stmts}
 use Rattle.hir_scope.specs.Scopes.{Scope, barrier}
 use Rattle.hir_meaning.specs.Run.{answered, call, enter, cut}
 use Rattle.hir_meaning.specs.Syntax.{run_syntax, run_block, written_body, run_part}
@@ -129,15 +128,15 @@ abbrev pub joined : Stmts → Stmts → Stmts
 joined tree.no_stmts after = after
 joined (tree.more_stmts s ss) after = tree.more_stmts s (joined ss after)
 
-abbrev pub disabled_stmt : Pointer → CfgId → Expr → Bool → Stmt
-disabled_stmt q by e semi = tree.expr_stmt (tree.some_expr (tree.disabled_expr q by e)) semi
+abbrev pub disabled_stmt : Gone → Expr → Bool → Stmt
+disabled_stmt why e semi = tree.expr_stmt (tree.some_expr (tree.disabled_expr why e)) semi
 
 -- A disabled statement of a block is nothing, wherever it stands.
 abbrev pub DisabledIsNothing : Type 0
 DisabledIsNothing =
-    (turns : ℕ) (p q : Pointer) (is_unsafe : Bool) (label : Option Label) (w : IsWrittenLabel label) (number : Option BlockId)
-    (before after : Stmts) (by : CfgId) (e : Expr) (semi : Bool) (tail : OptionExpr) (ss : List Scope)
-    → run_block turns (tree.block p is_unsafe label w number (joined before (tree.more_stmts (disabled_stmt q by e semi) after)) tail) ss
+    (turns : ℕ) (p : Pointer) (is_unsafe : Bool) (label : Option Label) (w : IsWrittenLabel label) (number : Option BlockId)
+    (before after : Stmts) (why : Gone) (e : Expr) (semi : Bool) (tail : OptionExpr) (ss : List Scope)
+    → run_block turns (tree.block p is_unsafe label w number (joined before (tree.more_stmts (disabled_stmt why e semi) after)) tail) ss
     ≡ run_block turns (tree.block p is_unsafe label w number (joined before after) tail) ss
 
 -- A body behind a barrier runs as if nothing were outside.

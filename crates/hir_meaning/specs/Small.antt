@@ -135,6 +135,7 @@ from ns = record {
   field_map_back = [];
   pat_field_map_back = [];
   block_scopes = [];
+  expansions = [];
   diagnostics = [];
 }
 

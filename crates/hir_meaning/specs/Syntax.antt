@@ -274,10 +274,12 @@ run_for turns items p head head_site body site = do
 module _ (turns : ℕ) where
   abbrev mutual
     pub run_expr : Expr → List Scope → SyntaxRun Value
-    run_expr (tree.disabled_expr at by e) ss = ends (leave missing)
+    run_expr (tree.disabled_expr why e) ss = ends (leave missing)
     run_expr (tree.literal_expr at l) ss = ask (literal (literal_data l)) [] (Some (site_of at))
     run_expr (tree.path_expr at p h) ss = run_path (written_path p) h (Some (site_of at))
     run_expr (tree.paren_expr at e) ss = run_part e ss
+    -- a call is what it stands for
+    run_expr (tree.macro_expr at called e) ss = run_part e ss
     run_expr (tree.call_expr at f has_list es) ss = do
       v ← run_part f ss
       vs ← run_each es ss
@@ -415,6 +417,7 @@ module _ (turns : ℕ) where
       vs ← behind
       pure (v ∷ vs)
     run_places (tree.wild_target at) ss behind = behind
+    run_places (tree.macro_target at called t) ss behind = run_places t ss behind
     run_places (tree.path_target at p h) ss behind = behind
     run_places (tree.tuple_target at ts) ss behind = run_each_place ts ss behind
     run_places (tree.call_target at p ts) ss behind = if_read (path_of p) (run_each_place ts ss behind) behind
@@ -473,6 +476,7 @@ module _ (turns : ℕ) where
     run_stmts tree.no_stmts has_tail out tail ss = out (tail ss)
     run_stmts (tree.more_stmts (tree.disabled_stmt at by s) stmts) has_tail out tail ss = run_stmts stmts has_tail out tail ss
     run_stmts (tree.more_stmts tree.item_stmt stmts) has_tail out tail ss = run_stmts stmts has_tail out tail ss
+    run_stmts (tree.more_stmts (tree.call_stmt c) stmts) has_tail out tail ss = run_stmts stmts has_tail out tail ss
     run_stmts (tree.more_stmts (tree.let_stmt p t e b) stmts) has_tail out tail ss = do
       vs ← run_present e ss
       fits ← binds (written_pat p) (written_option_type t) vs

@@ -9,6 +9,7 @@ ghost use Rattle.hir_meaning.specs.Turns.{EndsTheTurn, ContinuesTheOuter, Breaks
 ghost use Rattle.hir_meaning.specs.Forms.{OperatesInOrder, DecidesByLeft, DecidesByRight, ReturnsFromInside, EmptyTupleIsSilent};
 ghost use Rattle.hir_meaning.specs.Forms.{MissesItsFront, LeavesOutTheSecond, ElementIsNothing, EntersTheUnsafe};
 ghost use Rattle.hir_meaning.specs.Forms.{MakesAPair, MakesARecord, MakesOfDefaults, CallsTheMethod, YieldsUnit, YeetsItsValue};
+ghost use Rattle.hir_meaning.specs.Macros.{RunsWhatItStandsFor, CallsAreSilent, LeavesNoArgument, UnenteredIsMissing, CallIsNothing};
 ghost use Rattle.hir_meaning.specs.Typed.{CastsToItsType, NamesAnOffset, CallsWithArguments};
 ghost use Rattle.hir_meaning.specs.Endings.{MissingEndsTheLoop, StraysWithItsValue, StrayIsNoValue, InnerLabelHides};
 ghost use Rattle.hir_meaning.specs.Endings.{ContinuesPastTheBlock, AnswersNoPastTheEnd, ValueEndsTheLoop, ForeignIsNotEnclosed};
@@ -199,6 +200,31 @@ pub fn parentheses_are_silent()
 /// A disabled statement of a block changes nothing, wherever it stands.
 pub fn disabled_is_nothing()
     ensures { DisabledIsNothing }
+{}
+
+/// `m!()` for `a` is a, which is read where it stands.
+pub fn runs_what_it_stands_for()
+    ensures { RunsWhatItStandsFor }
+{}
+
+/// A call of a macro runs as what it stands for.
+pub fn calls_are_silent()
+    ensures { CallsAreSilent }
+{}
+
+/// `f(m!(), a)` where what m stands for is disabled is `f(a)`.
+pub fn leaves_no_argument()
+    ensures { LeavesNoArgument }
+{}
+
+/// `f(m!())` where m has no expansion reads f, and ends since the argument is missing.
+pub fn unentered_is_missing()
+    ensures { UnenteredIsMissing }
+{}
+
+/// A call that stands for the statements behind it changes nothing, wherever it stands.
+pub fn call_is_nothing()
+    ensures { CallIsNothing }
 {}
 
 /// A body behind a barrier runs as if nothing were outside.

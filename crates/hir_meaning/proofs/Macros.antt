@@ -1,0 +1,22 @@
+-- What small bodies with calls of macros do, computed.
+use Rattle.std.proofs.Common.{refl}
+use Rattle.hir_data.specs.Reading.{stored_path}
+use Rattle.hir_meaning.specs.Run.{ends, event, ◌>>=◌}
+use Rattle.hir_meaning.specs.Catching.{loop, block}
+use Rattle.hir_meaning.specs.Store.{run_store, run_to}
+use Rattle.hir_meaning.specs.Macros.{RunsWhatItStandsFor, CallsAreSilent, LeavesNoArgument, UnenteredIsMissing}
+
+pub runs_what_it_stands_for : RunsWhatItStandsFor
+unfolding ends event ◌>>=◌ loop block run_store run_to stored_path
+runs_what_it_stands_for = record { written = record { events = refl; ends = refl }; stored = record { events = refl; ends = refl } }
+
+pub calls_are_silent : CallsAreSilent
+calls_are_silent p c e = refl
+
+pub leaves_no_argument : LeavesNoArgument
+unfolding ends event ◌>>=◌ loop block run_store run_to stored_path
+leaves_no_argument = record { written = record { events = refl; ends = refl }; stored = record { events = refl; ends = refl } }
+
+pub unentered_is_missing : UnenteredIsMissing
+unfolding ends event ◌>>=◌ loop block run_store run_to stored_path
+unentered_is_missing = record { written = record { events = refl; ends = refl }; stored = record { events = refl; ends = refl } }
