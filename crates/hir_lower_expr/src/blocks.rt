@@ -14,8 +14,7 @@ ghost use Rattle.hir_lower_form.specs.declared.parts.BlockRole.TheVariants as ro
 
 use crate::consts::const_form;
 use crate::coroutines::{coroutine, coroutine_form};
-use crate::kept::push_kept_statement;
-use crate::lets::let_stmt;
+use crate::statements::{collect_run, collect_value_opt};
 use crate::tries::try_form;
 use crate::written::WrittenBlock;
 use hir_base::node::{AstPtr, InFile};
@@ -58,55 +57,6 @@ fn settle(statements: &mut Seq<Statement>, tail: Option<ExprId>) -> Option<ExprI
     }
 }
 
-/// What a statement leaves, where it leaves something.
-fn collect_stmt<P: LowerParts>(
-    lowerer: &Lowerer<P>,
-    state: &mut BodyBuilder,
-    node: &ast::Stmt,
-) -> Result<Option<Statement>, StoreFault>
-    requires { KidsStmt (P.can lowerer.now.parts) (P.spot lowerer.now.parts).place (out-StmtKind node.now.kind) }
-    ensures { LowersStmt (stmt_level (P.spot lowerer.now.parts) node.now) state.old result state.new }
-{
-    match &node.kind {
-        ast::StmtKind::LetStmt {
-            pat,
-            ty,
-            init,
-            else_,
-        } => {
-            let at = lowerer.pointer(node.id, node.range);
-            let_stmt(lowerer, state, at, pat, ty, init, else_)
-        }
-        ast::StmtKind::ExprStmt { expr, semi } => {
-            match lowerer.maybe_collect_expr_opt(state, expr)? {
-                None => Ok(None),
-                Some(expr) => Ok(Some(Statement::Expr {
-                    expr,
-                    has_semi: *semi,
-                })),
-            }
-        }
-        ast::StmtKind::Item => Ok(Some(Statement::Item)),
-    }
-}
-
-fn collect_stmts<P: LowerParts>(
-    lowerer: &Lowerer<P>,
-    state: &mut BodyBuilder,
-    mut all: &[ast::Stmt],
-) -> Result<Seq<Statement>, StoreFault>
-    requires { Each (λ s. KidsStmt (P.can lowerer.now.parts) (P.spot lowerer.now.parts).place (out-StmtKind s.kind)) all.now }
-    ensures { LowersStmts (stmts_part (P.spot lowerer.now.parts) all.entry.now) state.old result state.new }
-{
-    let mut done = Seq::new(lowerer.alloc);
-    while let [one, rest @ ..] = all {
-        let statement = collect_stmt(lowerer, state, one)?;
-        push_kept_statement(&mut done, statement)?;
-        all = rest;
-    }
-    Ok(done)
-}
-
 /// The statements, and then the tail.
 pub(crate) fn flat_contents<P: LowerParts>(
     lowerer: &Lowerer<P>,
@@ -119,8 +69,9 @@ pub(crate) fn flat_contents<P: LowerParts>(
         let tail = spec.kept_part (expr_part spot block.tail) in
         Lowers HasContents (flat [] (stmts_part spot block.stmts) tail) state.old result state.new }
 {
-    let statements = collect_stmts(lowerer, state, node.stmts.as_slice())?;
-    let tail = lowerer.maybe_collect_expr_opt(state, &node.tail)?;
+    let mut statements = Seq::new(lowerer.alloc);
+    collect_run(lowerer, state, &mut statements, node.stmts.as_slice())?;
+    let tail = collect_value_opt(lowerer, state, &mut statements, &node.tail)?;
     Ok((statements, tail))
 }
 

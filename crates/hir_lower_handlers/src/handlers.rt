@@ -7,6 +7,7 @@ ghost use Rattle.hir_lower_handlers.specs.Spots.{complete, spot_at};
 use crate::constant::constant_form;
 use hir_base::node::{InFile, NodeId, PredId};
 use hir_env::env::LowerEnv;
+use hir_env::expand::{Expansion, FragmentKind};
 use hir_env::lang::LangItems;
 use hir_env::place::Place;
 use hir_env::resolved::{Resolved, Shadow};
@@ -105,6 +106,15 @@ impl<
 
     fn resolve(&self, path: &ModPath, shadow: Shadow) -> Resolved {
         self.env.resolve(self.place.module_id, path, shadow)
+    }
+
+    fn expand(
+        &self,
+        node: InFile<NodeId>,
+        call: &ast::MacroCall,
+        kind: FragmentKind,
+    ) -> Expansion<'_> {
+        self.env.expand(node, call, self.place.module_id, kind)
     }
 
     fn lang_items(&self) -> &LangItems {

@@ -9,6 +9,7 @@ use crate::families::{
     access_kind, control_kind, leaf_kind, leaving_kind, listing_kind, matching_kind, operator_kind,
     typed_kind,
 };
+use hir_lower_expr::macros::macro_form;
 use hir_lower_form::builder::BodyBuilder;
 use hir_lower_form::parts::{LowerParts, Lowerer, site};
 use hir_store::diagnostics::ExpressionStoreDiagnostics;
@@ -16,7 +17,7 @@ use hir_store::fault::StoreFault;
 use hir_store::ids::ExprId;
 use hir_syntax::ast;
 
-/// The form of an expression that no condition disables.
+/// The form of an expression that no condition disables, and that is no call of a macro.
 fn expr_form<P: LowerParts>(
     lowerer: &Lowerer<P>,
     state: &mut BodyBuilder,
@@ -65,6 +66,7 @@ fn expr_form<P: LowerParts>(
         | ast::ExprKind::IncludeBytesExpr
         | ast::ExprKind::AsmExpr
         | ast::ExprKind::FormatArgsExpr => leaf_kind(lowerer, state, at, &node.kind),
+        ast::ExprKind::MacroExpr { .. } => unreachable!(),
     }
 }
 
@@ -84,6 +86,9 @@ pub fn expr_node<P: LowerParts>(
             state.report(ExpressionStoreDiagnostics::InactiveCode { node: at, cfg })?;
             Ok(None)
         }
-        Ok(()) => Ok(Some(expr_form(lowerer, state, node)?)),
+        Ok(()) => match &node.kind {
+            ast::ExprKind::MacroExpr { call } => macro_form(lowerer, state, at, call),
+            _ => Ok(Some(expr_form(lowerer, state, node)?)),
+        },
     }
 }
