@@ -22,6 +22,7 @@ use Rattle.hir_store.specs.declared.pat.Binding.{Binding}
 use Rattle.hir_binding.specs.declared.binding.BindingProblems.{BindingProblems}
 use Rattle.hir_store.specs.declared.roots.ExprRoot.{ExprRoot}
 use Rattle.hir_store.specs.declared.ids.BlockId.{BlockId}
+use Rattle.hir_store.specs.declared.expansions.ExpandedCall.{ExpandedCall}
 use Rattle.hir_store.specs.declared.diagnostics.ExpressionStoreDiagnostics.{ExpressionStoreDiagnostics}
 use Rattle.hir_store.proofs.Arenas.{first_stays, prefix_refl, prefix_push, prefix_trans}
 use Rattle.hir_store.proofs.Arenas.{continues_refl, continues_trans, continues_way}
@@ -39,6 +40,7 @@ extends_refl s = record {
   field_map_back = prefix_refl _;
   pat_field_map_back = prefix_refl _;
   block_scopes = prefix_refl _;
+  expansions = prefix_refl _;
   diagnostics = prefix_refl _;
 }
 
@@ -54,6 +56,7 @@ extends_trans g h = record {
   field_map_back = prefix_trans g.field_map_back h.field_map_back;
   pat_field_map_back = prefix_trans g.pat_field_map_back h.pat_field_map_back;
   block_scopes = prefix_trans g.block_scopes h.block_scopes;
+  expansions = prefix_trans g.expansions h.expansions;
   diagnostics = prefix_trans g.diagnostics h.diagnostics;
 }
 
@@ -70,6 +73,7 @@ extends_expr s step e (Ok id) a h = record {
   field_map_back = prefix_refl s.field_map_back;
   pat_field_map_back = prefix_refl s.pat_field_map_back;
   block_scopes = prefix_refl s.block_scopes;
+  expansions = prefix_refl s.expansions;
   diagnostics = prefix_refl s.diagnostics;
 }
 extends_expr s step e (Err f) a h = rw h.0 (extends_refl s)
@@ -87,6 +91,7 @@ extends_label s x source (Ok id) a h = record {
   field_map_back = prefix_refl s.field_map_back;
   pat_field_map_back = prefix_refl s.pat_field_map_back;
   block_scopes = prefix_refl s.block_scopes;
+  expansions = prefix_refl s.expansions;
   diagnostics = prefix_refl s.diagnostics;
 }
 extends_label s x source (Err f) a h = rw h.0 (extends_refl s)
@@ -104,6 +109,7 @@ extends_type s t source (Ok id) a h = record {
   field_map_back = prefix_refl s.field_map_back;
   pat_field_map_back = prefix_refl s.pat_field_map_back;
   block_scopes = prefix_refl s.block_scopes;
+  expansions = prefix_refl s.expansions;
   diagnostics = prefix_refl s.diagnostics;
 }
 extends_type s t source (Err f) a h = rw h.0 (extends_refl s)
@@ -122,6 +128,7 @@ extends_lifetime s x source (Ok id) a h = record {
   field_map_back = prefix_refl s.field_map_back;
   pat_field_map_back = prefix_refl s.pat_field_map_back;
   block_scopes = prefix_refl s.block_scopes;
+  expansions = prefix_refl s.expansions;
   diagnostics = prefix_refl s.diagnostics;
 }
 extends_lifetime s x source (Err f) a h = rw h.0 (extends_refl s)
@@ -138,6 +145,7 @@ extends_point s p id = record {
   field_map_back = prefix_refl s.field_map_back;
   pat_field_map_back = prefix_refl s.pat_field_map_back;
   block_scopes = prefix_refl s.block_scopes;
+  expansions = prefix_refl s.expansions;
   diagnostics = prefix_refl s.diagnostics;
 }
 
@@ -153,7 +161,24 @@ extends_report s d = record {
   field_map_back = prefix_refl s.field_map_back;
   pat_field_map_back = prefix_refl s.pat_field_map_back;
   block_scopes = prefix_refl s.block_scopes;
+  expansions = prefix_refl s.expansions;
   diagnostics = prefix_push s.diagnostics d;
+}
+
+pub extends_expansion : (s : Stored) (c : ExpandedCall) → Extends s (record s { expansions = s.expansions ++ c ∷ [] })
+extends_expansion s c = record {
+  exprs = continues_refl s.exprs;
+  labels = continues_refl s.labels;
+  pats = continues_refl s.pats;
+  bindings = bindings_refl s.bindings;
+  types = continues_refl s.types;
+  lifetimes = continues_refl s.lifetimes;
+  roots = prefix_refl s.roots;
+  field_map_back = prefix_refl s.field_map_back;
+  pat_field_map_back = prefix_refl s.pat_field_map_back;
+  block_scopes = prefix_refl s.block_scopes;
+  expansions = prefix_push s.expansions c;
+  diagnostics = prefix_refl s.diagnostics;
 }
 
 pub extends_block : (s : Stored) (b : BlockId) → Extends s (record s { block_scopes = s.block_scopes ++ b ∷ [] })
@@ -168,6 +193,7 @@ extends_block s b = record {
   field_map_back = prefix_refl s.field_map_back;
   pat_field_map_back = prefix_refl s.pat_field_map_back;
   block_scopes = prefix_push s.block_scopes b;
+  expansions = prefix_refl s.expansions;
   diagnostics = prefix_refl s.diagnostics;
 }
 
@@ -183,6 +209,7 @@ extends_root s r = record {
   field_map_back = prefix_refl s.field_map_back;
   pat_field_map_back = prefix_refl s.pat_field_map_back;
   block_scopes = prefix_refl s.block_scopes;
+  expansions = prefix_refl s.expansions;
   diagnostics = prefix_refl s.diagnostics;
 }
 
@@ -199,6 +226,7 @@ extends_field s id p = record {
   field_map_back = first_stays same_expr s.field_map_back id p;
   pat_field_map_back = prefix_refl s.pat_field_map_back;
   block_scopes = prefix_refl s.block_scopes;
+  expansions = prefix_refl s.expansions;
   diagnostics = prefix_refl s.diagnostics;
 }
 
@@ -215,6 +243,7 @@ extends_pat s step x (Ok id) a h = record {
   field_map_back = prefix_refl s.field_map_back;
   pat_field_map_back = prefix_refl s.pat_field_map_back;
   block_scopes = prefix_refl s.block_scopes;
+  expansions = prefix_refl s.expansions;
   diagnostics = prefix_refl s.diagnostics;
 }
 extends_pat s step x (Err f) a h = rw h.0 (extends_refl s)
@@ -232,6 +261,7 @@ extends_binding s x (Ok id) a h = record {
   field_map_back = prefix_refl s.field_map_back;
   pat_field_map_back = prefix_refl s.pat_field_map_back;
   block_scopes = prefix_refl s.block_scopes;
+  expansions = prefix_refl s.expansions;
   diagnostics = prefix_refl s.diagnostics;
 }
 extends_binding s x (Err f) a h = rw h.0 (extends_refl s)
@@ -249,6 +279,7 @@ extends_definition s id p = record {
   field_map_back = prefix_refl s.field_map_back;
   pat_field_map_back = prefix_refl s.pat_field_map_back;
   block_scopes = prefix_refl s.block_scopes;
+  expansions = prefix_refl s.expansions;
   diagnostics = prefix_refl s.diagnostics;
 }
 
@@ -265,6 +296,7 @@ extends_problem s id problem = record {
   field_map_back = prefix_refl s.field_map_back;
   pat_field_map_back = prefix_refl s.pat_field_map_back;
   block_scopes = prefix_refl s.block_scopes;
+  expansions = prefix_refl s.expansions;
   diagnostics = prefix_refl s.diagnostics;
 }
 
@@ -281,6 +313,7 @@ extends_owner s start id = record {
   field_map_back = prefix_refl s.field_map_back;
   pat_field_map_back = prefix_refl s.pat_field_map_back;
   block_scopes = prefix_refl s.block_scopes;
+  expansions = prefix_refl s.expansions;
   diagnostics = prefix_refl s.diagnostics;
 }
 
@@ -296,6 +329,23 @@ extends_point_pat s p id = record {
   field_map_back = prefix_refl s.field_map_back;
   pat_field_map_back = prefix_refl s.pat_field_map_back;
   block_scopes = prefix_refl s.block_scopes;
+  expansions = prefix_refl s.expansions;
+  diagnostics = prefix_refl s.diagnostics;
+}
+
+pub extends_point_type : (s : Stored) (p : Pointer) (id : TypeRefId) → Extends s (record s { types = with_way s.types p id })
+extends_point_type s p id = record {
+  exprs = continues_refl s.exprs;
+  labels = continues_refl s.labels;
+  pats = continues_refl s.pats;
+  bindings = bindings_refl s.bindings;
+  types = continues_way s.types p id;
+  lifetimes = continues_refl s.lifetimes;
+  roots = prefix_refl s.roots;
+  field_map_back = prefix_refl s.field_map_back;
+  pat_field_map_back = prefix_refl s.pat_field_map_back;
+  block_scopes = prefix_refl s.block_scopes;
+  expansions = prefix_refl s.expansions;
   diagnostics = prefix_refl s.diagnostics;
 }
 
@@ -312,5 +362,6 @@ extends_pat_field s id p = record {
   field_map_back = prefix_refl s.field_map_back;
   pat_field_map_back = first_stays same_pat s.pat_field_map_back id p;
   block_scopes = prefix_refl s.block_scopes;
+  expansions = prefix_refl s.expansions;
   diagnostics = prefix_refl s.diagnostics;
 }

@@ -198,6 +198,7 @@ past_statement (statement.Let p type_ref initializer else_branch) = join (past_p
     (join (past_present past_type_id type_ref) (join (past_present past_expr_id initializer) (past_present past_expr_id else_branch)))
 past_statement (statement.Expr id semi) = past_expr_id id
 past_statement statement.Item = nothing
+past_statement (statement.MacroDef d) = nothing
 
 abbrev pub past_statements : List Statement → Past
 past_statements = past_each past_statement

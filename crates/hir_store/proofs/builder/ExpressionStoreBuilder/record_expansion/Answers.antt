@@ -1,0 +1,18 @@
+use Rattle.std.proofs.Common.{[], ◌∷◌, ◌++◌, subst}
+use Rattle.hir_store.specs.declared.builder.ExpressionStoreBuilder.TheView.{view}
+use Rattle.hir_store.specs.Stored.{Stored}
+use Rattle.hir_store.specs.Storing.{Extends}
+use Rattle.hir_store.proofs.Extending.{extends_expansion, extends_refl}
+use Rattle.hir_store.proofs.builder.ExpressionStoreBuilder.record_expansion.Goals as goal
+
+pub returns-clause-stays : goal.returns-clause-stays
+returns-clause-stays c =
+    let s : Stored = view c.self.inside in
+    let P : Stored → Type 0 = λ v. Extends v (record s { expansions = s.expansions ++ c.args.call ∷ [] }) in
+    rw c.in_ok-push.ensures.ok (subst P c.self.view_is (extends_expansion s c.args.call))
+
+pub returns-in_err-push-clause-stays : goal.returns-in_err-push-clause-stays
+returns-in_err-push-clause-stays c =
+    let s : Stored = view c.self.inside in
+    let P : Stored → Type 0 = λ v. Extends v s in
+    rw c.in_err-push.ensures.err (subst P c.self.view_is (extends_refl s))
