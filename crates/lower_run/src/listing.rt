@@ -1,5 +1,6 @@
 //! From what was lowered to its listing.
 
+mod expansions;
 mod lines;
 mod numbering;
 mod owners;
@@ -41,7 +42,7 @@ fn listing<'a>(alloc: Global, listed: Listed<'a>, shown: Shown<'a>) -> Result<St
 }
 
 /// The listing of a body: a line with its `self`, where it has one, one for each other parameter, one with itself, one for
-/// each binding and each label in them, one for each diagnostic. Only memory can fail.
+/// each binding and each label in them, one for each call that was expanded, one for each diagnostic. Only memory can fail.
 pub fn body_listing<'a>(
     alloc: Global,
     listed: Listed<'a>,

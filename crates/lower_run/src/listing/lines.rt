@@ -125,6 +125,10 @@ fn detail(writer: &mut Writer, fault: &ExpressionStoreDiagnostics) -> Result<(),
             "diag UndeclaredLabel ",
             name,
         ),
+        ExpressionStoreDiagnostics::UnresolvedMacroCall { path, .. } => {
+            writer.word("diag UnresolvedMacroCall ")?;
+            writer.mod_path(path)
+        }
         ExpressionStoreDiagnostics::AwaitOutsideOfAsync { location, .. } => {
             writer.word(await_word(*location))
         }
@@ -145,6 +149,7 @@ fn node(fault: &ExpressionStoreDiagnostics) -> InFile<AstPtr> {
         ExpressionStoreDiagnostics::InactiveCode { node, .. } => *node,
         ExpressionStoreDiagnostics::UnreachableLabel { node, .. } => *node,
         ExpressionStoreDiagnostics::UndeclaredLabel { node, .. } => *node,
+        ExpressionStoreDiagnostics::UnresolvedMacroCall { node, .. } => *node,
         ExpressionStoreDiagnostics::AwaitOutsideOfAsync { node, .. } => *node,
         ExpressionStoreDiagnostics::MissingBody { node, .. } => *node,
         ExpressionStoreDiagnostics::FruInDestructuringAssignment { node } => *node,

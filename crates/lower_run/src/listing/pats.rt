@@ -154,6 +154,7 @@ impl<'a> Waiting<'a> {
             ]),
             Statement::Expr { expr, .. } => self.push_parts(&[Piece::Expr(*expr)]),
             Statement::Item => self.push_parts(&[]),
+            Statement::MacroDef(definition) => self.push_parts(&[Piece::Number(definition.0)]),
         }
     }
 

@@ -7,7 +7,7 @@ use super::shown::Shown;
 use super::waiting::{Piece, Waiting, arg_piece};
 use super::words::{expr_word, lang_word, pat_word, statement_word};
 use super::writer::Writer;
-use super::{Listed, lines};
+use super::{Listed, expansions, lines};
 use hir_lower::Param;
 use hir_store::hir::{MatchArm, RecordFieldPat, RecordLitField, Statement};
 use hir_store::ids::{BindingId, ExprId, HygieneId, LabelId, LifetimeRefId, PatId, TypeRefId};
@@ -22,6 +22,7 @@ use std::alloc::{AllocError, Global};
 /// What is still to be printed waits in a list, so that a deep body or type takes memory and no stack, and each
 /// stored part is looked at once in a printing.
 pub struct Printer<'a> {
+    alloc: Global,
     listed: Listed<'a>,
     writer: Writer,
     bindings: Numbering<BindingId>,
@@ -33,6 +34,7 @@ pub struct Printer<'a> {
 impl Drop for Printer<'_> {
     fn drop(self) {
         let Printer {
+            alloc: _,
             listed: _,
             writer: _,
             bindings: _,
@@ -47,6 +49,7 @@ impl<'a> Printer<'a> {
     /// A printer that has printed nothing. It takes no memory.
     pub fn new(alloc: Global, listed: Listed<'a>) -> Printer<'a> {
         Printer {
+            alloc,
             listed,
             writer: Writer::new(alloc, listed.sources),
             bindings: Numbering::new(alloc),
@@ -59,6 +62,7 @@ impl<'a> Printer<'a> {
     /// The text printed so far.
     pub fn finish(self) -> String {
         let Printer {
+            alloc: _,
             listed: _,
             writer,
             bindings: _,
@@ -69,7 +73,8 @@ impl<'a> Printer<'a> {
         writer.finish()
     }
 
-    /// Prints the whole listing: the lines of what is shown, then its bindings and labels by number, then the diagnostics.
+    /// Prints the whole listing: the lines of what is shown, then its bindings and labels by number, then what calls were
+    /// expanded to, then the diagnostics.
     ///
     /// Where bindings in it have owners, the lines are printed once more, with the owners' numbers. All other numbers are those
     /// of the first time, since the order is.
@@ -134,7 +139,7 @@ impl<'a> Printer<'a> {
         Ok(())
     }
 
-    /// Prints the bindings and the labels by number, then the diagnostics.
+    /// Prints the bindings and the labels by number, then what calls were expanded to, then the diagnostics.
     fn others(&mut self) -> Result<(), AllocError> {
         lines::bindings(
             &mut self.writer,
@@ -147,6 +152,11 @@ impl<'a> Printer<'a> {
             self.labels.as_slice(),
             self.listed.store,
             self.listed.source_map,
+        )?;
+        expansions::expansions(
+            self.alloc,
+            &mut self.writer,
+            self.listed.source_map.expansions(),
         )?;
         lines::diagnostics(&mut self.writer, self.listed.source_map.diagnostics())
     }

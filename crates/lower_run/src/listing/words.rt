@@ -79,6 +79,7 @@ pub fn statement_word(statement: &Statement) -> &'static str {
         Statement::Expr { has_semi: true, .. } => "Semi",
         Statement::Expr { .. } => "Expr",
         Statement::Item => "Item",
+        Statement::MacroDef(_) => "MacroDef",
     }
 }
 

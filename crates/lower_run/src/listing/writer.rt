@@ -2,7 +2,7 @@
 
 use super::numbering::Numbering;
 use super::types::before_first_name;
-use hir_base::node::{AstPtr, InFile};
+use hir_base::node::{AstPtr, InFile, NodeId};
 use hir_store::hir::Literal;
 use hir_store::ids::HygieneId;
 use hir_store::name::Name;
@@ -205,13 +205,24 @@ impl Writer {
         self.out.push('"')
     }
 
-    /// Adds a node, `@n`, or `@f.n` where its file f isn't 0. Nothing, where sources aren't shown.
+    /// Adds a node, `@n`, or `@f.n` where its file f isn't 0.
+    pub fn node(&mut self, node: InFile<NodeId>) -> Result<(), AllocError> {
+        match node.file_id.0 {
+            0 => write!(self.out, "@{}", node.value.0),
+            file => write!(self.out, "@{}.{}", file, node.value.0),
+        }
+    }
+
+    /// Adds the node that something came from. Nothing, where sources aren't shown.
     fn source(&mut self, before: &str, node: Option<InFile<AstPtr>>) -> Result<(), AllocError> {
         match node {
-            Some(InFile { file_id, value }) if self.sources => match file_id.0 {
-                0 => write!(self.out, "{}@{}", before, value.node.0),
-                file => write!(self.out, "{}@{}.{}", before, file, value.node.0),
-            },
+            Some(InFile { file_id, value }) if self.sources => {
+                self.word(before)?;
+                self.node(InFile {
+                    file_id,
+                    value: value.node,
+                })
+            }
             _ => Ok(()),
         }
     }

@@ -1,0 +1,46 @@
+//! The lines of what the calls of macros were expanded to.
+
+use super::writer::Writer;
+use hir_base::node::{InFile, NodeId, TextRange};
+use hir_store::expansions::ExpandedCall;
+use std::alloc::{AllocError, Global};
+
+/// What tells a call from others: its node, and where its text stands. A call that another one expanded beforehand has no such
+/// place, and comes in front of those of its node that have one.
+fn key(entry: &ExpandedCall) -> (InFile<NodeId>, Option<TextRange>) {
+    (entry.call, entry.range)
+}
+
+/// Whether the next entry is of the same call.
+fn counts_no_more(entry: &ExpandedCall, rest: &[ExpandedCall]) -> bool {
+    match rest {
+        [next, ..] => key(next) == key(entry),
+        [] => false,
+    }
+}
+
+fn line(writer: &mut Writer, entry: &ExpandedCall) -> Result<(), AllocError> {
+    writer.word("expansion ")?;
+    writer.node(entry.call)?;
+    writer.numbered(" ", entry.file.0)?;
+    writer.word("\n")
+}
+
+/// Adds a line for each call that was expanded, by file, by node and by the place of its text. Of what is said of one call the last
+/// counts.
+pub fn expansions(
+    alloc: Global,
+    writer: &mut Writer,
+    recorded: &[ExpandedCall],
+) -> Result<(), AllocError> {
+    let mut entries = Vec::from_slice(alloc, recorded)?;
+    entries.sort_by_key(key)?;
+    let mut left = entries.as_slice();
+    while let [one, rest @ ..] = left {
+        if !counts_no_more(one, rest) {
+            line(writer, one)?;
+        }
+        left = rest;
+    }
+    Ok(())
+}
