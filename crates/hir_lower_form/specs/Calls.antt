@@ -1,13 +1,22 @@
 -- What is told of the calls of macros.
-use Rattle.std.specs.Prelude.{List, [], ◌∷◌, Option, Some, None}
+use Rattle.std.specs.Prelude.{ℕ, zero, suc, List, [], ◌∷◌, Option, Some, None, Ok, Err}
+use Rattle.hir_syntax.specs.declared.macros.Fragment.{Fragment as AstFragment}
+use Rattle.hir_syntax.specs.declared.macros.MacroCall.{MacroCall as AstMacroCall}
 use Rattle.hir_store.specs.Pointers.{Pointer}
 use Rattle.hir_store.specs.declared.diagnostics.ExpressionStoreDiagnostics.TheVariants.{InactiveCode, UnresolvedMacroCall}
 use Rattle.hir_store.specs.declared.ids.CfgId.{CfgId}
 use Rattle.hir_env.specs.Spot.{site_of}
-use Rattle.hir_env.specs.Answers.{Eager}
+use Rattle.hir_env.specs.declared.expand.FragmentKind.{FragmentKind}
+use Rattle.hir_env.specs.declared.place.Place.{Place}
+use Rattle.hir_env.specs.Answers.{Answers, Eager, Expanding, expanded}
+use Rattle.hir_env.specs.Calls.{asked_call, call_pointer, called, inside_file}
+use Rattle.hir_env.specs.Lent.{fragment_lent}
+use Rattle.hir_env.specs.Spot.{Spot}
 use Rattle.hir_env.specs.Answered as tree
 use Rattle.hir_env.specs.Answered.{Called, Entered, Gone}
-use Rattle.hir_lower_form.specs.Lowering.{Lowering, ◌>>=◌, ◌>>◌, pure, record_expansion, report}
+use Rattle.hir_lower_form.specs.Lowering.{Lowering, Checked, ◌>>=◌, ◌>>◌, pure, record_expansion, report}
+use Rattle.hir_lower_form.specs.declared.calls.Entered.{Entered as LentEntered}
+use Rattle.hir_lower_form.specs.declared.calls.Entered.TheVariants as lent
 
 -- what else was expanded for a call
 abbrev pub record_each : List Eager → Lowering (Unit {0})
@@ -43,3 +52,36 @@ unfoldable pub note_gone : Gone → Lowering (Unit {0})
 note_gone why = do
   note_each why.entered
   report_condition why.condition
+
+-- ---- what a call that is read here comes to
+
+-- where it is read what the call stands for, where it is entered, and what that is, where it stands for something
+abbrev pub Found : Type 0
+Found = Option (Place × Option AstFragment)
+
+abbrev pub found_in : ℕ → Place → Expanding → Found
+found_in n p (expanded f x es) = Some (inside_file f n p, x)
+found_in n p _ = None
+
+-- what is told of the call, and what is found
+abbrev pub asked_step : Answers → FragmentKind → AstMacroCall → ℕ → Place → Lowering Found
+asked_step env k c n p = let x = asked_call env k c p in do
+  told (called (call_pointer p c) x)
+  pure (found_in n p x)
+
+-- where none may be entered nothing is asked
+abbrev pub enter_left : Answers → FragmentKind → AstMacroCall → ℕ → Place → Lowering Found
+enter_left env k c zero p = pure None
+enter_left env k c (suc n) p = asked_step env k c n p
+
+abbrev pub entered_at : Spot → FragmentKind → AstMacroCall → Lowering Found
+entered_at at k c = enter_left at.answers k c at.place.left at.place
+
+-- the same by value
+abbrev pub found_of : LentEntered → Found
+found_of lent.No = None
+found_of (lent.Yes p x) = Some (p, fragment_lent x)
+
+abbrev pub found : Checked LentEntered → Checked Found
+found (Ok x) = Ok (found_of x)
+found (Err e) = Err e

@@ -36,7 +36,7 @@ use Rattle.hir_env.specs.Answered.{Binder, Type_, OptionType, Parts, Path, Optio
 use Rattle.hir_env.specs.Answered.{Expr, OptionExpr, Exprs, Block, OptionBlock, Stmts, Stmt}
 use Rattle.hir_env.specs.Answered.{OptionPat, Param, Params, Side, OptionTypePat, Limit, Target}
 use Rattle.hir_env.specs.Whole.{answered_plain, expr_part, in_const_block, in_constant, in_coroutine, label_part, pointer_at}
-use Rattle.hir_env.specs.Whole.{reader, stmts_part}
+use Rattle.hir_env.specs.Whole.{contents_part, into, reader}
 use Rattle.hir_env.specs.Whole.{type_part}
 use Rattle.hir_store.specs.declared.path.Path.{Path as HirPath}
 use Rattle.hir_lower_form.specs.Builder.{Builder}
@@ -59,7 +59,7 @@ LowersExpr e old result new = Lowers HasExpr (spec.lower e) old result new
 
 -- an expression of this kind, at this node
 abbrev pub kind_at : Spot → Pointer → AstExprKind → Expr
-kind_at at s k = expr_at at.answers (reader at.answers) (out-ExprKind k) at.place s
+kind_at at s k = expr_at at.answers (reader at.answers (into at)) (out-ExprKind k) at.place s
 
 -- none where a condition disables it
 abbrev pub MaybeLowersExpr : Expr → Builder → Checked (Option ExprId) → Builder → Type 0
@@ -267,7 +267,10 @@ HasContents s c = HasStatements s c.0 × HasExprOption s c.1
 
 -- what is in a block that is read at this spot
 abbrev pub contents_at : Spot → AstBlockExpr → Lowering StoredContents
-contents_at at b = let node = out-BlockExpr b in spec.lower_stmts [] (stmts_part at node.stmts) (spec.kept_part (expr_part at node.tail))
+contents_at at b =
+    let node = out-BlockExpr b in
+    let c = contents_part at node.stmts node.tail in
+    spec.lower_stmts [] c.0 (spec.kept_part c.1)
 
 -- the block with these contents, of this role
 abbrev pub block_steps_at : Spot → BlockRole → Option BlockId → AstBlockExpr → ExprSteps

@@ -14,10 +14,11 @@ ghost use Rattle.hir_lower_form.specs.Pats.{missing_pat};
 ghost use Rattle.hir_lower_form.specs.Types.{error_type, unit_type};
 
 use crate::parts::LowerParts;
-use hir_base::node::{AstPtr, InFile};
+use hir_base::node::{AstPtr, HirFileId, InFile, NodeId, TextRange};
 use hir_lower_scope::labels::{LabelScopes, NoTarget, TryLabel};
 use hir_store::builder::ExpressionStoreBuilder;
 use hir_store::diagnostics::{AwaitLocation, ExpressionStoreDiagnostics};
+use hir_store::expansions::ExpandedCall;
 use hir_store::fault::StoreFault;
 use hir_store::hir::{Binding, BindingProblems, Expr, Label, Pat};
 use hir_store::ids::{
@@ -289,6 +290,15 @@ impl BodyBuilder {
         self.store.point_pat(node, id)
     }
 
+    /// Lets a further node lead to a type.
+    #[tactic(auto, unfolding(crate::specs::Lowering::point_type))]
+    pub fn point_type(&mut self, node: InFile<AstPtr>, id: TypeRefId) -> Result<(), StoreFault>
+        requires { HasType self.old.stored id }
+        ensures { Lowers HasNone (spec.point_type node id) self.old result self.new }
+    {
+        self.store.point_type(node, id)
+    }
+
     /// Notes the field that a pattern is the part of.
     #[tactic(auto, unfolding(crate::specs::Lowering::point_pat_field))]
     pub fn point_pat_field(&mut self, id: PatId, node: InFile<AstPtr>) -> Result<(), StoreFault>
@@ -303,6 +313,20 @@ impl BodyBuilder {
         ensures { Lowers HasNone (spec.report fault) self.old result self.new }
     {
         self.store.report(fault)
+    }
+
+    /// Notes that the call was expanded to the file.
+    #[tactic(auto, unfolding(crate::specs::Lowering::record_expansion))]
+    pub fn record_expansion(
+        &mut self,
+        call: InFile<NodeId>,
+        range: Option<TextRange>,
+        file: HirFileId,
+    ) -> Result<(), StoreFault>
+        ensures { Lowers HasNone (spec.record_expansion call range file) self.old result self.new }
+    {
+        self.store
+            .record_expansion(ExpandedCall { call, range, file })
     }
 
     /// Reports that the node awaits in this, which isn't async.

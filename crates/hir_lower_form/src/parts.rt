@@ -3,12 +3,13 @@
 
 ghost use Rattle.std.specs.Prelude.{◌≡◌};
 ghost use Rattle.hir_env.specs.Answered as tree;
+ghost use Rattle.hir_env.specs.Lent.{shown};
 ghost use Rattle.hir_env.specs.Spot.{Spot, in_file, ptr, site_of};
 ghost use Rattle.hir_env.specs.Whole.{answered, answered_arg_list, answered_path, answered_plain, answered_type};
 ghost use Rattle.hir_env.specs.Whole.{block_part, expr_part, pointer_at};
 ghost use Rattle.hir_scope.specs.Ribs.{search, sought_first};
 ghost use Rattle.hir_lower_scope.specs.Labels.{answer};
-ghost use Rattle.hir_lower_form.specs.Nests.{Claims, IfPresent, PatsNest, TargetsArePlaces, TargetsNest};
+ghost use Rattle.hir_lower_form.specs.Nests.{CallsNest, Claims, IfPresent, PatsNest, TargetsArePlaces, TargetsNest};
 ghost use Rattle.hir_lower_form.specs.Methods.{HasRole, LowersBlock, LowersBlockOpt, LowersExpr, LowersExprOpt, LowersIfPresent};
 ghost use Rattle.hir_lower_form.specs.Methods.{LowersInside, MaybeLowersExpr, MaybeLowersExprOpt};
 ghost use Rattle.hir_lower_form.specs.Methods.{HasWalk, LowersArgs, LowersConstant, LowersType, ReadsPath, at_place, constant_at};
@@ -16,6 +17,7 @@ ghost use Rattle.hir_lower_form.specs.Methods.{HasWalk, LowersArgs, LowersConsta
 use crate::builder::BodyBuilder;
 use crate::walk::{PathWalk, Reading};
 use hir_base::node::{AstPtr, InFile, NodeId, PredId, TextRange};
+use hir_env::expand::{Expansion, FragmentKind};
 use hir_env::lang::LangItems;
 use hir_env::place::Place;
 use hir_env::resolved::{Resolved, Shadow};
@@ -78,6 +80,15 @@ pub trait LowerParts {
     /// What the path stands for.
     fn resolve(&self, path: &ModPath, shadow: Shadow) -> Resolved
         ensures { let at = spot self.now in result ≡ at.answers.resolve at.place.module_id path.now shadow };
+
+    /// What the call of a macro at the node is expanded to, as a fragment of this kind.
+    fn expand(
+        &self,
+        node: InFile<NodeId>,
+        call: &ast::MacroCall,
+        kind: FragmentKind,
+    ) -> Expansion<'_>
+        ensures { let at = spot self.now in shown result ≡ at.answers.expand node call.now at.place.module_id kind };
 
     /// The items that the language itself names.
     fn lang_items(&self) -> &LangItems
@@ -178,6 +189,9 @@ pub trait LowerParts {
     ghost target_kids: { TargetsNest can };
 
     ghost target_place: { TargetsArePlaces can spot };
+
+    /// What a call that may be entered stands for may be handed in where it is entered.
+    ghost call_kids: { CallsNest can spot };
 }
 
 /// The node that a pointer leads to, as it is asked about.

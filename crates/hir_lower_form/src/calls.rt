@@ -1,0 +1,111 @@
+//! Calls of macros: what they come to.
+
+ghost use Rattle.std.specs.Prelude.{◌≡◌};
+ghost use Rattle.hir_store.specs.Range.{HasNone};
+ghost use Rattle.hir_env.specs.Answers.{Expanding};
+ghost use Rattle.hir_env.specs.Calls.{called, call_pointer, inside_file};
+ghost use Rattle.hir_env.specs.Lent.{shown};
+ghost use Rattle.hir_env.specs.Spot.{site_of};
+ghost use Rattle.hir_lower_form.specs.Calls.{entered_at, found, found_in, note, record_each, told};
+ghost use Rattle.hir_lower_form.specs.Lowering.{Lowers, ◌>>◌, pure};
+ghost use Rattle.hir_lower_form.specs.Methods.{HasRead};
+
+use crate::builder::BodyBuilder;
+use crate::parts::{LowerParts, Lowerer, site};
+use hir_base::node::{AstPtr, HirFileId, InFile, NodeId};
+use hir_env::expand::{Expansion, FragmentKind};
+use hir_env::place::Place;
+use hir_store::diagnostics::ExpressionStoreDiagnostics;
+use hir_store::fault::StoreFault;
+use hir_syntax::ast::{Fragment, MacroCall};
+
+/// What a call came to, once it was asked about.
+#[derive(Clone, Copy)]
+pub enum Entered<'a> {
+    /// It isn't entered: it has no expansion, or too many are entered already.
+    No,
+    /// It is, and stands for this there.
+    Yes(Place, Option<&'a Fragment>),
+}
+
+/// Where the expansion of a call is read, inside of which this many may be entered.
+fn inside_file(place: Place, file_id: HirFileId, left: u32) -> Place
+    ensures { result ≡ inside_file file_id left place }
+{
+    Place {
+        file_id,
+        left,
+        ..place
+    }
+}
+
+/// Notes what was expanded for a call beforehand.
+fn record_each(
+    state: &mut BodyBuilder,
+    mut eager: &[(InFile<NodeId>, HirFileId)],
+) -> Result<(), StoreFault>
+    ensures { Lowers HasNone (record_each eager.entry.now) state.old result state.new }
+{
+    while let [one, rest @ ..] = eager {
+        state.record_expansion(one.0, None, one.1)?;
+        eager = rest;
+    }
+    Ok(())
+}
+
+/// Notes a call that is entered.
+#[tactic(auto, unfolding(crate::specs::Calls::note))]
+fn note(
+    state: &mut BodyBuilder,
+    call: InFile<AstPtr>,
+    file: HirFileId,
+    eager: &[(InFile<NodeId>, HirFileId)],
+) -> Result<(), StoreFault>
+    ensures { Lowers HasNone (note (record { call = call; file = file; eager = eager.now })) state.old result state.new }
+{
+    record_each(state, eager)?;
+    state.record_expansion(site(call), Some(call.value.range), file)
+}
+
+/// Tells of a call what it came to, and answers what it stands for.
+fn told<'a>(
+    state: &mut BodyBuilder,
+    place: Place,
+    left: u32,
+    call: InFile<AstPtr>,
+    expansion: Expansion<'a>,
+) -> Result<Entered<'a>, StoreFault>
+    ensures { Lowers HasRead (told (called call (shown expansion)) >> pure (found_in left place (shown expansion)))
+        state.old (found result) state.new }
+{
+    match expansion {
+        Expansion::NoExpansion => Ok(Entered::No),
+        Expansion::Unresolved(path) => {
+            let path = path.clone()?;
+            state.report(ExpressionStoreDiagnostics::UnresolvedMacroCall { node: call, path })?;
+            Ok(Entered::No)
+        }
+        Expansion::Expanded(file, root, eager) => {
+            note(state, call, file, eager)?;
+            Ok(Entered::Yes(inside_file(place, file, left), root))
+        }
+    }
+}
+
+/// Asks about a call that is read here, and tells what it came to. Where none may be entered nothing is asked.
+pub fn enter<'a, P: LowerParts>(
+    lowerer: &'a Lowerer<P>,
+    state: &mut BodyBuilder,
+    kind: FragmentKind,
+    call: &MacroCall,
+) -> Result<Entered<'a>, StoreFault>
+    ensures { Lowers HasRead (entered_at (P.spot lowerer.now.parts) kind call.now) state.old (found result) state.new }
+{
+    let place = lowerer.parts.place();
+    if place.left == 0 {
+        return Ok(Entered::No);
+    }
+    let at = lowerer.pointer(call.id, call.range);
+    let expansion = lowerer.parts.expand(site(at), call, kind);
+    told(state, place, place.left - 1, at, expansion)
+}
