@@ -28,9 +28,10 @@ use Rattle.hir_lower_form.specs.Lower.{method_call_form, await_form, block_form,
 use Rattle.hir_lower_form.specs.Made.{item_call_form, made_path_form, residual_form, value_or_unit, wrapped_form}
 use Rattle.hir_lower_form.specs.Made.{conversion, flow_arm_form, question_form, try_block_form, typed_try_form}
 use Rattle.hir_steps.proofs.Apart.{Apart, enter_block_apart, expr_apart, made_apart, named_apart}
-use Rattle.hir_steps.proofs.Apart.{opened_apart, opened_try_apart, point_apart, point_field_apart, pure_apart, report_apart}
+use Rattle.hir_steps.proofs.Apart.{opened_apart, opened_try_apart, point_apart, point_field_apart, pure_apart}
 use Rattle.hir_steps.proofs.Apart.{report_await_apart, stored_pat_apart, jump_apart, then_apart, try_target_apart}
 use Rattle.hir_steps.proofs.Barriers.{correct_yield}
+use Rattle.hir_steps.proofs.Calls.{apart_only, only_gone}
 use Rattle.hir_steps.proofs.Frames.{loop_at, block_at}
 use Rattle.hir_steps.proofs.Steps.{Correct}
 use Rattle.hir_env.specs.Answered.{ForItems, QuestionItems, IsWrittenLabel}
@@ -262,5 +263,5 @@ labelled_apart None w h = h None
 labelled_apart (Some l) w h = opened_apart block_at l w (λ n ps. refl) (λ n. h (Some n)) (λ n i. pure_apart i)
 
 pub kept_apart : (e : Expr) {p : ExprSteps} → Correct p Apart → Correct (kept e p) Apart
-kept_apart (tree.disabled_expr at by e) h = then_apart (report_apart _) (λ u. pure_apart None)
+kept_apart (tree.disabled_expr why e) h = then_apart (apart_only (only_gone why)) (λ u. pure_apart None)
 kept_apart e h = some_apart h

@@ -50,6 +50,8 @@ use Rattle.hir_steps.proofs.ApartTypes.{impl_apart, lifetime_apart, lifetime_opt
 use Rattle.hir_steps.proofs.ApartTypes.{path_bound_apart, path_type_apart, proceed_apart, ref_apart, tuple_apart, unit_apart}
 use Rattle.hir_steps.proofs.ApartTypes.{uses_apart, whole_apart, with_trait_apart}
 use Rattle.hir_steps.proofs.ApartPreludes.{coroutine_closure_apart}
+use Rattle.hir_steps.proofs.CallForms.{called_apart, called_pat_apart, called_type_apart, gone_apart, note_apart, told_apart}
+use Rattle.hir_steps.proofs.CallForms.{uncalled_apart, uncalled_pat_apart, uncalled_type_apart}
 use Rattle.hir_steps.proofs.Steps.{Correct}
 use Rattle.hir_steps.proofs.ApartForms.{missing_apart, stored_apart, some_apart, if_apart, loop_apart, turn_apart, call_apart}
 use Rattle.hir_steps.proofs.ApartForms.{continue_apart, break_apart, paren_apart, path_apart, operand_apart, operands_apart, value_apart}
@@ -60,6 +62,8 @@ use Rattle.hir_steps.proofs.ApartForms.{for_apart, kept_apart, repeat_apart, con
 mutual
   pub one_type_apart : (b : Option Binder) (t : Type_) → Correct (lower_type b t) Apart
   one_type_apart b (tree.paren_type t) = type_apart b t
+  one_type_apart b (tree.macro_type at c tree.no_type) = uncalled_type_apart at c
+  one_type_apart b (tree.macro_type at c (tree.some_type t)) = called_type_apart at c (one_type_apart b t)
   one_type_apart b (tree.for_type names t) = type_apart (Some names) t
   one_type_apart b (tree.leaf_type at form) = stored_type_apart _ _
   one_type_apart b (tree.over_type at form t) = over_apart at form (type_apart None t)
@@ -171,7 +175,7 @@ mutual
   -- expressions
 
   pub node_apart : (e : Expr) → Correct (lower e) Apart
-  node_apart (tree.disabled_expr at by e) = then_apart (report_apart _) (λ u. missing_apart)
+  node_apart (tree.disabled_expr why e) = then_apart (gone_apart why) (λ u. missing_apart)
   node_apart (tree.if_expr at c t e) = if_apart at (part_apart c) (block_part_apart t) (present_apart e)
   node_apart (tree.block_expr b) = block_apart b
   node_apart (tree.loop_expr at label w b) = loop_apart at _ label w (block_part_apart b)
@@ -191,6 +195,8 @@ mutual
   node_apart (tree.continue_expr at jump) = continue_apart at jump
   node_apart (tree.break_expr at jump e) = break_apart at jump (present_apart e)
   node_apart (tree.paren_expr at e) = paren_apart at (part_apart e)
+  node_apart (tree.macro_expr at c tree.no_expr) = uncalled_apart at c
+  node_apart (tree.macro_expr at c (tree.some_expr e)) = called_apart at c (node_apart e)
   node_apart (tree.literal_expr at l) = stored_apart _ at
   node_apart (tree.leaf_expr at form) = stored_apart _ at
   node_apart (tree.unary_expr at form e) = operand_apart at _ (part_apart e)
@@ -273,6 +279,7 @@ mutual
   stmt_apart (tree.expr_stmt e semi) = then_apart (kept_part_apart e) (λ x. pure_apart _)
   stmt_apart (tree.disabled_stmt at by s) = then_apart (report_apart _) (λ u. pure_apart None)
   stmt_apart tree.item_stmt = pure_apart _
+  stmt_apart (tree.call_stmt c) = then_apart (note_apart c) (λ u. pure_apart None)
   stmt_apart (tree.let_stmt p t e b) = let_stmt_apart (top_apart p) (present_type_apart t) (present_apart e) (present_block_apart b)
 
   pub present_block_apart : (b : OptionBlock) → Correct (present_block b) Apart
@@ -308,6 +315,8 @@ mutual
   pat_apart (tree.record_pat at p fs dots) t = record_pat_apart at dots (pat_fields_apart [] fs) (lower_path_apart p) t
   pat_apart (tree.or_pat at ps) t = alternatives_apart at ps t
   pat_apart (tree.paren_pat at p) t = pat_part_apart p t
+  pat_apart (tree.macro_pat at c tree.no_pat) t = alone_apart (uncalled_pat_apart at c) t
+  pat_apart (tree.macro_pat at c (tree.some_pat p)) t = called_pat_apart at c (λ r. r.0) (pat_apart p t)
   pat_apart (tree.slice_pat at before p behind) t =
       slice_pat_apart at (pats_apart [] before) (present_pat_apart p) (pats_apart [] behind) t
   pat_apart (tree.over_pat at form p) t = over_pat_apart at form (pat_part_apart p) t
@@ -363,6 +372,8 @@ mutual
 
   type_pat_apart : (p : TypePat) → Correct (lower_type_pat p) Apart
   type_pat_apart (tree.not_null_type_pat at) = stored_pat_apart _ (Some at)
+  type_pat_apart (tree.macro_type_pat at c tree.no_type_pat) = uncalled_pat_apart at c
+  type_pat_apart (tree.macro_type_pat at c (tree.some_type_pat p)) = called_pat_apart at c (λ i. i) (type_pat_apart p)
   type_pat_apart (tree.or_type_pat at ps) = type_alternatives_apart at (type_pats_apart [] ps)
   type_pat_apart (tree.range_type_pat at s e) = limits_apart at (limit_apart s) (limit_apart e)
   type_pat_apart (tree.other_type_pat at) = stored_pat_apart _ (Some at)
@@ -388,6 +399,7 @@ mutual
   pub target_apart : (t : Target) → Correct (lower_target t) Apart
   target_apart tree.absent_target = missing_pat_apart
   target_apart (tree.place_target at e) = place_target_apart at (node_apart e)
+  target_apart (tree.macro_target at c t) = then_apart (told_apart c) (λ u. target_apart t)
   target_apart (tree.wild_target at) = stored_pat_apart _ (Some at)
   target_apart (tree.path_target at p h) = path_target_apart at h (then_apart (reading_apart p start) (λ r. pure_apart (path_read r)))
   target_apart (tree.tuple_target at ts) = tuple_target_apart at (targets_apart no_elements ts)

@@ -23,6 +23,8 @@ pub mod ApartPreludes
 pub mod ApartTypes
 pub mod ApartPats
 pub mod ApartForms
+pub mod Calls
+pub mod CallForms
 pub mod ApartTree
 pub mod TypeAny
 pub mod PatAny

@@ -80,6 +80,7 @@ correct_alloc_made e source =
               field_map_back = prefix_refl s.field_map_back;
               pat_field_map_back = prefix_refl s.pat_field_map_back;
               block_scopes = prefix_refl s.block_scopes;
+              expansions = prefix_refl s.expansions;
               diagnostics = prefix_refl s.diagnostics;
             };
           };

@@ -24,7 +24,7 @@ use Rattle.hir_lower_form.specs.Lowering.{Checked, alloc_pat, alloc_made_pat, al
 use Rattle.hir_lower_form.specs.Preludes.{alloc_beside, pat_source}
 use Rattle.hir_steps.proofs.Frames.{Frame}
 use Rattle.hir_steps.proofs.Logic.{Mark, mark, counts, Holds, Rel, Correct, grows_still, in_prefix, one_more}
-use Rattle.hir_steps.proofs.Mapping.{maps_entry, made_beside}
+use Rattle.hir_steps.proofs.Mapping.{leads_entry, made_beside}
 
 -- a pattern
 
@@ -82,7 +82,7 @@ correct_alloc_pat p source =
               lifetimes = d.lifetimes;
             };
             mapped = λ d w. record {
-              pats = maps_entry (λ i. i.0) s.pats p w.pats pat_id (λ n. refl) d.pats source;
+              pats = leads_entry s.pats p w.pats pat_id source;
               types = w.types;
               lifetimes = w.lifetimes;
             };
@@ -97,6 +97,7 @@ correct_alloc_pat p source =
               field_map_back = prefix_refl s.field_map_back;
               pat_field_map_back = prefix_refl s.pat_field_map_back;
               block_scopes = prefix_refl s.block_scopes;
+              expansions = prefix_refl s.expansions;
               diagnostics = prefix_refl s.diagnostics;
             };
           };
@@ -168,7 +169,7 @@ correct_alloc_beside p own =
               types = d.types;
               lifetimes = d.lifetimes;
             };
-            mapped = λ d w. record { pats = made_beside (λ i. i.0) s.pats p w.pats own.0; types = w.types; lifetimes = w.lifetimes };
+            mapped = λ d w. record { pats = made_beside s.pats p w.pats own.0; types = w.types; lifetimes = w.lifetimes };
             stays = record {
               exprs = continues_refl s.exprs;
               labels = continues_refl s.labels;
@@ -180,6 +181,7 @@ correct_alloc_beside p own =
               field_map_back = prefix_refl s.field_map_back;
               pat_field_map_back = prefix_refl s.pat_field_map_back;
               block_scopes = prefix_refl s.block_scopes;
+              expansions = prefix_refl s.expansions;
               diagnostics = prefix_refl s.diagnostics;
             };
           };
@@ -282,6 +284,7 @@ correct_alloc_binding x =
               field_map_back = prefix_refl s.field_map_back;
               pat_field_map_back = prefix_refl s.pat_field_map_back;
               block_scopes = prefix_refl s.block_scopes;
+              expansions = prefix_refl s.expansions;
               diagnostics = prefix_refl s.diagnostics;
             };
           };

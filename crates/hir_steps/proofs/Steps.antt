@@ -213,6 +213,7 @@ correct_alloc e source = record { holds = λ final ps b r. go final ps b (nat_lt
               field_map_back = prefix_refl s.field_map_back;
               pat_field_map_back = prefix_refl s.pat_field_map_back;
               block_scopes = prefix_refl s.block_scopes;
+              expansions = prefix_refl s.expansions;
               diagnostics = prefix_refl s.diagnostics;
             };
           };
@@ -329,6 +330,7 @@ opens_as r l true b =
         field_map_back = prefix_refl s.field_map_back;
         pat_field_map_back = prefix_refl s.pat_field_map_back;
         block_scopes = prefix_refl s.block_scopes;
+        expansions = prefix_refl s.expansions;
         diagnostics = prefix_refl s.diagnostics;
       };
       number = refl;

@@ -23,6 +23,7 @@ use Rattle.hir_lower_form.specs.Lower.{lower_later, lower_pat_fields, lower_pat_
 use Rattle.hir_lower_form.specs.Lower.{lower_type_pats, lower_limit, lower_param, lower_params}
 use Rattle.hir_lower_form.specs.Pats.{Table, no_names, next_alternative, Elements, no_elements, is_dots}
 use Rattle.hir_steps.proofs.Barriers.{still_constant, still_inner, param_still}
+use Rattle.hir_steps.proofs.CallForms.{called_pat_still, called_type_still, uncalled_pat_still, uncalled_type_still}
 use Rattle.hir_steps.proofs.Owning.{still_owning}
 use Rattle.hir_steps.proofs.StillPats.{alone_still, bind_still, element_still, limits_still, literal_pat_still, literal_side_still}
 use Rattle.hir_steps.proofs.StillPats.{missing_pat_still, name_side_still, or_still, over_pat_still, pat_field_still, path_pat_still}
@@ -38,6 +39,8 @@ use Rattle.hir_steps.proofs.Yields.{Still, still_pat, still_pure, still_report, 
 mutual
   pub one_type_still : (b : Option Binder) (t : Type_) → Still (lower_type b t)
   one_type_still b (tree.paren_type t) = type_still b t
+  one_type_still b (tree.macro_type at c tree.no_type) = uncalled_type_still at c
+  one_type_still b (tree.macro_type at c (tree.some_type t)) = called_type_still at c (one_type_still b t)
   one_type_still b (tree.for_type names t) = type_still (Some names) t
   one_type_still b (tree.leaf_type at form) = still_type _ _
   one_type_still b (tree.over_type at form t) = over_still at form (type_still None t)
@@ -163,6 +166,8 @@ mutual
   pat_still (tree.record_pat at p fs dots) t = record_pat_still at dots (pat_fields_still [] fs) (lower_path_still p) t
   pat_still (tree.or_pat at ps) t = alternatives_still at ps t
   pat_still (tree.paren_pat at p) t = pat_part_still p t
+  pat_still (tree.macro_pat at c tree.no_pat) t = alone_still (uncalled_pat_still at c) t
+  pat_still (tree.macro_pat at c (tree.some_pat p)) t = called_pat_still at c (λ r. r.0) (pat_still p t)
   pat_still (tree.slice_pat at before p behind) t =
       slice_pat_still at (pats_still [] before) (present_pat_still p) (pats_still [] behind) t
   pat_still (tree.over_pat at form p) t = over_pat_still at form (pat_part_still p) t
@@ -218,6 +223,8 @@ mutual
 
   type_pat_still : (p : TypePat) → Still (lower_type_pat p)
   type_pat_still (tree.not_null_type_pat at) = still_pat _ (Some at)
+  type_pat_still (tree.macro_type_pat at c tree.no_type_pat) = uncalled_pat_still at c
+  type_pat_still (tree.macro_type_pat at c (tree.some_type_pat p)) = called_pat_still at c (λ i. i) (type_pat_still p)
   type_pat_still (tree.or_type_pat at ps) = type_alternatives_still at (type_pats_still [] ps)
   type_pat_still (tree.range_type_pat at s e) = limits_still at (limit_still s) (limit_still e)
   type_pat_still (tree.other_type_pat at) = still_pat _ (Some at)

@@ -19,6 +19,7 @@ use Rattle.hir_lower_form.specs.Builder.{Builder}
 use Rattle.hir_lower_form.specs.Lowering.{Checked, alloc_type, alloc_lifetime}
 use Rattle.hir_steps.proofs.Frames.{Frame}
 use Rattle.hir_steps.proofs.Logic.{Mark, Holds, Correct, in_prefix, one_more}
+use Rattle.hir_steps.proofs.Mapping.{leads_entry}
 
 -- a type
 
@@ -70,7 +71,7 @@ correct_alloc_type t source =
             };
             mapped = λ d w. record {
               pats = w.pats;
-              types = maps_back_entry (λ i. i.0) type_id (λ n. refl) s.types t d.types w.types source;
+              types = leads_entry s.types t w.types type_id source;
               lifetimes = w.lifetimes;
             };
             stays = record {
@@ -84,6 +85,7 @@ correct_alloc_type t source =
               field_map_back = prefix_refl s.field_map_back;
               pat_field_map_back = prefix_refl s.pat_field_map_back;
               block_scopes = prefix_refl s.block_scopes;
+              expansions = prefix_refl s.expansions;
               diagnostics = prefix_refl s.diagnostics;
             };
           };
@@ -180,6 +182,7 @@ correct_alloc_lifetime l source =
               field_map_back = prefix_refl s.field_map_back;
               pat_field_map_back = prefix_refl s.pat_field_map_back;
               block_scopes = prefix_refl s.block_scopes;
+              expansions = prefix_refl s.expansions;
               diagnostics = prefix_refl s.diagnostics;
             };
           };

@@ -1,0 +1,199 @@
+-- What is told of calls of macros, and that their nodes lead to what they stand for: steps by what they do.
+use Rattle.std.proofs.Common.{◌≡◌, ◌∙◌, refl, sym, ap, subst, List, [], ◌∷◌, ◌++◌, map, Option, Some, None, Ok, append-nil, append_assoc}
+use Rattle.hir_base.specs.declared.node.HirFileId.{HirFileId}
+use Rattle.hir_base.specs.declared.node.TextRange.{TextRange}
+use Rattle.hir_store.specs.Arenas.{with_way}
+use Rattle.hir_store.specs.Pointers.{Pointer}
+use Rattle.hir_store.specs.Stored.{Stored}
+use Rattle.hir_store.specs.Storing as storing
+use Rattle.hir_store.specs.Storing.{Extends}
+use Rattle.hir_store.specs.declared.diagnostics.ExpressionStoreDiagnostics.{ExpressionStoreDiagnostics}
+use Rattle.hir_store.specs.declared.ids.CfgId.{CfgId}
+use Rattle.hir_store.specs.declared.ids.PatId.{PatId}
+use Rattle.hir_store.specs.declared.ids.TypeRefId.{TypeRefId}
+use Rattle.hir_store.proofs.Arenas.{continues_refl, prefix_refl}
+use Rattle.hir_store.proofs.BindingLemmas.{bindings_refl}
+use Rattle.hir_store.proofs.Extending.{extends_point_pat, extends_point_type}
+use Rattle.hir_env.specs.NodeMap.{Site}
+use Rattle.hir_env.specs.Answers.{Eager}
+use Rattle.hir_env.specs.Answered as tree
+use Rattle.hir_env.specs.Answered.{Called, Entered, Gone}
+use Rattle.hir_lower_form.specs.Builder.{Builder}
+use Rattle.hir_lower_form.specs.Calls.{note, note_each, note_gone, record_each, report_condition, told}
+use Rattle.hir_lower_form.specs.Lowering.{go_on, Lowering, ◌>>=◌, ◌>>◌, pure, point_pat, point_type, record_expansion, report}
+use Rattle.hir_steps.specs.Calls.{Expansions, called_faults, condition_faults, eager_expansion, expansions_of_called}
+use Rattle.hir_steps.specs.Calls.{expansions_of_each, expansions_of_entered, with_told}
+use Rattle.hir_steps.proofs.Apart.{Apart, apart_stored, then_apart}
+use Rattle.hir_steps.proofs.Frames.{Frame}
+use Rattle.hir_steps.proofs.Logic.{Mark, mark, counts, Holds, Correct, correct_as, grows_still}
+use Rattle.hir_steps.proofs.Mapping.{leads_way}
+use Rattle.hir_steps.proofs.PatSteps.{PatWrites}
+use Rattle.hir_steps.proofs.Yields.{LeavesTo, Still, Raises, raises_still, still_stored}
+
+abbrev Faults : Type 0
+Faults = List ExpressionStoreDiagnostics
+
+-- ---- steps that only tell
+
+-- it tells these, and nothing else
+pub record Only (es : Expansions) (ds : Faults) (p : Lowering (Unit {0})) : Type 0 where
+  pub is : (b : Builder) → p b ≡ (Ok tt, record b { stored = with_told es ds b.stored })
+
+abbrev telling : Expansions → Faults → Builder → Builder
+telling es ds b = record b { stored = record b.stored { expansions = es; diagnostics = ds } }
+
+only_pure : Only [] [] (pure tt)
+only_pure = record {
+  is = λ b. λ i. (Ok tt, telling (sym (append-nil b.stored.expansions) i) (sym (append-nil b.stored.diagnostics) i) b);
+}
+
+only_then : {es fs : Expansions} {ds cs : Faults} {p q : Lowering (Unit {0})} → Only es ds p → Only fs cs q
+    → Only (es ++ fs) (ds ++ cs) (p >> q)
+only_then {es = es} {fs = fs} {ds = ds} {cs = cs} {q = q} h k = record {
+  is = λ b. let s = b.stored in ap (λ r. go_on r.0 r.1 (λ u. q)) (h.is b)
+      ∙ (k.is (record b { stored = with_told es ds s })
+      ∙ (λ i. (Ok tt, telling (append_assoc s.expansions es fs i) (append_assoc s.diagnostics ds cs i) b)));
+}
+
+only_expansion : (call : Site) (range : Option TextRange) (file : HirFileId)
+    → Only (record { call = call; range = range; file = file } ∷ []) [] (record_expansion call range file)
+unfolding record_expansion storing.record_expansion
+only_expansion call range file = record {
+  is = λ b. let s = b.stored in
+      λ i. (Ok tt, telling (s.expansions ++ record { call = call; range = range; file = file } ∷ []) (sym (append-nil s.diagnostics) i) b);
+}
+
+pub only_report : (d : ExpressionStoreDiagnostics) → Only [] (d ∷ []) (report d)
+unfolding report storing.report
+only_report d = record {
+  is = λ b. let s = b.stored in λ i. (Ok tt, telling (sym (append-nil s.expansions) i) (s.diagnostics ++ d ∷ []) b);
+}
+
+only_each : (es : List Eager) → Only (map eager_expansion es) [] (record_each es)
+only_each [] = only_pure
+only_each (e ∷ es) = only_then (only_expansion e.0 None e.1) (only_each es)
+
+pub only_note : (c : Entered) → Only (expansions_of_entered c) [] (note c)
+unfolding note
+only_note c = only_then (only_each c.eager) (only_expansion _ _ _)
+
+pub only_told : (c : Called) → Only (expansions_of_called c) (called_faults c) (told c)
+only_told tree.callless = only_pure
+only_told tree.unentered = only_pure
+only_told (tree.unresolved at path) = only_report _
+only_told (tree.entered c) = only_note c
+only_told tree.spliced = only_pure
+
+only_note_each : (cs : List Entered) → Only (expansions_of_each cs) [] (note_each cs)
+only_note_each [] = only_pure
+only_note_each (c ∷ cs) = only_then (only_note c) (only_note_each cs)
+
+only_condition : (x : Option (Pointer × CfgId)) → Only [] (condition_faults x) (report_condition x)
+only_condition None = only_pure
+only_condition (Some (at, by)) = only_report _
+
+pub only_gone : (why : Gone) → Only (expansions_of_each why.entered ++ []) (condition_faults why.condition) (note_gone why)
+unfolding note_gone
+only_gone why = only_then (only_note_each why.entered) (only_condition why.condition)
+
+-- what is so of such steps
+
+pub extends_told : (es : Expansions) (ds : Faults) (s : Stored) → Extends s (with_told es ds s)
+extends_told es ds s = record {
+  exprs = continues_refl s.exprs;
+  labels = continues_refl s.labels;
+  pats = continues_refl s.pats;
+  bindings = bindings_refl s.bindings;
+  types = continues_refl s.types;
+  lifetimes = continues_refl s.lifetimes;
+  roots = prefix_refl s.roots;
+  field_map_back = prefix_refl s.field_map_back;
+  pat_field_map_back = prefix_refl s.pat_field_map_back;
+  block_scopes = prefix_refl s.block_scopes;
+  expansions = record { more = es; is = refl };
+  diagnostics = record { more = ds; is = refl };
+}
+
+pub correct_only : {es : Expansions} {ds : Faults} {p : Lowering (Unit {0})} → Only es ds p → Correct p (PatWrites (with_told es ds))
+correct_only {es = es} {ds = ds} {p = p} h = record {
+  holds = λ final ps b r. subst (λ r. Holds (PatWrites (with_told es ds)) final ps b r.0 r.1) (sym (h.is b)) (record {
+    kept = record {
+      scopes = refl;
+      in_root = refl;
+      roots = λ t. refl;
+      paired = λ d. record { exprs = d.exprs; labels = d.labels; pats = d.pats; types = d.types; lifetimes = d.lifetimes };
+      mapped = λ d w. record { pats = w.pats; types = w.types; lifetimes = w.lifetimes };
+      stays = extends_told es ds b.stored;
+    };
+    grows = grows_still (mark b) _ refl;
+    in_final = λ d pre. record { counts_are = refl; stored = refl };
+  });
+}
+
+pub still_only : {es : Expansions} {ds : Faults} {p : Lowering (Unit {0})} → Only es ds p → Still p
+still_only h = record { still = λ b. subst (λ r. LeavesTo b r.0 r.1) (sym (h.is b)) refl }
+
+pub raises_only : {es : Expansions} {ds : Faults} {p : Lowering (Unit {0})} → Only es ds p → Raises false p
+raises_only h = raises_still (correct_only h) (still_only h)
+
+pub apart_only : {es : Expansions} {ds : Faults} {p : Lowering (Unit {0})} → Only es ds p → Correct p Apart
+apart_only {es = es} {ds = ds} h = correct_as (correct_only h)
+    (λ final ps m m' u g row. apart_stored (with_told es ds) m m' (ap (λ c. c.7) row.counts_are) row.stored (λ s k. refl))
+
+-- ---- the node of a call leads to what it stands for
+
+abbrev pub pointing_pat : Pointer → PatId → Stored → Stored
+pointing_pat p id s = record s { pats = with_way s.pats p id }
+
+pub correct_point_pat : (node : Pointer) (id : PatId) → Correct (point_pat node id) (PatWrites (pointing_pat node id))
+unfolding point_pat storing.point_pat
+correct_point_pat node id = record {
+  holds = λ final ps b r. record {
+    kept = record {
+      scopes = refl;
+      in_root = refl;
+      roots = λ t. refl;
+      paired = λ d. record { exprs = d.exprs; labels = d.labels; pats = d.pats; types = d.types; lifetimes = d.lifetimes };
+      mapped = λ d w. record { pats = leads_way b.stored.pats w.pats node id; types = w.types; lifetimes = w.lifetimes };
+      stays = extends_point_pat b.stored node id;
+    };
+    grows = grows_still (mark b) _ refl;
+    in_final = λ d pre. record { counts_are = refl; stored = refl };
+  };
+}
+
+abbrev pub pointing_type : Pointer → TypeRefId → Stored → Stored
+pointing_type p id s = record s { types = with_way s.types p id }
+
+pub correct_point_type : (node : Pointer) (id : TypeRefId) → Correct (point_type node id) (PatWrites (pointing_type node id))
+unfolding point_type storing.point_type
+correct_point_type node id = record {
+  holds = λ final ps b r. record {
+    kept = record {
+      scopes = refl;
+      in_root = refl;
+      roots = λ t. refl;
+      paired = λ d. record { exprs = d.exprs; labels = d.labels; pats = d.pats; types = d.types; lifetimes = d.lifetimes };
+      mapped = λ d w. record { pats = w.pats; types = leads_way b.stored.types w.types node id; lifetimes = w.lifetimes };
+      stays = extends_point_type b.stored node id;
+    };
+    grows = grows_still (mark b) _ refl;
+    in_final = λ d pre. record { counts_are = refl; stored = refl };
+  };
+}
+
+pub still_point_pat : (node : Pointer) (id : PatId) → Still (point_pat node id)
+unfolding point_pat
+still_point_pat node id = still_stored (storing.point_pat node id)
+
+pub still_point_type : (node : Pointer) (id : TypeRefId) → Still (point_type node id)
+unfolding point_type
+still_point_type node id = still_stored (storing.point_type node id)
+
+pub point_pat_apart : (node : Pointer) (id : PatId) → Correct (point_pat node id) Apart
+point_pat_apart node id = correct_as (correct_point_pat node id)
+    (λ final ps m m' u g row. apart_stored (pointing_pat node id) m m' (ap (λ c. c.7) row.counts_are) row.stored (λ s k. refl))
+
+pub point_type_apart : (node : Pointer) (id : TypeRefId) → Correct (point_type node id) Apart
+point_type_apart node id = correct_as (correct_point_type node id)
+    (λ final ps m m' u g row. apart_stored (pointing_type node id) m m' (ap (λ c. c.7) row.counts_are) row.stored (λ s k. refl))
