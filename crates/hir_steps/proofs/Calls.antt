@@ -22,12 +22,13 @@ use Rattle.hir_lower_form.specs.Builder.{Builder}
 use Rattle.hir_lower_form.specs.Calls.{note, note_each, note_gone, record_each, report_condition, told}
 use Rattle.hir_lower_form.specs.Lowering.{go_on, Lowering, ◌>>=◌, ◌>>◌, pure, point_pat, point_type, record_expansion, report}
 use Rattle.hir_steps.specs.Calls.{Expansions, called_faults, condition_faults, eager_expansion, expansions_of_called}
-use Rattle.hir_steps.specs.Calls.{expansions_of_each, expansions_of_entered, with_told}
+use Rattle.hir_steps.specs.Calls.{expansions_of_each, expansions_of_entered, expansions_of_gone, with_told}
 use Rattle.hir_steps.proofs.Apart.{Apart, apart_stored, then_apart}
 use Rattle.hir_steps.proofs.Frames.{Frame}
 use Rattle.hir_steps.proofs.Logic.{Mark, mark, counts, Holds, Correct, correct_as, grows_still}
 use Rattle.hir_steps.proofs.Mapping.{leads_way}
 use Rattle.hir_steps.proofs.PatSteps.{PatWrites}
+use Rattle.hir_steps.proofs.Steps.{Writes}
 use Rattle.hir_steps.proofs.Yields.{LeavesTo, Still, Raises, raises_still, still_stored}
 
 abbrev Faults : Type 0
@@ -92,9 +93,10 @@ only_condition : (x : Option (Pointer × CfgId)) → Only [] (condition_faults x
 only_condition None = only_pure
 only_condition (Some (at, by)) = only_report _
 
-pub only_gone : (why : Gone) → Only (expansions_of_each why.entered ++ []) (condition_faults why.condition) (note_gone why)
+pub only_gone : (why : Gone) → Only (expansions_of_gone why) (condition_faults why.condition) (note_gone why)
 unfolding note_gone
-only_gone why = only_then (only_note_each why.entered) (only_condition why.condition)
+only_gone why = let h = only_then (only_note_each why.entered) (only_condition why.condition) in
+    subst (λ es. Only es (condition_faults why.condition) (note_gone why)) (append-nil (expansions_of_each why.entered)) h
 
 -- what is so of such steps
 
@@ -129,6 +131,26 @@ correct_only {es = es} {ds = ds} {p = p} h = record {
     in_final = λ d pre. record { counts_are = refl; stored = refl };
   });
 }
+
+-- in the terms of what writes
+writes_only : {es : Expansions} {ds : Faults} {p : Lowering (Unit {0})} → Only es ds p → Correct p (Writes tt (with_told es ds))
+writes_only h = correct_as (correct_only h) (λ final ps m m' u g row. record {
+  is = refl;
+  nodes = ap (λ c. c.0) row.counts_are;
+  labels = ap (λ c. c.1) row.counts_are;
+  names = ap (λ c. c.7) row.counts_are;
+  stored = row.stored;
+})
+
+pub correct_note : (c : Entered) → Correct (note c) (Writes tt (with_told (expansions_of_entered c) []))
+correct_note c = writes_only (only_note c)
+
+pub correct_told : (c : Called) → Correct (told c) (Writes tt (with_told (expansions_of_called c) (called_faults c)))
+correct_told c = writes_only (only_told c)
+
+pub correct_note_gone : (why : Gone)
+    → Correct (note_gone why) (Writes tt (with_told (expansions_of_gone why) (condition_faults why.condition)))
+correct_note_gone why = writes_only (only_gone why)
 
 pub still_only : {es : Expansions} {ds : Faults} {p : Lowering (Unit {0})} → Only es ds p → Still p
 still_only h = record { still = λ b. subst (λ r. LeavesTo b r.0 r.1) (sym (h.is b)) refl }

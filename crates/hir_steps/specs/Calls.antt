@@ -26,6 +26,9 @@ abbrev pub expansions_of_each : List Entered → Expansions
 expansions_of_each [] = []
 expansions_of_each (c ∷ cs) = expansions_of_entered c ++ expansions_of_each cs
 
+abbrev pub expansions_of_gone : Gone → Expansions
+expansions_of_gone why = expansions_of_each why.entered
+
 abbrev pub expansions_of_called : Called → Expansions
 expansions_of_called (tree.entered c) = expansions_of_entered c
 expansions_of_called _ = []
