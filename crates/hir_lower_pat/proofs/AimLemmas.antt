@@ -26,7 +26,7 @@ use Rattle.hir_env.specs.Layers.{ExprKindLayer}
 use Rattle.hir_env.specs.PathNames.{mod_path_of}
 use Rattle.hir_env.specs.Targets.{before_dots, behind_dots, call_or, callee_path, called, dots_pointer, elements, is_dots, names_target}
 use Rattle.hir_env.specs.Targets.{each_target, path_or, place_of, pointer_of, target_of, target_or}
-use Rattle.hir_env.specs.Whole.{answered, kept_expr, path_part, pointer_at, reader, written}
+use Rattle.hir_env.specs.Whole.{answered, into, kept_expr, path_part, pointer_at, reader, written}
 use Rattle.hir_env.proofs.Levels.{block_is_level, expr_is_level}
 use Rattle.hir_lower_form.specs.Builder.{Builder}
 use Rattle.hir_lower_form.specs.Forms.{paren_form, path_form, path_or_missing}
@@ -39,11 +39,11 @@ use Rattle.hir_lower_pat.specs.Aims.{ArrayParts, IsPlace, aim_of, aimed, array_r
 use Rattle.hir_lower_pat.specs.Aims.{array_of, dots_kind, path_of_callee, placed, through}
 use Rattle.hir_lower_pat.specs.declared.aims.Aim.{Aim}
 use Rattle.hir_lower_pat.specs.declared.aims.Aim.TheVariants as aim
-use Rattle.hir_lower_pat.proofs.OfKinds.{of_closure, of_for, of_own, of_question, through_asked}
+use Rattle.hir_lower_pat.proofs.OfKinds.{of_called, of_closure, of_for, of_own, of_question, through_asked}
 use Rattle.hir_lower_pat.proofs.PathNames.{lowered_names}
 
 abbrev level : Spot → ExprKindLayer written → Pointer → Expr
-level at k s = expr_at at.answers (reader at.answers) k at.place s
+level at k s = expr_at at.answers (reader at.answers (into at)) k at.place s
 
 -- ---- conditions
 
@@ -55,7 +55,7 @@ pub disabled_is : (at : Spot) (e : AstExpr) (by : CfgId) → at.answers.cfg (sit
     → aim_of (found_at at) (answered at e) ≡ placed (answered at e)
 disabled_is at e by h =
     let s = pointer_at at e.id e.range in
-    let is : answered at e ≡ tree.disabled_expr s by (kept_expr at e) = expr_is_level at e ∙ ap (λ r. asked s r (kept_expr at e)) h in
+    let is : answered at e ≡ asked s (Err by) (kept_expr at e) = expr_is_level at e ∙ ap (λ r. asked s r (kept_expr at e)) h in
     ap (aim_of (found_at at)) is ∙ sym (ap placed is)
 
 -- ---- two dots and callees
@@ -79,6 +79,9 @@ dots_at at (ExprKind-F.PathExpr x) s = refl
 dots_at at (ExprKind-F.ContinueExpr l) s = refl
 dots_at at (ExprKind-F.BreakExpr l e) s = refl
 dots_at at (ExprKind-F.ParenExpr e) s = refl
+dots_at at (ExprKind-F.MacroExpr None) s = refl
+dots_at at (ExprKind-F.MacroExpr (Some c)) s =
+    of_called is_dots false (λ t x e. refl) (λ why t x e. refl) at.answers (into at) c at.place s
 dots_at at (ExprKind-F.Literal l) s = refl
 dots_at at (ExprKind-F.MethodCallExpr e n as' es) s = refl
 dots_at at (ExprKind-F.FieldExpr e n) s = refl
@@ -117,7 +120,7 @@ pub dots_are : (at : Spot) (e : AstExpr) → is_dots (answered at e) ≡ dots_ki
 dots_are at e =
     let s = pointer_at at e.id e.range in
     ap is_dots (expr_is_level at e)
-    ∙ (through_asked is_dots (λ t by x. refl) s (at.answers.cfg (site_of s)) (kept_expr at e) ∙ dots_at at (out-ExprKind e.kind) s)
+    ∙ (through_asked is_dots (λ why x. refl) s (at.answers.cfg (site_of s)) (kept_expr at e) ∙ dots_at at (out-ExprKind e.kind) s)
 
 callee_at : (at : Spot) (k : ExprKindLayer written) (s : Pointer)
     → callee_path (level at k s) ≡ option_map (path_part at) (path_of_callee k)
@@ -137,6 +140,9 @@ callee_at at (ExprKind-F.PathExpr x) s = refl
 callee_at at (ExprKind-F.ContinueExpr l) s = refl
 callee_at at (ExprKind-F.BreakExpr l e) s = refl
 callee_at at (ExprKind-F.ParenExpr e) s = refl
+callee_at at (ExprKind-F.MacroExpr None) s = refl
+callee_at at (ExprKind-F.MacroExpr (Some c)) s =
+    of_called callee_path None (λ t x e. refl) (λ why t x e. refl) at.answers (into at) c at.place s
 callee_at at (ExprKind-F.Literal l) s = refl
 callee_at at (ExprKind-F.MethodCallExpr e n as' es) s = refl
 callee_at at (ExprKind-F.FieldExpr e n) s = refl
@@ -175,7 +181,7 @@ pub callee_is : (at : Spot) (e : AstExpr) → callee_path (answered at e) ≡ op
 callee_is at e =
     let s = pointer_at at e.id e.range in
     ap callee_path (expr_is_level at e)
-    ∙ (through_asked callee_path (λ t by x. refl) s (at.answers.cfg (site_of s)) (kept_expr at e) ∙ callee_at at (out-ExprKind e.kind) s)
+    ∙ (through_asked callee_path (λ why x. refl) s (at.answers.cfg (site_of s)) (kept_expr at e) ∙ callee_at at (out-ExprKind e.kind) s)
 
 -- ---- any other kind
 
@@ -198,6 +204,9 @@ other_at f at (ExprKind-F.ForExpr l q e b) s h =
     (for_items at.answers.lang_items) s _ _ _ _ _
 other_at f at (ExprKind-F.ContinueExpr l) s h = refl
 other_at f at (ExprKind-F.BreakExpr l e) s h = refl
+other_at f at (ExprKind-F.MacroExpr None) s h = refl
+other_at f at (ExprKind-F.MacroExpr (Some c)) s h =
+    of_called (target_or f tree.absent_target) tree.absent_target (λ t x e. refl) (λ why t x e. refl) at.answers (into at) c at.place s
 other_at f at (ExprKind-F.Literal l) s h = refl
 other_at f at (ExprKind-F.MethodCallExpr e n as' es) s h = refl
 other_at f at (ExprKind-F.FieldExpr e n) s h = refl
@@ -323,7 +332,8 @@ module _ (f : Path → Bool) where
   put_is place (tree.call_expr at g has_list es) = put_call place at (called g has_list) (elements f es)
   put_is place (tree.path_expr at p h) = put_path place at p h
   put_is place (tree.record_expr at p head fs s) = put_if place head.has_list _ place tree.absent_target refl refl
-  put_is place (tree.disabled_expr at by e) = refl
+  put_is place (tree.macro_expr at called e) = refl
+  put_is place (tree.disabled_expr why e) = refl
   put_is place (tree.if_expr at c t e) = refl
   put_is place (tree.block_expr b) = refl
   put_is place (tree.loop_expr at label _ b) = refl
@@ -363,6 +373,7 @@ module _ (f : Path → Bool) where
   unfolding place_form
   put_lands tree.absent_target e at b = then_place at (lower e b).0 (lower e b).1
   put_lands (tree.place_target s x) e at b = then_pat (tree.place_target s x) at _ _
+  put_lands (tree.macro_target s c t) e at b = then_pat (tree.macro_target s c t) at _ _
   put_lands (tree.wild_target s) e at b = then_pat (tree.wild_target s) at _ _
   put_lands (tree.path_target s p h) e at b = then_pat (tree.path_target s p h) at _ _
   put_lands (tree.tuple_target s ts) e at b = then_pat (tree.tuple_target s ts) at _ _
@@ -403,6 +414,7 @@ module _ (f : Path → Bool) where
   unfolding paren_form
   goes_through at e tree.absent_target b = through_place at (lower e b).0 (lower e b).1
   goes_through at e (tree.place_target s x) b = through_pat at _ _
+  goes_through at e (tree.macro_target s c t) b = through_pat at _ _
   goes_through at e (tree.wild_target s) b = through_pat at _ _
   goes_through at e (tree.path_target s p h) b = through_pat at _ _
   goes_through at e (tree.tuple_target s ts) b = through_pat at _ _

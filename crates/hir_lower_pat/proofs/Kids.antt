@@ -17,7 +17,7 @@ use Rattle.hir_env.specs.Count.{count_option_pat, count_pat, count_pat_field, co
 use Rattle.hir_env.specs.PatLayers.{PatKindLayer}
 use Rattle.hir_env.specs.Pats.{asked_pat_field, name_or_bind, pat_at, pat_field_of, use_at}
 use Rattle.hir_env.specs.TypePats.{is_plain}
-use Rattle.hir_env.specs.Whole.{answered_pat, answered_pat_field, pat_fields_part, pat_part, pats_part, pointer_at, reader, written}
+use Rattle.hir_env.specs.Whole.{answered_pat, answered_pat_field, into, pat_fields_part, pat_part, pats_part, pointer_at, reader, written}
 use Rattle.hir_env.proofs.PatLevels.{pat_field_is_level}
 use Rattle.hir_lower_form.specs.Nests.{Each, IfPresent, KidsOfPat, KidsPatFields}
 
@@ -64,7 +64,7 @@ module _ (at : Spot) (pattern inside : AstPat → Type 0) (path : AstPath → Ty
   ident s u w found (Some x) c h = below x c (omega (arith, h))
 
   pub kids : (s : Pointer) (k : PatKindLayer written) → KidsOfPat pattern path k
-      → count_pat (pat_at at.answers (reader at.answers) k at.place s) ≤ n → KidsOfPat inside path k
+      → count_pat (pat_at at.answers (reader at.answers (into at)) k at.place s) ≤ n → KidsOfPat inside path k
   kids s (PatKind-F.IdentPat m is_ref is_mut x) c h = ident s (use_at at.answers at.place m is_ref is_mut) (name_written m) _ x c h
   kids s (PatKind-F.TupleStructPat x comma ps) c h = (c.0, each ps c.1 (omega (arith, h)))
   kids s (PatKind-F.TuplePat comma ps) c h = each ps c (omega (arith, h))
@@ -80,6 +80,7 @@ module _ (at : Spot) (pattern inside : AstPat → Type 0) (path : AstPath → Ty
   kids s (PatKind-F.LiteralPat l minus) c h = tt
   kids s (PatKind-F.RangePat op low high) c h = c
   kids s (PatKind-F.CfgPredPat pred) c h = tt
+  kids s (PatKind-F.MacroPat call) c h = tt
   kids s PatKind-F.WildcardPat c h = tt
   kids s PatKind-F.RestPat c h = tt
   kids s PatKind-F.NotNullPat c h = tt

@@ -5,6 +5,7 @@ use Rattle.std.specs.Prelude.{if◌then◌else◌, ◌≤◌, ◌-◌, drop, len
 use Rattle.hir_syntax.specs.declared.ast.ElseBranch.TheOpen.{PatKind-F}
 use Rattle.hir_syntax.specs.declared.pats.Pat.{Pat as AstPat}
 use Rattle.hir_syntax.specs.declared.ast.Path.{Path as AstPath}
+use Rattle.hir_syntax.specs.declared.macros.MacroCall.{MacroCall as AstMacroCall}
 use Rattle.hir_base.specs.declared.node.PredId.{PredId}
 use Rattle.hir_syntax.specs.declared.pats.PatKind.{PatKind as AstPatKind, out-PatKind, roll-PatKind, roll-out-PatKind}
 use Rattle.hir_syntax.specs.declared.pats.PatKind.TheVariants as kind
@@ -18,7 +19,7 @@ use Rattle.hir_env.specs.Answered.{OptionPat, Pat, Use}
 use Rattle.hir_env.specs.PatLayers.{PatKindLayer}
 use Rattle.hir_env.specs.Pats.{minus_fits, name_or_bind, pat_at, plain_side, side_of}
 use Rattle.hir_env.specs.TypePats.{is_plain}
-use Rattle.hir_env.specs.Whole.{answered_pat, pats_part, pointer_at, reader, written}
+use Rattle.hir_env.specs.Whole.{answered_pat, into, pats_part, pointer_at, reader, written}
 use Rattle.hir_env.proofs.PatLevels.{pat_is_level}
 use Rattle.hir_store.specs.Range.{HasPat}
 use Rattle.hir_store.specs.declared.ids.PatId.{PatId}
@@ -31,7 +32,7 @@ use Rattle.hir_lower_pat.specs.Methods.{IsPlain, LowersPat, is_rest, kind_at, lo
 use Rattle.hir_lower_pat.specs.declared.bindings.Bindings.{Bindings}
 
 abbrev level : Spot → PatKindLayer written → Pointer → Pat
-level at k s = pat_at at.answers (reader at.answers) k at.place s
+level at k s = pat_at at.answers (reader at.answers (into at)) k at.place s
 
 -- what is so of both is so of either
 pub of_either : {A : Type 0} (f : Pat → A) (b : Bool) (p q : Pat) (a : A) → f p ≡ a → f q ≡ a → f (if b then p else q) ≡ a
@@ -52,6 +53,8 @@ dots_at at (PatKind-F.RefPat is_mut x) s = refl
 dots_at at (PatKind-F.PathPat x) s = refl
 dots_at at (PatKind-F.OrPat ps) s = refl
 dots_at at (PatKind-F.ParenPat x) s = refl
+dots_at at (PatKind-F.MacroPat None) s = refl
+dots_at at (PatKind-F.MacroPat (Some c)) s = refl
 dots_at at (PatKind-F.BoxPat x) s = refl
 dots_at at (PatKind-F.DerefPat x) s = refl
 dots_at at (PatKind-F.RecordPat x fs dots) s = refl
@@ -91,6 +94,8 @@ plain_at at (PatKind-F.LiteralPat None minus) s t h = refl
 plain_at at (PatKind-F.LiteralPat (Some l) minus) s t h = either_plain (minus_fits minus l.literal.lit) _ _ t refl refl
 plain_at at (PatKind-F.RangePat op low high) s t h = refl
 plain_at at (PatKind-F.CfgPredPat pred) s t h = refl
+plain_at at (PatKind-F.MacroPat None) s t h = refl
+plain_at at (PatKind-F.MacroPat (Some c)) s t h = refl
 plain_at at PatKind-F.WildcardPat s t h = refl
 plain_at at PatKind-F.RestPat s t h = refl
 plain_at at PatKind-F.NotNullPat s t h = refl
@@ -119,17 +124,21 @@ pub only_plain : (k : AstPatKind) → IsPlain (out-PatKind k)
     → ((l : Option PatLiteral) (minus : Bool) → k ≡ kind.LiteralPat l minus → ⊥)
     → ((op : Option RangeOp) (low high : Option AstPat) → k ≡ kind.RangePat op low high → ⊥)
     → ((pred : Option PredId) → k ≡ kind.CfgPredPat pred → ⊥)
+    → (k ≡ kind.MacroPat None → ⊥)
+    → ((c : AstMacroCall) → k ≡ kind.MacroPat (Some c) → ⊥)
     → (k ≡ kind.WildcardPat → ⊥)
     → (k ≡ kind.RestPat → ⊥)
     → (k ≡ kind.NotNullPat → ⊥)
     → (k ≡ kind.ConstBlockPat → ⊥) → ⊥
-only_plain k is no_path no_literal no_range no_cfgpred no_wildcard no_rest no_notnull no_constblock = by (out-PatKind k) refl is
+only_plain k is no_path no_literal no_range no_cfgpred no_call no_macro no_wildcard no_rest no_notnull no_constblock = by (out-PatKind k) refl is
   where
     by : (l : PatKindLayer written) → out-PatKind k ≡ l → IsPlain l → ⊥
     by (PatKind-F.PathPat x) h is = no_path x (made k _ h ∙ kind.rolls-PathPat x)
     by (PatKind-F.LiteralPat l minus) h is = no_literal l minus (made k _ h ∙ kind.rolls-LiteralPat l minus)
     by (PatKind-F.RangePat op low high) h is = no_range op low high (made k _ h ∙ kind.rolls-RangePat op low high)
     by (PatKind-F.CfgPredPat pred) h is = no_cfgpred pred (made k _ h ∙ kind.rolls-CfgPredPat pred)
+    by (PatKind-F.MacroPat None) h is = no_call (made k _ h ∙ kind.rolls-MacroPat None)
+    by (PatKind-F.MacroPat (Some c)) h is = no_macro c (made k _ h ∙ kind.rolls-MacroPat (Some c))
     by PatKind-F.WildcardPat h is = no_wildcard (made k _ h ∙ kind.rolls-WildcardPat)
     by PatKind-F.RestPat h is = no_rest (made k _ h ∙ kind.rolls-RestPat)
     by PatKind-F.NotNullPat h is = no_notnull (made k _ h ∙ kind.rolls-NotNullPat)

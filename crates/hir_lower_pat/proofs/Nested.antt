@@ -27,7 +27,7 @@ use Rattle.hir_env.specs.Pats.{asked_pat_field, name_or_bind, pat_at, pat_field_
 use Rattle.hir_env.specs.Spot.{site_of}
 use Rattle.hir_env.specs.TypePats.{is_plain}
 use Rattle.hir_env.specs.Whole.{answered, answered_field, answered_pat, answered_pat_field, answered_path, expr_part, exprs_part}
-use Rattle.hir_env.specs.Whole.{fields_part, pat_fields_part, pat_part, path_part, pats_part, pointer_at, reader}
+use Rattle.hir_env.specs.Whole.{fields_part, into, pat_fields_part, pat_part, path_part, pats_part, pointer_at, reader}
 use Rattle.hir_env.specs.Whole.{record_part, written}
 use Rattle.hir_env.specs.declared.place.Place.{Place}
 use Rattle.hir_env.proofs.Levels.{field_is_level, record_is_level}
@@ -94,7 +94,7 @@ module _ (env : Answers) (Q : Place → AstPath → Type 0) (p : Place) (n : ℕ
   ident s u w found (Some x) h = whole x (omega (arith, h))
 
   in_side : (s : Pointer) (k : PatKindLayer written)
-      → count_side (side_of (tree.some_pat (pat_at env (reader env) k p s))) < n → KidsSide (Q p) k
+      → count_side (side_of (tree.some_pat (pat_at env (reader env (into (read_at env p))) k p s))) < n → KidsSide (Q p) k
   in_side s (PatKind-F.IdentPat m is_ref is_mut x) h = tt
   in_side s (PatKind-F.TupleStructPat x comma ps) h = tt
   in_side s (PatKind-F.TuplePat comma ps) h = tt
@@ -109,6 +109,7 @@ module _ (env : Answers) (Q : Place → AstPath → Type 0) (p : Place) (n : ℕ
   in_side s (PatKind-F.LiteralPat l minus) h = tt
   in_side s (PatKind-F.RangePat op low high) h = tt
   in_side s (PatKind-F.CfgPredPat pred) h = tt
+  in_side s (PatKind-F.MacroPat call) h = tt
   in_side s PatKind-F.WildcardPat h = tt
   in_side s PatKind-F.RestPat h = tt
   in_side s PatKind-F.NotNullPat h = tt
@@ -121,7 +122,7 @@ module _ (env : Answers) (Q : Place → AstPath → Type 0) (p : Place) (n : ℕ
       let same = ap (λ q. count_side (side_of (tree.some_pat q))) (pat_is_level at x) in
       in_side (pointer_at at x.id x.range) (out-PatKind x.kind) (omega (arith, h, same))
 
-  kids : (s : Pointer) (k : PatKindLayer written) → count_pat (pat_at env (reader env) k p s) ≤ n
+  kids : (s : Pointer) (k : PatKindLayer written) → count_pat (pat_at env (reader env (into (read_at env p))) k p s) ≤ n
       → KidsOfPat (InPat env Q p) (Q p) k
   kids s (PatKind-F.IdentPat m is_ref is_mut x) h = ident s (use_at env p m is_ref is_mut) (name_written m) _ x h
   kids s (PatKind-F.TupleStructPat x comma ps) h = (path x (omega (arith, h)), each ps (omega (arith, h)))
@@ -138,6 +139,7 @@ module _ (env : Answers) (Q : Place → AstPath → Type 0) (p : Place) (n : ℕ
   kids s (PatKind-F.LiteralPat l minus) h = tt
   kids s (PatKind-F.RangePat op low high) h = (side low (omega (arith, h)), side high (omega (arith, h)))
   kids s (PatKind-F.CfgPredPat pred) h = tt
+  kids s (PatKind-F.MacroPat call) h = tt
   kids s PatKind-F.WildcardPat h = tt
   kids s PatKind-F.RestPat h = tt
   kids s PatKind-F.NotNullPat h = tt
@@ -205,7 +207,7 @@ module _ (C : Claims) (env : Answers) (P : Place → AstExpr → Type 0) (Q : Pl
       let s = ap (λ r. count_fields r.fields + count_spread r.spread) (record_is_level (read_at env p) x) in
       target_fields (out-RecordExprFieldList x).fields (omega (arith, h, s))
 
-  in_callee : (s : Pointer) (k : ExprKindLayer written) → count_expr (expr_at env (reader env) k p s) ≤ n
+  in_callee : (s : Pointer) (k : ExprKindLayer written) → count_expr (expr_at env (reader env (into (read_at env p))) k p s) ≤ n
       → KidsCallee (claims C env P Q) p k
   in_callee s (ExprKind-F.IfExpr c t e) h = tt
   in_callee s (ExprKind-F.BlockExpr b) h = tt
@@ -218,6 +220,7 @@ module _ (C : Claims) (env : Answers) (P : Place → AstExpr → Type 0) (Q : Pl
   in_callee s (ExprKind-F.ContinueExpr l) h = tt
   in_callee s (ExprKind-F.BreakExpr l e) h = tt
   in_callee s (ExprKind-F.ParenExpr e) h = tt
+  in_callee s (ExprKind-F.MacroExpr call) h = tt
   in_callee s (ExprKind-F.Literal l) h = tt
   in_callee s (ExprKind-F.MethodCallExpr e x as' es) h = tt
   in_callee s (ExprKind-F.FieldExpr e x) h = tt
@@ -254,7 +257,7 @@ module _ (C : Claims) (env : Answers) (P : Place → AstExpr → Type 0) (Q : Pl
       let size = kept_below at x in
       in_callee (pointer_at at x.id x.range) (out-ExprKind x.kind) (omega (arith, h, size))
 
-  target_kids : (s : Pointer) (k : ExprKindLayer written) → count_expr (expr_at env (reader env) k p s) ≤ n
+  target_kids : (s : Pointer) (k : ExprKindLayer written) → count_expr (expr_at env (reader env (into (read_at env p))) k p s) ≤ n
       → KidsTarget (claims C env P Q) p k
   target_kids s (ExprKind-F.IfExpr c t e) h = tt
   target_kids s (ExprKind-F.BlockExpr b) h = tt
@@ -268,6 +271,7 @@ module _ (C : Claims) (env : Answers) (P : Place → AstExpr → Type 0) (Q : Pl
   target_kids s (ExprKind-F.ContinueExpr l) h = tt
   target_kids s (ExprKind-F.BreakExpr l e) h = tt
   target_kids s (ExprKind-F.ParenExpr e) h = target_part e (omega (arith, h))
+  target_kids s (ExprKind-F.MacroExpr call) h = tt
   target_kids s (ExprKind-F.Literal l) h = tt
   target_kids s (ExprKind-F.MethodCallExpr e x as' es) h = tt
   target_kids s (ExprKind-F.FieldExpr e x) h = tt

@@ -3,22 +3,28 @@ use Rattle.std.proofs.Common.{◌≡◌, refl, Bool, Option, Some, None, Result,
 use Rattle.hir_syntax.specs.declared.ast.BlockExpr.{BlockExpr as AstBlockExpr}
 use Rattle.hir_syntax.specs.declared.ast.BlockModifier.{BlockModifier}
 use Rattle.hir_syntax.specs.declared.ast.BlockModifier.TheVariants as modifier
+use Rattle.hir_syntax.specs.declared.macros.MacroCall.{MacroCall as AstMacroCall}
 use Rattle.hir_store.specs.Pointers.{Pointer}
 use Rattle.hir_store.specs.declared.hir.CoroutineKind.{CoroutineKind}
 use Rattle.hir_store.specs.declared.ids.BlockId.{BlockId}
 use Rattle.hir_store.specs.declared.ids.CfgId.{CfgId}
 use Rattle.hir_store.specs.declared.ids.LangItemId.{LangItemId}
+use Rattle.hir_env.specs.Answers.{Answers}
+use Rattle.hir_env.specs.Calls.{around, around_if, asked_call, call_pointer, called, entered_expr, expr_in, gone_in}
+use Rattle.hir_env.specs.Layers.{Entering}
 use Rattle.hir_env.specs.Spot.{Spot}
 use Rattle.hir_env.specs.Answered as tree
-use Rattle.hir_env.specs.Answered.{Block, Constant, Expr, ForItems, IsWrittenLabel, Label, OptionExpr, OptionPat, OptionType}
+use Rattle.hir_env.specs.Answered.{Block, Called, Constant, Expr, ForItems, Gone, IsWrittenLabel, Label, OptionExpr, OptionPat, OptionType}
 use Rattle.hir_env.specs.Answered.{Params, QuestionItems, Stmts}
 use Rattle.hir_env.specs.Answering.{asked, closure_of, for_of, question_of}
 use Rattle.hir_env.specs.Whole.{own_level}
+use Rattle.hir_env.specs.declared.expand.FragmentKind.TheVariants as fragment
+use Rattle.hir_env.specs.declared.place.Place.{Place}
 
-pub through_asked : {A : Type 0} (f : Expr → A) → ((s : Pointer) (by : CfgId) (e : Expr) → f (tree.disabled_expr s by e) ≡ f e)
+pub through_asked : {A : Type 0} (f : Expr → A) → ((why : Gone) (e : Expr) → f (tree.disabled_expr why e) ≡ f e)
     → (s : Pointer) (r : Result (Unit {0}) CfgId) (e : Expr) → f (asked s r e) ≡ f e
 through_asked f h s (Ok _) e = refl
-through_asked f h s (Err by) e = h s by e
+through_asked f h s (Err by) e = h _ e
 
 -- what is so of a `?`, be there its items or not
 pub of_question : {A : Type 0} (f : Expr → A) (a : A) (s : Pointer) (e : OptionExpr)
@@ -63,3 +69,18 @@ pub of_closure : {A : Type 0} (f : Expr → A) (a : A)
     → f (closure_of o s moves is_static ps r e) ≡ a
 of_closure f a h k None s moves is_static ps r e = h s moves is_static ps r e
 of_closure f a h k (Some kind) s moves is_static ps r e = k s kind moves ps r e
+
+-- what is so of a call, be it entered or not, and of one that is gone
+module _ {A : Type 0} (f : Expr → A) (a : A) (h : (s : Pointer) (c : Called) (e : OptionExpr) → f (tree.macro_expr s c e) ≡ a)
+    (k : (why : Gone) (s : Pointer) (c : Called) (e : OptionExpr) → f (tree.disabled_expr why (tree.macro_expr s c e)) ≡ a) where
+  of_around_if : (o : Option Gone) (s : Pointer) (c : Called) (e : OptionExpr) → f (around_if o s c e) ≡ a
+  of_around_if None s c e = h s c e
+  of_around_if (Some why) s c e = k _ s c e
+
+  of_around : (s : Pointer) (c : Called) (e : OptionExpr) → f (around s c e) ≡ a
+  of_around s c tree.no_expr = h s c tree.no_expr
+  of_around s c (tree.some_expr e) = of_around_if (gone_in e) s c (tree.some_expr e)
+
+  pub of_called : (env : Answers) (into : Option Entering) (c : AstMacroCall) (p : Place) (s : Pointer) → f (entered_expr env into c p s) ≡ a
+  of_called env None c p s = h s tree.unentered tree.no_expr
+  of_called env (Some into) c p s = let x = asked_call env fragment.Expr c p in of_around s (called (call_pointer p c) x) (expr_in into p x)

@@ -16,7 +16,7 @@ use Rattle.hir_env.specs.Answering.{asked_field, expr_at, field_of}
 use Rattle.hir_env.specs.Count.{count_expr, count_exprs, count_field, count_fields, count_option_expr, count_spread}
 use Rattle.hir_env.specs.Layers.{ExprKindLayer}
 use Rattle.hir_env.specs.Spot.{Spot, site_of}
-use Rattle.hir_env.specs.Whole.{answered, answered_field, expr_part, exprs_part, fields_part, pointer_at, reader, record_part, written}
+use Rattle.hir_env.specs.Whole.{answered, answered_field, expr_part, exprs_part, fields_part, into, pointer_at, reader, record_part, written}
 use Rattle.hir_env.proofs.Levels.{field_is_level, record_is_level}
 use Rattle.hir_lower_form.specs.Nests.{Claims, Each, IfPresent, KidsCallee, KidsTarget, KidsTargetFields}
 use Rattle.hir_lower_pat.specs.Aims.{KidsOfCallee, KidsOfFields, KidsOfTarget}
@@ -78,6 +78,7 @@ module _ (at : Spot) (C : Claims) (inside : AstExpr → Type 0) (n : ℕ)
   in_callee (ExprKind-F.ContinueExpr l) c = tt
   in_callee (ExprKind-F.BreakExpr l e) c = tt
   in_callee (ExprKind-F.ParenExpr e) c = tt
+  in_callee (ExprKind-F.MacroExpr call) c = tt
   in_callee (ExprKind-F.Literal l) c = tt
   in_callee (ExprKind-F.MethodCallExpr e x as' es) c = tt
   in_callee (ExprKind-F.FieldExpr e x) c = tt
@@ -112,7 +113,7 @@ module _ (at : Spot) (C : Claims) (inside : AstExpr → Type 0) (n : ℕ)
   callee (Some x) c = in_callee (out-ExprKind x.kind) c
 
   pub kids : (s : Pointer) (k : ExprKindLayer written) → KidsTarget C at.place k
-      → count_expr (expr_at at.answers (reader at.answers) k at.place s) ≤ n → KidsOfTarget inside (C.path at.place) k
+      → count_expr (expr_at at.answers (reader at.answers (into at)) k at.place s) ≤ n → KidsOfTarget inside (C.path at.place) k
   kids s (ExprKind-F.IfExpr e t b) c h = tt
   kids s (ExprKind-F.BlockExpr b) c h = tt
   kids s (ExprKind-F.LoopExpr l b) c h = tt
@@ -125,6 +126,7 @@ module _ (at : Spot) (C : Claims) (inside : AstExpr → Type 0) (n : ℕ)
   kids s (ExprKind-F.ContinueExpr l) c h = tt
   kids s (ExprKind-F.BreakExpr l e) c h = tt
   kids s (ExprKind-F.ParenExpr e) c h = part e c (omega (arith, h))
+  kids s (ExprKind-F.MacroExpr call) c h = tt
   kids s (ExprKind-F.Literal l) c h = tt
   kids s (ExprKind-F.MethodCallExpr e x as' es) c h = tt
   kids s (ExprKind-F.FieldExpr e x) c h = tt

@@ -5,6 +5,7 @@ use Rattle.std.specs.Prelude.{◌≤◌, ◌-◌, ◌≢◌, drop, length, take,
 use Rattle.hir_syntax.specs.declared.ast.ElseBranch.TheOpen.{PatKind-F}
 use Rattle.hir_syntax.specs.declared.ast.Name.{Name as AstName}
 use Rattle.hir_syntax.specs.declared.ast.Path.{Path as AstPath}
+use Rattle.hir_syntax.specs.declared.macros.MacroCall.{MacroCall as AstMacroCall}
 use Rattle.hir_syntax.specs.declared.pats.Pat.{Pat as AstPat}
 use Rattle.hir_syntax.specs.declared.pats.PatKind.{PatKind as AstPatKind, out-PatKind, out-roll-PatKind}
 use Rattle.hir_syntax.specs.declared.pats.PatKind.{roll-PatKind, roll-out-PatKind}
@@ -20,7 +21,7 @@ use Rattle.hir_env.specs.PatLayers.{PatKindLayer}
 use Rattle.hir_env.specs.Pats.{is_found, minus_fits, name_or_bind, pat_at, plain_side, side_of, use_at}
 use Rattle.hir_env.specs.TypePats.{end_at, end_limit, is_plain, start_limit, type_pat_of, type_pats_of}
 use Rattle.hir_env.specs.Count.{count_pat, count_pats}
-use Rattle.hir_env.specs.Whole.{answered_pat, pat_level, pat_part, pats_part, pointer_at, reader, written}
+use Rattle.hir_env.specs.Whole.{answered_pat, into, pat_level, pat_part, pats_part, pointer_at, reader, written}
 use Rattle.hir_env.proofs.PatLevels.{pat_is_level}
 use Rattle.hir_env.specs.declared.lang.LangItems.{LangItems}
 use Rattle.hir_store.specs.Names.{IsWritten}
@@ -36,7 +37,7 @@ use Rattle.hir_lower_pat.specs.TypePats.{IsOther}
 use Rattle.hir_lower_pat.proofs.KindLemmas.{first_of, named_side, of_either}
 
 abbrev level : Spot → PatKindLayer written → Pointer → Pat
-level at k s = pat_at at.answers (reader at.answers) k at.place s
+level at k s = pat_at at.answers (reader at.answers (into at)) k at.place s
 
 -- ---- ends
 
@@ -59,6 +60,7 @@ is_side (tree.tuple_pat s comma ps) = tt
 is_side (tree.record_pat s x fs dots) = tt
 is_side (tree.or_pat s ps) = tt
 is_side (tree.paren_pat s q) = tt
+is_side (tree.macro_pat s c q) = tt
 is_side (tree.slice_pat s ps q qs) = tt
 is_side (tree.over_pat s form q) = tt
 is_side (tree.literal_pat s None l) = tt
@@ -135,6 +137,8 @@ no_limit_left at p no_literal no_ident no_path = by (out-PatKind p.kind) refl
     by (PatKind-F.RefPat is_mut x) h = refl
     by (PatKind-F.OrPat ps) h = refl
     by (PatKind-F.ParenPat x) h = refl
+    by (PatKind-F.MacroPat None) h = refl
+    by (PatKind-F.MacroPat (Some c)) h = refl
     by (PatKind-F.BoxPat x) h = refl
     by (PatKind-F.DerefPat x) h = refl
     by (PatKind-F.RecordPat x fs dots) h = refl
@@ -174,6 +178,7 @@ other_at items at PatKind-F.RestPat s h = refl
 other_at items at PatKind-F.ConstBlockPat s h = refl
 other_at items at PatKind-F.NotNullPat s h = absurd h
 other_at items at (PatKind-F.OrPat ps) s h = absurd h
+other_at items at (PatKind-F.MacroPat c) s h = absurd h
 other_at items at (PatKind-F.RangePat o low high) s h = absurd h
 
 pub other_is : (items : LangItems) (at : Spot) (p : AstPat) → IsOther (out-PatKind p.kind)
@@ -182,13 +187,16 @@ other_is items at p h = other_at items at (out-PatKind p.kind) (pointer_at at p.
 
 -- none of those is left where each was taken
 pub others_left : (k : AstPatKind) → (k ≡ kind.NotNullPat → ⊥) → ((ps : List AstPat) → k ≡ kind.OrPat ps → ⊥)
-    → ((o : Option RangeOp) (low high : Option AstPat) → k ≡ kind.RangePat o low high → ⊥) → IsOther (out-PatKind k)
-others_left k no_null no_or no_range = by (out-PatKind k) refl
+    → ((o : Option RangeOp) (low high : Option AstPat) → k ≡ kind.RangePat o low high → ⊥)
+    → (k ≡ kind.MacroPat None → ⊥) → ((c : AstMacroCall) → k ≡ kind.MacroPat (Some c) → ⊥) → IsOther (out-PatKind k)
+others_left k no_null no_or no_range no_call no_macro = by (out-PatKind k) refl
   where
     by : (l : PatKindLayer written) → out-PatKind k ≡ l → IsOther l
     by PatKind-F.NotNullPat h = absurd (no_null (made k _ h ∙ kind.rolls-NotNullPat))
     by (PatKind-F.OrPat ps) h = absurd (no_or ps (made k _ h ∙ kind.rolls-OrPat ps))
     by (PatKind-F.RangePat o low high) h = absurd (no_range o low high (made k _ h ∙ kind.rolls-RangePat o low high))
+    by (PatKind-F.MacroPat None) h = absurd (no_call (made k _ h ∙ kind.rolls-MacroPat None))
+    by (PatKind-F.MacroPat (Some c)) h = absurd (no_macro c (made k _ h ∙ kind.rolls-MacroPat (Some c)))
     by _ h = tt
 
 -- ---- sizes
