@@ -4,3 +4,4 @@ pub mod Items
 pub mod Using
 pub mod Cells
 pub mod Beside
+pub mod Entries

@@ -68,15 +68,15 @@ root_of d = root_in (get (codes "root") d)
 abbrev pub use_root : List (Option Kind) → Items → Group → ℕ → List ℕ → Option (List ℕ)
 use_root kinds ns g root levels = if count ns == 0 then Some levels else (if is_of_group kinds g root then use_at 1 levels root else None)
 
--- of the tree: the root, each node in order, the environment, whether each node is used, and none too deep; an optional
--- one may lack its nodes
+-- of the trees: the root, each node in order, the environment, which names others, whether each node is used, and none too
+-- deep; an optional one may lack its nodes
 abbrev pub whole_tree : List (Option Kind) → Items → Group → Bool → Data → List ℕ → Result (List ℕ) Fault
 whole_tree kinds ns g optional d levels = do
   root ← there (root_of d) fault.Root
   first ← there (use_root kinds ns g root levels) fault.Root
   next ← nodes_from kinds 0 ns first
-  _ ← env_if_there (get (codes "env") d)
-  used ← all_levels next
+  named ← env_if_there kinds (get (codes "env") d) next
+  used ← all_levels named
   _ ← wanted (optional || not (count ns == 0)) fault.NoTree
   Ok used
 

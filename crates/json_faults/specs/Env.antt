@@ -1,26 +1,21 @@
 -- The first fault of an environment.
-use Rattle.std.specs.Prelude.{◌≡◌, ℕ, suc, ◌==◌, ◌+◌, Bool, true, false, ◌&&◌, List, [], ◌∷◌, Option, Some, None, is_some, length, codes}
-use Rattle.std.specs.Prelude.{Result, Ok, Err}
+use Rattle.std.specs.Prelude.{◌≡◌, ℕ, suc, ◌==◌, ◌+◌, Bool, true, false, not, ◌&&◌, List, [], ◌∷◌, Option, Some, None}
+use Rattle.std.specs.Prelude.{is_some, length, codes, nat_lt, Result, Ok, Err}
 use Rattle.serde_json.specs.Data.{Data, Items, no_items, item}
 use Rattle.serde_json.specs.Find.{get, get_item, as_array, as_bool, as_object, as_str}
 use Rattle.json_kinds.specs.Words.{words}
 use Rattle.json_kinds.specs.declared.words.Words.TheVariants as set
-use Rattle.json_faults.specs.Values.{count, flag_if_there, small_of, is_small_or_null, is_decision, is_resolution}
-use Rattle.json_faults.specs.PathTexts.{is_path_text}
+use Rattle.json_faults.specs.Values.{count, flag_if_there, index_of, small_of, is_small_or_null, is_decision, is_resolution}
+use Rattle.json_faults.specs.PathTexts.{is_path}
+use Rattle.json_faults.specs.Expansions.{expansions_if_there}
 use Rattle.json_faults.specs.Nodes.{◌>>=◌, wanted}
 use Rattle.json_faults.specs.Faults.{Fault, fault_of}
 use Rattle.json_faults.specs.Faults as fault
-use Rattle.json_faults.specs.Tables.{Table, tables}
+use Rattle.json_faults.specs.Tables.{Table, tables, macro_tables}
+use Rattle.json_kinds.specs.declared.kind.Kind.{Kind}
 use Rattle.json_faults.specs.declared.fault.Fault as rust
 use Rattle.json_faults.specs.declared.table.Cell.{Cell}
 use Rattle.json_faults.specs.declared.table.Cell.TheVariants as cell
-
-abbrev is_path_in : Option (List ℕ) → Bool
-is_path_in None = false
-is_path_in (Some text) = is_path_text text
-
-abbrev pub is_path : Data → Bool
-is_path d = is_path_in (as_str d)
 
 -- a value suits a place
 abbrev pub suits : Cell → Data → Bool
@@ -28,6 +23,7 @@ suits cell.Small d = is_some (small_of d)
 suits cell.SmallOrNull d = is_small_or_null d
 suits cell.Truth d = is_some (as_bool d)
 suits cell.Decision d = is_decision d
+suits cell.Text d = is_some (as_str d)
 suits cell.PathText d = is_path d
 suits cell.Resolution d = is_resolution (words set.Resolutions) d
 
@@ -80,16 +76,30 @@ abbrev pub items_if_there : Option Data → Bool
 items_if_there None = true
 items_if_there (Some lang) = is_some (as_object lang) && are_items (words set.LangItems) lang
 
-abbrev pub whole_env : Data → Result (Unit {0}) Fault
-whole_env env = do
+abbrev at_most : ℕ → Option ℕ → Bool
+at_most most None = false
+at_most most (Some n) = not (nat_lt most n)
+
+-- how many calls of macros may be entered one in the other, where it is said
+abbrev pub limit_if_there : Option Data → Bool
+limit_if_there None = true
+limit_if_there (Some d) = at_most 64 (index_of d)
+
+-- the levels with the trees used that it names, from those before
+abbrev pub whole_env : List (Option Kind) → Data → List ℕ → Result (List ℕ) Fault
+whole_env kinds env levels = do
+  _ ← wanted (limit_if_there (get (codes "limit") env)) (fault.Env (codes "limit") 0)
   _ ← wanted (flag_if_there (get (codes "new_range") env)) (fault.Env (codes "new_range") 0)
   _ ← lists tables env
-  wanted (items_if_there (get (codes "lang") env)) (fault.Env (codes "lang") 0)
+  used ← expansions_if_there kinds (get (codes "macros") env) levels
+  _ ← lists macro_tables env
+  _ ← wanted (items_if_there (get (codes "lang") env)) (fault.Env (codes "lang") 0)
+  Ok used
 
 -- an environment, if it is there
-abbrev pub env_if_there : Option Data → Result (Unit {0}) Fault
-env_if_there None = Ok tt
-env_if_there (Some env) = whole_env env
+abbrev pub env_if_there : List (Option Kind) → Option Data → List ℕ → Result (List ℕ) Fault
+env_if_there kinds None levels = Ok levels
+env_if_there kinds (Some env) levels = whole_env kinds env levels
 
 -- what is found is the fault
 abbrev pub Finds : Result (Unit {0}) Fault → Result (Unit {0}) rust.Fault → Type 0

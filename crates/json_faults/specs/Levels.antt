@@ -14,7 +14,7 @@ use_at level levels k = if nat_lt k (length levels)
     then (if slice_index_or levels k 0 == 0 then Some (slice_set levels k level) else None)
     else Some levels
 
-abbrev use_index : ℕ → List ℕ → Option ℕ → Option (List ℕ)
+abbrev pub use_index : ℕ → List ℕ → Option ℕ → Option (List ℕ)
 use_index level levels None = Some levels
 use_index level levels (Some k) = use_at level levels k
 

@@ -7,5 +7,6 @@ pub mod Levels
 pub mod Nodes
 pub mod Tables
 pub mod PathTexts
+pub mod Expansions
 pub mod Env
 pub mod Documents

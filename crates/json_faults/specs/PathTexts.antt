@@ -1,5 +1,7 @@
 -- Texts of paths: names joined by double colons, which one may also stand in front of. A name isn't empty and holds no colon.
 use Rattle.std.specs.Prelude.{ℕ, ◌==◌, List, [], ◌∷◌, Bool, true, false, Option, Some, None, option_map, unwrap_or, if◌then◌else◌}
+use Rattle.serde_json.specs.Data.{Data}
+use Rattle.serde_json.specs.Find.{as_str}
 use Rattle.json_faults.specs.declared.path_text.Spot.{Spot}
 use Rattle.json_faults.specs.declared.path_text.Spot.TheVariants as spot
 
@@ -29,3 +31,10 @@ is_rest s (b ∷ bs) = unwrap_or (option_map (λ t. is_rest t bs) (next s b)) fa
 
 abbrev pub is_path_text : List ℕ → Bool
 is_path_text text = is_rest spot.Begin text
+
+abbrev is_path_in : Option (List ℕ) → Bool
+is_path_in None = false
+is_path_in (Some text) = is_path_text text
+
+abbrev pub is_path : Data → Bool
+is_path d = is_path_in (as_str d)

@@ -16,7 +16,7 @@ infixr 6 ◌∶◌
 abbrev ◌∶◌ : List ℕ → List Cell → Table
 n ∶ cs = record { name = n; cells = cs }
 
--- the tables, in order
+-- the tables in front of that of expansions, in order
 abbrev pub tables : List Table
 tables = (codes "disabled" ∶ (cell.Small ∷ cell.Small ∷ cell.Small ∷ []))
     ∷ (codes "preds" ∶ (cell.Small ∷ cell.Decision ∷ []))
@@ -24,4 +24,10 @@ tables = (codes "disabled" ∶ (cell.Small ∷ cell.Small ∷ cell.Small ∷ [])
     ∷ (codes "contexts" ∶ (cell.Small ∷ cell.Small ∷ cell.Small ∷ cell.SmallOrNull ∷ cell.Truth ∷ cell.SmallOrNull ∷ []))
     ∷ (codes "blocks" ∶ (cell.Small ∷ cell.Small ∷ cell.Small ∷ cell.Small ∷ []))
     ∷ (codes "resolve" ∶ (cell.Small ∷ cell.PathText ∷ cell.Resolution ∷ cell.Resolution ∷ cell.SmallOrNull ∷ []))
+    ∷ []
+
+-- those behind it
+abbrev pub macro_tables : List Table
+macro_tables = (codes "macro_defs" ∶ (cell.Small ∷ cell.Text ∷ cell.Small ∷ []))
+    ∷ (codes "legacy" ∶ (cell.Small ∷ cell.Text ∷ cell.Small ∷ cell.Small ∷ []))
     ∷ []

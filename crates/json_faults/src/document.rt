@@ -138,7 +138,7 @@ fn check_tree(
         return Err(Fault::Root);
     }
     check_each(kinds, nodes, levels)?;
-    check_env(document.get("env"))?;
+    check_env(kinds, document.get("env"), levels)?;
     check_levels(levels)?;
     if !optional && is_missing(nodes) {
         return Err(Fault::NoTree);

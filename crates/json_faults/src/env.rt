@@ -1,28 +1,26 @@
 //! The first fault of an environment.
 
-ghost use Rattle.std.specs.Prelude.{◌≡◌, ◌==◌, map, option_map};
+ghost use Rattle.std.specs.Prelude.{◌≡◌, ◌==◌, length, map, option_map};
 ghost use Rattle.serde_json.specs.View.{view, items_view};
 ghost use Rattle.serde_json.specs.Find.{as_array, get, get_item};
 ghost use Rattle.json_faults.specs.Values.{count};
 ghost use Rattle.json_faults.specs.Env as spec;
 ghost use Rattle.json_faults.specs.Env.{Finds};
+ghost use Rattle.json_faults.specs.Nodes.{Walks};
 ghost use Rattle.json_faults.specs.Tables.{table_of};
 
+use crate::expansions::check_expansions;
 use crate::fault::Fault;
-use crate::path_text::is_path_text;
-use crate::table::{Cell, Table, tables};
-use crate::value::{flag_if_there, is_decision, is_resolution, is_small_or_null, item_at, small};
+use crate::path_text::is_path;
+use crate::table::{Cell, Table, macro_tables, tables};
+use crate::value::{
+    flag_if_there, index, is_decision, is_resolution, is_small_or_null, item_at, small,
+};
+use json_kinds::kind::Kind;
 use json_kinds::words::Words;
 use serde_json::Value;
 
-fn is_path(value: &Value) -> bool
-    ensures { result ≡ spec.is_path (view value.now) }
-{
-    match value.as_str() {
-        Some(text) => is_path_text(text.as_bytes()),
-        None => false,
-    }
-}
+const MOST_LIMIT: u64 = 64;
 
 /// Whether a value suits a place.
 fn suits(cell: Cell, value: &Value) -> bool
@@ -33,6 +31,7 @@ fn suits(cell: Cell, value: &Value) -> bool
         Cell::SmallOrNull => is_small_or_null(value),
         Cell::Truth => value.as_bool().is_some(),
         Cell::Decision => is_decision(value),
+        Cell::Text => value.as_str().is_some(),
         Cell::PathText => is_path(value),
         Cell::Resolution => is_resolution(Words::Resolutions, value),
     }
@@ -157,9 +156,29 @@ fn items_if_there(lang: Option<&Value>) -> bool
     }
 }
 
-fn check_tables(env: &Value) -> Result<(), Fault>
-    ensures { Finds (spec.whole_env (view env.now)) result }
+/// Whether a value says how many calls of macros may be entered one in the other, where it is there.
+fn limit_if_there(value: Option<&Value>) -> bool
+    ensures { result ≡ spec.limit_if_there (option_map (λ v. view v.now) value.entry) }
 {
+    match value {
+        Some(value) => match index(value) {
+            Some(limit) => limit <= MOST_LIMIT,
+            None => false,
+        },
+        None => true,
+    }
+}
+
+fn check_tables(kinds: &[Option<Kind>], env: &Value, levels: &mut [u16]) -> Result<(), Fault>
+    ensures walks { Walks (spec.whole_env kinds.now (view env.now) levels.old) result levels.new }
+    ensures kept { length levels.new ≡ length levels.old }
+{
+    if !limit_if_there(env.get("limit")) {
+        return Err(Fault::Env {
+            table: "limit",
+            entry: 0,
+        });
+    }
     if !flag_if_there(env.get("new_range")) {
         return Err(Fault::Env {
             table: "new_range",
@@ -167,6 +186,8 @@ fn check_tables(env: &Value) -> Result<(), Fault>
         });
     }
     lists(tables(), env)?;
+    check_expansions(kinds, env.get("macros"), levels)?;
+    lists(macro_tables(), env)?;
     if !items_if_there(env.get("lang")) {
         return Err(Fault::Env {
             table: "lang",
@@ -176,12 +197,17 @@ fn check_tables(env: &Value) -> Result<(), Fault>
     Ok(())
 }
 
-/// Sees that an environment has no fault.
-pub fn check_env(env: Option<&Value>) -> Result<(), Fault>
-    ensures { Finds (spec.env_if_there (option_map (λ e. view e.now) env.entry)) result }
+/// Sees that an environment has no fault, and uses the trees that it names.
+pub fn check_env(
+    kinds: &[Option<Kind>],
+    env: Option<&Value>,
+    levels: &mut [u16],
+) -> Result<(), Fault>
+    ensures walks { Walks (spec.env_if_there kinds.now (option_map (λ e. view e.now) env.entry) levels.old) result levels.new }
+    ensures kept { length levels.new ≡ length levels.old }
 {
     match env {
-        Some(env) => check_tables(env),
+        Some(env) => check_tables(kinds, env, levels),
         None => Ok(()),
     }
 }

@@ -3,6 +3,7 @@
 
 pub mod document;
 mod env;
+mod expansions;
 pub mod fault;
 mod floats;
 pub mod kinds;

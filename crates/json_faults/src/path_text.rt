@@ -1,7 +1,10 @@
 //! Texts of paths.
 
 ghost use Rattle.std.specs.Prelude.{◌≡◌};
+ghost use Rattle.serde_json.specs.View.{view};
 ghost use Rattle.json_faults.specs.PathTexts as spec;
+
+use serde_json::Value;
 
 /// A place in the text of a path.
 #[derive(Clone, Copy)]
@@ -34,7 +37,7 @@ fn next(spot: Spot, byte: u8) -> Option<Spot>
 }
 
 /// Whether the text is one of a path without arguments: names joined by double colons, which may also stand in front.
-pub fn is_path_text(text: &[u8]) -> bool
+fn is_path_text(text: &[u8]) -> bool
     ensures { result ≡ spec.is_path_text text.now }
 {
     let mut spot = Spot::Begin;
@@ -45,4 +48,14 @@ pub fn is_path_text(text: &[u8]) -> bool
         }
     }
     matches!(spot, Spot::Name)
+}
+
+/// Whether the value is such a text.
+pub fn is_path(value: &Value) -> bool
+    ensures { result ≡ spec.is_path (view value.now) }
+{
+    match value.as_str() {
+        Some(text) => is_path_text(text.as_bytes()),
+        None => false,
+    }
 }

@@ -1,9 +1,9 @@
 //! The tables of an environment.
 
 ghost use Rattle.std.specs.Prelude.{◌≡◌, map};
-ghost use Rattle.json_faults.specs.Tables.{table_of, tables};
+ghost use Rattle.json_faults.specs.Tables.{macro_tables, table_of, tables};
 
-use crate::table::Cell::{Decision, PathText, Resolution, Small, SmallOrNull, Truth};
+use crate::table::Cell::{Decision, PathText, Resolution, Small, SmallOrNull, Text, Truth};
 
 /// What stands at one place of an entry.
 #[derive(Clone, Copy)]
@@ -16,6 +16,8 @@ pub enum Cell {
     Truth,
     /// `true` or `false`, or null.
     Decision,
+    /// Any text.
+    Text,
     /// The text of a path without arguments.
     PathText,
     /// What a path stands for, or null.
@@ -29,7 +31,7 @@ pub struct Table {
     pub cells: &'static [Cell],
 }
 
-/// The tables, in order.
+/// The tables in front of that of expansions, in order.
 pub fn tables() -> &'static [Table]
     ensures { map table_of result.now ≡ tables }
 {
@@ -57,6 +59,22 @@ pub fn tables() -> &'static [Table]
         Table {
             name: "resolve",
             cells: &[Small, PathText, Resolution, Resolution, SmallOrNull],
+        },
+    ]
+}
+
+/// The tables behind that of expansions, in order.
+pub fn macro_tables() -> &'static [Table]
+    ensures { map table_of result.now ≡ macro_tables }
+{
+    &[
+        Table {
+            name: "macro_defs",
+            cells: &[Small, Text, Small],
+        },
+        Table {
+            name: "legacy",
+            cells: &[Small, Text, Small, Small],
         },
     ]
 }
