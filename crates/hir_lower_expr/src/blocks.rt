@@ -1,15 +1,13 @@
 //! Blocks and statements.
 
-ghost use Rattle.std.specs.Prelude.{◌≡◌, ◌-◌, [], false, length, slice_get};
+ghost use Rattle.std.specs.Prelude.{◌≡◌, ◌-◌, false, length, slice_get};
 ghost use Rattle.hir_syntax.specs.declared.ast.BlockExpr.{out-BlockExpr};
-ghost use Rattle.hir_syntax.specs.declared.ast.StmtKind.{out-StmtKind};
 ghost use Rattle.hir_store.specs.Range.{HasExpr, HasLabelOption};
-ghost use Rattle.hir_env.specs.Whole.{answered_block, expr_part, label_part, stmt_level, stmts_part};
+ghost use Rattle.hir_env.specs.Whole.{answered_block, label_part};
 ghost use Rattle.hir_lower_form.specs.Lowering.{Lowers};
 ghost use Rattle.hir_lower_form.specs.Lower as spec;
-ghost use Rattle.hir_lower_form.specs.Nests.{Each, KidsBlock, KidsBody, KidsStmt};
-ghost use Rattle.hir_lower_form.specs.Methods.{HasContents, HasRole, LowersExpr, LowersStmt, LowersStmts, block_steps_at};
-ghost use Rattle.hir_lower_form.specs.Methods.{flat, own_steps_at};
+ghost use Rattle.hir_lower_form.specs.Nests.{KidsBlock, KidsBody};
+ghost use Rattle.hir_lower_form.specs.Methods.{HasContents, HasRole, LowersExpr, block_steps_at, contents_at, own_steps_at};
 ghost use Rattle.hir_lower_form.specs.declared.parts.BlockRole.TheVariants as role;
 
 use crate::consts::const_form;
@@ -64,10 +62,7 @@ pub(crate) fn flat_contents<P: LowerParts>(
     node: &ast::BlockExpr,
 ) -> Result<(Seq<Statement>, Option<ExprId>), StoreFault>
     requires { KidsBlock (P.can lowerer.now.parts) (P.spot lowerer.now.parts).place (out-BlockExpr node.now) }
-    ensures { let block = out-BlockExpr node.now in
-        let spot = P.spot lowerer.now.parts in
-        let tail = spec.kept_part (expr_part spot block.tail) in
-        Lowers HasContents (flat [] (stmts_part spot block.stmts) tail) state.old result state.new }
+    ensures { Lowers HasContents (contents_at (P.spot lowerer.now.parts) node.now) state.old result state.new }
 {
     let mut statements = Seq::new(lowerer.alloc);
     collect_run(lowerer, state, &mut statements, node.stmts.as_slice())?;

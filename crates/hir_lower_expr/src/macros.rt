@@ -1,26 +1,71 @@
 //! Calls of macros in expression place.
 
+ghost use Rattle.std.specs.Prelude.{◌≡◌};
+ghost use Rattle.hir_store.specs.Range.{HasExprOption};
+ghost use Rattle.hir_env.specs.declared.expand.FragmentKind.TheVariants.{Expr as ExprKind};
+ghost use Rattle.hir_lower_form.specs.Calls.{found_of};
+ghost use Rattle.hir_lower_form.specs.Lowering.{Lowers};
+ghost use Rattle.hir_lower_form.specs.Methods.{MaybeLowersExpr};
+ghost use Rattle.hir_lower_form.specs.Nests.{IfPresent};
+ghost use Rattle.hir_lower_expr.specs.Calls as spec;
+
 use hir_base::node::{AstPtr, InFile};
 use hir_env::expand::FragmentKind;
+use hir_env::place::Place;
 use hir_lower_form::builder::BodyBuilder;
 use hir_lower_form::calls::{Entered, enter};
 use hir_lower_form::parts::{LowerParts, Lowerer};
 use hir_store::fault::StoreFault;
 use hir_store::hir::Expr;
 use hir_store::ids::ExprId;
-use hir_syntax::ast::{Fragment, MacroCall};
+use hir_syntax::ast::{self, Fragment, MacroCall};
 
-/// The call leads to what it stands for, where something is left of that.
+/// The expression that a call stands for, and where it is read.
+fn expr_of<'a>(entered: Entered<'a>) -> Option<(Place, &'a ast::Expr)>
+    ensures { spec.expr_lent result ≡ spec.expr_there (found_of entered.entry) }
+{
+    match entered {
+        Entered::Yes(place, Some(Fragment::Expr(node))) => Some((place, node.get())),
+        _ => None,
+    }
+}
+
+/// The node leads to what is left of what it stands for.
 fn pointed(
     state: &mut BodyBuilder,
     at: InFile<AstPtr>,
     inner: Option<ExprId>,
-) -> Result<Option<ExprId>, StoreFault> {
+) -> Result<Option<ExprId>, StoreFault>
+    requires { HasExprOption state.old.stored inner }
+    ensures { Lowers HasExprOption (spec.pointed at inner) state.old result state.new }
+{
     match inner {
         None => Ok(None),
         Some(id) => {
             state.point(at, id)?;
             Ok(Some(id))
+        }
+    }
+}
+
+/// A call that is written here.
+fn call_form<P: LowerParts>(
+    lowerer: &Lowerer<P>,
+    state: &mut BodyBuilder,
+    at: InFile<AstPtr>,
+    call: &MacroCall,
+) -> Result<Option<ExprId>, StoreFault>
+    requires { (P.can lowerer.now.parts).call (P.spot lowerer.now.parts).place call.now }
+    ensures { MaybeLowersExpr (spec.written_call (P.spot lowerer.now.parts) at call.now) state.old result state.new }
+{
+    let entered = enter(lowerer, state, FragmentKind::Expr, call)?;
+    match expr_of(entered) {
+        None => Ok(Some(state.alloc_expr(Expr::Missing, Some(at))?)),
+        Some((place, node)) => {
+            let inner = lowerer
+                .parts
+                .maybe_collect_expr_inside(state, place, node)?;
+            pointed(state, at, inner)
         }
     }
 }
@@ -32,15 +77,12 @@ pub fn macro_form<P: LowerParts>(
     state: &mut BodyBuilder,
     at: InFile<AstPtr>,
     call: &Option<MacroCall>,
-) -> Result<Option<ExprId>, StoreFault> {
-    let Some(call) = call else {
-        return Ok(None);
-    };
-    match enter(lowerer, state, FragmentKind::Expr, call)? {
-        Entered::Yes(place, Some(Fragment::Expr(node))) => {
-            let inner = lowerer.parts.maybe_collect_expr_inside(state, place, node.get())?;
-            pointed(state, at, inner)
-        }
-        _ => Ok(Some(state.alloc_expr(Expr::Missing, Some(at))?)),
+) -> Result<Option<ExprId>, StoreFault>
+    requires { IfPresent ((P.can lowerer.now.parts).call (P.spot lowerer.now.parts).place) call.now }
+    ensures { MaybeLowersExpr (spec.call_at (P.spot lowerer.now.parts) at call.now) state.old result state.new }
+{
+    match call {
+        None => Ok(None),
+        Some(call) => call_form(lowerer, state, at, call),
     }
 }

@@ -1,0 +1,54 @@
+-- A call of a macro in expression place, as the code reads it.
+use Rattle.std.specs.Prelude.{Option, Some, None}
+use denote.Ref.{Bor}
+use Rattle.hir_syntax.specs.declared.ast.Expr.{Expr as AstExpr}
+use Rattle.hir_syntax.specs.declared.macros.Fragment.{Fragment as AstFragment}
+use Rattle.hir_syntax.specs.declared.macros.Fragment.TheVariants as fragment
+use Rattle.hir_syntax.specs.declared.macros.MacroCall.{MacroCall as AstMacroCall}
+use Rattle.hir_store.specs.Pointers.{Pointer}
+use Rattle.hir_store.specs.declared.hir.Expr.TheVariants as hir
+use Rattle.hir_store.specs.declared.ids.ExprId.{ExprId}
+use Rattle.hir_env.specs.Answered.{Expr}
+use Rattle.hir_env.specs.Calls.{entered_expr, lacking_call}
+use Rattle.hir_env.specs.Spot.{Spot}
+use Rattle.hir_env.specs.Whole.{answered, into}
+use Rattle.hir_env.specs.declared.place.Place.{Place}
+use Rattle.hir_lower_form.specs.Calls.{Found}
+use Rattle.hir_lower_form.specs.Lower.{lower_kept, some}
+use Rattle.hir_lower_form.specs.Lowering.{Lowering, ◌>>=◌, ◌>>◌, pure, alloc_expr, point}
+use Rattle.hir_lower_form.specs.Methods.{at_place}
+
+abbrev pub written_call : Spot → Pointer → AstMacroCall → Expr
+written_call at s c = entered_expr at.answers (into at) c at.place s
+
+-- a call, which the text may lack
+abbrev pub call_at : Spot → Pointer → Option AstMacroCall → Expr
+call_at at s None = lacking_call s
+call_at at s (Some c) = written_call at s c
+
+-- the expression that is found, and where it is read
+abbrev pub There : Type 0
+There = Option (Place × AstExpr)
+
+abbrev pub expr_in : Place → Option AstFragment → There
+expr_in q (Some (fragment.Expr e)) = Some (q, e)
+expr_in q _ = None
+
+abbrev pub expr_there : Found → There
+expr_there None = None
+expr_there (Some x) = expr_in x.0 x.1
+
+-- the same as it is lent
+abbrev pub expr_lent : Option (Place × Bor AstExpr) → There
+expr_lent None = None
+expr_lent (Some x) = Some (x.0, x.1.now)
+
+-- the node leads to what is left
+abbrev pub pointed : Pointer → Option ExprId → Lowering (Option ExprId)
+pointed s None = pure None
+pointed s (Some id) = point s id >> pure (Some id)
+
+-- what the code does with it, which is missing where there is none
+abbrev pub lower_there : Spot → Pointer → There → Lowering (Option ExprId)
+lower_there at s None = some (alloc_expr hir.Missing (Some s))
+lower_there at s (Some x) = lower_kept (answered (at_place at x.0) x.1) >>= pointed s
