@@ -97,7 +97,14 @@ fn_trait t a b = segment_of t None (Some (type_arg_of a ∷ [])) (Some (ret_of b
 -- `impl s`
 abbrev pub impl_at : ℕ → AstPathSegment → AstType_
 impl_at n s =
-    let path = roll-Path (record { id = node 9; range = no_range; leading = false; use_ = None; segs = Some s ∷ [] }) in
+    let path = roll-Path (record {
+      id = node 9;
+      range = no_range;
+      leading = false;
+      use_ = None;
+      segs = Some s ∷ [];
+      in_macro = false;
+    }) in
     type_at n (TypeKind-F.ImplTraitType (roll-TypeBound (record {
       id = node 9;
       range = no_range;

@@ -113,6 +113,7 @@ module _ (base : Base) (nodes : ℕ) (final : Stored) (kept : Bool) (x : Walk Va
   abbrev pub ContentsAre : List Frame → Stmts → List Statement → Option ExprId → Type 0
   ContentsAre ps tree.no_stmts new o = None1 new × KeptIs base nodes final ps kept x o
   ContentsAre ps (tree.more_stmts (tree.disabled_stmt at by s) ss) new o = ContentsAre ps ss new o
+  ContentsAre ps (tree.more_stmts (tree.call_stmt call) ss) new o = ContentsAre ps ss new o
   ContentsAre ps (tree.more_stmts tree.item_stmt ss) new o = Item1 (λ more. ContentsAre ps ss more o) new
   ContentsAre ps (tree.more_stmts (tree.let_stmt p t e b) ss) new o =
       Let1 (LetIs base nodes final ps p t e b) (λ more. ContentsAre ps ss more o) new
@@ -131,6 +132,7 @@ module _ (base : Base) (nodes : ℕ) (final : Stored) (kept : Bool) (x : Walk Va
   none_left_is ps tree.no_stmts [] o h = refl
   none_left_is ps tree.no_stmts (s ∷ new) o h = absurd h.0
   none_left_is ps (tree.more_stmts (tree.disabled_stmt at by s) ss) new o h = none_left_is ps ss new o h
+  none_left_is ps (tree.more_stmts (tree.call_stmt call) ss) new o h = none_left_is ps ss new o h
   none_left_is ps (tree.more_stmts tree.item_stmt ss) [] o h = absurd h
   none_left_is ps (tree.more_stmts tree.item_stmt ss) (statement.Item ∷ new) o h = refl
   none_left_is ps (tree.more_stmts tree.item_stmt ss) (statement.Expr i semi ∷ new) o h = absurd h
@@ -216,6 +218,7 @@ module _ (base : Base) (nodes : ℕ) (final : Stored) (turns d : ℕ) (deep : no
   with_tail ps f tree.no_stmts [] i k h = k x (record { same = h.1.same; jumps = h.1.jumps })
   with_tail ps f tree.no_stmts (s ∷ new) i k h = absurd h.0
   with_tail ps f (tree.more_stmts (tree.disabled_stmt at by s) ss) new i k h = with_tail ps f ss new i k h
+  with_tail ps f (tree.more_stmts (tree.call_stmt call) ss) new i k h = with_tail ps f ss new i k h
   with_tail ps f (tree.more_stmts tree.item_stmt ss) [] i k h = absurd h
   with_tail ps f (tree.more_stmts tree.item_stmt ss) (statement.Item ∷ new) i k h = with_tail ps f ss new i k h
   with_tail ps f (tree.more_stmts tree.item_stmt ss) (statement.Expr j semi ∷ new) i k h = absurd h
@@ -249,6 +252,7 @@ module _ (base : Base) (nodes : ℕ) (final : Stored) (turns d : ℕ) (deep : no
   without_tail ps f tree.no_stmts [] k h = k (λ turns qs. pure unit) no_value
   without_tail ps f tree.no_stmts (s ∷ new) k h = absurd h.0
   without_tail ps f (tree.more_stmts (tree.disabled_stmt at by s) ss) new k h = without_tail ps f ss new k h
+  without_tail ps f (tree.more_stmts (tree.call_stmt call) ss) new k h = without_tail ps f ss new k h
   without_tail ps f (tree.more_stmts tree.item_stmt ss) [] k h = absurd h
   without_tail ps f (tree.more_stmts tree.item_stmt ss) (statement.Item ∷ new) k h = without_tail ps f ss new k h
   without_tail ps f (tree.more_stmts tree.item_stmt ss) (statement.Expr j semi ∷ new) k h = absurd h
@@ -310,6 +314,7 @@ module _ (base : Base) (nodes : ℕ) (final : Stored) (d : ℕ) (deep : nodes �
   all_jumps ps tree.no_stmts [] o h = (tt, kept_jumps ps kept x o h.1)
   all_jumps ps tree.no_stmts (s ∷ new) o h = absurd h.0
   all_jumps ps (tree.more_stmts (tree.disabled_stmt at by s) ss) new o h = all_jumps ps ss new o h
+  all_jumps ps (tree.more_stmts (tree.call_stmt call) ss) new o h = all_jumps ps ss new o h
   all_jumps ps (tree.more_stmts tree.item_stmt ss) [] o h = absurd h
   all_jumps ps (tree.more_stmts tree.item_stmt ss) (statement.Item ∷ new) o h = all_jumps ps ss new o h
   all_jumps ps (tree.more_stmts tree.item_stmt ss) (statement.Expr j semi ∷ new) o h = absurd h
@@ -351,6 +356,7 @@ module _ (base : Base) (nodes : ℕ) (final : Stored) (x : Walk Value) where
   no_tail : (ps : List Frame) (ss : Stmts) (new : List Statement) → ContentsAre base nodes final true x ps ss new None → ⊥
   no_tail ps tree.no_stmts new h = h.1
   no_tail ps (tree.more_stmts (tree.disabled_stmt at by s) ss) new h = no_tail ps ss new h
+  no_tail ps (tree.more_stmts (tree.call_stmt call) ss) new h = no_tail ps ss new h
   no_tail ps (tree.more_stmts tree.item_stmt ss) [] h = h
   no_tail ps (tree.more_stmts tree.item_stmt ss) (statement.Item ∷ new) h = no_tail ps ss new h
   no_tail ps (tree.more_stmts tree.item_stmt ss) (statement.Expr j semi ∷ new) h = h
@@ -374,6 +380,7 @@ module _ (base : Base) (nodes : ℕ) (final : Stored) (x : Walk Value) (i : Expr
   a_tail : (ps : List Frame) (ss : Stmts) (new : List Statement) → ContentsAre base nodes final false x ps ss new (Some i) → ⊥
   a_tail ps tree.no_stmts new h = h.1
   a_tail ps (tree.more_stmts (tree.disabled_stmt at by s) ss) new h = a_tail ps ss new h
+  a_tail ps (tree.more_stmts (tree.call_stmt call) ss) new h = a_tail ps ss new h
   a_tail ps (tree.more_stmts tree.item_stmt ss) [] h = h
   a_tail ps (tree.more_stmts tree.item_stmt ss) (statement.Item ∷ new) h = a_tail ps ss new h
   a_tail ps (tree.more_stmts tree.item_stmt ss) (statement.Expr j semi ∷ new) h = h

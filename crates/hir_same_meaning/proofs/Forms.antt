@@ -12,17 +12,17 @@ use Rattle.hir_store.specs.declared.path.Path.{Path}
 use Rattle.hir_store.specs.declared.ids.ExprId.{ExprId}
 use Rattle.hir_store.specs.declared.ids.LabelId.{LabelId}
 use Rattle.hir_store.specs.declared.ids.BlockId.{BlockId}
-use Rattle.hir_store.specs.declared.ids.CfgId.{CfgId}
 use Rattle.hir_store.specs.declared.ids.HygieneId.{HygieneId}
-use Rattle.hir_store.specs.declared.diagnostics.ExpressionStoreDiagnostics.TheVariants.{InactiveCode}
 use Rattle.hir_env.specs.Answered as tree
-use Rattle.hir_env.specs.Answered.{OptionPath, OptionPat, OptionType, OptionBlock, Label, Jump, Expr, OptionExpr, Stmt, Stmts}
+use Rattle.hir_env.specs.Answered.{OptionPath, OptionPat, OptionType, OptionBlock, Label, Jump, Called, Gone, Expr, OptionExpr, Stmts}
 use Rattle.hir_env.specs.NodeMap.{Site}
 use Rattle.hir_env.specs.Answering.{site_of}
 use Rattle.hir_lower_form.specs.Builder.{Builder}
-use Rattle.hir_lower_form.specs.Lowering.{Checked, Lowering, ◌>>=◌, pure, alloc_expr, report}
+use Rattle.hir_lower_form.specs.Calls.{note_gone}
+use Rattle.hir_lower_form.specs.Lowering.{Checked, Lowering, ◌>>=◌, pure, alloc_expr}
 use Rattle.hir_lower_form.specs.Lower.{ExprSteps, StoredContents, push_some, missing, some, if_form, loop_form, turn_form, call_form}
 use Rattle.hir_lower_form.specs.Lower.{continue_form, break_form}
+use Rattle.hir_lower_form.specs.Lower.{called_form, uncalled_form}
 use Rattle.hir_lower_form.specs.Lower.{paren_form, stored_literal, path_or_missing, path_form, lower_path, settled}
 use Rattle.hir_lower_form.specs.Lower.{settled_block, block_form, labelled, kept}
 use Rattle.hir_data.specs.Data.{PathData}
@@ -43,7 +43,8 @@ use Rattle.hir_meaning.specs.Store.{read_or_look}
 use Rattle.hir_meaning.specs.Syntax.{SyntaxRun, as_it_is, run_path, run_stmts, run_tail, catching, while_turn, run_while}
 use Rattle.hir_steps.proofs.Frames.{Frame, plain_loop, loop_at, block_at, try_at, scopes, Falls}
 use Rattle.hir_steps.proofs.Steps.{Mark, Grows, Rel, Holds, Correct, Allocated, correct_bind, correct_as, correct_pure}
-use Rattle.hir_steps.proofs.Steps.{correct_report, correct_point, correct_enter_block, correct_alloc, correct_opened, correct_target}
+use Rattle.hir_steps.proofs.Calls.{correct_told, correct_note_gone}
+use Rattle.hir_steps.proofs.Steps.{correct_point, correct_enter_block, correct_alloc, correct_opened, correct_target}
 use Rattle.hir_same_meaning.proofs.Targets.{break_meets, continue_meets, among}
 use Rattle.hir_same_meaning.proofs.Relation.{SameWhere, TurnsAlike, same_read_path}
 use Rattle.hir_same_meaning.proofs.Turns.{alike_same, branched, while_alike}
@@ -178,6 +179,17 @@ module _ (at : Pointer) where
   paren_fine h = correct_as (correct_bind h (λ i. correct_bind (correct_point at i) (λ _. correct_pure i)))
       (λ final ps m m' i g row. rw row.second.second.is (goes_within (omega arith) row.first))
 
+  -- a call runs as what it stands for, and one that stands for nothing is missing
+  pub called_fine : (c : Called) {p : ExprSteps} {x : Walk Value} → Correct p (Runs one x) → Correct (called_form at c p) (Runs one x)
+  unfolding called_form
+  called_fine c h = correct_as (correct_bind (correct_told c) (λ u. paren_fine h))
+      (λ final ps m m' i g row. goes_within (omega arith) row.second)
+
+  pub uncalled_fine : (c : Called) → Correct (uncalled_form at c) (Runs one (λ turns ss. ends (leave is_missing)))
+  unfolding uncalled_form
+  uncalled_fine c = correct_as (correct_bind (correct_told c) (λ u. correct_alloc hir.Missing (Some at)))
+      (λ final ps m m' i g row. Nodes.goes_missing row.second)
+
 -- paths
 
 -- how a path is read in a final store
@@ -217,7 +229,7 @@ path_fine at p h = correct_as
 
 pub kept_fine : (e : Expr) {p : ExprSteps} {x : Walk Value} → Correct p (Runs one x)
     → Correct (kept e p) (λ final ps m m' o. KeptIs (base_of m) m'.nodes final ps (is_kept e) x o)
-kept_fine (tree.disabled_expr at by e) h = correct_as (correct_bind (correct_report (InactiveCode at by)) (λ u. correct_pure None))
+kept_fine (tree.disabled_expr why e) h = correct_as (correct_bind (correct_note_gone why) (λ u. correct_pure None))
     (λ final ps m m' o g row. rw row.second.is tt)
 kept_fine e h = correct_as (correct_bind h (λ i. correct_pure (Some i)))
     (λ final ps m m' o g row. rw (row.second.is, row.second.still) row.first)
@@ -309,10 +321,10 @@ filled_item t x ss done p = record {
 
 -- nothing of a statement
 pub filled_nothing : {final : Stored} {ps : List Frame} {m m1 m' : Mark} {r : StoredContents} (t : Bool) (x : Walk Value)
-    (at : Pointer) (by : CfgId) (s : Stmt) (ss : Stmts) (done : List Statement) → Grows m m1
+    (ss : Stmts) (done : List Statement) → Grows m m1
     → Filled done (ContentsRel t x ss) final ps m1 m' r
-    → Filled done (ContentsRel t x (tree.more_stmts (tree.disabled_stmt at by s) ss)) final ps m m' r
-filled_nothing t x at by s ss done g p =
+    → Filled done (ContentsRel t x ss) final ps m m' r
+filled_nothing t x ss done g p =
     record { new = p.new; is = p.is; rel = λ base nodes le le'. p.rel base nodes (omega arith) (omega arith) }
 
 -- a `let` statement
@@ -399,9 +411,8 @@ block_fine at is_unsafe (Some l) number ss e hp = correct_as
 
 -- what is not kept
 
-pub disabled_fine : (at : Pointer) (by : CfgId)
-    → Correct (report (InactiveCode at by) >>= (λ u. missing)) (Runs one (λ turns ss. ends (leave is_missing)))
-disabled_fine at by = correct_as (correct_bind (correct_report (InactiveCode at by)) (λ u. missing_fine))
+pub disabled_fine : (why : Gone) → Correct (note_gone why >>= (λ u. missing)) (Runs one (λ turns ss. ends (leave is_missing)))
+disabled_fine why = correct_as (correct_bind (correct_note_gone why) (λ u. missing_fine))
     (λ final ps m m' i g row. goes_within (omega arith) row.second)
 
 pub nothing_fine : (x : Walk Value) → Correct (pure None) (λ final ps m m' o. KeptIs (base_of m) m'.nodes final ps false x o)

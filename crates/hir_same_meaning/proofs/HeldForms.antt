@@ -4,7 +4,6 @@ use Rattle.std.proofs.Common.{Option, Some, None, option_map, arith}
 use Rattle.hir_store.specs.Pointers.{Pointer}
 use Rattle.hir_store.specs.Stored.{Stored}
 use Rattle.hir_store.specs.declared.diagnostics.AwaitLocation.{AwaitLocation}
-use Rattle.hir_store.specs.declared.diagnostics.ExpressionStoreDiagnostics.TheVariants.{InactiveCode}
 use Rattle.hir_store.specs.declared.hir.Array.TheVariants as array
 use Rattle.hir_store.specs.declared.hir.Expr.{Expr as HirExpr}
 use Rattle.hir_store.specs.declared.hir.Expr.TheVariants as hir
@@ -39,8 +38,9 @@ use Rattle.hir_read_back.proofs.Layers.{Pushed}
 use Rattle.hir_read_back.proofs.Walk.{Answers}
 use Rattle.hir_steps.proofs.Frames.{Frame, loop_at, block_at}
 use Rattle.hir_steps.proofs.Barriers.{correct_yield}
+use Rattle.hir_steps.proofs.Calls.{correct_note_gone}
 use Rattle.hir_steps.proofs.Steps.{Allocated, Grows, Mark, Rel, Correct, correct_bind, correct_as, correct_both, correct_pure}
-use Rattle.hir_steps.proofs.Steps.{correct_alloc, correct_report, correct_report_await, correct_point, correct_point_field}
+use Rattle.hir_steps.proofs.Steps.{correct_alloc, correct_report_await, correct_point, correct_point_field}
 use Rattle.hir_steps.proofs.Steps.{correct_enter_block, correct_opened, correct_target}
 use Rattle.hir_same_meaning.proofs.Holding.{SameIn, inners_in, same_append, same_ids, same_bodies, Ids, an_expr, a_type, each, maybe, Holds}
 use Rattle.hir_same_meaning.proofs.Holding.{holds_none, holds_one, holds_two, holds_behind, expr_held, expr0, expr1, expr2}
@@ -57,7 +57,7 @@ some_held h = holds_one Some (λ r i. refl) h
 
 pub kept_held : (e : Expr) {p : ExprSteps} → Correct p (Holds an_expr (expr_bodies e))
     → Correct (kept e p) (Holds (maybe an_expr) (expr_bodies e))
-kept_held (tree.disabled_expr at by e) h = holds_behind (correct_report (InactiveCode at by)) (λ u. holds_none None (λ r. refl))
+kept_held (tree.disabled_expr why e) h = holds_behind (correct_note_gone why) (λ u. holds_none None (λ r. refl))
 kept_held e h = some_held h
 
 -- what is pushed where something is left

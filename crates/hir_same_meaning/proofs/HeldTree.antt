@@ -37,12 +37,14 @@ use Rattle.hir_read_back.proofs.Layers.{Pushed, pushed_all}
 use Rattle.hir_read_back.proofs.Tree.{path_reads, list_reads}
 use Rattle.hir_steps.proofs.Constants.{correct_constant}
 use Rattle.hir_steps.proofs.Frames.{barrier_at}
+use Rattle.hir_steps.proofs.Calls.{correct_note, correct_told, correct_note_gone}
 use Rattle.hir_steps.proofs.Steps.{Correct, correct_as, correct_both, correct_in_store, correct_report}
 use Rattle.hir_steps.proofs.TypeAny.{lifetime_any, uses_any}
 use Rattle.hir_same_meaning.proofs.Body.{body_is}
 use Rattle.hir_same_meaning.proofs.Induction.{contents_fine, part_fine}
 use Rattle.hir_same_meaning.proofs.Holding.{an_expr, a_type, each, maybe, Holds, holds_none, holds_one, holds_behind, none_held, more_held}
 use Rattle.hir_same_meaning.proofs.Holding.{holds_owning, type0, expr0, pat0, Ids, a_pat, a_type_pat}
+use Rattle.hir_same_meaning.proofs.HeldCalls as calls
 use Rattle.hir_same_meaning.proofs.HeldClosures as closures
 use Rattle.hir_same_meaning.proofs.HeldClosures.{ParamsHeld}
 use Rattle.hir_same_meaning.proofs.HeldCoroutines.{coroutine_held}
@@ -85,6 +87,7 @@ dots_hold_nothing (tree.tuple_pat at comma ps) e = absurd (true≢false (sym e))
 dots_hold_nothing (tree.record_pat at p fs dots) e = absurd (true≢false (sym e))
 dots_hold_nothing (tree.or_pat at ps) e = absurd (true≢false (sym e))
 dots_hold_nothing (tree.paren_pat at p) e = absurd (true≢false (sym e))
+dots_hold_nothing (tree.macro_pat at called p) e = absurd (true≢false (sym e))
 dots_hold_nothing (tree.slice_pat at before middle behind) e = absurd (true≢false (sym e))
 dots_hold_nothing (tree.over_pat at form p) e = absurd (true≢false (sym e))
 dots_hold_nothing (tree.literal_pat at own l) e = refl
@@ -99,6 +102,8 @@ mutual
 
   type_holds : (b : Option Binder) (t : Type_) → Correct (lower.lower_type b t) (Holds a_type (inner.type_bodies t))
   type_holds b (tree.paren_type t) = part_holds b t
+  type_holds b (tree.macro_type at called tree.no_type) = calls.uncalled_type_held at called
+  type_holds b (tree.macro_type at called (tree.some_type t)) = calls.called_type_held at called (type_holds b t)
   type_holds b (tree.for_type names t) = part_holds (Some names) t
   type_holds b (tree.leaf_type at l) = types.leaf_held at l
   type_holds b (tree.over_type at u t) = types.over_held at u (part_holds None t)
@@ -209,7 +214,7 @@ mutual
   -- ---- expressions
 
   expr_holds : (e : Expr) → Correct (lower.lower e) (Holds an_expr (inner.expr_bodies e))
-  expr_holds (tree.disabled_expr at by e) = holds_behind (correct_report (InactiveCode at by)) (λ u. forms.missing_held)
+  expr_holds (tree.disabled_expr why e) = holds_behind (correct_note_gone why) (λ u. forms.missing_held)
   expr_holds (tree.if_expr at c t e) = forms.if_held at (body_holds c) (block_part_holds t) (present_holds e)
   expr_holds (tree.block_expr b) = block_holds b
   expr_holds (tree.loop_expr at label _ b) = forms.loop_held at _ label (block_part_holds b)
@@ -227,6 +232,8 @@ mutual
   expr_holds (tree.continue_expr at jump) = forms.continue_held at jump
   expr_holds (tree.break_expr at jump e) = forms.break_held at jump (present_holds e)
   expr_holds (tree.paren_expr at e) = forms.paren_held at (body_holds e)
+  expr_holds (tree.macro_expr at called tree.no_expr) = calls.uncalled_held at called
+  expr_holds (tree.macro_expr at called (tree.some_expr e)) = calls.called_held at called (expr_holds e)
   expr_holds (tree.literal_expr at l) = expr0 _ (Some at) (λ r. refl)
   expr_holds (tree.leaf_expr at form) = forms.leaf_held at form
   expr_holds (tree.unary_expr at form e) = forms.unary_held at form (body_holds e)
@@ -323,6 +330,7 @@ mutual
   stmt_holds : (s : Stmt) → Correct (lower.lower_stmt s) (Holds (maybe a_statement) (inner.stmt_bodies s))
   stmt_holds (tree.expr_stmt e semi) = forms.statement_held semi (kept_part_holds e)
   stmt_holds tree.item_stmt = holds_none (Some statement.Item) (λ r. refl)
+  stmt_holds (tree.call_stmt c) = holds_behind (correct_note c) (λ u. holds_none None (λ r. refl))
   stmt_holds (tree.let_stmt p t e b) =
       patterned.let_stmt_held (top_holds p) (maybe_type_holds t) (present_holds e) (present_block_holds b)
   stmt_holds (tree.disabled_stmt at by s) = holds_behind (correct_report (InactiveCode at by)) (λ u. holds_none None (λ r. refl))
@@ -363,6 +371,8 @@ mutual
   pat_holds (tree.or_pat at tree.no_pats) = pats.alone_held (pat0 (pat.Or []) (Some at) (λ r. refl))
   pat_holds (tree.or_pat at (tree.more_pats p ps)) = pats.or_held at (pat_holds p) (later_hold ps)
   pat_holds (tree.paren_pat at p) = pat_part_holds p
+  pat_holds (tree.macro_pat at called tree.no_pat) = pats.alone_held (calls.uncalled_pat_held at called)
+  pat_holds (tree.macro_pat at called (tree.some_pat p)) = λ t. calls.called_pat_held at called (λ r. r.0) (pat_holds p t)
   pat_holds (tree.slice_pat at before p behind) = pats.slice_held at
       (λ t. added_all (pats_hold before [] t)) (subpattern_holds p) (λ t. added_all (pats_hold behind [] t))
   pat_holds (tree.over_pat at form p) = pats.over_held at form (pat_part_holds p)
@@ -425,6 +435,8 @@ mutual
   type_pat_holds : (p : TypePat) → Correct (lower.lower_type_pat p) (Holds a_type_pat (inner.type_pat_bodies p))
   type_pat_holds (tree.not_null_type_pat at) = limits.type_pat0 pat.NotNull (Some at) (λ r. refl)
   type_pat_holds (tree.or_type_pat at ps) = limits.alternatives_held at (pushed_all (type_pats_hold ps []))
+  type_pat_holds (tree.macro_type_pat at called tree.no_type_pat) = calls.uncalled_type_pat_held at called
+  type_pat_holds (tree.macro_type_pat at called (tree.some_type_pat p)) = calls.called_pat_held at called (λ i. i) (type_pat_holds p)
   type_pat_holds (tree.range_type_pat at s e) = limits.limits_held at (limit_holds s) (limit_holds e)
   type_pat_holds (tree.other_type_pat at) = limits.type_pat0 pat.Missing (Some at) (λ r. refl)
 
@@ -451,6 +463,7 @@ mutual
   target_holds tree.absent_target = pats.absent_held
   target_holds (tree.place_target at e) = patterned.place_held at (expr_holds e)
   target_holds (tree.wild_target at) = pat0 pat.Wild (Some at) (λ r. refl)
+  target_holds (tree.macro_target at called t) = holds_behind (correct_told called) (λ u. target_holds t)
   target_holds (tree.path_target at p h) =
       patterned.path_target_held at h (paths.path_held (tree.some_path p) (all_hold p))
   target_holds (tree.tuple_target at ts) = patterned.tuple_target_held at (targets_hold ts no_elements)

@@ -23,6 +23,7 @@ use Rattle.hir_meaning.specs.Syntax.{run_expr, run_block_part, run_or_unit, run_
 use Rattle.hir_meaning.specs.Syntax.{run_present, run_arms, run_places, run_each_place, run_field_places}
 use Rattle.hir_data.specs.Written.{path_of}
 use Rattle.hir_read_back.proofs.Tree.{path_reads}
+use Rattle.hir_steps.proofs.Calls.{correct_note}
 use Rattle.hir_steps.proofs.Keeping.{constant_any, contents_part_any, part_any, rooted_any}
 use Rattle.hir_steps.proofs.Steps.{Correct, correct_bind, correct_as, correct_pure, correct_report}
 use Rattle.hir_steps.proofs.TypeAny.{any}
@@ -48,10 +49,12 @@ use Rattle.hir_same_meaning.proofs.TargetPlaces.{PlacesAre}
 
 mutual
   pub expr_fine : (e : Expr) → Correct (lower e) (Runs one (λ turns. run_expr turns e))
-  expr_fine (tree.disabled_expr at by e) = Forms.disabled_fine at by
+  expr_fine (tree.disabled_expr why e) = Forms.disabled_fine why
   expr_fine (tree.literal_expr at l) = Forms.literal_fine at l
   expr_fine (tree.path_expr at p h) = Forms.path_fine at p h
   expr_fine (tree.paren_expr at e) = Forms.paren_fine at (part_fine e)
+  expr_fine (tree.macro_expr at called tree.no_expr) = Forms.uncalled_fine at called
+  expr_fine (tree.macro_expr at called (tree.some_expr e)) = Forms.called_fine at called (expr_fine e)
   expr_fine (tree.call_expr at f has_list es) = Forms.call_fine at (part_fine f) (Forms.pushed_all (each_fine es []))
   expr_fine (tree.if_expr at c t e) = Forms.if_fine at (part_fine c) (block_part_fine t) (present_fine e)
   expr_fine (tree.loop_expr at label _ b) = Forms.loop_fine at _ label (block_part_fine b)
@@ -169,6 +172,7 @@ mutual
   target_fine tree.absent_target = TargetPlaces.absent_places
   target_fine (tree.place_target at e) = TargetPlaces.place_places at (expr_fine e)
   target_fine (tree.wild_target at) = TargetPlaces.wild_places at
+  target_fine (tree.macro_target at called t) = TargetPlaces.told_places called (target_fine t)
   target_fine (tree.path_target at p h) = TargetPlaces.path_places at h (path_of (tree.some_path p)) (path_reads (tree.some_path p))
   target_fine (tree.tuple_target at ts) = TargetPlaces.tuple_places at (targets_fine ts no_elements)
   target_fine (tree.call_target at p ts) = TargetPlaces.call_places (path_of p) at (path_reads p) (targets_fine ts no_elements)
@@ -224,7 +228,12 @@ mutual
       correct_as (correct_bind (correct_bind (correct_report (InactiveCode at by)) (λ u. correct_pure None))
       (λ o. stmts_fine t x hq ss (push_some done o)))
       (λ final ps m m' r g row. let others = row.second in
-      Forms.filled_nothing t x at by s ss done row.before (rw row.first.second.is at others))
+      Forms.filled_nothing t x ss done row.before (rw row.first.second.is at others))
+  stmts_fine t x hq (tree.more_stmts (tree.call_stmt c) ss) done =
+      correct_as (correct_bind (correct_bind (correct_note c) (λ u. correct_pure None))
+      (λ o. stmts_fine t x hq ss (push_some done o)))
+      (λ final ps m m' r g row. let others = row.second in
+      Forms.filled_nothing t x ss done row.before (rw row.first.second.is at others))
   stmts_fine t x hq (tree.more_stmts (tree.let_stmt p ty e b) ss) done =
       correct_as (correct_bind (Patterned.let_stmt_fine p ty e b (initial_fine e) (else_fine b))
       (λ o. stmts_fine t x hq ss (push_some done o)))

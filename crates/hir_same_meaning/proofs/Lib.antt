@@ -47,6 +47,7 @@ pub mod HeldFors
 pub mod HeldPats
 pub mod HeldLimits
 pub mod HeldPatterned
+pub mod HeldCalls
 pub mod HeldClosures
 pub mod HeldCoroutines
 pub mod HeldPreludes

@@ -22,6 +22,7 @@ use Rattle.hir_lower_form.specs.Lowering.{Lowering, ◌>>=◌, owning, alloc_exp
 use Rattle.hir_lower_form.specs.Lower as lower
 use Rattle.hir_lower_form.specs.Made.{for_form, for_turn_form, made_loop_form, question_form, try_block_form, typed_try_form}
 use Rattle.hir_lower_form.specs.Forms.{ExprSteps, StoredContents, StoredFields, missing, if_form, loop_form, call_form, continue_form}
+use Rattle.hir_lower_form.specs.Forms.{called_form, uncalled_form}
 use Rattle.hir_lower_form.specs.Forms.{break_form, paren_form, path_form, path_or_missing, operand_form, operands_form, value_form}
 use Rattle.hir_lower_form.specs.declared.closures.ClosureParams.{ClosureParams}
 use Rattle.hir_lower_form.specs.Forms.{list_form, repeat_form, const_form, closure_form, coroutine_block_form, coroutine_form}
@@ -34,7 +35,8 @@ use Rattle.hir_meaning.specs.Store.{made_as, made_expr}
 use Rattle.hir_read_back.proofs.Now.{path_now}
 use Rattle.hir_steps.proofs.Frames.{Frame, loop_at, block_at}
 use Rattle.hir_steps.proofs.Steps.{Mark, Rel, Correct, correct_bind, correct_as, correct_pure, correct_alloc, correct_point}
-use Rattle.hir_steps.proofs.Steps.{correct_enter_block, correct_opened, correct_report, correct_report_await, correct_target}
+use Rattle.hir_steps.proofs.Steps.{correct_enter_block, correct_opened, correct_report_await, correct_target}
+use Rattle.hir_steps.proofs.Calls.{correct_told, correct_note_gone}
 use Rattle.hir_steps.proofs.ApartForms.{flow_arm_apart, item_call_apart, made_path_apart, residual_apart, wrapped_apart}
 use Rattle.hir_steps.proofs.Keeping.{Any, any, args_any, arms_any, block_part_any, contents_any, contents_part_any, each_any, fields_any}
 use Rattle.hir_steps.proofs.Keeping.{for_loop_any, lower_path_any, one_type_any, part_any, present_any, spread_any, target_any, top_any}
@@ -207,15 +209,19 @@ block_unnamed (tree.block at is_unsafe (Some l) _ number ss e) =
 
 mutual
   unfolding if_form call_form continue_form break_form method_call_form await_form cast_form offset_of_form record_form let_form
-      match_form assign_form range_form repeat_form const_form
+      match_form assign_form range_form repeat_form const_form called_form uncalled_form
 
   pub part_unnamed : (e : OptionExpr) → Correct (lower.lower_part e) Unnamed
   part_unnamed tree.no_expr = missing_unnamed
   part_unnamed (tree.some_expr e) = expr_unnamed e
 
   expr_unnamed : (e : Expr) → Correct (lower.lower e) Unnamed
-  expr_unnamed (tree.disabled_expr at by e) = ends_unnamed (correct_report _) (λ u. missing_unnamed)
+  expr_unnamed (tree.disabled_expr why e) = ends_unnamed (correct_note_gone why) (λ u. missing_unnamed)
   expr_unnamed (tree.paren_expr at e) = paren_unnamed at (part_unnamed e)
+  expr_unnamed (tree.macro_expr at called tree.no_expr) =
+      ends_unnamed (correct_told called) (λ u. stored_unnamed _ (Some at) (λ final. refl))
+  expr_unnamed (tree.macro_expr at called (tree.some_expr e)) =
+      ends_unnamed (correct_told called) (λ u. paren_unnamed at (expr_unnamed e))
   expr_unnamed (tree.block_expr b) = block_unnamed b
   expr_unnamed (tree.record_expr at p head fs s) = ends_unnamed (lower_path_any p)
       (λ o. record_of_unnamed at (contents_any (fields_any [] fs) (spread_any s)) o)

@@ -20,6 +20,7 @@ use Rattle.hir_lower_form.specs.Lower.{lower_target, lower_targets, lower_target
 use Rattle.hir_lower_form.specs.Lower.{stored_leaf, stored_unary, stored_binary, stored_lazy, stored_leaving, no_closure_params}
 use Rattle.hir_lower_form.specs.Pats.{Elements, no_elements}
 use Rattle.hir_same_meaning.specs.Reached.{of_each, of_fields, of_others, of_arms}
+use Rattle.hir_steps.proofs.Calls.{correct_note}
 use Rattle.hir_steps.proofs.Keeping.{constant_any, contents_part_any, lower_path_any, params_any, part_any, present_type_any}
 use Rattle.hir_steps.proofs.Keeping.{rooted_any}
 use Rattle.hir_steps.proofs.Steps.{Correct, correct_bind, correct_as, correct_pure, correct_report}
@@ -31,7 +32,8 @@ use Rattle.hir_same_meaning.proofs.Owning.{operands_owns, value_owns, list_owns,
 use Rattle.hir_same_meaning.proofs.Owning.{field_owns, await_owns, nameless_owns, if_owns, call_owns, loop_owns, turn_owns}
 use Rattle.hir_same_meaning.proofs.Owning.{break_owns, repeat_owns, const_owns, closure_owns, coroutine_owns, yield_owns, owns_owning}
 use Rattle.hir_same_meaning.proofs.Owning.{coroutine_closure_owns}
-use Rattle.hir_same_meaning.proofs.Owning.{continue_owns, paren_owns, path_owns, kept_owns, disabled_owns, each_more, fields_more}
+use Rattle.hir_same_meaning.proofs.Owning.{continue_owns, paren_owns, called_owns, uncalled_owns, path_owns, kept_owns}
+use Rattle.hir_same_meaning.proofs.Owning.{disabled_owns, each_more, fields_more}
 use Rattle.hir_same_meaning.proofs.Owning.{fields_own_all, Filled, filled_end, filled_held, filled_none, filled_silent, filled_expr}
 use Rattle.hir_same_meaning.proofs.Owning.{block_owns, each_owns_all}
 use Rattle.hir_same_meaning.proofs.OwningFors.{for_owns}
@@ -43,10 +45,12 @@ arms_own_all h = correct_as h (λ final ps m m' r g row. rw row.is row.rel)
 
 mutual
   expr_owns : (e : Expr) → Correct (lower e) Owns
-  expr_owns (tree.disabled_expr at by e) = disabled_owns at by
+  expr_owns (tree.disabled_expr why e) = disabled_owns why
   expr_owns (tree.literal_expr at l) = leaf_owns _ (Some at) (λ f s. refl)
   expr_owns (tree.path_expr at p h) = path_owns at p h
   expr_owns (tree.paren_expr at e) = paren_owns at (part_owns e)
+  expr_owns (tree.macro_expr at called tree.no_expr) = uncalled_owns at called
+  expr_owns (tree.macro_expr at called (tree.some_expr e)) = called_owns at called (expr_owns e)
   expr_owns (tree.call_expr at f has_list es) = call_owns at (part_owns f) (each_owns_all (each_owns es []))
   expr_owns (tree.if_expr at c t e) = if_owns at (part_owns c) (block_part_owns t) (present_owns e)
   expr_owns (tree.loop_expr at label _ b) = loop_owns at _ label (block_part_owns b)
@@ -142,6 +146,7 @@ mutual
   target_owns tree.absent_target = Pats.absent_owns
   target_owns (tree.place_target at e) = Pats.place_owns at (expr_owns e)
   target_owns (tree.wild_target at) = Pats.wild_owns at
+  target_owns (tree.macro_target at called t) = Pats.told_owns called (target_owns t)
   target_owns (tree.path_target at p h) = Pats.path_target_owns (lower_path_any (tree.some_path p)) at h
   target_owns (tree.tuple_target at ts) = Pats.tuple_target_owns at (targets_own ts no_elements)
   target_owns (tree.call_target at p ts) = Pats.call_target_owns at (targets_own ts no_elements) (lower_path_any p)
@@ -194,6 +199,10 @@ mutual
   stmts_owns hq (tree.more_stmts (tree.disabled_stmt at by s) ss) done = correct_as
       (correct_bind (correct_bind (correct_report (InactiveCode at by)) (λ u. correct_pure None))
       (λ o. stmts_owns hq ss (push_some done o)))
+      (λ final ps m m' r g row. let others = row.second in
+      filled_none done row.before row.after (rw row.first.second.is at others))
+  stmts_owns hq (tree.more_stmts (tree.call_stmt c) ss) done = correct_as
+      (correct_bind (correct_bind (correct_note c) (λ u. correct_pure None)) (λ o. stmts_owns hq ss (push_some done o)))
       (λ final ps m m' r g row. let others = row.second in
       filled_none done row.before row.after (rw row.first.second.is at others))
   stmts_owns hq (tree.more_stmts (tree.let_stmt p t e b) ss) done = correct_as

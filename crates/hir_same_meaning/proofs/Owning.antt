@@ -21,15 +21,14 @@ use Rattle.hir_store.specs.declared.ids.TypeRefId.{TypeRefId}
 use Rattle.hir_store.specs.declared.ids.LabelId.{LabelId}
 use Rattle.hir_store.specs.declared.ids.BlockId.{BlockId}
 use Rattle.hir_store.specs.declared.ids.HygieneId.{HygieneId}
-use Rattle.hir_store.specs.declared.ids.CfgId.{CfgId}
 use Rattle.hir_store.specs.declared.diagnostics.AwaitLocation.{AwaitLocation}
-use Rattle.hir_store.specs.declared.diagnostics.ExpressionStoreDiagnostics.TheVariants.{InactiveCode}
 use Rattle.hir_env.specs.Answered as tree
 use Rattle.hir_env.specs.Answered.{Leaf, Unary, Binary, Listing, Leaving}
-use Rattle.hir_env.specs.Answered.{OptionType, OptionPath, OptionArgs, Label, Jump, Expr}
-use Rattle.hir_lower_form.specs.Lowering.{Lowering, ◌>>=◌, pure, owning, alloc_expr, report}
+use Rattle.hir_env.specs.Answered.{Called, Gone, OptionType, OptionPath, OptionArgs, Label, Jump, Expr}
+use Rattle.hir_lower_form.specs.Calls.{note_gone}
+use Rattle.hir_lower_form.specs.Lowering.{Lowering, ◌>>=◌, pure, owning, alloc_expr}
 use Rattle.hir_lower_form.specs.Lower.{ExprSteps, push_some, missing, some, if_form, loop_form, turn_form, call_form, continue_form}
-use Rattle.hir_lower_form.specs.Lower.{break_form}
+use Rattle.hir_lower_form.specs.Lower.{break_form, called_form, uncalled_form}
 use Rattle.hir_lower_form.specs.Lower.{paren_form, path_or_missing, path_form, lower_path, settled, settled_block, StoredContents}
 use Rattle.hir_lower_form.specs.Lower.{block_form}
 use Rattle.hir_lower_form.specs.Lower.{labelled, kept}
@@ -45,7 +44,8 @@ use Rattle.hir_steps.proofs.Frames.{Frame, loop_at, block_at}
 use Rattle.hir_steps.proofs.Barriers.{correct_closure, correct_coroutine, correct_yield}
 use Rattle.hir_steps.proofs.Owning.{owning_keeps}
 use Rattle.hir_steps.proofs.Steps.{Mark, Grows, Put, Rel, Correct, AllocatedBy, correct_bind, correct_as, correct_pure}
-use Rattle.hir_steps.proofs.Steps.{correct_report, correct_report_await, correct_point, correct_enter_block, correct_alloc}
+use Rattle.hir_steps.proofs.Calls.{correct_told, correct_note_gone}
+use Rattle.hir_steps.proofs.Steps.{correct_report_await, correct_point, correct_enter_block, correct_alloc}
 use Rattle.hir_steps.proofs.Steps.{correct_opened, correct_target, correct_point_field}
 use Rattle.hir_steps.proofs.CoroutineClosures.{correct_coroutine_closure}
 use Rattle.hir_steps.proofs.Keeping.{Any, type_any, args_any, lower_path_any, handed_any, within_any}
@@ -86,6 +86,11 @@ owns_at {final = final} m {m1 = m1} {m' = m'} {i = i} at le h = record { spread 
 pub owns_owning : {A : Type 0} {numbers : (ExprId → List ℕ) → A → List ℕ} (owner : A → ExprId) {p : Lowering A}
     → Correct p (OwnsAs numbers) → Correct (owning owner p) (OwnsAs numbers)
 owns_owning owner h = owning_keeps owner (λ final ps m left start id a row. record { spread = row.spread }) h
+
+-- behind steps of which nothing is kept
+owns_behind : {A : Type 0} {R : Rel A} {q : Lowering A} {p : ExprSteps} → Correct q R → Correct p Owns → Correct (q >>= (λ a. p)) Owns
+owns_behind h k = correct_as (correct_bind h (λ a. k)) (λ final ps m m' i g row.
+    record { spread = λ d le. spread_wider m.nodes m'.nodes (omega arith) (omega arith) (row.second.spread d le) })
 
 -- forms
 
@@ -339,6 +344,14 @@ module _ (at : Pointer) where
       (λ final ps m m' i g row. rw row.second.second.is
       (record { spread = λ d le. spread_wider m.nodes m'.nodes (omega arith) (omega arith) (row.first.spread d (omega arith)) }))
 
+  pub called_owns : (c : Called) {p : ExprSteps} → Correct p Owns → Correct (called_form at c p) Owns
+  unfolding called_form
+  called_owns c h = owns_behind (correct_told c) (paren_owns h)
+
+  pub uncalled_owns : (c : Called) → Correct (uncalled_form at c) Owns
+  unfolding uncalled_form
+  uncalled_owns c = owns_behind (correct_told c) (leaf_owns hir.Missing (Some at) (λ f s. refl))
+
 pub path_below : (h : HygieneId) (p : Option Path) (f : ExprId → List ℕ) (s : Store) → below f s (path_or_missing h p) ≡ []
 path_below h None f s = refl
 path_below h (Some p) f s = refl
@@ -352,15 +365,13 @@ path_owns at p h = correct_as (correct_bind (lower_path_any p) (λ r. correct_al
 -- what is kept, lists, statements
 
 pub kept_owns : (e : Expr) {p : ExprSteps} → Correct p Owns → Correct (kept e p) OwnsSome
-kept_owns (tree.disabled_expr at by e) h = correct_as (correct_bind (correct_report (InactiveCode at by)) (λ u. correct_pure None))
+kept_owns (tree.disabled_expr why e) h = correct_as (correct_bind (correct_note_gone why) (λ u. correct_pure None))
     (λ final ps m m' o g row. rw row.second.is (owns_none None (λ f. refl)))
 kept_owns e h = correct_as (correct_bind h (λ i. correct_pure (Some i)))
     (λ final ps m m' o g row. rw (row.second.is, row.second.still) (record { spread = row.first.spread }))
 
-pub disabled_owns : (at : Pointer) (by : CfgId) → Correct (report (InactiveCode at by) >>= (λ u. missing)) Owns
-disabled_owns at by = correct_as (correct_bind (correct_report (InactiveCode at by)) (λ u. missing_owns))
-    (λ final ps m m' i g row.
-    record { spread = λ d le. spread_wider m.nodes m'.nodes (omega arith) (omega arith) (row.second.spread d le) })
+pub disabled_owns : (why : Gone) → Correct (note_gone why >>= (λ u. missing)) Owns
+disabled_owns why = owns_behind (correct_note_gone why) missing_owns
 
 pub each_more : {final : Stored} {ps : List Frame} {m m1 m' : Mark} {r : List ExprId} (done : List ExprId) (o : Option ExprId) → Grows m m1
     → Grows m1 m'

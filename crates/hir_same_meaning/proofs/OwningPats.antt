@@ -21,7 +21,8 @@ use Rattle.hir_store.specs.declared.pat.RecordFieldPat.{RecordFieldPat}
 use Rattle.hir_store.specs.declared.path.Path.{Path as HirPath}
 use Rattle.hir_store.specs.declared.path.Path.TheVariants.{LangItem}
 use Rattle.hir_env.specs.Answered as tree
-use Rattle.hir_env.specs.Answered.{OptionPat, OptionType, RangeForm}
+use Rattle.hir_env.specs.Answered.{Called, OptionPat, OptionType, RangeForm}
+use Rattle.hir_lower_form.specs.Calls.{told}
 use Rattle.hir_lower_form.specs.Forms.{ExprSteps, push_some, let_form, match_form, arm_form, assign_form, let_stmt_form}
 use Rattle.hir_lower_form.specs.Lower.{lower_top, present_type}
 use Rattle.hir_lower_form.specs.Lowering.{Lowering, ◌>>=◌, pure, alloc_pat, report}
@@ -30,6 +31,7 @@ use Rattle.hir_lower_form.specs.Ranges.{range_fields, end_operand, item_expr, ma
 use Rattle.hir_lower_form.specs.Targets as forms
 use Rattle.hir_meaning.specs.Places.{places, places_to, places_found, places_in, places_in_each, places_in_fields}
 use Rattle.hir_meaning.specs.Places.{places_in_present}
+use Rattle.hir_steps.proofs.Calls.{correct_told}
 use Rattle.hir_steps.proofs.Frames.{Frame}
 use Rattle.hir_steps.proofs.Keeping.{top_any, present_type_any}
 use Rattle.hir_steps.proofs.PatSteps.{AllocatedPat, correct_alloc_pat, correct_point_pat_field}
@@ -161,6 +163,12 @@ absent_owns = placeless pat.Missing None (λ part. refl)
 
 pub wild_owns : (at : Pointer) → Correct (alloc_pat pat.Wild (Some at)) OwnsPlaces
 wild_owns at = placeless pat.Wild (Some at) (λ part. refl)
+
+-- a call is what it stands for
+pub told_owns : (c : Called) {p : Lowering PatId} → Correct p OwnsPlaces → Correct (told c >>= (λ u. p)) OwnsPlaces
+told_owns c h = correct_as (correct_bind (correct_told c) (λ u. h)) (λ final ps m m' i g row. record {
+  spread = λ c d le le'. spread_wider m.nodes m'.nodes row.before.nodes (omega arith) (row.second.spread c d le le');
+})
 
 module _ {R : Rel (Option HirPath)} {q : Lowering (Option HirPath)} (hq : Correct q R) where
   -- behind a path, or nothing of it

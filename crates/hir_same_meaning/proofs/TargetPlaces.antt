@@ -15,12 +15,14 @@ use Rattle.hir_store.specs.declared.pat.Pat.TheVariants as pat
 use Rattle.hir_store.specs.declared.pat.RecordFieldPat.{RecordFieldPat}
 use Rattle.hir_store.specs.declared.path.Path.{Path as HirPath}
 use Rattle.hir_env.specs.Answering.{site_of}
-use Rattle.hir_env.specs.Answered.{Target}
+use Rattle.hir_env.specs.Answered.{Called, Target}
+use Rattle.hir_lower_form.specs.Calls.{told}
 use Rattle.hir_lower_form.specs.Forms.{ExprSteps, push_some, assign_form}
 use Rattle.hir_lower_form.specs.Lower.{lower_target}
 use Rattle.hir_lower_form.specs.Lowering.{Lowering, ◌>>=◌ as ◌then◌, pure, alloc_pat, report}
 use Rattle.hir_lower_form.specs.Pats.{Elements, no_elements, missing_pat, elements_form}
 use Rattle.hir_lower_form.specs.Targets as forms
+use Rattle.hir_steps.proofs.Calls.{correct_told}
 use Rattle.hir_steps.proofs.Frames.{Frame, scopes, Falls, falls_more}
 use Rattle.hir_steps.proofs.PatAny.{dots_any}
 use Rattle.hir_steps.proofs.PatSteps.{AllocatedPat, correct_alloc_pat, correct_point_pat_field}
@@ -120,6 +122,12 @@ absent_places = without pat.Missing None (λ part is. refl)
 
 pub wild_places : (at : Pointer) → Correct (alloc_pat pat.Wild (Some at)) (PlacesAre nothing)
 wild_places at = without pat.Wild (Some at) (λ part is. refl)
+
+-- a call is what it stands for
+pub told_places : (c : Called) {x : Placing} {p : Lowering PatId} → Correct p (PlacesAre x)
+    → Correct (◌then◌ (told c) (λ u. p)) (PlacesAre x)
+told_places c h = correct_as (correct_bind (correct_told c) (λ u. h))
+    (λ final ps m m' i g row. record { put = λ c le. put_within (omega arith) (omega arith) (row.second.put c le) })
 
 pub path_places : (at : Pointer) (h : HygieneId) (y : Option PathRead) {q : Lowering (Option HirPath)} → Correct q (PathIs y)
     → Correct (forms.path_target_form at h q) (PlacesAre nothing)
