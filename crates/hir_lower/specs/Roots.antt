@@ -155,17 +155,19 @@ body_spot env item file inside is_async =
       await_location = awaits_in;
       impl_trait = becomes.Error;
       in_impl = false;
+      left = env.expansion_limit;
     })
 
 -- where a collector reads, outside of a body
-abbrev pub outside_body : HirFileId → ModuleId → LoweringMode → Place
-outside_body file inside mode = record {
+abbrev pub outside_body : Answers → HirFileId → ModuleId → LoweringMode → Place
+outside_body env file inside mode = record {
   file_id = file;
   module_id = inside;
   mode = mode;
   await_location = Some location.Unknown;
   impl_trait = becomes.Error;
   in_impl = false;
+  left = env.expansion_limit;
 }
 
 -- the same place, where an `impl` becomes this
@@ -174,7 +176,7 @@ becoming p mode = record p { impl_trait = mode }
 
 -- where a type that stands alone is read: an `impl` stays one
 abbrev pub type_spot : Answers → HirFileId → ModuleId → Spot
-type_spot env file inside = spot_at env (becoming (outside_body file inside Analysis) becomes.Opaque)
+type_spot env file inside = spot_at env (becoming (outside_body env file inside Analysis) becomes.Opaque)
 
 -- what the steps answer and store, from nothing
 pub record AnswersFromNothing {A : Type 0} (p : Lowering A) (limit : ℕ) (answer : A) (store : Store) (source_map : SourceMap) : Type 0 where

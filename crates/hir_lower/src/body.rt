@@ -439,6 +439,7 @@ fn body_steps<E: LowerEnv>(
         await_location: await_location_of(owner, is_async_fn),
         impl_trait: ImplTrait::Error,
         in_impl: false,
+        left: db.expansion_limit(),
     };
     let kind = coroutine_kind_of(is_async_fn, is_gen_fn);
     let mut state = BodyBuilder::new(alloc, u32::MAX);

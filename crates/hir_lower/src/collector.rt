@@ -191,7 +191,7 @@ impl<'db, E: LowerEnv> ExprCollector<'db, E> {
         lowering_mode: LoweringMode,
     ) -> ExprCollector<'db, E>
         ensures env { result.db.now ≡ db.now }
-        ensures place { result.place ≡ outside_body current_file_id inside lowering_mode }
+        ensures place { result.place ≡ outside_body (E.answers db.now) current_file_id inside lowering_mode }
         ensures empty { result.state ≡ fresh 4294967295 }
         ensures works { result.failed ≡ false }
     {
@@ -208,7 +208,7 @@ impl<'db, E: LowerEnv> ExprCollector<'db, E> {
         limit: u32,
     ) -> ExprCollector<'db, E>
         ensures env { result.db.now ≡ db.now }
-        ensures place { result.place ≡ outside_body current_file_id inside lowering_mode }
+        ensures place { result.place ≡ outside_body (E.answers db.now) current_file_id inside lowering_mode }
         ensures empty { result.state ≡ fresh limit }
         ensures works { result.failed ≡ false }
     {
@@ -222,6 +222,7 @@ impl<'db, E: LowerEnv> ExprCollector<'db, E> {
                 await_location: Some(AwaitLocation::Unknown),
                 impl_trait: ImplTrait::Error,
                 in_impl: false,
+                left: db.expansion_limit(),
             },
             state: BodyBuilder::new(alloc, limit),
             failed: false,

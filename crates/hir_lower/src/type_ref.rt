@@ -63,6 +63,7 @@ fn type_steps<E: LowerEnv>(
         await_location: Some(AwaitLocation::Unknown),
         impl_trait: ImplTrait::Opaque,
         in_impl: false,
+        left: db.expansion_limit(),
     };
     let mut state = BodyBuilder::new(alloc, u32::MAX);
     match lower_type_opt(alloc, db, place, &mut state, type_ref.value) {
