@@ -3,11 +3,13 @@
 ghost use Rattle.std.specs.Prelude.{◌≡◌, ◌<◌, ◌++◌, ◌∷◌, [], None, OnOk, OnErr, false, length, slice_get, true};
 ghost use Rattle.std.specs.Option.{option_copied};
 ghost use Rattle.hir_store.specs.Bindings.{AddsBinding, KeptBindings, at_place, none_bound, own_from, owner_at};
+ghost use Rattle.hir_store.specs.Pages.{joined, ArePages, Paged};
 ghost use Rattle.hir_store.specs.Bindings.{pattern_added, problem_set, unowned_from, with_definition, with_owner, with_problem};
 
 use crate::arena::Arena;
 use crate::fault::StoreFault;
 use crate::ids::{BindingId, ExprId, PatId};
+use crate::pages::{PAGE, Pages, get, next_page, put};
 use crate::pat::Binding;
 use hir_base::Seq;
 use hir_binding::binding::BindingProblems;
@@ -84,12 +86,25 @@ fn push_at(lists: &mut Vec<Seq<PatId>>, at: usize, pat: PatId) -> Result<(), All
     lists[at].push(pat)
 }
 
-/// Notes what is wrong with the binding at this place.
-fn note_at(entries: &mut Vec<Binding>, at: usize, problem: Option<BindingProblems>)
-    requires { at < length entries.old.items }
-    ensures { entries.new.items ≡ at_place at (problem_set problem) entries.old.items }
+/// Notes what is wrong with the binding at this place of these pages.
+fn note_in(pages: &mut Vec<Vec<Binding>>, at: usize, problem: Option<BindingProblems>)
+    requires paged { ArePages pages.old.items }
+    requires within { at < length (joined pages.old.items) }
+    ensures noted { joined pages.new.items ≡ at_place at (problem_set problem) (joined pages.old.items) }
+    ensures paged { ArePages pages.new.items }
 {
-    entries[at].problems = problem;
+    let page = &mut pages[at / PAGE];
+    page[at % PAGE].problems = problem;
+}
+
+/// Notes what is wrong with the binding at this place.
+fn note_at(entries: &mut Pages<Binding>, at: usize, problem: Option<BindingProblems>)
+    requires paged { Paged entries.old }
+    requires within { at < length (joined entries.old.pages.items) }
+    ensures noted { joined entries.new.pages.items ≡ at_place at (problem_set problem) (joined entries.old.pages.items) }
+    ensures paged { Paged entries.new }
+{
+    note_in(&mut entries.pages, at, problem);
 }
 
 /// What owns bindings, and those that nothing owns yet. These are a list of their own, ascending, so that each is looked at once when
@@ -122,7 +137,7 @@ impl Model for Owning {
 
 /// Bindings, each with the patterns that make it and with what owns it. A problem is noted behind the last of the patterns.
 pub struct BindingArena {
-    entries: Vec<Binding>,
+    pages: Pages<Binding>,
     definitions: Vec<Seq<PatId>>,
     owners: Owning,
     limit: u32,
@@ -132,7 +147,7 @@ pub struct BindingArena {
 impl Drop for BindingArena {
     fn drop(self) {
         let BindingArena {
-            entries: _,
+            pages: _,
             definitions: _,
             owners: _,
             limit: _,
@@ -144,12 +159,15 @@ impl Drop for BindingArena {
 impl Model for BindingArena {
     ghost use Rattle.std.specs.Prelude.{◌<◌, ◌^◌};
     ghost use Rattle.hir_store.specs.Bindings.{Bindings, KeptBindings, bindings_of};
+    ghost use Rattle.hir_store.specs.Pages.{joined, Paged};
 
     ghost Value = { Bindings };
 
-    ghost view = { λ a. bindings_of a.entries.items a.definitions.items a.owners a.limit };
+    ghost view = { λ a. bindings_of (joined a.pages.pages.items) a.definitions.items a.owners a.limit };
 
-    ghost invariant = { λ a. KeptBindings (bindings_of a.entries.items a.definitions.items a.owners a.limit) × (a.limit < 2 ^ 32) };
+    ghost invariant = { λ a.
+        KeptBindings (bindings_of (joined a.pages.pages.items) a.definitions.items a.owners a.limit) × (a.limit < 2 ^ 32)
+        × Paged a.pages };
 }
 
 impl Owning {
@@ -215,7 +233,7 @@ impl BindingArena {
         ensures { result ≡ none_bound limit }
     {
         BindingArena {
-            entries: Vec::new(alloc),
+            pages: Pages::new(alloc),
             definitions: Vec::new(alloc),
             owners: Owning::new(alloc),
             limit,
@@ -226,13 +244,13 @@ impl BindingArena {
     pub fn len(&self) -> u32
         ensures { result ≡ length self.now.entries }
     {
-        self.entries.len() as u32
+        self.pages.len
     }
 
     pub fn get(&self, id: BindingId) -> Option<&Binding>
         ensures { option_copied result ≡ slice_get self.now.entries id.0 }
     {
-        self.entries.get(id.0 as usize)
+        get(&self.pages, id.0 as usize)
     }
 
     /// Stores a binding that no pattern makes yet.
@@ -246,11 +264,11 @@ impl BindingArena {
         if at >= self.limit {
             return Err(StoreFault::Full);
         }
-        self.entries.reserve(1)?;
+        let page = next_page(&mut self.pages)?;
         self.definitions.reserve(1)?;
         self.owners.add(at)?;
         let none = Seq::new(self.alloc);
-        self.entries.push_reserved(binding);
+        put(&mut self.pages, page, binding);
         self.definitions.push_reserved(none);
         Ok(BindingId(at))
     }
@@ -270,7 +288,7 @@ impl BindingArena {
         requires { id.0 < length self.old.entries }
         ensures { self.new ≡ with_problem self.old id problem }
     {
-        note_at(&mut self.entries, id.0 as usize, problem);
+        note_at(&mut self.pages, id.0 as usize, problem);
     }
 
     /// From this binding on the expression owns each that nothing owned.
@@ -284,7 +302,7 @@ impl BindingArena {
     pub fn kept(&self)
         ensures { KeptBindings self.now }
     {
-        let _ = &self.entries;
+        let _ = &self.pages;
     }
 
     /// The bindings, their patterns, and what owns them. It takes no memory.
@@ -295,14 +313,14 @@ impl BindingArena {
         ensures kept { KeptBindings self }
     {
         let BindingArena {
-            entries,
+            pages,
             definitions,
             owners,
             limit,
             alloc: _,
         } = self;
         (
-            Arena::of(entries, limit),
+            Arena::of(pages, limit),
             Definitions { lists: definitions },
             owners.into_owners(),
         )

@@ -7,6 +7,7 @@ ghost use Rattle.hir_store.specs.Pointers.{flattened};
 
 use crate::arena::{Arena, Entry};
 use crate::fault::StoreFault;
+use crate::pages::{Pages, get, next_page, put};
 use crate::pointers::PointerMap;
 use hir_base::Seq;
 use hir_base::node::{AstPtr, InFile};
@@ -15,7 +16,7 @@ use std::marker::Model;
 
 /// Entries of one kind, each with the node that it came from, where it came from one, and the way from nodes to them.
 pub struct SourcedArena<T: Entry> {
-    entries: Vec<T>,
+    pages: Pages<T>,
     sources: Vec<Option<InFile<AstPtr>>>,
     map: PointerMap<T::Id>,
     limit: u32,
@@ -24,7 +25,7 @@ pub struct SourcedArena<T: Entry> {
 impl<T: Entry> Drop for SourcedArena<T> {
     fn drop(self) {
         let SourcedArena {
-            entries: _,
+            pages: _,
             sources: _,
             map: _,
             limit: _,
@@ -35,14 +36,16 @@ impl<T: Entry> Drop for SourcedArena<T> {
 impl<T: Entry> Model for SourcedArena<T> {
     ghost use Rattle.std.specs.Prelude.{length, ◌≤◌, ◌<◌, ◌^◌};
     ghost use Rattle.hir_store.specs.Arenas.{Kept, Sourced, sourced_code, sourced_of};
+    ghost use Rattle.hir_store.specs.Pages.{joined, Paged};
 
     ghost Value = { Sourced T T.Id };
 
     ghost coded = { sourced_code T.code T.Id.code };
 
-    ghost view = { λ a. sourced_of a.entries.items a.sources.items a.map a.limit };
+    ghost view = { λ a. sourced_of (joined a.pages.pages.items) a.sources.items a.map a.limit };
 
-    ghost invariant = { λ a. Kept T.place (sourced_of a.entries.items a.sources.items a.map a.limit) × (a.limit < 2 ^ 32) };
+    ghost invariant = { λ a.
+        Kept T.place (sourced_of (joined a.pages.pages.items) a.sources.items a.map a.limit) × (a.limit < 2 ^ 32) × Paged a.pages };
 }
 
 /// Lets the node, where there is one, lead to the entry. Where memory is refused nothing changes.
@@ -66,7 +69,7 @@ impl<T: Entry> SourcedArena<T> {
         ensures { result ≡ none_yet limit }
     {
         SourcedArena {
-            entries: Vec::new(alloc),
+            pages: Pages::new(alloc),
             sources: Vec::new(alloc),
             map: PointerMap::new(alloc),
             limit,
@@ -76,14 +79,14 @@ impl<T: Entry> SourcedArena<T> {
     pub fn len(&self) -> u32
         ensures { result ≡ length self.now.entries }
     {
-        self.entries.len() as u32
+        self.pages.len
     }
 
     pub fn get(&self, id: T::Id) -> Option<&T>
         ensures value { option_copied result ≡ slice_get self.now.entries (T.place id) }
         ensures kept { Kept T.place self.now }
     {
-        self.entries.get(T::place(id) as usize)
+        get(&self.pages, T::place(id) as usize)
     }
 
     /// The node that the entry came from; none where it came from none, or where there is no such entry.
@@ -104,11 +107,11 @@ impl<T: Entry> SourcedArena<T> {
         if at >= self.limit {
             return Err(StoreFault::Full);
         }
-        self.entries.reserve(1)?;
+        let page = next_page(&mut self.pages)?;
         self.sources.reserve(1)?;
         let id = T::number(at);
         lead(&mut self.map, source, id)?;
-        self.entries.push_reserved(entry);
+        put(&mut self.pages, page, entry);
         self.sources.push_reserved(source);
         Ok(id)
     }
@@ -125,9 +128,9 @@ impl<T: Entry> SourcedArena<T> {
         if at >= self.limit {
             return Err(StoreFault::Full);
         }
-        self.entries.reserve(1)?;
+        let page = next_page(&mut self.pages)?;
         self.sources.reserve(1)?;
-        self.entries.push_reserved(entry);
+        put(&mut self.pages, page, entry);
         self.sources.push_reserved(source);
         Ok(T::number(at))
     }
@@ -157,11 +160,11 @@ impl<T: Entry> SourcedArena<T> {
         ensures kept { Kept T.place self }
     {
         let SourcedArena {
-            entries,
+            pages,
             sources,
             map,
             limit,
         } = self;
-        (Arena::of(entries, limit), Seq::from_vec(sources), map)
+        (Arena::of(pages, limit), Seq::from_vec(sources), map)
     }
 }

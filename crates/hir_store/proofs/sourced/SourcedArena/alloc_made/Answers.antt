@@ -1,35 +1,42 @@
-use Rattle.std.proofs.Common.{arith, ◌≡◌, ◌∙◌, ap, length, subst, sym, Ok}
+use Rattle.std.proofs.Common.{arith, ◌≡◌, ◌∙◌, ap, length, subst, sym, [], ◌∷◌, ◌++◌, Ok}
 use Rattle.hir_store.specs.Arenas.{Sourced, AllocsMade, sourced_of, with_made}
+use Rattle.hir_store.specs.Pages.{joined}
 use Rattle.hir_store.proofs.Arenas.{kept_made, allocs_made}
 use Rattle.hir_store.proofs.sourced.SourcedArena.alloc_made.Goals as goal
 
 pub invariant_of-self-2 : goal.invariant_of-self-2
 invariant_of-self-2 g c =
     let i = c.self.inside in
-    let a : Sourced g.row.T.Denot g.row.T-Id.Denot = sourced_of i.entries.items i.sources.items i.map i.limit in
+    let a : Sourced g.row.T.Denot g.row.T-Id.Denot = sourced_of (joined i.pages.pages.items) i.sources.items i.map i.limit in
     let len : c.len-at.result ≡ length a.entries = c.len-at.ensures ∙ ap (λ v. length v.entries) (sym c.self.view_is) in
     let below = c.if-at-self.false in
+    let paged = c.put.ensures.paged in
+    let more = c.put.ensures.joined ∙ ap (λ v. v ++ c.args.entry ∷ []) (ap joined c.in_ok-page.ensures.same) in
     rw (
+      c.put.ensures.joined,
       c.push_reserved.ensures.items,
-      c.push_reserved-2.ensures.items,
+      ap joined c.in_ok-page.ensures.same,
       c.in_ok-reserve.ensures.items,
-      c.in_ok-reserve-2.ensures.items,
-    ) (kept_made g.T.Entry.place a c.args.entry c.args.source c.self.invariant.0 (omega (arith, below, len)), c.self.invariant.1)
+    ) (
+      kept_made g.T.Entry.place a c.args.entry c.args.source c.self.invariant.0 (omega (arith, below, len)),
+      c.self.invariant.1,
+      (paged.0 ∙ ap length more, paged.1),
+    )
 
 pub returns : goal.returns
 returns g c =
     let i = c.self.inside in
-    let a : Sourced g.row.T.Denot g.row.T-Id.Denot = sourced_of i.entries.items i.sources.items i.map i.limit in
+    let a : Sourced g.row.T.Denot g.row.T-Id.Denot = sourced_of (joined i.pages.pages.items) i.sources.items i.map i.limit in
     let len : c.len-at.result ≡ length a.entries = c.len-at.ensures ∙ ap (λ v. length v.entries) (sym c.self.view_is) in
     let below = c.if-at-self.false in
     let P : Sourced g.row.T.Denot g.row.T-Id.Denot → Type 0 = λ v.
     AllocsMade g.T.Entry.number c.args.entry c.args.source v (Ok (g.T.Entry.number (length a.entries)))
     (with_made a c.args.entry c.args.source) in
     rw (
+      c.put.ensures.joined,
       c.push_reserved.ensures.items,
-      c.push_reserved-2.ensures.items,
+      ap joined c.in_ok-page.ensures.same,
       c.in_ok-reserve.ensures.items,
-      c.in_ok-reserve-2.ensures.items,
       c.number.ensures,
       len,
     )
