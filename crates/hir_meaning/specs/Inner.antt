@@ -168,6 +168,7 @@ module _ (r : Inners) where
 
   abbrev pub of_statement : Statement → List Inside
   of_statement statement.Item = []
+  of_statement (statement.MacroDef def) = []
   of_statement (statement.Expr i semi) = r.expr i
   of_statement (statement.Let p t e b) = r.pat p ++ (of_present r.type t ++ (of_present r.expr e ++ of_present r.expr b))
 

@@ -30,6 +30,7 @@ and_label (Some n) ls = n ∷ ls
 abbrev pub EachStatement : (ExprId → Type 0) → List Statement → Type 0
 EachStatement P [] = Unit {0}
 EachStatement P (statement.Item ∷ ss) = EachStatement P ss
+EachStatement P (statement.MacroDef def ∷ ss) = EachStatement P ss
 EachStatement P (statement.Expr i semi ∷ ss) = P i × EachStatement P ss
 EachStatement P (statement.Let p t e b ∷ ss) = IfPresent P e × IfPresent P b × EachStatement P ss
 

@@ -254,6 +254,7 @@ module _ (store : Store) (source_map : SourceMap) where
     abbrev pub run_statements : List Statement → Option ExprId → StoreRun Value
     run_statements [] tail = run_or_unit turns part tail
     run_statements (statement.Item ∷ ss) tail = run_statements ss tail
+    run_statements (statement.MacroDef def ∷ ss) tail = run_statements ss tail
     run_statements (statement.Expr i semi ∷ ss) tail = do
       part i
       run_statements ss tail

@@ -46,6 +46,7 @@ abbrev pub Stored1 : Base → ℕ → Stored → List Frame → Bool → Walk Va
 Stored1 base nodes final ps false x semi Rest new = Rest new
 Stored1 base nodes final ps true x semi Rest [] = ⊥
 Stored1 base nodes final ps true x semi Rest (statement.Item ∷ new) = ⊥
+Stored1 base nodes final ps true x semi Rest (statement.MacroDef def ∷ new) = ⊥
 Stored1 base nodes final ps true x semi Rest (statement.Let p t e b ∷ new) = ⊥
 Stored1 base nodes final ps true x semi Rest (statement.Expr i semi' ∷ new) =
     (semi' ≡ semi) × Goes base nodes one x final ps i × Rest new
@@ -53,6 +54,7 @@ Stored1 base nodes final ps true x semi Rest (statement.Expr i semi' ∷ new) =
 abbrev pub Item1 : (List Statement → Type 0) → List Statement → Type 0
 Item1 Rest [] = ⊥
 Item1 Rest (statement.Item ∷ new) = Rest new
+Item1 Rest (statement.MacroDef def ∷ new) = ⊥
 Item1 Rest (statement.Expr i semi ∷ new) = ⊥
 Item1 Rest (statement.Let p t e b ∷ new) = ⊥
 
@@ -101,6 +103,7 @@ let_within final ps p t e b s w h = record {
 abbrev pub Let1 : (StoredLet → Type 0) → (List Statement → Type 0) → List Statement → Type 0
 Let1 Is Rest [] = ⊥
 Let1 Is Rest (statement.Item ∷ new) = ⊥
+Let1 Is Rest (statement.MacroDef def ∷ new) = ⊥
 Let1 Is Rest (statement.Expr i semi ∷ new) = ⊥
 Let1 Is Rest (statement.Let p t e b ∷ new) = Is (record { pattern = p; type_ref = t; initializer = e; else_branch = b }) × Rest new
 
@@ -135,10 +138,12 @@ module _ (base : Base) (nodes : ℕ) (final : Stored) (kept : Bool) (x : Walk Va
   none_left_is ps (tree.more_stmts (tree.call_stmt call) ss) new o h = none_left_is ps ss new o h
   none_left_is ps (tree.more_stmts tree.item_stmt ss) [] o h = absurd h
   none_left_is ps (tree.more_stmts tree.item_stmt ss) (statement.Item ∷ new) o h = refl
+  none_left_is ps (tree.more_stmts tree.item_stmt ss) (statement.MacroDef def ∷ new) o h = absurd h
   none_left_is ps (tree.more_stmts tree.item_stmt ss) (statement.Expr i semi ∷ new) o h = absurd h
   none_left_is ps (tree.more_stmts tree.item_stmt ss) (statement.Let p t e b ∷ new) o h = absurd h
   none_left_is ps (tree.more_stmts (tree.let_stmt p t e b) ss) [] o h = absurd h
   none_left_is ps (tree.more_stmts (tree.let_stmt p t e b) ss) (statement.Item ∷ new) o h = absurd h
+  none_left_is ps (tree.more_stmts (tree.let_stmt p t e b) ss) (statement.MacroDef def ∷ new) o h = absurd h
   none_left_is ps (tree.more_stmts (tree.let_stmt p t e b) ss) (statement.Expr i semi ∷ new) o h = absurd h
   none_left_is ps (tree.more_stmts (tree.let_stmt p t e b) ss) (statement.Let i k j l ∷ new) o h = refl
   none_left_is ps (tree.more_stmts (tree.expr_stmt e semi) ss) new o h =
@@ -151,6 +156,7 @@ module _ (base : Base) (nodes : ℕ) (final : Stored) (kept : Bool) (x : Walk Va
       go false y new more h = more new h
       go true y [] more h = absurd h
       go true y (statement.Item ∷ new) more h = absurd h
+      go true y (statement.MacroDef def ∷ new) more h = absurd h
       go true y (statement.Let i k j l ∷ new) more h = absurd h
       go true y (statement.Expr i semi' ∷ new) more h = refl
 
@@ -221,10 +227,12 @@ module _ (base : Base) (nodes : ℕ) (final : Stored) (turns d : ℕ) (deep : no
   with_tail ps f (tree.more_stmts (tree.call_stmt call) ss) new i k h = with_tail ps f ss new i k h
   with_tail ps f (tree.more_stmts tree.item_stmt ss) [] i k h = absurd h
   with_tail ps f (tree.more_stmts tree.item_stmt ss) (statement.Item ∷ new) i k h = with_tail ps f ss new i k h
+  with_tail ps f (tree.more_stmts tree.item_stmt ss) (statement.MacroDef def ∷ new) i k h = absurd h
   with_tail ps f (tree.more_stmts tree.item_stmt ss) (statement.Expr j semi ∷ new) i k h = absurd h
   with_tail ps f (tree.more_stmts tree.item_stmt ss) (statement.Let p t e b ∷ new) i k h = absurd h
   with_tail ps f (tree.more_stmts (tree.let_stmt p t e b) ss) [] i k h = absurd h
   with_tail ps f (tree.more_stmts (tree.let_stmt p t e b) ss) (statement.Item ∷ new) i k h = absurd h
+  with_tail ps f (tree.more_stmts (tree.let_stmt p t e b) ss) (statement.MacroDef def ∷ new) i k h = absurd h
   with_tail ps f (tree.more_stmts (tree.let_stmt p t e b) ss) (statement.Expr j semi ∷ new) i k h = absurd h
   with_tail ps f (tree.more_stmts (tree.let_stmt p t e b) ss) (statement.Let q t' j l ∷ new) i k h =
       same_let base nodes final turns d deep ps f p t e b _ h.0 (with_tail ps f ss new i k h.1)
@@ -240,6 +248,7 @@ module _ (base : Base) (nodes : ℕ) (final : Stored) (turns d : ℕ) (deep : no
       go false y new more h = more new h
       go true y [] more h = absurd h
       go true y (statement.Item ∷ new) more h = absurd h
+      go true y (statement.MacroDef def ∷ new) more h = absurd h
       go true y (statement.Let q t' j l ∷ new) more h = absurd h
       go true y (statement.Expr j semi' ∷ new) more h =
           rw (and_false (not semi) (none_left ss)) (same_bind (h.1.same turns d deep f) (λ v. more new h.2))
@@ -255,10 +264,12 @@ module _ (base : Base) (nodes : ℕ) (final : Stored) (turns d : ℕ) (deep : no
   without_tail ps f (tree.more_stmts (tree.call_stmt call) ss) new k h = without_tail ps f ss new k h
   without_tail ps f (tree.more_stmts tree.item_stmt ss) [] k h = absurd h
   without_tail ps f (tree.more_stmts tree.item_stmt ss) (statement.Item ∷ new) k h = without_tail ps f ss new k h
+  without_tail ps f (tree.more_stmts tree.item_stmt ss) (statement.MacroDef def ∷ new) k h = absurd h
   without_tail ps f (tree.more_stmts tree.item_stmt ss) (statement.Expr j semi ∷ new) k h = absurd h
   without_tail ps f (tree.more_stmts tree.item_stmt ss) (statement.Let p t e b ∷ new) k h = absurd h
   without_tail ps f (tree.more_stmts (tree.let_stmt p t e b) ss) [] k h = absurd h
   without_tail ps f (tree.more_stmts (tree.let_stmt p t e b) ss) (statement.Item ∷ new) k h = absurd h
+  without_tail ps f (tree.more_stmts (tree.let_stmt p t e b) ss) (statement.MacroDef def ∷ new) k h = absurd h
   without_tail ps f (tree.more_stmts (tree.let_stmt p t e b) ss) (statement.Expr j semi ∷ new) k h = absurd h
   without_tail ps f (tree.more_stmts (tree.let_stmt p t e b) ss) (statement.Let q t' j l ∷ new) k h =
       same_let base nodes final turns d deep ps f p t e b _ h.0 (without_tail ps f ss new k h.1)
@@ -279,6 +290,7 @@ module _ (base : Base) (nodes : ℕ) (final : Stored) (turns d : ℕ) (deep : no
       go false y semi new more left k h = more new k h
       go true y semi [] more left k h = absurd h
       go true y semi (statement.Item ∷ new) more left k h = absurd h
+      go true y semi (statement.MacroDef def ∷ new) more left k h = absurd h
       go true y semi (statement.Let q t' j l ∷ new) more left k h = absurd h
       go true y true (statement.Expr j true ∷ new) more left k h = same_bind (h.1.same turns d deep f) (λ v. more new k h.2)
       go true y true (statement.Expr j false ∷ new) more left k h = absurd (true≢false (sym h.0))
@@ -317,10 +329,12 @@ module _ (base : Base) (nodes : ℕ) (final : Stored) (d : ℕ) (deep : nodes �
   all_jumps ps (tree.more_stmts (tree.call_stmt call) ss) new o h = all_jumps ps ss new o h
   all_jumps ps (tree.more_stmts tree.item_stmt ss) [] o h = absurd h
   all_jumps ps (tree.more_stmts tree.item_stmt ss) (statement.Item ∷ new) o h = all_jumps ps ss new o h
+  all_jumps ps (tree.more_stmts tree.item_stmt ss) (statement.MacroDef def ∷ new) o h = absurd h
   all_jumps ps (tree.more_stmts tree.item_stmt ss) (statement.Expr j semi ∷ new) o h = absurd h
   all_jumps ps (tree.more_stmts tree.item_stmt ss) (statement.Let p t e b ∷ new) o h = absurd h
   all_jumps ps (tree.more_stmts (tree.let_stmt p t e b) ss) [] o h = absurd h
   all_jumps ps (tree.more_stmts (tree.let_stmt p t e b) ss) (statement.Item ∷ new) o h = absurd h
+  all_jumps ps (tree.more_stmts (tree.let_stmt p t e b) ss) (statement.MacroDef def ∷ new) o h = absurd h
   all_jumps ps (tree.more_stmts (tree.let_stmt p t e b) ss) (statement.Expr j semi ∷ new) o h = absurd h
   all_jumps ps (tree.more_stmts (tree.let_stmt p t e b) ss) (statement.Let q k j l ∷ new) o h =
       let r = all_jumps ps ss new o h.1 in
@@ -336,6 +350,7 @@ module _ (base : Base) (nodes : ℕ) (final : Stored) (d : ℕ) (deep : nodes �
       go false y new more h = more new h
       go true y [] more h = absurd h
       go true y (statement.Item ∷ new) more h = absurd h
+      go true y (statement.MacroDef def ∷ new) more h = absurd h
       go true y (statement.Let q k j l ∷ new) more h = absurd h
       go true y (statement.Expr j semi' ∷ new) more h = let r = more new h.2 in ((h.1.jumps d deep, r.0), r.1)
 
@@ -344,6 +359,7 @@ settled_jumps : (P : ExprId → Type 0) (new : List Statement) (o : Option ExprI
 settled_jumps P new (Some i) h = h
 settled_jumps P [] None h = (tt, tt)
 settled_jumps P (statement.Item ∷ new) None h = settled_jumps P new None h
+settled_jumps P (statement.MacroDef def ∷ new) None h = settled_jumps P new None h
 settled_jumps P (statement.Let p t e b ∷ new) None h =
     let r = settled_jumps P new None (h.0.2, tt) in ((h.0.0, h.0.1, r.0), r.1)
 settled_jumps P (statement.Expr i true ∷ new) None h = let r = settled_jumps P new None (h.0.1, tt) in ((h.0.0, r.0), r.1)
@@ -359,10 +375,12 @@ module _ (base : Base) (nodes : ℕ) (final : Stored) (x : Walk Value) where
   no_tail ps (tree.more_stmts (tree.call_stmt call) ss) new h = no_tail ps ss new h
   no_tail ps (tree.more_stmts tree.item_stmt ss) [] h = h
   no_tail ps (tree.more_stmts tree.item_stmt ss) (statement.Item ∷ new) h = no_tail ps ss new h
+  no_tail ps (tree.more_stmts tree.item_stmt ss) (statement.MacroDef def ∷ new) h = h
   no_tail ps (tree.more_stmts tree.item_stmt ss) (statement.Expr j semi ∷ new) h = h
   no_tail ps (tree.more_stmts tree.item_stmt ss) (statement.Let p t e b ∷ new) h = h
   no_tail ps (tree.more_stmts (tree.let_stmt p t e b) ss) [] h = h
   no_tail ps (tree.more_stmts (tree.let_stmt p t e b) ss) (statement.Item ∷ new) h = h
+  no_tail ps (tree.more_stmts (tree.let_stmt p t e b) ss) (statement.MacroDef def ∷ new) h = h
   no_tail ps (tree.more_stmts (tree.let_stmt p t e b) ss) (statement.Expr j semi ∷ new) h = h
   no_tail ps (tree.more_stmts (tree.let_stmt p t e b) ss) (statement.Let q k j l ∷ new) h = no_tail ps ss new h.1
   no_tail ps (tree.more_stmts (tree.expr_stmt e semi) ss) new h = go (is_left e) (part_walk e) new (no_tail ps ss) h
@@ -373,6 +391,7 @@ module _ (base : Base) (nodes : ℕ) (final : Stored) (x : Walk Value) where
       go false y new more h = more new h
       go true y [] more h = h
       go true y (statement.Item ∷ new) more h = h
+      go true y (statement.MacroDef def ∷ new) more h = h
       go true y (statement.Let q k j l ∷ new) more h = h
       go true y (statement.Expr i semi' ∷ new) more h = more new h.2
 
@@ -383,10 +402,12 @@ module _ (base : Base) (nodes : ℕ) (final : Stored) (x : Walk Value) (i : Expr
   a_tail ps (tree.more_stmts (tree.call_stmt call) ss) new h = a_tail ps ss new h
   a_tail ps (tree.more_stmts tree.item_stmt ss) [] h = h
   a_tail ps (tree.more_stmts tree.item_stmt ss) (statement.Item ∷ new) h = a_tail ps ss new h
+  a_tail ps (tree.more_stmts tree.item_stmt ss) (statement.MacroDef def ∷ new) h = h
   a_tail ps (tree.more_stmts tree.item_stmt ss) (statement.Expr j semi ∷ new) h = h
   a_tail ps (tree.more_stmts tree.item_stmt ss) (statement.Let p t e b ∷ new) h = h
   a_tail ps (tree.more_stmts (tree.let_stmt p t e b) ss) [] h = h
   a_tail ps (tree.more_stmts (tree.let_stmt p t e b) ss) (statement.Item ∷ new) h = h
+  a_tail ps (tree.more_stmts (tree.let_stmt p t e b) ss) (statement.MacroDef def ∷ new) h = h
   a_tail ps (tree.more_stmts (tree.let_stmt p t e b) ss) (statement.Expr j semi ∷ new) h = h
   a_tail ps (tree.more_stmts (tree.let_stmt p t e b) ss) (statement.Let q k j l ∷ new) h = a_tail ps ss new h.1
   a_tail ps (tree.more_stmts (tree.expr_stmt e semi) ss) new h = go (is_left e) (part_walk e) new (a_tail ps ss) h
@@ -397,6 +418,7 @@ module _ (base : Base) (nodes : ℕ) (final : Stored) (x : Walk Value) (i : Expr
       go false y new more h = more new h
       go true y [] more h = h
       go true y (statement.Item ∷ new) more h = h
+      go true y (statement.MacroDef def ∷ new) more h = h
       go true y (statement.Let q k j l ∷ new) more h = h
       go true y (statement.Expr i semi' ∷ new) more h = more new h.2
 

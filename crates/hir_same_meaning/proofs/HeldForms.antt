@@ -429,6 +429,8 @@ settled_turn final n ss (Some i) bs h = h
 settled_turn final n [] None bs h = h
 settled_turn final n (statement.Item ∷ ss) None bs h =
     record { own = h.own; others = h.others; are = h.are; held = h.held; rest = settled_turn final n ss None h.others h.rest }
+settled_turn final n (statement.MacroDef def ∷ ss) None bs h =
+    record { own = h.own; others = h.others; are = h.are; held = h.held; rest = settled_turn final n ss None h.others h.rest }
 settled_turn final n (statement.Let p t e b ∷ ss) None bs h =
     record { own = h.own; others = h.others; are = h.are; held = h.held; rest = settled_turn final n ss None h.others h.rest }
 settled_turn final n (statement.Expr i true ∷ ss) None bs h =

@@ -451,6 +451,8 @@ settled_order final nodes hi lo ss (Some i) h = h
 settled_order final nodes hi lo [] None h = h
 settled_order final nodes hi lo (statement.Item ∷ ss) None h =
     record { k = h.k; low = h.low; high = h.high; own = h.own; rest = settled_order final nodes hi h.k ss None h.rest }
+settled_order final nodes hi lo (statement.MacroDef def ∷ ss) None h =
+    record { k = h.k; low = h.low; high = h.high; own = h.own; rest = settled_order final nodes hi h.k ss None h.rest }
 settled_order final nodes hi lo (statement.Let p t e b ∷ ss) None h =
     record { k = h.k; low = h.low; high = h.high; own = h.own; rest = settled_order final nodes hi h.k ss None h.rest }
 settled_order final nodes hi lo (statement.Expr i true ∷ ss) None h =
@@ -543,6 +545,7 @@ pub settled_below : (f : ExprId → List ℕ) (ss : List Statement) (o : Option 
 settled_below f ss (Some i) = refl
 settled_below f [] None = refl
 settled_below f (statement.Item ∷ ss) None = settled_below f ss None
+settled_below f (statement.MacroDef def ∷ ss) None = settled_below f ss None
 settled_below f (statement.Let p t e b ∷ ss) None = statement_below f (of_some f e ++ of_some f b) (settled ss None).0 ss
     (settled ss None).1 None (settled_below f ss None)
 settled_below f (statement.Expr i true ∷ ss) None =

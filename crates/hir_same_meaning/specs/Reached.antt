@@ -35,6 +35,7 @@ module _ (f : ExprId → List ℕ) where
 
   abbrev pub of_statement : Statement → List ℕ
   of_statement statement.Item = []
+  of_statement (statement.MacroDef def) = []
   of_statement (statement.Expr i semi) = f i
   of_statement (statement.Let p t e b) = of_some e ++ of_some b
 
