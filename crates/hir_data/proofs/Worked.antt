@@ -3,7 +3,7 @@ use Rattle.std.proofs.Common.{refl}
 use Rattle.hir_data.specs.Worked.{SuperAfterSelf, KeywordsInside, CrateHidesSupers, DollarCrateIsARoot, SupersInside}
 use Rattle.hir_data.specs.Worked.{SelfAlone, UseTreesStandInFront, AbsentIsMissing}
 use Rattle.hir_data.specs.Worked.{TraitInPlace, TypeInFront, OutputIsBound, BinderOfFunctions, LengthsBySites}
-use Rattle.hir_data.specs.Worked.{BoundsOfKinds, FirstOfLists, BindingsOfLists}
+use Rattle.hir_data.specs.Worked.{BoundsOfKinds, FirstOfLists, BindingsOfLists, WhatCallsStandFor}
 
 pub counts_super_after_self : SuperAfterSelf
 counts_super_after_self = refl
@@ -51,4 +51,7 @@ pub reads_bindings : BindingsOfLists
 reads_bindings t u n l = (refl, refl, refl)
 
 pub names_lengths_by_sites : LengthsBySites
-names_lengths_by_sites at here around t p h by head fs s = (refl, refl, refl, refl, refl)
+names_lengths_by_sites at here around t p h why c head fs s = (refl, refl, refl, refl, refl, refl, refl)
+
+pub reads_calls : WhatCallsStandFor
+reads_calls at c b t p = (refl, refl, refl, refl, refl)

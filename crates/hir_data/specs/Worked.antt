@@ -10,12 +10,13 @@ use Rattle.hir_store.specs.declared.path.GenericArgsParentheses.TheVariants as p
 use Rattle.hir_store.specs.declared.type_ref.TraitBoundModifier.TheVariants as modifier
 use Rattle.hir_env.specs.Answered as tree
 use Rattle.hir_env.specs.Answered.{Binder, FnHead, Lifetime, Type_, OptionArgs, OptionParens, OptionPath, OptionRet, Segments, Segment}
-use Rattle.hir_env.specs.Answered.{Gone, OptionExpr, RecordHead, Fields, Spread}
+use Rattle.hir_env.specs.Answered.{Called, Gone, OptionExpr, OptionPat, RecordHead, Fields, Spread}
 use Rattle.hir_env.specs.NodeMap.{Site}
 use Rattle.hir_env.specs.Spot.{site_of}
 use Rattle.hir_store.specs.declared.ids.HygieneId.{HygieneId}
 use Rattle.hir_data.specs.Data as datum
 use Rattle.hir_data.specs.Data.{TypeData, NamesData, OptionArgsData, path_data}
+use Rattle.hir_data.specs.Patterns.{written_pat, written_uses}
 use Rattle.hir_data.specs.Written.{binding_of, bound_data, lifetime_data, list_data, segment_args_data, type_data, unit_data}
 use Rattle.hir_data.specs.Written.{written_path}
 
@@ -227,9 +228,10 @@ array_of at e t = tree.array_type at (tree.constant e) (tree.some_type t)
 abbrev pub is_long : Pointer → Type_ → Type_ → Option Site → Type 0
 is_long at array t length = type_data None array ≡ datum.typed (Some at) (datum.array_shape (type_data None t) length)
 
--- `[T; a]`, `[T; (a)]`, `[T; ]`, the first with a disabled length, and `[T; crate::crate { .. }]`
+-- `[T; a]`, `[T; (a)]`, `[T; ]`, the first with a disabled length, `[T; crate::crate { .. }]`, and `[T; m!()]`, where m stands for `a` and
+-- where it stands for nothing
 abbrev pub LengthsBySites : Type 0
-LengthsBySites = (at here around : Pointer) (t : Type_) (p : OptionPath) (h : HygieneId) (why : Gone)
+LengthsBySites = (at here around : Pointer) (t : Type_) (p : OptionPath) (h : HygieneId) (why : Gone) (c : Called)
     (head : RecordHead) (fs : Fields) (s : Spread)
     → is_long at (array_of at (tree.some_expr (tree.path_expr here p h)) t) t (Some (site_of here))
     × is_long at (array_of at (tree.some_expr (tree.paren_expr around (tree.some_expr (tree.path_expr here p h)))) t) t
@@ -238,3 +240,17 @@ LengthsBySites = (at here around : Pointer) (t : Type_) (p : OptionPath) (h : Hy
     × is_long at (array_of at (tree.some_expr (tree.disabled_expr why (tree.path_expr here p h))) t) t None
     × is_long at (array_of at
     (tree.some_expr (tree.record_expr here (whole tree.crate_segment (tree.crate_segment ∷ [])) head fs s)) t) t None
+    × is_long at (array_of at (tree.some_expr (tree.macro_expr around c (tree.some_expr (tree.path_expr here p h)))) t) t
+    (Some (site_of here))
+    × is_long at (array_of at (tree.some_expr (tree.macro_expr around c tree.no_expr)) t) t (Some (site_of around))
+
+-- ---- calls of macros
+
+-- `m!()`, where m stands for T, where the text lacks the call, and where m has no expansion; as a pattern, where it stands for this
+abbrev pub WhatCallsStandFor : Type 0
+WhatCallsStandFor = (at : Pointer) (c : Called) (b : Option Binder) (t : Type_) (p : OptionPat)
+    → (type_data b (tree.macro_type at c (tree.some_type t)) ≡ type_data b t)
+    × (type_data b (tree.macro_type at tree.callless tree.no_type) ≡ datum.typed (Some at) datum.error_shape)
+    × (type_data b (tree.macro_type at tree.unentered tree.no_type) ≡ datum.typed None datum.error_shape)
+    × (written_pat (tree.some_pat (tree.macro_pat at c p)) ≡ written_pat p)
+    × (written_uses (tree.some_pat (tree.macro_pat at c p)) ≡ written_uses p)

@@ -7,7 +7,7 @@ ghost use Rattle.hir_data.specs.Segments.{SegmentLaw};
 ghost use Rattle.hir_data.specs.Worked.{SuperAfterSelf, KeywordsInside, CrateHidesSupers, DollarCrateIsARoot, SupersInside};
 ghost use Rattle.hir_data.specs.Worked.{SelfAlone, UseTreesStandInFront, AbsentIsMissing};
 ghost use Rattle.hir_data.specs.Worked.{TraitInPlace, TypeInFront, OutputIsBound, BinderOfFunctions, LengthsBySites};
-ghost use Rattle.hir_data.specs.Worked.{BoundsOfKinds, FirstOfLists, BindingsOfLists};
+ghost use Rattle.hir_data.specs.Worked.{BoundsOfKinds, FirstOfLists, BindingsOfLists, WhatCallsStandFor};
 ghost use Rattle.hir_data.specs.Trees.{ImplsInside, LifetimesOfTexts, AbisOfTexts, VarargsAtTheEnd};
 ghost use Rattle.hir_data.specs.PatternRows.{ModesOfFirstUses, NamelessFieldsBind, RefusedBindsNothing, DotsHaveAPlace};
 ghost use Rattle.hir_data.specs.PatternRows.{DotsElsewhere, OneAlternative, SidesOfRanges, LimitsOfTypes, DataOfTargets};
@@ -100,10 +100,16 @@ pub fn reads_bindings()
     ensures { BindingsOfLists }
 {}
 
-/// The length of an array is named by the node of its expression, through parentheses; one that becomes a missing
-/// expression without node by none.
+/// The length of an array is named by the node of its expression, through parentheses and calls; one that becomes a missing
+/// expression without node by none, and one that a call does not stand for by the node of the call.
 pub fn names_lengths_by_sites()
     ensures { LengthsBySites }
+{}
+
+/// A call of a macro is what it stands for, as a type and as a pattern. One that stands for no type is an error, which comes from the
+/// node of the call where the text lacks it.
+pub fn reads_calls()
+    ensures { WhatCallsStandFor }
 {}
 
 /// As they are written, `impl A<impl B>` and `impl Fn(!) -> impl B` have an error inside, and `impl A<T = impl B>` has an `impl`.
