@@ -17,9 +17,9 @@ use Rattle.hir_env.specs.Spot.{Spot}
 use Rattle.hir_env.specs.Answered as tree
 use Rattle.hir_env.specs.Answered.{Block, Expr, OptionType}
 use Rattle.hir_env.specs.Answering.{plain_head, unsafe_head}
-use Rattle.hir_env.specs.Whole.{answered_block, answered_plain, block_head, block_level, block_number, const_level, expr_part, in_block}
+use Rattle.hir_env.specs.Whole.{answered_block, answered_plain, block_head, block_level, block_number, const_level, contents_part, in_block}
 use Rattle.hir_env.specs.Whole.{coroutine_level, in_const_block, in_coroutine, own_level}
-use Rattle.hir_env.specs.Whole.{pointer_at, stmts_part, type_part}
+use Rattle.hir_env.specs.Whole.{pointer_at, type_part}
 use Rattle.hir_env.proofs.Levels.{block_is_level, plain_is_level}
 use Rattle.hir_lower_form.specs.Forms.{const_form, constant_form, coroutine_form, labelled}
 use Rattle.hir_lower_form.specs.Lowering.{owning}
@@ -56,6 +56,7 @@ settled_expr (statement.Expr i false ∷ []) id = refl
 settled_expr (statement.Expr i false ∷ s ∷ ss) id =
     λ k. (statement.Expr i false ∷ (settled_expr (s ∷ ss) id k).0, (settled_expr (s ∷ ss) id k).1)
 settled_expr (statement.Let p t i b ∷ ss) id = λ k. (statement.Let p t i b ∷ (settled_expr ss id k).0, (settled_expr ss id k).1)
+settled_expr (statement.MacroDef d ∷ ss) id = λ k. (statement.MacroDef d ∷ (settled_expr ss id k).0, (settled_expr ss id k).1)
 settled_expr (statement.Item ∷ ss) id = λ k. (statement.Item ∷ (settled_expr ss id k).0, (settled_expr ss id k).1)
 
 settled_some : (ss : List Statement) (s : Statement) (id : ExprId)
@@ -63,6 +64,7 @@ settled_some : (ss : List Statement) (s : Statement) (id : ExprId)
 settled_some ss (statement.Expr i false) id h = let e : i ≡ id = cc in rw e (settled_expr ss id)
 settled_some ss (statement.Expr i true) id h = cc
 settled_some ss (statement.Let p t i b) id h = cc
+settled_some ss (statement.MacroDef d) id h = cc
 settled_some ss statement.Item id h = cc
 
 pub settled_pop : (old new : List Statement) (r : Option Statement) (id : ExprId)
@@ -79,6 +81,7 @@ settled_none [] h = refl
 settled_none (statement.Expr i false ∷ []) h = cc
 settled_none (statement.Expr i true ∷ []) h = refl
 settled_none (statement.Let p x i b ∷ []) h = refl
+settled_none (statement.MacroDef d ∷ []) h = refl
 settled_none (statement.Item ∷ []) h = refl
 settled_none (statement.Expr i false ∷ t ∷ ss) h =
     let r = settled_none (t ∷ ss) (rw (get_last (statement.Expr i false) t ss) at h) in λ k. (statement.Expr i false ∷ (r k).0, (r k).1)
@@ -87,6 +90,8 @@ settled_none (statement.Expr i true ∷ t ∷ ss) h =
 settled_none (statement.Let p x i b ∷ t ∷ ss) h =
     let r = settled_none (t ∷ ss) (rw (get_last (statement.Let p x i b) t ss) at h) in
     λ k. (statement.Let p x i b ∷ (r k).0, (r k).1)
+settled_none (statement.MacroDef d ∷ t ∷ ss) h =
+    let r = settled_none (t ∷ ss) (rw (get_last (statement.MacroDef d) t ss) at h) in λ k. (statement.MacroDef d ∷ (r k).0, (r k).1)
 settled_none (statement.Item ∷ t ∷ ss) h =
     let r = settled_none (t ∷ ss) (rw (get_last statement.Item t ss) at h) in λ k. (statement.Item ∷ (r k).0, (r k).1)
 
@@ -119,6 +124,7 @@ settled_range s (statement.Expr i false ∷ x ∷ ss) None h k =
     settled_behind s (statement.Expr i false) (x ∷ ss) h (λ m. settled_range s (x ∷ ss) None m k)
 settled_range s (statement.Expr i true ∷ ss) None h k = settled_behind s (statement.Expr i true) ss h (λ m. settled_range s ss None m k)
 settled_range s (statement.Let p t i b ∷ ss) None h k = settled_behind s (statement.Let p t i b) ss h (λ m. settled_range s ss None m k)
+settled_range s (statement.MacroDef d ∷ ss) None h k = settled_behind s (statement.MacroDef d) ss h (λ m. settled_range s ss None m k)
 settled_range s (statement.Item ∷ ss) None h k = settled_behind s statement.Item ss h (λ m. settled_range s ss None m k)
 
 pub settled_in_range : (s : Stored) (ss new : List Statement) (t u : Option ExprId)
@@ -150,8 +156,8 @@ module _ (at : Spot) (b : AstBlockExpr) where
   try_of t =
       let level = out-BlockExpr b in
       let within = in_block at level.id in
-      tree.try_expr (pointer_at at level.id level.range) at.answers.lang_items.try_trait_from_output t (block_number at level.id)
-      (stmts_part within level.stmts) (expr_part within level.tail)
+      let c = contents_part within level.stmts level.tail in
+      tree.try_expr (pointer_at at level.id level.range) at.answers.lang_items.try_trait_from_output t (block_number at level.id) c.0 c.1
 
   abbrev Tried : OptionType → Block → Type 0
   Tried t x =

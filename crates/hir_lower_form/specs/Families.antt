@@ -72,3 +72,8 @@ IsLeaf ExprKind-F.IncludeBytesExpr = Unit {0}
 IsLeaf ExprKind-F.AsmExpr = Unit {0}
 IsLeaf ExprKind-F.FormatArgsExpr = Unit {0}
 IsLeaf _ = ⊥
+
+-- what is no call of a macro, of which nothing may be left
+abbrev pub IsNoCall : ExprKindLayer written → Type 0
+IsNoCall (ExprKind-F.MacroExpr c) = ⊥
+IsNoCall _ = Unit {0}

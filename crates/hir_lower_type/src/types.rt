@@ -8,7 +8,7 @@ ghost use Rattle.hir_lower_form.specs.Nests.{KidsType};
 use crate::functions::fn_form;
 use crate::simple::{
     array_form, dyn_form, for_form, impl_form, path_form, pattern_form, pointer_form, ref_form,
-    slice_form, tuple_form,
+    slice_form, tuple_form, unentered_form,
 };
 use hir_lower_form::builder::BodyBuilder;
 use hir_lower_form::parts::{LowerParts, Lowerer};
@@ -51,6 +51,8 @@ pub fn type_node<P: LowerParts>(
         ast::TypeKind::ImplTraitType { bounds } => impl_form(lowerer, state, at, bounds),
         ast::TypeKind::DynTraitType { bounds } => dyn_form(lowerer, state, at, bounds),
         ast::TypeKind::PatternType { ty, pat } => pattern_form(lowerer, state, at, ty, pat),
+        ast::TypeKind::MacroType { call: None } => state.alloc_type(TypeRef::Error, Some(at)),
+        ast::TypeKind::MacroType { call: Some(_) } => unentered_form(state, at),
         ast::TypeKind::NeverType => state.alloc_type(TypeRef::Never, Some(at)),
         ast::TypeKind::InferType => state.alloc_type(TypeRef::Placeholder, Some(at)),
     }
