@@ -14,7 +14,7 @@ use Rattle.hir_env.specs.Pats.{is_found, minus_fits, name_or_bind, pat_at, use_a
 use Rattle.hir_env.specs.Formals.{formal_of}
 use Rattle.hir_env.specs.Spot.{Spot}
 use Rattle.hir_env.specs.TypePats.{bare_formal, is_plain, named_formal}
-use Rattle.hir_env.specs.Whole.{answered_pat, pat_level, pointer_at, reader, written}
+use Rattle.hir_env.specs.Whole.{answered_pat, into, pat_level, pointer_at, reader, written}
 use Rattle.hir_env.proofs.PatLevels.{pat_is_level}
 use Rattle.hir_lower_form.specs.Forms.{some}
 use Rattle.hir_lower_form.specs.Pats.{missing_pat}
@@ -27,7 +27,7 @@ plain_binds false s u w h = ap (λ b. named_formal b s u w) h
 
 module _ (at : Spot) (s : Pointer) where
   abbrev level : PatKindLayer written → Pat
-  level k = pat_at at.answers (reader at.answers) k at.place s
+  level k = pat_at at.answers (reader at.answers (into at)) k at.place s
 
   -- the same of what was read of it
   abbrev read_as : Pat → Bare → Formal
@@ -64,6 +64,8 @@ module _ (at : Spot) (s : Pointer) where
   kind_reads (PatKind-F.PathPat x) = refl
   kind_reads (PatKind-F.OrPat ps) = refl
   kind_reads (PatKind-F.ParenPat p) = refl
+  kind_reads (PatKind-F.MacroPat None) = refl
+  kind_reads (PatKind-F.MacroPat (Some c)) = refl
   kind_reads (PatKind-F.BoxPat p) = refl
   kind_reads (PatKind-F.DerefPat p) = refl
   kind_reads (PatKind-F.RecordPat x fs dots) = refl
@@ -114,6 +116,7 @@ skip_bare (tree.tuple_pat s comma ps) = refl
 skip_bare (tree.record_pat s x fs dots) = refl
 skip_bare (tree.or_pat s ps) = refl
 skip_bare (tree.paren_pat s q) = refl
+skip_bare (tree.macro_pat s c q) = refl
 skip_bare (tree.slice_pat s ps q qs) = refl
 skip_bare (tree.over_pat s form q) = refl
 skip_bare (tree.literal_pat s from l) = refl

@@ -1,6 +1,6 @@
 -- What is done with patterns, targets, ranges and arms is made of such steps.
 use Rattle.std.proofs.Common.{arith, ◌≡◌, ◌∙◌, refl, sym, ap, subst, ℕ, zero, suc, ◌≤◌, Bool, true, false, append-nil, append_assoc}
-use Rattle.std.proofs.Common.{List, [], ◌∷◌, ◌++◌, length, Option, Some, None, Ok, Err}
+use Rattle.std.proofs.Common.{List, [], ◌∷◌, ◌++◌, length, Option, Some, None, Ok, Err, ◌⊎◌, inl, inr, ⊎_elim}
 use Rattle.hir_base.specs.declared.op.RangeOp.{RangeOp}
 use Rattle.hir_store.specs.Arenas.{Prefix}
 use Rattle.hir_store.specs.Bindings.{at_place, problem_set, with_problem}
@@ -19,13 +19,14 @@ use Rattle.hir_store.specs.declared.ids.TypeRefId.{TypeRefId}
 use Rattle.hir_store.specs.declared.name.Name.{Name}
 use Rattle.hir_store.specs.declared.name.Name.TheVariants as name
 use Rattle.hir_store.specs.declared.pat.Binding.{Binding}
+use Rattle.hir_store.specs.declared.pat.Pat.{Pat as HirPat}
 use Rattle.hir_store.specs.declared.pat.RecordFieldPat.{RecordFieldPat}
 use Rattle.hir_store.specs.declared.path.Path.{Path as HirPath}
 use Rattle.hir_env.specs.Answered as tree
-use Rattle.hir_env.specs.Answered.{PatUnary, RangeForm, Signed, Use}
+use Rattle.hir_env.specs.Answered.{Called, PatUnary, RangeForm, Signed, Use}
 use Rattle.hir_lower_form.specs.Forms.{ExprSteps, let_form, match_form, arm_form, assign_form, let_stmt_form}
 use Rattle.hir_lower_form.specs.Builder.{Builder}
-use Rattle.hir_lower_form.specs.Lowering.{Checked, Lowering, ◌>>=◌, alloc_expr, go_on, pure, set_problem}
+use Rattle.hir_lower_form.specs.Lowering.{Checked, Lowering, ◌>>=◌, alloc_expr, alloc_pat, go_on, pure, set_problem}
 use Rattle.hir_lower_form.specs.Pats as forms
 use Rattle.hir_lower_form.specs.Pats.{Key, Table, Notes, Elements, PatSteps, missing_pat, no_names}
 use Rattle.hir_lower_form.specs.Ranges as ranges
@@ -33,6 +34,7 @@ use Rattle.hir_lower_form.specs.Targets as targets
 use Rattle.hir_scope.specs.Each.{Each}
 use Rattle.hir_steps.proofs.Logic.{longer}
 use Rattle.hir_lower.proofs.Ways.{Leading, Low, Goes, Went, any, since, then', makes, anyway, in_turn, leading_pure, leading_alloc}
+use Rattle.hir_lower.proofs.Ways.{leading_point_pat, leading_told, makes_pat, new_pat, weaker}
 use Rattle.hir_lower.proofs.Ways.{leading_alloc_binding}
 use Rattle.hir_lower.proofs.Ways.{leading_alloc_pat, leading_barrier, leading_close_barrier, leading_count_out, leading_define}
 use Rattle.hir_lower.proofs.Ways.{leading_enter}
@@ -41,7 +43,10 @@ use Rattle.hir_lower.proofs.Ways.{leading_leave, leading_point_pat_field, leadin
 node_leads : (e : HirExpr) (source : Option Pointer) → Leading any (alloc_expr e source)
 node_leads e source = anyway (leading_alloc e source)
 
-pub missing_pat_leads : Leading any missing_pat
+any_pat_leads : (p : HirPat) (source : Option Pointer) → Leading any (alloc_pat p source)
+any_pat_leads p source = anyway (leading_alloc_pat p source)
+
+pub missing_pat_leads : Leading new_pat missing_pat
 unfolding missing_pat
 missing_pat_leads = leading_alloc_pat _ None
 
@@ -93,8 +98,43 @@ pub beside : {A B : Type 0} {L : Low A} {p : Lowering A} {f : A → Lowering (B 
     → ((a : A) → Leading (names t) (f a)) → Leading (names t) (p >>= f)
 beside t h k = in_turn (λ a. names t) (names t) (λ s u a x w l m. new_later _ _ _ s u w (none_new t.bindings s) m) h k
 
-pub alone_leads : {p : Lowering PatId} → Leading any p → Handing (forms.alone p)
-alone_leads h t = beside t h (λ i. unnamed i t)
+-- and a pattern that came since
+abbrev pub named_pat : Table → Low (PatId × Table)
+named_pat t s r = new_pat s r.0 × names t s r
+
+abbrev pub Making : (Table → Lowering (PatId × Table)) → Type 0
+Making p = (t : Table) → Leading (named_pat t) (p t)
+
+pub only_names : {p : PatSteps} → Making p → Handing p
+only_names h t = weaker (λ s r l. l.1) (h t)
+
+-- the answer is this pattern
+abbrev just : PatId → Table → Low (PatId × Table)
+just i t s r = (r.0.0 ≡ i.0) × names t s r
+
+just_this : (i : PatId) (t : Table) → Leading (just i t) (pure (i, t))
+just_this i t = record { goes = λ b. (((leading_pure {A = PatId × Table} (i, t)).goes b).0, (refl, none_new t.bindings b.stored)) }
+
+-- what is made, and then handed on
+then_just : {p : Lowering PatId} {f : PatId → Lowering (PatId × Table)} (t : Table) → Leading new_pat p
+    → ((i : PatId) → Leading (just i t) (f i)) → Leading (named_pat t) (p >>= f)
+then_just t h k = in_turn (λ i. just i t) (named_pat t)
+    (λ s u i r w l m. let same = m.0 in (omega (arith, l, same), new_later _ _ _ s u w (none_new t.bindings s) m.1)) h k
+
+pub alone_leads : {p : Lowering PatId} → Leading new_pat p → Making (forms.alone p)
+alone_leads h t = then_just t h (λ i. just_this i t)
+
+-- what uses names, or none, and then what makes a pattern
+then_pat : {A : Type 0} {p : Lowering (A × Table)} {f : A × Table → Lowering (PatId × Table)} (t : Table) → Leading (names t) p
+    → ((r : A × Table) → Leading (named_pat r.1) (f r)) → Leading (named_pat t) (p >>= f)
+then_pat t h k = in_turn (λ r. named_pat r.1) (named_pat t)
+    (λ s u r x w l m. let grown = w.pats.grown in let new = m.0 in (omega (arith, grown, new), new_later _ _ _ s u w l m.1)) h k
+
+beside_pat : {A : Type 0} {L : Low A} {p : Lowering A} {f : A → Lowering (PatId × Table)} (t : Table) → Leading L p
+    → ((a : A) → Leading (named_pat t) (f a)) → Leading (named_pat t) (p >>= f)
+beside_pat t h k = in_turn (λ a. named_pat t) (named_pat t)
+    (λ s u a x w l m. let grown = w.pats.grown in let new = m.0 in
+    (omega (arith, grown, new), new_later _ _ _ s u w (none_new t.bindings s) m.1)) h k
 
 known_leads : (u : Use) (t : Table) (b : Option BindingId) → Leading (names t) (forms.use_of_known u t b)
 known_leads u t (Some b) = unnamed b (forms.with_use (forms.number_of (forms.key_of u) t) u.mode t)
@@ -192,66 +232,125 @@ path_side_of_leads : (at : Pointer) (p : Option HirPath) → Leading any (forms.
 path_side_of_leads at None = leading_pure None
 path_side_of_leads at (Some p) = then' (node_leads _ (Some at)) (λ e. leading_pure (Some e))
 
-or_of_leads : (at : Pointer) (is : List PatId) → Leading any (forms.or_of at is)
+-- one alternative is what it is, and others are made one
+abbrev OfAll : List PatId → Low PatId
+OfAll [] s x = new_pat s x
+OfAll (i ∷ []) s x = x.0 ≡ i.0
+OfAll (i ∷ (j ∷ is)) s x = new_pat s x
+
+or_of_leads : (at : Pointer) (is : List PatId) → Leading (OfAll is) (forms.or_of at is)
 or_of_leads at [] = leading_alloc_pat _ (Some at)
-or_of_leads at (i ∷ []) = leading_pure i
+or_of_leads at (i ∷ []) = record { goes = λ b. (((leading_pure i).goes b).0, refl) }
 or_of_leads at (i ∷ (j ∷ is)) = leading_alloc_pat _ (Some at)
 
+-- the alternatives, of which these came first
+pub record Behind (done : List PatId) (all : List PatId) : Type 0 where
+  pub more : List PatId
+  pub is : all ≡ done ++ more
+
+pub none_behind : (done : List PatId) → Behind done done
+none_behind done = record { more = []; is = sym (append-nil done) }
+
+pub one_behind : (done : List PatId) (p : PatId) (all : List PatId) → Behind (done ++ p ∷ []) all → Behind done all
+one_behind done p all h = record { more = p ∷ h.more; is = h.is ∙ append_assoc done (p ∷ []) h.more }
+
+abbrev pub alternatives_in : List PatId → Table → Low (List PatId × Table)
+alternatives_in done t s r = Behind done r.0 × names t s r
+
+pub no_alternative : (done : List PatId) (t : Table) → Leading (alternatives_in done t) (pure (done, t))
+no_alternative done t = record { goes = λ b.
+    (((leading_pure {A = List PatId × Table} (done, t)).goes b).0, (none_behind done, none_new t.bindings b.stored)) }
+
+pub one_alternative : {p : Lowering (PatId × Table)} {f : PatId × Table → Lowering (List PatId × Table)} (done : List PatId) (t : Table)
+    → Leading (names t) p → ((r : PatId × Table) → Leading (alternatives_in (done ++ r.0 ∷ []) r.1) (f r))
+    → Leading (alternatives_in done t) (p >>= f)
+one_alternative done t h k = in_turn (λ r. alternatives_in (done ++ r.0 ∷ []) r.1) (alternatives_in done t)
+    (λ s u r x w l m. (one_behind done r.0 x.0 m.0, new_later _ _ _ s u w l m.1)) h k
+
+-- the first alternative, or one that came since
+abbrev one_of : PatId → Table → Low (PatId × Table)
+one_of i t s x = ((x.0.0 ≡ i.0) ⊎ new_pat s x.0) × names t s x
+
+of_all : (s : Stored) (i x : PatId) (all : List PatId) → Behind (i ∷ []) all → OfAll all s x → (x.0 ≡ i.0) ⊎ new_pat s x
+of_all s i x all b h = by b.more (subst (λ is. OfAll is s x) b.is h)
+  where
+    by : (more : List PatId) → OfAll (i ∷ more) s x → (x.0 ≡ i.0) ⊎ new_pat s x
+    by [] h = inl h
+    by (j ∷ more) h = inr h
+
 module _ (at : Pointer) where
-  pub path_pat_leads : {q : Lowering (Option HirPath)} → Leading any q → Leading any (forms.path_pat_form at q)
+  pub path_pat_leads : {q : Lowering (Option HirPath)} → Leading any q → Leading new_pat (forms.path_pat_form at q)
   unfolding forms.path_pat_form
-  path_pat_leads h = then' h (λ p. leading_alloc_pat _ (Some at))
+  path_pat_leads h = makes_pat h (λ p. leading_alloc_pat _ (Some at))
 
-  pub bind_leads : (u : Use) {s : Table → Lowering (Option PatId × Table)} → Handing s → Handing (forms.bind_form at u s)
+  pub bind_leads : (u : Use) {s : Table → Lowering (Option PatId × Table)} → Handing s → Making (forms.bind_form at u s)
   unfolding forms.bind_form
-  bind_leads u h t = then_names t (h t) (λ s. then_names s.1 (name_leads u s.1) (λ b. beside b.1 (leading_alloc_pat _ (Some at))
-      (λ i. beside b.1 (leading_define b.0 i) (λ v. unnamed i b.1))))
+  bind_leads u h t = then_pat t (h t) (λ s. then_pat s.1 (name_leads u s.1) (λ b. then_just b.1 (leading_alloc_pat _ (Some at))
+      (λ i. in_turn (λ v. just i b.1) (just i b.1) (λ s u v r w l m. (m.0, new_later _ _ _ s u w (none_new b.1.bindings s) m.1))
+      (leading_define b.0 i) (λ v. just_this i b.1))))
 
-  pub over_pat_leads : (form : PatUnary) {p : PatSteps} → Handing p → Handing (forms.over_pat_form at form p)
+  pub over_pat_leads : (form : PatUnary) {p : PatSteps} → Handing p → Making (forms.over_pat_form at form p)
   unfolding forms.over_pat_form
-  over_pat_leads form h t = then_names t (h t) (λ r. beside r.1 (leading_alloc_pat _ (Some at)) (λ i. unnamed i r.1))
+  over_pat_leads form h t = then_pat t (h t) (λ r. alone_leads (leading_alloc_pat _ (Some at)) r.1)
 
-  pub tuple_pat_leads : (comma : Bool) {p : Table → Lowering (Elements × Table)} → Handing p → Handing (forms.tuple_pat_form at comma p)
+  pub tuple_pat_leads : (comma : Bool) {p : Table → Lowering (Elements × Table)} → Handing p → Making (forms.tuple_pat_form at comma p)
   unfolding forms.tuple_pat_form
-  tuple_pat_leads comma h t = then_names t (h t) (λ r. beside r.1 (elements_leads comma r.0)
-      (λ es. beside r.1 (leading_alloc_pat _ (Some at)) (λ i. unnamed i r.1)))
+  tuple_pat_leads comma h t = then_pat t (h t) (λ r. beside_pat r.1 (elements_leads comma r.0)
+      (λ es. alone_leads (leading_alloc_pat _ (Some at)) r.1))
 
   tuple_struct_of_leads : (comma : Bool) {p : Table → Lowering (Elements × Table)} → Handing p → (o : Option HirPath)
-      → Handing (forms.tuple_struct_of at comma p o)
+      → Making (forms.tuple_struct_of at comma p o)
   tuple_struct_of_leads comma h None t = alone_leads missing_pat_leads t
-  tuple_struct_of_leads comma h (Some o) t = then_names t (h t) (λ r. beside r.1 (elements_leads comma r.0)
-      (λ es. beside r.1 (leading_alloc_pat _ (Some at)) (λ i. unnamed i r.1)))
+  tuple_struct_of_leads comma h (Some o) t = then_pat t (h t) (λ r. beside_pat r.1 (elements_leads comma r.0)
+      (λ es. alone_leads (leading_alloc_pat _ (Some at)) r.1))
 
   pub tuple_struct_leads : (comma : Bool) {p : Table → Lowering (Elements × Table)} {q : Lowering (Option HirPath)} → Handing p
-      → Leading any q → Handing (forms.tuple_struct_form at comma p q)
+      → Leading any q → Making (forms.tuple_struct_form at comma p q)
   unfolding forms.tuple_struct_form
-  tuple_struct_leads comma h hq t = beside t hq (λ o. tuple_struct_of_leads comma h o t)
+  tuple_struct_leads comma h hq t = beside_pat t hq (λ o. tuple_struct_of_leads comma h o t)
 
   record_pat_of_leads : (dots : Bool) {fs : Table → Lowering (List RecordFieldPat × Table)} → Handing fs → (o : Option HirPath)
-      → Handing (forms.record_pat_of at dots fs o)
+      → Making (forms.record_pat_of at dots fs o)
   record_pat_of_leads dots h None t = alone_leads missing_pat_leads t
-  record_pat_of_leads dots h (Some o) t = then_names t (h t) (λ r. beside r.1 (leading_alloc_pat _ (Some at)) (λ i. unnamed i r.1))
+  record_pat_of_leads dots h (Some o) t = then_pat t (h t) (λ r. alone_leads (leading_alloc_pat _ (Some at)) r.1)
 
   pub record_pat_leads : (dots : Bool) {fs : Table → Lowering (List RecordFieldPat × Table)} {q : Lowering (Option HirPath)}
-      → Handing fs → Leading any q → Handing (forms.record_pat_form at dots fs q)
+      → Handing fs → Leading any q → Making (forms.record_pat_form at dots fs q)
   unfolding forms.record_pat_form
-  record_pat_leads dots h hq t = beside t hq (λ o. record_pat_of_leads dots h o t)
+  record_pat_leads dots h hq t = beside_pat t hq (λ o. record_pat_of_leads dots h o t)
 
   pub slice_pat_leads : {b a : Table → Lowering (List PatId × Table)} {m : Table → Lowering (Option PatId × Table)} → Handing b
-      → Handing m → Handing a → Handing (forms.slice_pat_form at b m a)
+      → Handing m → Handing a → Making (forms.slice_pat_form at b m a)
   unfolding forms.slice_pat_form
-  slice_pat_leads hb hm ha t = then_names t (hb t) (λ b. then_names b.1 (hm b.1) (λ m. then_names m.1 (ha m.1)
-      (λ a. beside a.1 (leading_alloc_pat _ (Some at)) (λ i. unnamed i a.1))))
+  slice_pat_leads hb hm ha t = then_pat t (hb t) (λ b. then_pat b.1 (hm b.1) (λ m. then_pat m.1 (ha m.1)
+      (λ a. alone_leads (leading_alloc_pat _ (Some at)) a.1)))
 
-  pub or_leads : {p : PatSteps} {later : List PatId → Table → Lowering (List PatId × Table)} → Handing p
-      → ((done : List PatId) → Handing (later done)) → Handing (forms.or_form at p later)
+  pub or_leads : {p : PatSteps} {later : List PatId → Table → Lowering (List PatId × Table)} → Making p
+      → ((done : List PatId) (t : Table) → Leading (alternatives_in done t) (later done t)) → Making (forms.or_form at p later)
   unfolding forms.or_form
-  or_leads h hs t = then_names t (h (forms.enter_or t)) (λ r. then_names r.1 (hs (r.0 ∷ []) r.1)
-      (λ rs. beside rs.1 (or_of_leads at rs.0) (λ i. unnamed i (forms.leave_or rs.1))))
+  or_leads h hs t = in_turn (λ r. one_of r.0 r.1) (named_pat t)
+      (λ s u r x w l m. let grown = w.pats.grown in let first = l.0 in
+      (⊎_elim (λ e. omega (arith, first, e)) (λ new. omega (arith, grown, new)) m.0, new_later _ _ _ s u w l.1 m.1))
+      (h (forms.enter_or t))
+      (λ r. in_turn (λ rs. all_of rs) (one_of r.0 r.1)
+      (λ s u rs x w l m. (⊎_elim (λ e. inl e) (λ new. let grown = w.pats.grown in inr (omega (arith, grown, new)))
+      (of_all u r.0 x.0 rs.0 l.0 m.0), new_later _ _ _ s u w l.1 m.1))
+      (hs (r.0 ∷ []) r.1)
+      (λ rs. in_turn (λ i. just i (forms.leave_or rs.1)) (all_of rs)
+      (λ s u i x w l m. (same_all s i x.0 rs.0 m.0 l, new_later _ _ _ s u w (none_new rs.1.bindings s) m.1))
+      (or_of_leads at rs.0) (λ i. just_this i (forms.leave_or rs.1))))
+    where
+      all_of : List PatId × Table → Low (PatId × Table)
+      all_of rs s x = OfAll rs.0 s x.0 × names rs.1 s x
 
-  pub literal_pat_leads : (own : Option Pointer) (s : Signed) → Leading any (forms.literal_pat_form at own s)
+      same_all : (s : Stored) (i x : PatId) (all : List PatId) → x.0 ≡ i.0 → OfAll all s i → OfAll all s x
+      same_all s i x [] e h = omega (arith, e, h)
+      same_all s i x (j ∷ []) e h = e ∙ h
+      same_all s i x (j ∷ (k ∷ all)) e h = omega (arith, e, h)
+
+  pub literal_pat_leads : (own : Option Pointer) (s : Signed) → Leading new_pat (forms.literal_pat_form at own s)
   unfolding forms.literal_pat_form
-  literal_pat_leads own s = then' (node_leads _ _) (λ e. leading_alloc_pat _ (Some at))
+  literal_pat_leads own s = makes_pat (node_leads _ _) (λ e. leading_alloc_pat _ (Some at))
 
   pub literal_side_leads : (s : Signed) → Leading any (forms.literal_side_form at s)
   unfolding forms.literal_side_form
@@ -266,9 +365,26 @@ module _ (at : Pointer) where
   path_side_leads h = then' h (λ p. path_side_of_leads at p)
 
   pub range_pat_leads : (op : Option RangeOp) {s e : Lowering (Option ExprId)} → Leading any s → Leading any e
-      → Leading any (forms.range_pat_form at op s e)
+      → Leading new_pat (forms.range_pat_form at op s e)
   unfolding forms.range_pat_form
-  range_pat_leads op hs he = then' hs (λ s. then' he (λ e. leading_alloc_pat _ (Some at)))
+  range_pat_leads op hs he = makes_pat hs (λ s. makes_pat he (λ e. leading_alloc_pat _ (Some at)))
+
+  -- calls
+
+  pub called_pat_leads : (c : Called) {p : Lowering PatId} → Leading new_pat p → Leading new_pat (forms.called_pat_form at c (λ i. i) p)
+  unfolding forms.called_pat_form
+  called_pat_leads c h = makes_pat (leading_told c) (λ u. leading_point_pat at (λ i. i) (λ s i l. l) h)
+
+  pub called_names_lead : (c : Called) {p : PatSteps} → Making p → Making (λ t. forms.called_pat_form at c (λ r. r.0) (p t))
+  unfolding forms.called_pat_form
+  called_names_lead c h t = beside_pat t (leading_told c) (λ u. leading_point_pat at (λ r. r.0) (λ s r l. l.0) (h t))
+
+  pub uncalled_pat_leads : (c : Called) → Leading new_pat (forms.uncalled_pat at c)
+  uncalled_pat_leads tree.callless = missing_pat_leads
+  uncalled_pat_leads tree.unentered = called_pat_leads _ missing_pat_leads
+  uncalled_pat_leads (tree.unresolved s path) = called_pat_leads _ missing_pat_leads
+  uncalled_pat_leads (tree.entered c) = called_pat_leads _ missing_pat_leads
+  uncalled_pat_leads tree.spliced = called_pat_leads _ missing_pat_leads
 
   -- ranges, and patterns of types
 
@@ -294,31 +410,31 @@ module _ (at : Pointer) where
   unfolding ranges.path_limit_form
   path_limit_leads h = then' h (λ p. node_leads _ (Some at))
 
-  pub limits_leads : {s e : ExprSteps} → Leading any s → Leading any e → Leading any (ranges.limits_form at s e)
+  pub limits_leads : {s e : ExprSteps} → Leading any s → Leading any e → Leading new_pat (ranges.limits_form at s e)
   unfolding ranges.limits_form
-  limits_leads hs he = then' hs (λ s. then' he (λ e. leading_alloc_pat _ (Some at)))
+  limits_leads hs he = makes_pat hs (λ s. makes_pat he (λ e. leading_alloc_pat _ (Some at)))
 
-  pub type_alternatives_leads : {ps : Lowering (List PatId)} → Leading any ps → Leading any (ranges.type_alternatives_form at ps)
+  pub type_alternatives_leads : {ps : Lowering (List PatId)} → Leading any ps → Leading new_pat (ranges.type_alternatives_form at ps)
   unfolding ranges.type_alternatives_form
-  type_alternatives_leads h = then' h (λ ps. leading_alloc_pat _ (Some at))
+  type_alternatives_leads h = makes_pat h (λ ps. leading_alloc_pat _ (Some at))
 
   -- targets
 
   pub place_target_leads : {e : ExprSteps} → Leading since e → Leading any (targets.place_form at e)
   unfolding targets.place_form
-  place_target_leads h = then' h (λ e. leading_alloc_pat _ (Some at))
+  place_target_leads h = then' h (λ e. any_pat_leads _ (Some at))
 
   pub path_target_leads : (h : HygieneId) {q : Lowering (Option HirPath)} → Leading any q → Leading any (targets.path_target_form at h q)
   unfolding targets.path_target_form
-  path_target_leads h hq = then' hq (λ p. leading_alloc_pat _ (Some at))
+  path_target_leads h hq = then' hq (λ p. any_pat_leads _ (Some at))
 
   pub tuple_target_leads : {ps : Lowering Elements} → Leading any ps → Leading any (targets.tuple_target_form at ps)
   unfolding targets.tuple_target_form
-  tuple_target_leads h = then' h (λ r. then' (elements_leads false r) (λ es. leading_alloc_pat _ (Some at)))
+  tuple_target_leads h = then' h (λ r. then' (elements_leads false r) (λ es. any_pat_leads _ (Some at)))
 
   call_target_of_leads : {ps : Lowering Elements} → Leading any ps → (o : Option HirPath) → Leading any (targets.call_target_of at ps o)
-  call_target_of_leads h None = missing_pat_leads
-  call_target_of_leads h (Some o) = then' h (λ r. then' (elements_leads false r) (λ es. leading_alloc_pat _ (Some at)))
+  call_target_of_leads h None = anyway missing_pat_leads
+  call_target_of_leads h (Some o) = then' h (λ r. then' (elements_leads false r) (λ es. any_pat_leads _ (Some at)))
 
   pub call_target_leads : {ps : Lowering Elements} {q : Lowering (Option HirPath)} → Leading any ps → Leading any q
       → Leading any (targets.call_target_form at ps q)
@@ -329,7 +445,7 @@ module _ (at : Pointer) where
       → Leading any (targets.array_target_form at dots b a)
   unfolding targets.array_target_form
   array_target_leads dots hb ha =
-      then' hb (λ b. then' ha (λ a. then' (rest_leads dots) (λ m. leading_alloc_pat _ (Some at))))
+      then' hb (λ b. then' ha (λ a. then' (rest_leads dots) (λ m. any_pat_leads _ (Some at))))
     where
       rest_leads : (dots : Option Pointer) → Leading any (targets.rest_target dots)
       rest_leads None = leading_pure None
@@ -337,9 +453,9 @@ module _ (at : Pointer) where
 
   record_target_of_leads : (dots : Bool) (spread : Option Pointer) {fs : Lowering (List RecordFieldPat)} → Leading any fs
       → (o : Option HirPath) → Leading any (targets.record_target_of at dots spread fs o)
-  record_target_of_leads dots spread h None = missing_pat_leads
+  record_target_of_leads dots spread h None = anyway missing_pat_leads
   record_target_of_leads dots spread h (Some o) =
-      then' (report_leads spread) (λ u. then' h (λ fs. leading_alloc_pat _ (Some at)))
+      then' (report_leads spread) (λ u. then' h (λ fs. any_pat_leads _ (Some at)))
     where
       report_leads : (spread : Option Pointer) → Leading any (targets.report_spread spread)
       report_leads None = leading_pure tt

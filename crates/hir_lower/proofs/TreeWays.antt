@@ -25,7 +25,7 @@ use Rattle.hir_env.specs.Answered.{Binder, Type_, OptionType, Parts, Path, Optio
 use Rattle.hir_env.specs.Answered.{OptionRet, OptionArgs, Args, Arg, Bounds, Bound, Constant}
 use Rattle.hir_env.specs.Answered.{Listing, Label, Jump, Expr, OptionExpr, Exprs, Fields, Field, Spread, Block, OptionBlock, Stmts, Stmt}
 use Rattle.hir_env.specs.Answered.{Arms, Arm, Guard, Pat, OptionPat, Pats, PatFields, PatField, Side, OptionTypePat, TypePat, TypePats}
-use Rattle.hir_env.specs.Answered.{Limit, Param, Params, Target, Targets, TargetFields, TargetField}
+use Rattle.hir_env.specs.Answered.{Called, Limit, Param, Params, Target, Targets, TargetFields, TargetField}
 use Rattle.hir_env.specs.Targets.{head_pointer}
 use Rattle.hir_lower_form.specs.declared.args.ArgLists.{ArgLists}
 use Rattle.hir_lower_form.specs.declared.closures.ClosureParams.{ClosureParams}
@@ -46,16 +46,17 @@ use Rattle.hir_lower_form.specs.Lower.{present_block, lower_arms, lower_arm, low
 use Rattle.hir_lower_form.specs.Lower.{present_pat, lower_pats, lower_elements, lower_alternatives, lower_later, lower_pat_fields}
 use Rattle.hir_lower_form.specs.Lower.{lower_pat_field, lower_side, lower_type_pat_part, lower_type_pat, lower_type_pats, lower_limit}
 use Rattle.hir_lower_form.specs.Lower.{limit_side, lower_target, lower_targets, lower_target_fields, lower_target_field, try_form}
+use Rattle.hir_lower_form.specs.Lower.{called_form, uncalled_form}
 use Rattle.hir_lower_form.specs.Pats.{Table, next_alternative, Elements, no_elements, is_dots}
 use Rattle.hir_lower_form.specs.Walks.{at_first, start, path_read}
 use Rattle.hir_lower.proofs.TypeWays.{error_leads, unit_leads, lifetime_leads, lifetime_option_leads, uses_lead, over_leads, array_leads}
 use Rattle.hir_lower.proofs.TypeWays.{tuple_leads, path_type_leads, ref_leads, fn_leads, impl_leads, dyn_leads, path_bound_leads}
 use Rattle.hir_lower.proofs.TypeWays.{binding_leads, counted_leads, proceed_leads, whole_leads, trait_leads, parens_leads}
-use Rattle.hir_lower.proofs.TypeWays.{segment_args_leads, pattern_type_leads}
+use Rattle.hir_lower.proofs.TypeWays.{called_type_leads, segment_args_leads, pattern_type_leads, uncalled_type_leads}
 use Rattle.hir_lower.proofs.Ways.{Leading, any, since, then', makes, leading_pure, leading_report, leading_block, leading_close}
 use Rattle.hir_lower.proofs.Ways.{leading_jump, leading_alloc, leading_open, leading_point, leading_closed, leading_report_await}
 use Rattle.hir_lower.proofs.Ways.{leading_point_field, leading_alloc_type, leading_alloc_pat, leading_barrier, leading_enter}
-use Rattle.hir_lower.proofs.Ways.{leading_close_barrier, leading_note}
+use Rattle.hir_lower.proofs.Ways.{leading_call, leading_close_barrier, leading_gone, leading_note, leading_told, new_pat, new_type}
 use Rattle.hir_lower.proofs.Ways.{leading_leave, anyway}
 use Rattle.hir_lower.proofs.OwnedWays.{coroutine_block_leads, coroutine_leads, leading_owning}
 use Rattle.hir_lower.proofs.PreludeWays.{coroutine_closure_leads}
@@ -66,7 +67,8 @@ use Rattle.hir_lower.proofs.PatWays.{name_side_leads, or_leads, over_pat_leads, 
 use Rattle.hir_lower.proofs.PatWays.{path_side_leads, path_target_leads, place_target_leads, range_leads, range_pat_leads, record_pat_leads}
 use Rattle.hir_lower.proofs.PatWays.{record_target_leads, slice_pat_leads, target_field_leads, tuple_pat_leads}
 use Rattle.hir_lower.proofs.PatWays.{tuple_struct_leads, tuple_target_leads, type_alternatives_leads, names, unnamed, beside}
-use Rattle.hir_lower.proofs.PatWays.{then_names, top_form_leads}
+use Rattle.hir_lower.proofs.PatWays.{alternatives_in, called_names_lead, called_pat_leads, named_pat, no_alternative, one_alternative}
+use Rattle.hir_lower.proofs.PatWays.{only_names, then_names, top_form_leads, uncalled_pat_leads}
 use Rattle.hir_lower.proofs.MadeWays.{for_leads, question_leads, try_block_leads, typed_try_leads}
 
 missing_leads : Leading since missing
@@ -111,6 +113,14 @@ module _ (at : Pointer) where
   unfolding paren_form
   paren_leads h = leading_point at h
 
+  uncalled_leads : (c : Called) → Leading since (uncalled_form at c)
+  unfolding uncalled_form
+  uncalled_leads c = makes (leading_told c) (λ u. leading_alloc _ (Some at))
+
+  called_leads : (c : Called) {e : ExprSteps} → Leading since e → Leading since (called_form at c e)
+  unfolding called_form
+  called_leads c h = makes (leading_told c) (λ u. paren_leads h)
+
   operand_leads : (form : ExprId → HirExpr) {e : ExprSteps} → Leading since e → Leading since (operand_form at form e)
   unfolding operand_form
   operand_leads form h = makes h (λ i. leading_alloc _ (Some at))
@@ -153,11 +163,11 @@ module _ (at : Pointer) where
   unfolding method_call_form
   method_call_leads name he hx ha = makes he (λ i. makes hx (λ is. makes ha (λ a. leading_alloc _ (Some at))))
 
-  cast_leads : {e : ExprSteps} {t : TypeSteps} → Leading since e → Leading any t → Leading since (cast_form at e t)
+  cast_leads : {e : ExprSteps} {t : TypeSteps} → Leading since e → Leading new_type t → Leading since (cast_form at e t)
   unfolding cast_form
   cast_leads he ht = makes he (λ i. makes ht (λ j. leading_alloc _ (Some at)))
 
-  offset_of_leads : {t : TypeSteps} (names : List Name) → Leading any t → Leading since (offset_of_form at t names)
+  offset_of_leads : {t : TypeSteps} (names : List Name) → Leading new_type t → Leading since (offset_of_form at t names)
   unfolding offset_of_form
   offset_of_leads names h = makes h (λ i. leading_alloc _ (Some at))
 
@@ -206,12 +216,14 @@ unfolding param_form
 param_leads c hp ht = then' hp (λ p. then' ht (λ t. leading_pure _))
 
 kept_leads : (e : Expr) {p : ExprSteps} → Leading since p → Leading any (kept e p)
-kept_leads (tree.disabled_expr at by e) h = then' (leading_report _) (λ u. leading_pure None)
+kept_leads (tree.disabled_expr why e) h = then' (leading_gone why) (λ u. leading_pure None)
 kept_leads e h = some_leads h
 
 mutual
-  type_leads : (binder : Option Binder) (t : Type_) → Leading any (lower_type binder t)
+  type_leads : (binder : Option Binder) (t : Type_) → Leading new_type (lower_type binder t)
   type_leads binder (tree.paren_type t) = type_part_leads binder t
+  type_leads binder (tree.macro_type at called tree.no_type) = uncalled_type_leads at called
+  type_leads binder (tree.macro_type at called (tree.some_type t)) = called_type_leads at called (type_leads binder t)
   type_leads binder (tree.for_type names t) = type_part_leads (Some names) t
   type_leads binder (tree.leaf_type at form) = leading_alloc_type _ (Some at)
   type_leads binder (tree.over_type at form t) = over_leads at form (type_part_leads None t)
@@ -225,7 +237,7 @@ mutual
   type_leads binder (tree.dyn_type at bs) = dyn_leads at (bounds_lead [] bs)
   type_leads binder (tree.pattern_type at t own p) = pattern_type_leads at (type_part_leads None t) (type_pat_part_leads p)
 
-  type_part_leads : (binder : Option Binder) (t : OptionType) → Leading any (type_part binder t)
+  type_part_leads : (binder : Option Binder) (t : OptionType) → Leading new_type (type_part binder t)
   type_part_leads binder tree.no_type = error_leads
   type_part_leads binder (tree.some_type t) = type_leads binder t
 
@@ -233,7 +245,7 @@ mutual
   present_type_leads tree.no_type = leading_pure None
   present_type_leads (tree.some_type t) = then' (type_leads None t) (λ i. leading_pure _)
 
-  answer_leads : (t : OptionType) → Leading any (type_or_unit t)
+  answer_leads : (t : OptionType) → Leading new_type (type_or_unit t)
   answer_leads tree.no_type = unit_leads
   answer_leads (tree.some_type t) = type_leads None t
 
@@ -282,7 +294,7 @@ mutual
   parens_part_leads tree.no_parens = leading_pure None
   parens_part_leads (tree.some_parens ts r) = parens_leads (parts_lead [] ts) (output_leads r)
 
-  output_leads : (r : OptionRet) → Leading any (output_part r)
+  output_leads : (r : OptionRet) → Leading new_type (output_part r)
   output_leads tree.no_ret = unit_leads
   output_leads (tree.some_ret t) = type_part_leads None t
 
@@ -323,7 +335,7 @@ mutual
   -- ---- expressions
 
   node_leads : (e : Expr) → Leading since (lower e)
-  node_leads (tree.disabled_expr at by e) = makes (leading_report _) (λ u. missing_leads)
+  node_leads (tree.disabled_expr why e) = makes (leading_gone why) (λ u. missing_leads)
   node_leads (tree.if_expr at c t e) = if_leads at (part_leads c) (block_part_leads t) (present_leads e)
   node_leads (tree.block_expr b) = block_leads b
   node_leads (tree.loop_expr at label _ b) = loop_leads at _ label (block_part_leads b)
@@ -341,6 +353,8 @@ mutual
   node_leads (tree.continue_expr at jump) = continue_leads at jump
   node_leads (tree.break_expr at jump e) = break_leads at jump (present_leads e)
   node_leads (tree.paren_expr at e) = paren_leads at (part_leads e)
+  node_leads (tree.macro_expr at called tree.no_expr) = uncalled_leads at called
+  node_leads (tree.macro_expr at called (tree.some_expr e)) = called_leads at called (node_leads e)
   node_leads (tree.literal_expr at l) = leading_alloc _ (Some at)
   node_leads (tree.leaf_expr at form) = leading_alloc _ (Some at)
   node_leads (tree.unary_expr at form e) = operand_leads at _ (part_leads e)
@@ -372,7 +386,7 @@ mutual
   try_leads : (at : Pointer) (t : OptionType) {block : Bool → ExprSteps} → ((typed : Bool) → Leading since (block typed))
       → Leading since (try_form at t block)
   try_leads at tree.no_type h = h false
-  try_leads at (tree.some_type t) h = typed_try_leads at (h true) (type_leads None t)
+  try_leads at (tree.some_type t) h = typed_try_leads at (h true) (anyway (type_leads None t))
 
   params_lead : (c : ClosureParams) (xs : Params) → Leading any (lower_params c xs)
   params_lead c tree.no_params = leading_pure c
@@ -429,6 +443,7 @@ mutual
   stmt_leads (tree.expr_stmt e semi) = then' (kept_part_leads e) (λ x. leading_pure _)
   stmt_leads (tree.disabled_stmt at by s) = then' (leading_report _) (λ u. leading_pure None)
   stmt_leads tree.item_stmt = leading_pure _
+  stmt_leads (tree.call_stmt c) = then' (leading_call c) (λ u. leading_pure None)
   stmt_leads (tree.let_stmt p t e b) = let_stmt_leads (top_leads p) (present_type_leads t) (present_leads e) (present_block_leads b)
 
   present_block_leads : (b : OptionBlock) → Leading any (present_block b)
@@ -450,10 +465,10 @@ mutual
   -- ---- patterns
 
   pub top_leads : (p : OptionPat) → Leading any (lower_top p)
-  top_leads tree.no_pat = missing_pat_leads
-  top_leads (tree.some_pat p) = top_form_leads (pat_leads p)
+  top_leads tree.no_pat = anyway missing_pat_leads
+  top_leads (tree.some_pat p) = top_form_leads (only_names (pat_leads p))
 
-  pat_leads : (p : Pat) (t : Table) → Leading (names t) (lower_pat p t)
+  pat_leads : (p : Pat) (t : Table) → Leading (named_pat t) (lower_pat p t)
   pat_leads (tree.leaf_pat at form) t = alone_leads (leading_alloc_pat _ (Some at)) t
   pat_leads (tree.bind_pat at u _ p) t = bind_leads at u (present_pat_leads p) t
   pat_leads (tree.name_pat at u _) t = alone_leads (leading_alloc_pat _ (Some at)) t
@@ -464,36 +479,39 @@ mutual
   pat_leads (tree.record_pat at p fs dots) t = record_pat_leads at dots (pat_fields_leads [] fs) (option_path_leads p) t
   pat_leads (tree.or_pat at ps) t = alternatives_leads at ps t
   pat_leads (tree.paren_pat at p) t = pat_part_leads p t
+  pat_leads (tree.macro_pat at called tree.no_pat) t = alone_leads (uncalled_pat_leads at called) t
+  pat_leads (tree.macro_pat at called (tree.some_pat p)) t = called_names_lead at called (pat_leads p) t
   pat_leads (tree.slice_pat at before p behind) t =
       slice_pat_leads at (pats_leads [] before) (present_pat_leads p) (pats_leads [] behind) t
-  pat_leads (tree.over_pat at form p) t = over_pat_leads at form (pat_part_leads p) t
+  pat_leads (tree.over_pat at form p) t = over_pat_leads at form (only_names (pat_part_leads p)) t
   pat_leads (tree.literal_pat at own l) t = alone_leads (literal_pat_leads at own l) t
   pat_leads (tree.range_pat at op s e) t = alone_leads (range_pat_leads at op (side_leads s) (side_leads e)) t
 
-  pat_part_leads : (p : OptionPat) (t : Table) → Leading (names t) (pat_part p t)
+  pat_part_leads : (p : OptionPat) (t : Table) → Leading (named_pat t) (pat_part p t)
   pat_part_leads tree.no_pat t = alone_leads missing_pat_leads t
   pat_part_leads (tree.some_pat p) t = pat_leads p t
 
   present_pat_leads : (p : OptionPat) (t : Table) → Leading (names t) (present_pat p t)
   present_pat_leads tree.no_pat t = unnamed _ t
-  present_pat_leads (tree.some_pat p) t = then_names t (pat_leads p t) (λ r. unnamed _ r.1)
+  present_pat_leads (tree.some_pat p) t = then_names t (only_names (pat_leads p) t) (λ r. unnamed _ r.1)
 
   pats_leads : (done : List PatId) (ps : Pats) (t : Table) → Leading (names t) (lower_pats done ps t)
   pats_leads done tree.no_pats t = unnamed _ t
-  pats_leads done (tree.more_pats p ps) t = then_names t (pat_leads p t) (λ r. pats_leads _ ps r.1)
+  pats_leads done (tree.more_pats p ps) t = then_names t (only_names (pat_leads p) t) (λ r. pats_leads _ ps r.1)
 
   elements_part_leads : (done : Elements) (ps : Pats) (t : Table) → Leading (names t) (lower_elements done ps t)
   elements_part_leads done tree.no_pats t = unnamed _ t
   elements_part_leads done (tree.more_pats p ps) t =
-      then_names t (element_leads (is_dots p) done (pat_leads p) t) (λ r. elements_part_leads r.0 ps r.1)
+      then_names t (element_leads (is_dots p) done (only_names (pat_leads p)) t) (λ r. elements_part_leads r.0 ps r.1)
 
-  alternatives_leads : (at : Pointer) (ps : Pats) (t : Table) → Leading (names t) (lower_alternatives at ps t)
+  alternatives_leads : (at : Pointer) (ps : Pats) (t : Table) → Leading (named_pat t) (lower_alternatives at ps t)
   alternatives_leads at tree.no_pats t = alone_leads (leading_alloc_pat _ (Some at)) t
   alternatives_leads at (tree.more_pats p ps) t = or_leads at (pat_leads p) (later_leads ps) t
 
-  later_leads : (ps : Pats) (done : List PatId) (t : Table) → Leading (names t) (lower_later ps done t)
-  later_leads tree.no_pats done t = unnamed _ t
-  later_leads (tree.more_pats p ps) done t = then_names t (pat_leads p (next_alternative t)) (λ r. later_leads ps _ r.1)
+  later_leads : (ps : Pats) (done : List PatId) (t : Table) → Leading (alternatives_in done t) (lower_later ps done t)
+  later_leads tree.no_pats done t = no_alternative done t
+  later_leads (tree.more_pats p ps) done t =
+      one_alternative done t (only_names (pat_leads p) (next_alternative t)) (λ r. later_leads ps _ r.1)
 
   pat_fields_leads : (done : List RecordFieldPat) (fs : PatFields) (t : Table) → Leading (names t) (lower_pat_fields done fs t)
   pat_fields_leads done tree.no_pat_fields t = unnamed _ t
@@ -502,7 +520,7 @@ mutual
   one_pat_field_leads : (f : PatField) (t : Table) → Leading (names t) (lower_pat_field f t)
   one_pat_field_leads (tree.disabled_pat_field at by f) t = beside t (leading_report _) (λ u. unnamed _ t)
   one_pat_field_leads tree.partless_pat_field t = unnamed _ t
-  one_pat_field_leads (tree.pat_field at n p) t = pat_field_leads at n (pat_leads p) t
+  one_pat_field_leads (tree.pat_field at n p) t = pat_field_leads at n (only_names (pat_leads p)) t
 
   side_leads : (s : Side) → Leading any (lower_side s)
   side_leads tree.no_side = leading_pure None
@@ -513,12 +531,14 @@ mutual
 
   -- ---- patterns of types
 
-  type_pat_part_leads : (p : OptionTypePat) → Leading any (lower_type_pat_part p)
+  type_pat_part_leads : (p : OptionTypePat) → Leading new_pat (lower_type_pat_part p)
   type_pat_part_leads tree.no_type_pat = missing_pat_leads
   type_pat_part_leads (tree.some_type_pat p) = type_pat_leads p
 
-  type_pat_leads : (p : TypePat) → Leading any (lower_type_pat p)
+  type_pat_leads : (p : TypePat) → Leading new_pat (lower_type_pat p)
   type_pat_leads (tree.not_null_type_pat at) = leading_alloc_pat _ (Some at)
+  type_pat_leads (tree.macro_type_pat at called tree.no_type_pat) = uncalled_pat_leads at called
+  type_pat_leads (tree.macro_type_pat at called (tree.some_type_pat p)) = called_pat_leads at called (type_pat_leads p)
   type_pat_leads (tree.or_type_pat at ps) = type_alternatives_leads at (type_pats_leads [] ps)
   type_pat_leads (tree.range_type_pat at s e) = limits_leads at (limit_leads s) (limit_leads e)
   type_pat_leads (tree.other_type_pat at) = leading_alloc_pat _ (Some at)
@@ -542,9 +562,10 @@ mutual
   -- ---- targets
 
   pub target_leads : (t : Target) → Leading any (lower_target t)
-  target_leads tree.absent_target = missing_pat_leads
+  target_leads tree.absent_target = anyway missing_pat_leads
   target_leads (tree.place_target at e) = place_target_leads at (node_leads e)
-  target_leads (tree.wild_target at) = leading_alloc_pat _ (Some at)
+  target_leads (tree.macro_target at called t) = then' (leading_told called) (λ u. target_leads t)
+  target_leads (tree.wild_target at) = anyway (leading_alloc_pat _ (Some at))
   target_leads (tree.path_target at p h) = path_target_leads at h (then' (reading_leads p start) (λ r. leading_pure (path_read r)))
   target_leads (tree.tuple_target at ts) = tuple_target_leads at (targets_leads no_elements ts)
   target_leads (tree.call_target at p ts) = call_target_leads at (targets_leads no_elements ts) (option_path_leads p)

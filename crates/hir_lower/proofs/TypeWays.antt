@@ -13,7 +13,7 @@ use Rattle.hir_store.specs.declared.type_ref.TypeBound.{TypeBound}
 use Rattle.hir_store.specs.declared.type_ref.UseArgRef.{UseArgRef}
 use Rattle.hir_env.specs.declared.place.ImplTrait.{ImplTrait}
 use Rattle.hir_env.specs.Answered as tree
-use Rattle.hir_env.specs.Answered.{Binder, FnHead, Lifetime, TypeUnary, UseRead}
+use Rattle.hir_env.specs.Answered.{Binder, Called, FnHead, Lifetime, TypeUnary, UseRead}
 use Rattle.hir_lower_form.specs.declared.walk.PathWalk.{PathWalk}
 use Rattle.hir_lower_form.specs.declared.walk.Reading.{Reading}
 use Rattle.hir_lower_form.specs.declared.walk.Reading.TheVariants.{Refused, Ended, Open}
@@ -21,15 +21,16 @@ use Rattle.hir_lower_form.specs.Lowering.{Lowering}
 use Rattle.hir_lower_form.specs.Paths.{proceed, whole, counted, read_trait, with_trait, parens_form, or_else, segment_args_form}
 use Rattle.hir_lower_form.specs.Types.{error_type, unit_type, lower_lifetime, lower_lifetime_option, lower_use, lower_uses, over_form}
 use Rattle.hir_lower_form.specs.Types.{TypeSteps, tuple_type_form, path_type_form, ref_type_form, fn_type_form}
-use Rattle.hir_lower_form.specs.Types.{impl_type_form, dyn_type_form, pattern_type_form}
+use Rattle.hir_lower_form.specs.Types.{called_type_form, impl_type_form, dyn_type_form, pattern_type_form, uncalled_type}
 use Rattle.hir_lower_form.specs.Types.{array_type_form, binding_form, path_bound_of, path_bound_form}
-use Rattle.hir_lower.proofs.Ways.{Leading, any, then', leading_pure, leading_count_out, leading_alloc_type, leading_alloc_lifetime}
+use Rattle.hir_lower.proofs.Ways.{Leading, any, makes_type, new_pat, new_type, then', leading_pure, leading_count_out, leading_alloc_type}
+use Rattle.hir_lower.proofs.Ways.{leading_alloc_lifetime, leading_point_type, leading_told}
 
-pub error_leads : Leading any error_type
+pub error_leads : Leading new_type error_type
 unfolding error_type
 error_leads = leading_alloc_type _ None
 
-pub unit_leads : Leading any unit_type
+pub unit_leads : Leading new_type unit_type
 unfolding unit_type
 unit_leads = leading_alloc_type _ None
 
@@ -52,43 +53,55 @@ uses_lead done (u ∷ us) = then' (use_leads u) (λ x. uses_lead _ us)
 -- types
 
 module _ (at : Pointer) where
-  pub over_leads : (form : TypeUnary) {t : TypeSteps} → Leading any t → Leading any (over_form at form t)
+  pub over_leads : (form : TypeUnary) {t : TypeSteps} → Leading new_type t → Leading new_type (over_form at form t)
   unfolding over_form
-  over_leads form h = then' h (λ i. leading_alloc_type _ (Some at))
+  over_leads form h = makes_type h (λ i. leading_alloc_type _ (Some at))
 
-  pub tuple_leads : {ts : Lowering (List TypeRefId)} → Leading any ts → Leading any (tuple_type_form at ts)
+  pub tuple_leads : {ts : Lowering (List TypeRefId)} → Leading any ts → Leading new_type (tuple_type_form at ts)
   unfolding tuple_type_form
-  tuple_leads h = then' h (λ is. leading_alloc_type _ (Some at))
+  tuple_leads h = makes_type h (λ is. leading_alloc_type _ (Some at))
 
-  pub array_leads : {n : Lowering ConstRef} {t : TypeSteps} → Leading any n → Leading any t → Leading any (array_type_form at n t)
+  pub array_leads : {n : Lowering ConstRef} {t : TypeSteps} → Leading any n → Leading new_type t → Leading new_type (array_type_form at n t)
   unfolding array_type_form
-  array_leads h k = then' h (λ i. then' k (λ j. leading_alloc_type _ (Some at)))
+  array_leads h k = makes_type h (λ i. makes_type k (λ j. leading_alloc_type _ (Some at)))
 
-  pub pattern_type_leads : {t : TypeSteps} {p : Lowering PatId} → Leading any t → Leading any p → Leading any (pattern_type_form at t p)
+  pub pattern_type_leads : {t : TypeSteps} {p : Lowering PatId} → Leading new_type t → Leading new_pat p
+      → Leading new_type (pattern_type_form at t p)
   unfolding pattern_type_form
-  pattern_type_leads h k = then' h (λ i. then' k (λ p. leading_alloc_type _ (Some at)))
+  pattern_type_leads h k = makes_type h (λ i. makes_type k (λ p. leading_alloc_type _ (Some at)))
 
-  pub path_type_leads : {p : Lowering (Option HirPath)} → Leading any p → Leading any (path_type_form at p)
+  pub path_type_leads : {p : Lowering (Option HirPath)} → Leading any p → Leading new_type (path_type_form at p)
   unfolding path_type_form
-  path_type_leads h = then' h (λ p. leading_alloc_type _ (Some at))
+  path_type_leads h = makes_type h (λ p. leading_alloc_type _ (Some at))
 
-  pub ref_leads : (mutability : Mutability) {t : TypeSteps} {l : Lowering (Option LifetimeRefId)} → Leading any t → Leading any l
-      → Leading any (ref_type_form at mutability t l)
+  pub ref_leads : (mutability : Mutability) {t : TypeSteps} {l : Lowering (Option LifetimeRefId)} → Leading new_type t → Leading any l
+      → Leading new_type (ref_type_form at mutability t l)
   unfolding ref_type_form
-  ref_leads mutability h k = then' h (λ i. then' k (λ j. leading_alloc_type _ (Some at)))
+  ref_leads mutability h k = makes_type h (λ i. makes_type k (λ j. leading_alloc_type _ (Some at)))
 
-  pub fn_leads : (binder : Option Binder) (head : FnHead) {ts : Lowering (List TypeRefId)} {r : TypeSteps} → Leading any ts → Leading any r
-      → Leading any (fn_type_form at binder head ts r)
+  pub fn_leads : (binder : Option Binder) (head : FnHead) {ts : Lowering (List TypeRefId)} {r : TypeSteps} → Leading any ts
+      → Leading new_type r → Leading new_type (fn_type_form at binder head ts r)
   unfolding fn_type_form
-  fn_leads binder head h k = then' k (λ i. then' h (λ is. leading_alloc_type _ (Some at)))
+  fn_leads binder head h k = makes_type k (λ i. makes_type h (λ is. leading_alloc_type _ (Some at)))
 
-  pub impl_leads : (mode : ImplTrait) {bs : Lowering (List TypeBound)} → Leading any bs → Leading any (impl_type_form at mode bs)
+  pub impl_leads : (mode : ImplTrait) {bs : Lowering (List TypeBound)} → Leading any bs → Leading new_type (impl_type_form at mode bs)
   unfolding impl_type_form
-  impl_leads mode h = then' h (λ bs. leading_alloc_type _ (Some at))
+  impl_leads mode h = makes_type h (λ bs. leading_alloc_type _ (Some at))
 
-  pub dyn_leads : {bs : Lowering (List TypeBound)} → Leading any bs → Leading any (dyn_type_form at bs)
+  pub dyn_leads : {bs : Lowering (List TypeBound)} → Leading any bs → Leading new_type (dyn_type_form at bs)
   unfolding dyn_type_form
-  dyn_leads h = then' h (λ bs. leading_alloc_type _ (Some at))
+  dyn_leads h = makes_type h (λ bs. leading_alloc_type _ (Some at))
+
+  pub called_type_leads : (c : Called) {t : TypeSteps} → Leading new_type t → Leading new_type (called_type_form at c t)
+  unfolding called_type_form
+  called_type_leads c h = makes_type (leading_told c) (λ u. leading_point_type at h)
+
+  pub uncalled_type_leads : (c : Called) → Leading new_type (uncalled_type at c)
+  uncalled_type_leads tree.callless = leading_alloc_type _ (Some at)
+  uncalled_type_leads tree.unentered = called_type_leads _ error_leads
+  uncalled_type_leads (tree.unresolved s path) = called_type_leads _ error_leads
+  uncalled_type_leads (tree.entered c) = called_type_leads _ error_leads
+  uncalled_type_leads tree.spliced = called_type_leads _ error_leads
 
   pub bound_of_leads : (maybe : Bool) (binder : Binder) (p : Option HirPath) → Leading any (path_bound_of at maybe binder p)
   bound_of_leads maybe binder None = leading_pure _
@@ -129,7 +142,7 @@ pub trait_leads : (i : TypeRefId) (at : Pointer) (w : PathWalk) {p : Lowering (O
 unfolding with_trait
 trait_leads i at w h = then' h (λ p. trait_of_leads i at w p)
 
-pub parens_leads : {ts : Lowering (List TypeRefId)} {r : TypeSteps} → Leading any ts → Leading any r → Leading any (parens_form ts r)
+pub parens_leads : {ts : Lowering (List TypeRefId)} {r : TypeSteps} → Leading any ts → Leading new_type r → Leading any (parens_form ts r)
 unfolding parens_form
 parens_leads h k = then' h (λ is. then' (leading_alloc_type _ None) (λ i. then' k (λ j. leading_pure _)))
 

@@ -2,6 +2,8 @@
 use Rattle.std.proofs.Common.{arith, ◌≡◌, ◌∙◌, refl, sym, ap, subst, ℕ, suc, ◌^◌, ◌≤◌, Bool, true, false, nat_lt, length}
 use Rattle.std.proofs.Common.{if◌then◌else◌, length-append}
 use Rattle.std.proofs.Common.{List, [], ◌∷◌, Option, Some, None, Ok, Err, ◌⊎◌, inl, inr, ⊎_elim, true≢false, is_some}
+use Rattle.hir_base.specs.declared.node.HirFileId.{HirFileId}
+use Rattle.hir_base.specs.declared.node.TextRange.{TextRange}
 use Rattle.hir_store.specs.Pointers.{Pointer, same_pointer, found}
 use Rattle.hir_store.specs.Arenas.{Prefix, Sourced, pointed, with_entry, with_made}
 use Rattle.hir_store.proofs.Extending.{extends_refl}
@@ -27,11 +29,17 @@ use Rattle.hir_store.specs.declared.ids.TypeRefId.{TypeRefId}
 use Rattle.hir_store.specs.declared.type_ref.LifetimeRef.{LifetimeRef}
 use Rattle.hir_store.specs.declared.type_ref.TypeRef.{TypeRef}
 use Rattle.hir_store.specs.declared.ids.BlockId.{BlockId}
-use Rattle.hir_env.specs.Answered.{Label, Jump}
+use Rattle.hir_store.specs.declared.ids.CfgId.{CfgId}
+use Rattle.hir_env.specs.Answered as tree
+use Rattle.hir_env.specs.Answered.{Called, Entered, Gone, Label, Jump}
+use Rattle.hir_env.specs.Answers.{Eager}
+use Rattle.hir_env.specs.NodeMap.{Site}
 use Rattle.hir_scope.specs.Ribs.{Target, reachable, unreachable, undeclared, target}
 use Rattle.hir_lower_form.specs.Builder.{Builder}
+use Rattle.hir_lower_form.specs.Calls.{note, note_each, note_gone, record_each, report_condition, told}
 use Rattle.hir_lower_form.specs.Lowering.{Checked, go_on, Lowering, ◌>>=◌, pure, alloc_expr, alloc_lifetime, alloc_type, point, report}
-use Rattle.hir_lower_form.specs.Lowering.{alloc_binding, alloc_made, alloc_pat, define, made_number, point_pat_field}
+use Rattle.hir_lower_form.specs.Lowering.{alloc_binding, alloc_made, alloc_pat, define, made_number, point_pat, point_pat_field}
+use Rattle.hir_lower_form.specs.Lowering.{point_type, record_expansion}
 use Rattle.hir_lower_form.specs.Lowering.{open_try, open_try_as, open_try_named, try_target}
 use Rattle.hir_lower_form.specs.Lowering.{close_barrier, note_yield}
 use Rattle.hir_lower_form.specs.Lowering.{point_field, open_barrier, enter_root, outside_root, leave_root, record_root}
@@ -210,6 +218,13 @@ any s a = Unit {0}
 abbrev pub since : Low ExprId
 since s i = length s.exprs.entries ≤ i.0
 
+-- a pattern, and a type, that came since
+abbrev pub new_pat : Low PatId
+new_pat s p = length s.pats.entries ≤ p.0
+
+abbrev pub new_type : Low TypeRefId
+new_type s i = length s.types.entries ≤ i.0
+
 abbrev pub Goes : {A : Type 0} → Low A → Builder → Checked A → Builder → Type 0
 Goes L b (Ok a) c = Went b.stored c.stored × L b.stored a
 Goes L b (Err e) c = Went b.stored c.stored
@@ -248,13 +263,24 @@ pub makes : {A : Type 0} {L : Low A} {p : Lowering A} {f : A → Lowering ExprId
     → ((a : A) → Leading since (f a)) → Leading since (p >>= f)
 makes h k = in_turn (λ a. since) since (λ s t a x w l y. let grown = w.exprs.grown in omega (arith, grown, y)) h k
 
--- whatever is said of the answer
-pub anyway : {A : Type 0} {L : Low A} {p : Lowering A} → Leading L p → Leading any p
-anyway {A = A} {L = L} {p = p} h = record { goes = λ b. by b (p b).0 (p b).1 (h.goes b) }
+pub makes_pat : {A : Type 0} {L : Low A} {p : Lowering A} {f : A → Lowering PatId} → Leading L p
+    → ((a : A) → Leading new_pat (f a)) → Leading new_pat (p >>= f)
+makes_pat h k = in_turn (λ a. new_pat) new_pat (λ s t a x w l y. let grown = w.pats.grown in omega (arith, grown, y)) h k
+
+pub makes_type : {A : Type 0} {L : Low A} {p : Lowering A} {f : A → Lowering TypeRefId} → Leading L p
+    → ((a : A) → Leading new_type (f a)) → Leading new_type (p >>= f)
+makes_type h k = in_turn (λ a. new_type) new_type (λ s t a x w l y. let grown = w.types.grown in omega (arith, grown, y)) h k
+
+-- what is said less of the answer
+pub weaker : {A : Type 0} {L M : Low A} {p : Lowering A} → ((s : Stored) (a : A) → L s a → M s a) → Leading L p → Leading M p
+weaker {A = A} {L = L} {M = M} {p = p} less h = record { goes = λ b. by b (p b).0 (p b).1 (h.goes b) }
   where
-    by : (b : Builder) (o : Checked A) (c : Builder) → Goes L b o c → Goes any b o c
-    by b (Ok a) c x = (x.0, tt)
+    by : (b : Builder) (o : Checked A) (c : Builder) → Goes L b o c → Goes M b o c
+    by b (Ok a) c x = (x.0, less b.stored a x.1)
     by b (Err e) c x = x
+
+pub anyway : {A : Type 0} {L : Low A} {p : Lowering A} → Leading L p → Leading any p
+anyway h = weaker (λ s a l. tt) h
 
 pub leading_pure : {A : Type 0} (a : A) → Leading any (pure a)
 leading_pure a = record { goes = λ b. (went_same _ _ (refl, (refl, (refl, (refl, (refl, (refl, refl)))))), tt) }
@@ -266,6 +292,38 @@ leading_count_out = record { goes = λ b. went_same _ _ (refl, (refl, (refl, (re
 pub leading_report : (d : ExpressionStoreDiagnostics) → Leading any (report d)
 unfolding report storing.report
 leading_report d = record { goes = λ b. (went_same _ _ (refl, (refl, (refl, (refl, (refl, (refl, refl)))))), tt) }
+
+-- nor does a call that is recorded
+leading_expansion : (call : Site) (range : Option TextRange) (file : HirFileId) → Leading any (record_expansion call range file)
+unfolding record_expansion storing.record_expansion
+leading_expansion call range file = record { goes = λ b. (went_same _ _ (refl, (refl, (refl, (refl, (refl, (refl, refl)))))), tt) }
+
+leading_each : (es : List Eager) → Leading any (record_each es)
+leading_each [] = leading_pure tt
+leading_each (e ∷ es) = then' (leading_expansion e.0 None e.1) (λ u. leading_each es)
+
+pub leading_call : (c : Entered) → Leading any (note c)
+unfolding note
+leading_call c = then' (leading_each c.eager) (λ u. leading_expansion _ _ c.file)
+
+pub leading_told : (c : Called) → Leading any (told c)
+leading_told tree.callless = leading_pure tt
+leading_told tree.unentered = leading_pure tt
+leading_told (tree.unresolved at path) = leading_report _
+leading_told (tree.entered c) = leading_call c
+leading_told tree.spliced = leading_pure tt
+
+leading_calls : (cs : List Entered) → Leading any (note_each cs)
+leading_calls [] = leading_pure tt
+leading_calls (c ∷ cs) = then' (leading_call c) (λ u. leading_calls cs)
+
+leading_condition : (o : Option (Pointer × CfgId)) → Leading any (report_condition o)
+leading_condition None = leading_pure tt
+leading_condition (Some c) = leading_report _
+
+pub leading_gone : (why : Gone) → Leading any (note_gone why)
+unfolding note_gone
+leading_gone why = then' (leading_calls why.entered) (λ u. leading_condition why.condition)
 
 -- where a value leads to is no way of a node
 pub leading_point_field : (i : ExprId) (at : Pointer) → Leading any (point_field i at)
@@ -368,12 +426,12 @@ leading_made e source = record { goes = λ b. by b (nat_lt (length b.stored.expr
     )
     by b false = went_refl b.stored
 
-pub leading_alloc_pat : (p : HirPat) (source : Option Pointer) → Leading any (alloc_pat p source)
+pub leading_alloc_pat : (p : HirPat) (source : Option Pointer) → Leading new_pat (alloc_pat p source)
 unfolding alloc_pat storing.alloc_pat
 leading_alloc_pat p source = record { goes = λ b. by b (nat_lt (length b.stored.pats.entries) b.stored.pats.limit) }
   where
     by : (b : Builder) (t : Bool)
-        → Goes any b (made pat_id t p source b.stored.pats).0
+        → Goes new_pat b (made pat_id t p source b.stored.pats).0
         (record b { stored = record b.stored { pats = (made pat_id t p source b.stored.pats).1 } })
     by b true = (
       record {
@@ -385,7 +443,7 @@ leading_alloc_pat p source = record { goes = λ b. by b (nat_lt (length b.stored
         bindings = prefix_refl _;
         owners = λ m. (prefix_refl _, m);
       },
-      tt,
+      omega arith,
     )
     by b false = went_refl b.stored
 
@@ -427,12 +485,12 @@ pub leading_point_pat_field : (id : PatId) (at : Pointer) → Leading any (point
 unfolding point_pat_field storing.point_pat_field
 leading_point_pat_field id at = record { goes = λ b. (went_same _ _ (refl, (refl, (refl, (refl, (refl, (refl, refl)))))), tt) }
 
-pub leading_alloc_type : (e : TypeRef) (source : Option Pointer) → Leading any (alloc_type e source)
+pub leading_alloc_type : (e : TypeRef) (source : Option Pointer) → Leading new_type (alloc_type e source)
 unfolding alloc_type storing.alloc_type
 leading_alloc_type e source = record { goes = λ b. by b (nat_lt (length b.stored.types.entries) b.stored.types.limit) }
   where
     by : (b : Builder) (t : Bool)
-        → Goes any b (made type_id t e source b.stored.types).0
+        → Goes new_type b (made type_id t e source b.stored.types).0
         (record b { stored = record b.stored { types = (made type_id t e source b.stored.types).1 } })
     by b true = (
       record {
@@ -444,7 +502,7 @@ leading_alloc_type e source = record { goes = λ b. by b (nat_lt (length b.store
         bindings = prefix_refl _;
         owners = λ m. (prefix_refl _, m);
       },
-      tt,
+      omega arith,
     )
     by b false = went_refl b.stored
 
@@ -545,6 +603,56 @@ leading_point at {p = p} h = record { goes = λ b. by b (p b).0 (p b).1 (h.goes 
         labels = x.0.labels;
         pats = x.0.pats;
         types = x.0.types;
+        lifetimes = x.0.lifetimes;
+        bindings = x.0.bindings;
+        owners = x.0.owners;
+      },
+      x.1,
+    )
+    by b (Err e) c x = x
+
+pub leading_point_pat : {A : Type 0} (at : Pointer) (pat_in : A → PatId) {L : Low A} {p : Lowering A}
+    → ((s : Stored) (a : A) → L s a → new_pat s (pat_in a)) → Leading L p
+    → Leading L (p >>= (λ a. point_pat at (pat_in a) >>= (λ _. pure a)))
+unfolding point_pat storing.point_pat
+leading_point_pat {A = A} at pat_in {L = L} {p = p} new h = record { goes = λ b. by b (p b).0 (p b).1 (h.goes b) }
+  where
+    by : (b : Builder) (o : Checked A) (c : Builder) → Goes L b o c
+        → Goes L b (go_on o c (λ a. point_pat at (pat_in a) >>= (λ _. pure a))).0
+        (go_on o c (λ a. point_pat at (pat_in a) >>= (λ _. pure a))).1
+    by b (Ok a) c x = (
+      record {
+        exprs = x.0.exprs;
+        labels = x.0.labels;
+        pats = record {
+          grown = x.0.pats.grown;
+          ways = on_trans pat_place _ _ _ _ x.0.pats.ways (on_insert pat_place _ c.stored.pats.map at (pat_in a) (new b.stored a x.1));
+        };
+        types = x.0.types;
+        lifetimes = x.0.lifetimes;
+        bindings = x.0.bindings;
+        owners = x.0.owners;
+      },
+      x.1,
+    )
+    by b (Err e) c x = x
+
+pub leading_point_type : (at : Pointer) {p : Lowering TypeRefId} → Leading new_type p
+    → Leading new_type (p >>= (λ i. point_type at i >>= (λ _. pure i)))
+unfolding point_type storing.point_type
+leading_point_type at {p = p} h = record { goes = λ b. by b (p b).0 (p b).1 (h.goes b) }
+  where
+    by : (b : Builder) (o : Checked TypeRefId) (c : Builder) → Goes new_type b o c
+        → Goes new_type b (go_on o c (λ i. point_type at i >>= (λ _. pure i))).0 (go_on o c (λ i. point_type at i >>= (λ _. pure i))).1
+    by b (Ok i) c x = (
+      record {
+        exprs = x.0.exprs;
+        labels = x.0.labels;
+        pats = x.0.pats;
+        types = record {
+          grown = x.0.types.grown;
+          ways = on_trans type_place _ _ _ _ x.0.types.ways (on_insert type_place _ c.stored.types.map at i x.1);
+        };
         lifetimes = x.0.lifetimes;
         bindings = x.0.bindings;
         owners = x.0.owners;
