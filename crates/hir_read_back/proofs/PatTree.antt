@@ -23,6 +23,7 @@ use Rattle.hir_data.specs.Patterns as written
 use Rattle.hir_data.specs.Patterns.{written_pat}
 use Rattle.hir_data.specs.Reading.{stored_pat}
 use Rattle.hir_data.specs.Written.{path_of}
+use Rattle.hir_read_back.proofs.Calls as calls
 use Rattle.hir_read_back.proofs.Layers.{Reads}
 use Rattle.hir_read_back.proofs.Names.{none_named as nothing_named}
 use Rattle.hir_read_back.proofs.Pats as kinds
@@ -96,6 +97,8 @@ mutual
   pat_reads (tree.or_pat at tree.no_pats) = kinds.plain_reads at (pat.Or []) (λ final r. refl)
   pat_reads (tree.or_pat at (tree.more_pats p ps)) = parts.or_reads at (pat_reads p) (later_read ps)
   pat_reads (tree.paren_pat at p) = pat_part_reads p
+  pat_reads (tree.macro_pat at c tree.no_pat) = kinds.alone_reads (calls.uncalled_pat_reads at c)
+  pat_reads (tree.macro_pat at c (tree.some_pat p)) = calls.called_pat_reads at c (pat_reads p)
   pat_reads (tree.slice_pat at before middle behind) = parts.slice_reads at (λ t. all_named (pats_read before [] t))
       (subpattern_reads middle) (λ t. all_named (pats_read behind [] t))
   pat_reads (tree.over_pat at form p) = kinds.over_reads at form (pat_part_reads p)

@@ -31,6 +31,7 @@ use Rattle.hir_data.specs.Reading.{stored_pat}
 use Rattle.hir_data.specs.Rule.{PathRead, data_of}
 use Rattle.hir_data.specs.Targets as written
 use Rattle.hir_data.specs.Written.{path_of}
+use Rattle.hir_read_back.proofs.Calls.{told_target_reads}
 use Rattle.hir_read_back.proofs.Going.{PathIs}
 use Rattle.hir_read_back.proofs.Layers.{Reads, Pushed, pushed_all, within, a_path}
 use Rattle.hir_read_back.proofs.Lookup.{looked_up_by}
@@ -249,6 +250,7 @@ mutual
   pub target_reads : (t : Target) → Correct (lower.lower_target t) (Reads a_pat (written.target_data t))
   target_reads tree.absent_target = missing_pattern_reads
   target_reads (tree.place_target at e) = place_reads at (part_any (tree.some_expr e))
+  target_reads (tree.macro_target at c t) = told_target_reads c (target_reads t)
   target_reads (tree.wild_target at) = pattern0 pat.Wild (Some at) (λ final r. refl)
   target_reads (tree.path_target at p h) = path_target_reads (path_of (tree.some_path p)) at h (path_reads (tree.some_path p))
   target_reads (tree.tuple_target at ts) = tuple_target_reads at (targets_read ts no_elements)

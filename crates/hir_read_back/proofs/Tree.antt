@@ -22,7 +22,8 @@ use Rattle.hir_lower_form.specs.Walks.{start, at_first, missing_name, self_type_
 use Rattle.hir_lower_form.specs.Paths.{whole}
 use Rattle.hir_lower_form.specs.Types.{no_lists}
 use Rattle.hir_lower_form.specs.Lower as lower
-use Rattle.hir_steps.proofs.Steps.{Correct, correct_report}
+use Rattle.hir_steps.proofs.Calls.{correct_note_gone}
+use Rattle.hir_steps.proofs.Steps.{Correct}
 use Rattle.hir_steps.proofs.Keeping.{part_any, present_any, each_any, block_part_any, contents_part_any, contents_any, fields_any}
 use Rattle.hir_steps.proofs.Keeping.{any, turn_any, spread_any, one_type_any, type_any, lower_path_any, args_any, top_any, arms_any}
 use Rattle.hir_steps.proofs.Keeping.{for_loop_any, target_any, constant_any, rooted_any, params_any, present_type_any}
@@ -32,6 +33,7 @@ use Rattle.hir_data.specs.Rule.{broken, named}
 use Rattle.hir_data.specs.Written as written
 use Rattle.hir_read_back.proofs.Layers.{a_type, types_before, maybe_type, a_bound, many_bounds, a_list, Reads, value0, Pushed}
 use Rattle.hir_read_back.proofs.Layers.{a_constant}
+use Rattle.hir_read_back.proofs.Calls as calls
 use Rattle.hir_read_back.proofs.Sites as sites
 use Rattle.hir_read_back.proofs.Sites.{From, ends_from, missing_from, owning_from}
 use Rattle.hir_read_back.proofs.Layers.{pushed_all, type0}
@@ -61,6 +63,8 @@ mutual
 
   type_reads : (b : Option Binder) (t : Type_) → Correct (lower.lower_type b t) (Reads a_type (written.type_data b t))
   type_reads b (tree.paren_type t) = part_reads b t
+  type_reads b (tree.macro_type at c tree.no_type) = calls.uncalled_type_reads at c
+  type_reads b (tree.macro_type at c (tree.some_type t)) = calls.called_type_reads at c (type_reads b t)
   type_reads b (tree.for_type binder t) = part_reads (Some binder) t
   type_reads b (tree.leaf_type at l) = kinds.leaf_reads at l
   type_reads b (tree.over_type at u t) = kinds.over_reads at u (part_reads None t)
@@ -191,6 +195,8 @@ mutual
 
   type_pat_reads : (p : TypePat) → Correct (lower.lower_type_pat p) (Reads a_pat (written.type_pat_data p))
   type_pat_reads (tree.not_null_type_pat at) = pats.pattern0 pat.NotNull (Some at) (λ final r. refl)
+  type_pat_reads (tree.macro_type_pat at c tree.no_type_pat) = calls.uncalled_pat_reads at c
+  type_pat_reads (tree.macro_type_pat at c (tree.some_type_pat p)) = calls.called_type_pat_reads at c (type_pat_reads p)
   type_pat_reads (tree.or_type_pat at ps) = pats.type_alternatives_reads at (pushed_all (type_pats_read ps []))
   type_pat_reads (tree.range_type_pat at start end) = pats.limits_reads at (limit_reads start) (limit_reads end)
   type_pat_reads (tree.other_type_pat at) = pats.pattern0 pat.Missing (Some at) (λ final r. refl)
@@ -230,8 +236,10 @@ mutual
       (λ n. sites.block_form_from at is_unsafe n number (contents_part_any ss e))
 
   expr_from : (e : Expr) → From (written.expr_site e) (lower.lower e)
-  expr_from (tree.disabled_expr at by e) = ends_from (correct_report _) (λ u. missing_from)
+  expr_from (tree.disabled_expr why e) = ends_from (correct_note_gone why) (λ u. missing_from)
   expr_from (tree.paren_expr at e) = sites.paren_from at (part_from e)
+  expr_from (tree.macro_expr at c tree.no_expr) = calls.uncalled_from at c
+  expr_from (tree.macro_expr at c (tree.some_expr e)) = calls.called_from at c (expr_from e)
   expr_from (tree.block_expr b) = block_from b
   expr_from (tree.record_expr at p head fs s) =
       sites.record_from at (written.path_of p) (path_reads p) (contents_any (fields_any [] fs) (spread_any s))

@@ -29,6 +29,7 @@ use Rattle.hir_steps.proofs.ApartPats.{elements_apart, missing_pat_apart, named_
 use Rattle.hir_steps.proofs.ApartTree as apart
 use Rattle.hir_steps.proofs.Barriers.{raises_yield, still_closure, still_coroutine}
 use Rattle.hir_steps.proofs.CoroutineClosures.{still_coroutine_closure}
+use Rattle.hir_steps.proofs.Calls.{only_gone, only_note, only_told, raises_only}
 use Rattle.hir_steps.proofs.Logic.{mark}
 use Rattle.hir_steps.proofs.Owning.{raises_owning, still_owning}
 use Rattle.hir_steps.proofs.StillPats.{elements_still, missing_pat_still, named_still}
@@ -40,6 +41,7 @@ use Rattle.hir_data.specs.Written.{path_of}
 use Rattle.hir_data.specs.Yields.{arms_yields, block_part_yields, block_yields, each_yields, expr_yields, fields_yields, guard_yields}
 use Rattle.hir_data.specs.Yields.{spread_yields, stmts_yields, target_fields_yields, target_yields, targets_yields, yields_if_read}
 use Rattle.hir_data.specs.Yields.{yields_in}
+use Rattle.hir_read_back.proofs.Calls as calls
 use Rattle.hir_read_back.proofs.Now.{answered}
 use Rattle.hir_read_back.proofs.Tree.{path_reads}
 use Rattle.hir_read_back.proofs.Walk.{Answers}
@@ -128,12 +130,12 @@ module _ (at : Pointer) where
 
 -- a disabled one leaves a fault and nothing else
 kept_raises : (e : Expr) {p : ExprSteps} → Raises (expr_yields e) p → Raises (expr_yields e) (kept e p)
-kept_raises (tree.disabled_expr at by e) h = raises_begin (report_off _) (λ u. raises_pure None)
+kept_raises (tree.disabled_expr why e) h = raises_begin (raises_only (only_gone why)) (λ u. raises_pure None)
 kept_raises e h = some_raises h
 
 mutual
   expr_raises : (e : Expr) → Raises (expr_yields e) (lower.lower e)
-  expr_raises (tree.disabled_expr at by e) = raises_begin (report_off _) (λ u. missing_off)
+  expr_raises (tree.disabled_expr why e) = raises_begin (raises_only (only_gone why)) (λ u. missing_off)
   expr_raises (tree.if_expr at c t e) = forms.if_raises at (part_raises c) (block_part_raises t) (present_raises e)
   expr_raises (tree.block_expr b) = block_raises b
   expr_raises (tree.loop_expr at label _ b) = forms.loop_raises at _ label (block_part_raises b)
@@ -156,6 +158,8 @@ mutual
   expr_raises (tree.continue_expr at jump) = forms.continue_off at jump
   expr_raises (tree.break_expr at jump e) = forms.break_raises at jump (present_raises e)
   expr_raises (tree.paren_expr at e) = forms.paren_raises at (part_raises e)
+  expr_raises (tree.macro_expr at c tree.no_expr) = calls.uncalled_off at c
+  expr_raises (tree.macro_expr at c (tree.some_expr e)) = calls.called_raises at c (expr_raises e)
   expr_raises (tree.literal_expr at l) = stored_off _ (Some at)
   expr_raises (tree.leaf_expr at form) = stored_off _ (Some at)
   expr_raises (tree.unary_expr at form e) = forms.operand_raises at _ (part_raises e)
@@ -238,6 +242,8 @@ mutual
       raises_as (sym (or_assoc (yields_in e) (stmts_yields ss) y))
       (raises_then (raises_end (kept_part_raises e) (λ x. raises_pure _)) (λ x. stmts_raise _ ss h))
   stmts_raise done (tree.more_stmts tree.item_stmt ss) h = stmts_raise (done ++ statement.Item ∷ []) ss h
+  stmts_raise done (tree.more_stmts (tree.call_stmt c) ss) h =
+      raises_begin (raises_begin (raises_only (only_note c)) (λ u. raises_pure None)) (λ x. stmts_raise _ ss h)
   stmts_raise done (tree.more_stmts (tree.let_stmt p t e b) ss) {y = y} h =
       raises_as (sym (or_assoc (yields_in e || block_part_yields b) (stmts_yields ss) y))
       (raises_then (forms.let_stmt_raises (top_off p) (present_type_off t) (present_raises e) (present_block_raises b))
@@ -257,6 +263,7 @@ mutual
   target_raises : (t : Target) → Raises (target_yields t) (lower.lower_target t)
   target_raises tree.absent_target = raises_still missing_pat_apart missing_pat_still
   target_raises (tree.place_target at e) = place_raises at (expr_raises e)
+  target_raises (tree.macro_target at c t) = raises_begin (raises_only (only_told c)) (λ u. target_raises t)
   target_raises (tree.wild_target at) = pat_off _ (Some at)
   target_raises (tree.path_target at p h) = path_target_off at h
       (raises_begin (raises_still (apart.reading_apart p start) (still.reading_still p start)) (λ r. raises_pure (path_read r)))

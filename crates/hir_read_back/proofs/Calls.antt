@@ -1,0 +1,93 @@
+-- What a call of a macro becomes reads back as what the call stands for.
+use Rattle.std.proofs.Common.{refl, arith, Bool, false, Option, Some}
+use Rattle.hir_store.specs.Pointers.{Pointer}
+use Rattle.hir_store.specs.declared.hir.Expr.TheVariants as hir
+use Rattle.hir_store.specs.declared.ids.PatId.{PatId}
+use Rattle.hir_store.specs.declared.type_ref.TypeRef.TheVariants as ty
+use Rattle.hir_env.specs.Answered as tree
+use Rattle.hir_env.specs.Answered.{Called}
+use Rattle.hir_env.specs.NodeMap.{Site}
+use Rattle.hir_env.specs.Spot.{site_of}
+use Rattle.hir_lower_form.specs.Calls.{told}
+use Rattle.hir_lower_form.specs.Forms.{ExprSteps, called_form, uncalled_form}
+use Rattle.hir_lower_form.specs.Lowering.{Lowering, ◌>>=◌, ◌>>◌, pure}
+use Rattle.hir_lower_form.specs.Pats.{Table, called_pat_form, uncalled_pat}
+use Rattle.hir_lower_form.specs.Types.{TypeSteps, called_type_form, uncalled_type}
+use Rattle.hir_steps.proofs.Calls.{correct_point_pat, correct_point_type, correct_told, only_told, raises_only}
+use Rattle.hir_steps.proofs.Steps.{Correct, Rel, correct_as, correct_bind, correct_pure}
+use Rattle.hir_steps.proofs.Yields.{Raises, raises_begin}
+use Rattle.hir_data.specs.Data as datum
+use Rattle.hir_data.specs.Data.{PatData, TypeData, absent_pattern, typed}
+use Rattle.hir_data.specs.Uses.{FirstUses}
+use Rattle.hir_data.specs.Written.{call_source}
+use Rattle.hir_read_back.proofs.Layers.{Layer, Reads, a_type, type0}
+use Rattle.hir_read_back.proofs.Pats.{PatFine, a_pat}
+use Rattle.hir_read_back.proofs.Sites as sites
+use Rattle.hir_read_back.proofs.Sites.{From, ends_from}
+use Rattle.hir_read_back.proofs.TypePats.{missing_pattern_reads}
+use Rattle.hir_read_back.proofs.Types.{error_type_reads}
+use Rattle.hir_read_back.proofs.YieldForms.{paren_raises, stored_off}
+
+-- behind what is told of a call
+told_reads : {A D : Type 0} {l : Layer A D} {x : D} (c : Called) {p : Lowering A} → Correct p (Reads l x)
+    → Correct (told c >> p) (Reads l x)
+told_reads c h = correct_as (correct_bind (correct_told c) (λ u. h)) (λ final ps m m' a g row. record { is = row.second.is })
+
+-- in front of what stores no type and no pattern
+reads_before : {A B D : Type 0} {l : Layer A D} {x : D} {p : Lowering A} {q : A → Lowering B} {R : A → Rel B} → Correct p (Reads l x)
+    → ((a : A) → Correct (q a) (R a)) → Correct (p >>= (λ a. q a >>= (λ b. pure a))) (Reads l x)
+reads_before h k = correct_as (correct_bind h (λ a. correct_bind (k a) (λ b. correct_pure a)))
+    (λ final ps m m' a g row. rw row.second.second.is (record { is = λ d le. row.first.is d (omega (le, row.after.entries, arith)) }))
+
+module _ (at : Pointer) where
+  pub called_type_reads : (c : Called) {x : TypeData} {t : TypeSteps} → Correct t (Reads a_type x)
+      → Correct (called_type_form at c t) (Reads a_type x)
+  unfolding called_type_form
+  called_type_reads c h = told_reads c (reads_before h (λ i. correct_point_type at i))
+
+  pub uncalled_type_reads : (c : Called) → Correct (uncalled_type at c) (Reads a_type (typed (call_source at c) datum.error_shape))
+  uncalled_type_reads tree.callless = type0 ty.Error (Some at) (λ final r. refl)
+  uncalled_type_reads c = called_type_reads c error_type_reads
+
+  pub called_type_pat_reads : (c : Called) {x : PatData} {p : Lowering PatId} → Correct p (Reads a_pat x)
+      → Correct (called_pat_form at c (λ i. i) p) (Reads a_pat x)
+  unfolding called_pat_form
+  called_type_pat_reads c h = told_reads c (reads_before h (λ i. correct_point_pat at i))
+
+  pub uncalled_pat_reads : (c : Called) → Correct (uncalled_pat at c) (Reads a_pat absent_pattern)
+  uncalled_pat_reads tree.callless = missing_pattern_reads
+  uncalled_pat_reads c = called_type_pat_reads c missing_pattern_reads
+
+  pub called_pat_reads : (c : Called) {x : FirstUses → PatData} {f : FirstUses → FirstUses} {p : Table → Lowering (PatId × Table)}
+      → PatFine a_pat p x f → PatFine a_pat (λ t. called_pat_form at c (λ r. r.0) (p t)) x f
+  unfolding called_pat_form
+  called_pat_reads c h t = correct_as
+      (correct_bind (correct_told c) (λ u. correct_bind (h t) (λ r. correct_bind (correct_point_pat at r.0) (λ v. correct_pure r))))
+      (λ final ps m m' r g row. let s = row.second in rw s.second.second.is (record {
+        uses = s.first.uses;
+        reads = λ us named d le. s.first.reads us named d (omega (le, s.after.entries, arith));
+      }))
+
+  -- where it comes from
+
+  pub uncalled_from : (c : Called) → From (Some (site_of at)) (uncalled_form at c)
+  unfolding uncalled_form
+  uncalled_from c = told_reads c (sites.alloc_from hir.Missing (Some at))
+
+  pub called_from : (c : Called) {x : Option Site} {e : ExprSteps} → From x e → From x (called_form at c e)
+  unfolding called_form
+  called_from c h = told_reads c (sites.paren_from at h)
+
+  -- whether a `yield` stands in it
+
+  pub uncalled_off : (c : Called) → Raises false (uncalled_form at c)
+  unfolding uncalled_form
+  uncalled_off c = raises_begin (raises_only (only_told c)) (λ u. stored_off _ (Some at))
+
+  pub called_raises : (c : Called) {y : Bool} {e : ExprSteps} → Raises y e → Raises y (called_form at c e)
+  unfolding called_form
+  called_raises c h = raises_begin (raises_only (only_told c)) (λ u. paren_raises at h)
+
+-- what is assigned to by a call
+pub told_target_reads : (c : Called) {x : PatData} {p : Lowering PatId} → Correct p (Reads a_pat x) → Correct (told c >> p) (Reads a_pat x)
+told_target_reads c h = told_reads c h
