@@ -1,5 +1,4 @@
 -- What is done with calls of macros: made names stay apart, and no `yield` stands in it but in what a call stands for.
-use Rattle.std.proofs.Common.{◌≡◌}
 use Rattle.hir_store.specs.Pointers.{Pointer}
 use Rattle.hir_store.specs.declared.ids.PatId.{PatId}
 use Rattle.hir_env.specs.Answered as tree

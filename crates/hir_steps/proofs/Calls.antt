@@ -1,5 +1,5 @@
 -- What is told of calls of macros, and that their nodes lead to what they stand for: steps by what they do.
-use Rattle.std.proofs.Common.{◌≡◌, ◌∙◌, refl, sym, ap, subst, List, [], ◌∷◌, ◌++◌, map, Option, Some, None, Ok, append-nil, append_assoc}
+use Rattle.std.proofs.Common.{◌≡◌, ◌∙◌, refl, sym, ap, subst, false, List, [], ◌∷◌, ◌++◌, map, Option, Some, None, Ok, append-nil, append_assoc}
 use Rattle.hir_base.specs.declared.node.HirFileId.{HirFileId}
 use Rattle.hir_base.specs.declared.node.TextRange.{TextRange}
 use Rattle.hir_store.specs.Arenas.{with_way}
@@ -20,12 +20,11 @@ use Rattle.hir_env.specs.Answered as tree
 use Rattle.hir_env.specs.Answered.{Called, Entered, Gone}
 use Rattle.hir_lower_form.specs.Builder.{Builder}
 use Rattle.hir_lower_form.specs.Calls.{note, note_each, note_gone, record_each, report_condition, told}
-use Rattle.hir_lower_form.specs.Lowering.{go_on, Lowering, ◌>>=◌, ◌>>◌, pure, point_pat, point_type, record_expansion, report}
+use Rattle.hir_lower_form.specs.Lowering.{go_on, Lowering, ◌>>◌, pure, point_pat, point_type, record_expansion, report}
 use Rattle.hir_steps.specs.Calls.{Expansions, called_faults, condition_faults, eager_expansion, expansions_of_called}
 use Rattle.hir_steps.specs.Calls.{expansions_of_each, expansions_of_entered, expansions_of_gone, with_told}
-use Rattle.hir_steps.proofs.Apart.{Apart, apart_stored, then_apart}
-use Rattle.hir_steps.proofs.Frames.{Frame}
-use Rattle.hir_steps.proofs.Logic.{Mark, mark, counts, Holds, Correct, correct_as, grows_still}
+use Rattle.hir_steps.proofs.Apart.{Apart, apart_stored}
+use Rattle.hir_steps.proofs.Logic.{mark, Holds, Correct, correct_as, grows_still}
 use Rattle.hir_steps.proofs.Mapping.{leads_way}
 use Rattle.hir_steps.proofs.PatSteps.{PatWrites}
 use Rattle.hir_steps.proofs.Steps.{Writes}
