@@ -75,8 +75,8 @@ fn told<'a>(
     call: InFile<AstPtr>,
     expansion: Expansion<'a>,
 ) -> Result<Entered<'a>, StoreFault>
-    ensures { Lowers HasRead (told (called call (shown expansion)) >> pure (found_in left place (shown expansion)))
-        state.old (found result) state.new }
+    ensures { let x = shown expansion.entry in
+        Lowers HasRead (told (called call x) >> pure (found_in left place x)) state.old (found result) state.new }
 {
     match expansion {
         Expansion::NoExpansion => Ok(Entered::No),
