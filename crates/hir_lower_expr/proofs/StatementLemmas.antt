@@ -1,5 +1,5 @@
 -- What is in a block, one statement behind the other.
-use Rattle.std.proofs.Common.{◌≡◌, ◌∙◌, ap, refl, sym, Bool, true, false, List, [], ◌∷◌, Option, Some, None}
+use Rattle.std.proofs.Common.{◌≡◌, ◌∙◌, ap, refl, sym, List, [], ◌∷◌, Option, Some, None}
 use Rattle.std.specs.Prelude.{Result, Ok, Err}
 use Rattle.hir_base.specs.declared.node.AstPtr.{AstPtr}
 use Rattle.hir_syntax.specs.declared.ast.BlockExpr.{BlockExpr as AstBlockExpr, out-BlockExpr}
@@ -8,6 +8,7 @@ use Rattle.hir_syntax.specs.declared.ast.Expr.{Expr as AstExpr}
 use Rattle.hir_syntax.specs.declared.ast.ExprKind.{out-ExprKind}
 use Rattle.hir_syntax.specs.declared.ast.Stmt.{Stmt as AstStmt}
 use Rattle.hir_syntax.specs.declared.ast.StmtKind.{out-StmtKind}
+use Rattle.hir_syntax.specs.declared.macros.MacroCall.{MacroCall as AstMacroCall}
 use Rattle.hir_store.specs.Pointers.{Pointer}
 use Rattle.hir_store.specs.declared.hir.Statement.{Statement}
 use Rattle.hir_store.specs.declared.ids.CfgId.{CfgId}
@@ -25,36 +26,36 @@ use Rattle.hir_lower_form.specs.Lower.{StoredContents, kept_part, lower_stmt, pu
 use Rattle.hir_lower_form.specs.Lowering.{Checked, Lowering, go_on, pure}
 use Rattle.hir_lower_form.specs.Methods.{contents_at, flat, stmts_alone}
 use Rattle.hir_lower_form.proofs.Flat.{flat_is}
-use Rattle.hir_lower_expr.specs.Statements.{is_call, run_part, value_part}
+use Rattle.hir_lower_expr.specs.Calls.{call_in}
+use Rattle.hir_lower_expr.specs.Statements.{run_part, value_part}
 
 -- ---- an expression in statement or tail place
 
 -- what is no call stands for itself
-whole_at : (at : Spot) (k : ExprKindLayer written) (n : AstPtr) → is_call k ≡ false
+whole_at : (at : Spot) (k : ExprKindLayer written) (n : AstPtr) → call_in k ≡ None
     → value_kind at.answers (reader at.answers (into at)) k n at.place []
     ≡ whole_value (expr_kind at.answers (reader at.answers (into at)) k n at.place) []
 whole_at at (ExprKind-F.MacroExpr c) n h = cc
 whole_at at _ n h = refl
 
-pub value_whole : (at : Spot) (e : AstExpr) → is_call (out-ExprKind e.kind) ≡ false
+pub value_whole : (at : Spot) (e : AstExpr) → call_in (out-ExprKind e.kind) ≡ None
     → answered_value at [] e ≡ whole_value (answered at e) []
 value_whole at e h =
     value_is_level at [] e ∙ (whole_at at (out-ExprKind e.kind) (ptr e.id e.range) h
     ∙ ap (λ x. whole_value x []) (sym (expr_is_level at e)))
 
 -- and a call for nothing
-
-nothing_at : (at : Spot) (e : AstExpr) (k : ExprKindLayer written) → is_call k ≡ true
+nothing_at : (at : Spot) (e : AstExpr) (k : ExprKindLayer written) (c : Option AstMacroCall) → call_in k ≡ Some c
     → value_kind at.answers (reader at.answers (into at)) k (ptr e.id e.range) at.place []
     ≡ asked_splice (pointer_at at e.id e.range) (at.answers.cfg (site_of (pointer_at at e.id e.range))) (nothing []) []
-nothing_at at e (ExprKind-F.MacroExpr None) h = refl
-nothing_at at e (ExprKind-F.MacroExpr (Some c)) h = refl
-nothing_at at e _ h = cc
+nothing_at at e (ExprKind-F.MacroExpr None) c h = refl
+nothing_at at e (ExprKind-F.MacroExpr (Some x)) c h = refl
+nothing_at at e _ c h = cc
 
-pub value_nothing : (at : Spot) (e : AstExpr) → is_call (out-ExprKind e.kind) ≡ true
+pub value_nothing : (at : Spot) (e : AstExpr) (c : Option AstMacroCall) → call_in (out-ExprKind e.kind) ≡ Some c
     → answered_value at [] e
     ≡ asked_splice (pointer_at at e.id e.range) (at.answers.cfg (site_of (pointer_at at e.id e.range))) (nothing []) []
-value_nothing at e h = value_is_level at [] e ∙ nothing_at at e (out-ExprKind e.kind) h
+value_nothing at e c h = value_is_level at [] e ∙ nothing_at at e (out-ExprKind e.kind) c h
 
 -- ---- no macro is defined
 
@@ -62,13 +63,14 @@ splice_defines : (s : Pointer) (r : Result (Unit {0}) CfgId) → (asked_splice s
 splice_defines s (Ok _) = refl
 splice_defines s (Err by) = refl
 
-value_defines : (at : Spot) (e : AstExpr) (b : Bool) → is_call (out-ExprKind e.kind) ≡ b → (answered_value at [] e).defined ≡ []
-value_defines at e true h = ap (λ r. r.defined) (value_nothing at e h) ∙ splice_defines _ _
-value_defines at e false h = ap (λ r. r.defined) (value_whole at e h)
+value_defines : (at : Spot) (e : AstExpr) (o : Option (Option AstMacroCall)) → call_in (out-ExprKind e.kind) ≡ o
+    → (answered_value at [] e).defined ≡ []
+value_defines at e (Some c) h = ap (λ r. r.defined) (value_nothing at e c h) ∙ splice_defines _ _
+value_defines at e None h = ap (λ r. r.defined) (value_whole at e h)
 
 ended_defines : (at : Spot) (e : Option AstExpr) → (value_part at e).defined ≡ []
 ended_defines at None = refl
-ended_defines at (Some e) = value_defines at e (is_call (out-ExprKind e.kind)) refl
+ended_defines at (Some e) = value_defines at e (call_in (out-ExprKind e.kind)) refl
 
 kind_defines : (at : Spot) (k : StmtKindLayer written) (s : Pointer)
     → (stmt_at at.answers (reader at.answers (into at)) k at.place s []).defined ≡ []
