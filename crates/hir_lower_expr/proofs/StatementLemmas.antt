@@ -10,6 +10,7 @@ use Rattle.hir_syntax.specs.declared.ast.Stmt.{Stmt as AstStmt}
 use Rattle.hir_syntax.specs.declared.ast.StmtKind.{out-StmtKind}
 use Rattle.hir_syntax.specs.declared.macros.MacroCall.{MacroCall as AstMacroCall}
 use Rattle.hir_store.specs.Pointers.{Pointer}
+use Rattle.hir_store.specs.declared.fault.StoreFault.{StoreFault}
 use Rattle.hir_store.specs.declared.hir.Statement.{Statement}
 use Rattle.hir_store.specs.declared.ids.CfgId.{CfgId}
 use Rattle.hir_store.specs.declared.ids.ExprId.{ExprId}
@@ -103,17 +104,21 @@ run_defines at (s ∷ ss) =
     ∙ (ap (λ d. (stmts_of (read_stmt at.answers (into at)) (read_value at.answers (into at)) ss at.place d).defined) (stmt_defines at s)
     ∙ run_defines at ss)
 
-pub alone_append : (done : List Statement) (a b : Stmts) (c : Builder)
+go_behind : (done : List Statement) (ss b : Stmts)
+    → ((x : Option Statement) (d : Builder) → stmts_alone (push_some done x) (append ss b) d
+    ≡ go_on (stmts_alone (push_some done x) ss d).0 (stmts_alone (push_some done x) ss d).1 (λ xs. stmts_alone xs b))
+    → (o : Checked (Option Statement)) (d : Builder)
+    → go_on o d (λ x. stmts_alone (push_some done x) (append ss b))
+    ≡ go_on (go_on o d (λ x. stmts_alone (push_some done x) ss)).0 (go_on o d (λ x. stmts_alone (push_some done x) ss)).1
+    (λ xs. stmts_alone xs b)
+go_behind done ss b rest (Ok x) d = rest x d
+go_behind done ss b rest (Err e) d = refl
+
+alone_append : (done : List Statement) (a b : Stmts) (c : Builder)
     → stmts_alone done (append a b) c ≡ go_on (stmts_alone done a c).0 (stmts_alone done a c).1 (λ xs. stmts_alone xs b)
 alone_append done tree.no_stmts b c = refl
-alone_append done (tree.more_stmts s ss) b c = by (lower_stmt s c).0 (lower_stmt s c).1
-  where
-    by : (o : Checked (Option Statement)) (d : Builder)
-        → go_on o d (λ x. stmts_alone (push_some done x) (append ss b))
-        ≡ go_on (go_on o d (λ x. stmts_alone (push_some done x) ss)).0 (go_on o d (λ x. stmts_alone (push_some done x) ss)).1
-        (λ xs. stmts_alone xs b)
-    by (Ok x) d = alone_append (push_some done x) ss b d
-    by (Err e) d = refl
+alone_append done (tree.more_stmts s ss) b c =
+    go_behind done ss b (λ x d. alone_append (push_some done x) ss b d) (lower_stmt s c).0 (lower_stmt s c).1
 
 -- ---- what is in a block
 
@@ -142,7 +147,34 @@ pub contents_on : (at : Spot) (b : AstBlockExpr) (c : Builder)
 contents_on at b c =
     let node = out-BlockExpr b in
     let run = run_part at node.stmts in
-    let tail = λ d. value_or_none (read_stmt at.answers (into at)) (read_value at.answers (into at)) node.tail at.place d in
+    let tail : Defined → Spliced = λ d. value_or_none (read_stmt at.answers (into at)) (read_value at.answers (into at)) node.tail at.place d in
     (λ i. flat_is [] (append run.stmts (tail run.defined).stmts) (kept_part (tail run.defined).last) i c)
     ∙ (ap (λ d. flat [] (append run.stmts (tail d).stmts) (kept_part (tail d).last) c) (run_defines at node.stmts)
     ∙ flat_append run.stmts (value_part at node.tail) c)
+
+-- ---- step by step
+
+pub run_goes_on : (at : Spot) (s : AstStmt) (ss : List AstStmt) (done now : List Statement) (c d : Builder)
+    → stmts_alone done (stmt_level at [] s).stmts c ≡ (Ok now, d)
+    → stmts_alone done (run_part at (s ∷ ss)).stmts c ≡ stmts_alone now (run_part at ss).stmts d
+run_goes_on at s ss done now c d h =
+    ap (λ x. stmts_alone done x c) (run_more at s ss) ∙ (alone_append done (stmt_level at [] s).stmts (run_part at ss).stmts c
+    ∙ ap (λ z. go_on z.0 z.1 (λ xs. stmts_alone xs (run_part at ss).stmts)) h)
+
+pub run_fails : (at : Spot) (s : AstStmt) (ss : List AstStmt) (done : List Statement) (e : StoreFault) (c d : Builder)
+    → stmts_alone done (stmt_level at [] s).stmts c ≡ (Err e, d) → stmts_alone done (run_part at (s ∷ ss)).stmts c ≡ (Err e, d)
+run_fails at s ss done e c d h =
+    ap (λ x. stmts_alone done x c) (run_more at s ss) ∙ (alone_append done (stmt_level at [] s).stmts (run_part at ss).stmts c
+    ∙ ap (λ z. go_on z.0 z.1 (λ xs. stmts_alone xs (run_part at ss).stmts)) h)
+
+pub contents_go_on : (at : Spot) (b : AstBlockExpr) (done : List Statement) (c d : Builder)
+    → stmts_alone [] (run_part at (out-BlockExpr b).stmts).stmts c ≡ (Ok done, d)
+    → contents_at at b c
+    ≡ flat done (value_part at (out-BlockExpr b).tail).stmts (kept_part (value_part at (out-BlockExpr b).tail).last) d
+contents_go_on at b done c d h =
+    contents_on at b c ∙ ap (λ z. go_on z.0 z.1 (behind (value_part at (out-BlockExpr b).tail))) h
+
+pub contents_fail : (at : Spot) (b : AstBlockExpr) (e : StoreFault) (c d : Builder)
+    → stmts_alone [] (run_part at (out-BlockExpr b).stmts).stmts c ≡ (Err e, d) → contents_at at b c ≡ (Err e, d)
+contents_fail at b e c d h =
+    contents_on at b c ∙ ap (λ z. go_on z.0 z.1 (behind (value_part at (out-BlockExpr b).tail))) h

@@ -19,7 +19,7 @@ use Rattle.hir_env.specs.Whole.{into, read_stmt, read_value}
 use Rattle.hir_lower_form.specs.Builder.{Builder}
 use Rattle.hir_lower_form.specs.Lower.{kept_part}
 use Rattle.hir_lower_form.specs.Lowering.{Checked, Lowering, Lowers, SomeEnd, ◌>>◌, pure, report}
-use Rattle.hir_lower_form.specs.Methods.{HasContents, HasFlag, flat, stmts_alone}
+use Rattle.hir_lower_form.specs.Methods.{HasContents, flat, stmts_alone}
 
 -- the statements that are read here, and what stands behind them, where no macro is defined yet
 abbrev pub run_part : Spot → List AstStmt → StmtReading
