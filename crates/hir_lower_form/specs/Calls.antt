@@ -14,7 +14,7 @@ use Rattle.hir_env.specs.Lent.{fragment_lent}
 use Rattle.hir_env.specs.Spot.{Spot}
 use Rattle.hir_env.specs.Answered as tree
 use Rattle.hir_env.specs.Answered.{Called, Entered, Gone}
-use Rattle.hir_lower_form.specs.Lowering.{Lowering, Checked, ◌>>=◌, ◌>>◌, pure, record_expansion, report}
+use Rattle.hir_lower_form.specs.Lowering.{Lowering, Checked, ◌>>◌, pure, record_expansion, report}
 use Rattle.hir_lower_form.specs.declared.calls.Entered.{Entered as LentEntered}
 use Rattle.hir_lower_form.specs.declared.calls.Entered.TheVariants as lent
 
