@@ -1,2 +1,3 @@
+pub mod Here
 pub mod BoundsExist
 pub mod Params
