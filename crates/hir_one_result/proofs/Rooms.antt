@@ -146,6 +146,9 @@ takes_alloc e source = record { takes = λ b d. by b (nat_lt (length b.stored.ex
       pat_ways = refl;
       type_sources = no_sources b.stored.types refl;
       lifetime_sources = no_sources b.stored.lifetimes refl;
+      type_ways = refl;
+      pat_leads = refl;
+      type_leads = refl;
       names = unnamed refl;
       as_many = refl;
       owners = λ h. no_owners b.stored.bindings.owners refl;
@@ -185,6 +188,9 @@ takes_open l = record { takes = λ b d. by b (nat_lt (length b.stored.labels.ent
       pat_ways = refl;
       type_sources = no_sources b.stored.types refl;
       lifetime_sources = no_sources b.stored.lifetimes refl;
+      type_ways = refl;
+      pat_leads = refl;
+      type_leads = refl;
       names = unnamed refl;
       as_many = refl;
       owners = λ h. no_owners b.stored.bindings.owners refl;
@@ -219,6 +225,9 @@ takes_type x source = record { takes = λ b d. by b (nat_lt (length b.stored.typ
       pat_ways = refl;
       type_sources = refl;
       lifetime_sources = no_sources b.stored.lifetimes refl;
+      type_ways = refl;
+      pat_leads = refl;
+      type_leads = refl;
       names = unnamed refl;
       as_many = refl;
       owners = λ h. no_owners b.stored.bindings.owners refl;
@@ -255,6 +264,9 @@ takes_lifetime x source = record { takes = λ b d. by b (nat_lt (length b.stored
       pat_ways = refl;
       type_sources = no_sources b.stored.types refl;
       lifetime_sources = refl;
+      type_ways = refl;
+      pat_leads = refl;
+      type_leads = refl;
       names = unnamed refl;
       as_many = refl;
       owners = λ h. no_owners b.stored.bindings.owners refl;
@@ -293,6 +305,9 @@ takes_pat x source = record { takes = λ b d. by b (nat_lt (length b.stored.pats
       pat_ways = refl;
       type_sources = no_sources b.stored.types refl;
       lifetime_sources = no_sources b.stored.lifetimes refl;
+      type_ways = refl;
+      pat_leads = refl;
+      type_leads = refl;
       names = unnamed refl;
       as_many = refl;
       owners = λ h. no_owners b.stored.bindings.owners refl;
@@ -329,6 +344,9 @@ takes_made_pat x source = record { takes = λ b d. by b (nat_lt (length b.stored
       pat_ways = refl;
       type_sources = no_sources b.stored.types refl;
       lifetime_sources = no_sources b.stored.lifetimes refl;
+      type_ways = refl;
+      pat_leads = refl;
+      type_leads = refl;
       names = unnamed refl;
       as_many = refl;
       owners = λ h. no_owners b.stored.bindings.owners refl;
@@ -363,6 +381,9 @@ takes_binding x = record { takes = λ b d. by b (nat_lt (length b.stored.binding
       pat_ways = refl;
       type_sources = no_sources b.stored.types refl;
       lifetime_sources = no_sources b.stored.lifetimes refl;
+      type_ways = refl;
+      pat_leads = refl;
+      type_leads = refl;
       names = unnamed refl;
       as_many = refl;
       owners = λ h. refl;
@@ -418,6 +439,8 @@ as_body x n = record {
   pats = refl;
   types = refl;
   lifetimes = refl;
+  pat_leads = refl;
+  type_leads = refl;
   overcounts = λ x. x;
 }
 

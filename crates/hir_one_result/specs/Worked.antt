@@ -85,11 +85,15 @@ pub record Jumps : Type 0 where
 
 -- statements
 
+-- why something is gone at this node, without a call
+abbrev pub disabled_at : ℕ → CfgId → Gone
+disabled_at n by = record { entered = []; condition = Some (at n, by) }
+
 -- a block with a number, in which is a fault, disabled
 abbrev pub disabled_block : CfgId → Expr
 disabled_block by =
     let number : BlockId = record { 0 = 7 } in
-    tree.disabled_expr (at 2) by (tree.block_expr (tree.block (at 2) false None tt (Some number) tree.no_stmts (tree.some_expr break_a)))
+    tree.disabled_expr (disabled_at 2 by) (tree.block_expr (tree.block (at 2) false None tt (Some number) tree.no_stmts (tree.some_expr break_a)))
 
 -- a literal, with or without a semicolon, and then what is disabled
 abbrev pub literal_first : CfgId → Bool → Stmts

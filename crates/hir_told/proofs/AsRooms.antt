@@ -69,6 +69,8 @@ counts None = record {
   pats = refl;
   types = refl;
   lifetimes = refl;
+  pat_leads = refl;
+  type_leads = refl;
   overcounts = λ x. x;
 }
 counts (Some n) = record {
@@ -80,6 +82,8 @@ counts (Some n) = record {
   pats = refl;
   types = refl;
   lifetimes = refl;
+  pat_leads = refl;
+  type_leads = refl;
   overcounts = λ x. absurd x;
 }
 
@@ -264,6 +268,9 @@ fits {A = A} {n = n} {p = p} h old d = by (p old).0 (p old).1 (h.takes old d)
       pat_ways = h.pat_ways;
       type_sources = h.type_sources;
       lifetime_sources = h.lifetime_sources;
+      type_ways = h.type_ways;
+      pat_leads = h.pat_leads;
+      type_leads = h.type_leads;
     }
     by (Err f) new h = h
 
