@@ -1,7 +1,8 @@
 -- Where the nodes of patterns and types lead once those are stored.
-use Rattle.std.proofs.Common.{arith, ◌≡◌, ◌∙◌, ◌⊎◌, inl, inr, ⊎_elim, refl, sym, ap, subst, ℕ, zero, suc, ◌+◌, ◌<◌, ◌≤◌, List, [], ◌∷◌, ◌++◌}
+use Rattle.std.proofs.Common.{arith, ◌≡◌, ◌∙◌, ◌⊎◌, inl, inr, ⊎_elim, refl, sym, ap, subst, ℕ, zero, suc, ◌+◌, ◌-◌, ◌<◌, ◌≤◌, List, [], ◌∷◌, ◌++◌}
 use Rattle.std.proofs.Common.{append-nil, append_assoc, length, length-append, Bool, true, false, true≢false, Option, Some, None, is_some}
 use Rattle.std.proofs.Common.{slice_get, Contains}
+use Rattle.std.proofs.lemmas.List.Elements.{Contains-append_left, Contains-push}
 use Rattle.std.proofs.lemmas.Option.{same_Some}
 use Rattle.hir_store.specs.Pointers.{Pointer, found, same_pointer}
 use Rattle.hir_store.proofs.Maps.{entered, found_new, found_other, found_split, pointer_is}
@@ -58,14 +59,6 @@ below [] x n h = absurd (true≢false (sym (ap is_some h)))
 below (y ∷ xs) x zero h = omega arith
 below (y ∷ xs) x (suc n) h = let b = below xs x n h in omega (arith, b)
 
-into : {A : Type 0} (xs : List A) (x y : A) → Contains xs y → Contains (xs ++ x ∷ []) y
-into (z ∷ xs) x y (inl e) = inl e
-into (z ∷ xs) x y (inr h) = inr (into xs x y h)
-
-at_end : {A : Type 0} (xs : List A) (x : A) → Contains (xs ++ x ∷ []) x
-at_end [] x = inl refl
-at_end (y ∷ xs) x = inr (at_end xs x)
-
 module _ {I : Type 0} (place : I → ℕ) (number : ℕ → I) (placed : (n : ℕ) → place (number n) ≡ n) where
   abbrev Back : List (Option Pointer) → List Pointer → List (Pointer × I) → Type 0
   Back ss cs es = LeadBack place es ss cs
@@ -111,8 +104,8 @@ module _ {I : Type 0} (place : I → ℕ) (number : ℕ → I) (placed : (n : �
     back_called : (s : Pointer) → Back ss (cs ++ s ∷ []) (entered s (number (length ss - 1)) es)
     back_called s = record {
       to_source = λ p i f. ⊎_elim
-          (λ o. ⊎_elim (λ x. inl x) (λ c. inr (into cs s p c)) (h.to_source p i o))
-          (λ e. inr (subst (Contains (cs ++ s ∷ [])) e.0 (at_end cs s)))
+          (λ o. ⊎_elim (λ x. inl x) (λ c. inr (Contains-append_left cs (s ∷ []) p c)) (h.to_source p i o))
+          (λ e. inr (subst (Contains (cs ++ s ∷ [])) e.0 (Contains-push cs s)))
           (found_split s (number (length ss - 1)) es p i f);
       to_entry = λ n p g. let b = below ss (Some p) n g in
           still_led s ss (number (length ss - 1)) n p (let k = placed (length ss - 1) in omega (arith, k, b)) (h.to_entry n p g);

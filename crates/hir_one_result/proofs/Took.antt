@@ -165,9 +165,9 @@ same_both : (xs ys : List NodeLeads) {us vs : List (Option Pointer)} → sources
 same_both xs ys e f = sources_both xs ys ∙ (λ i. e i ++ f i)
 
 -- so many more by what leads to them
-as_led : (xs : List NodeLeads) {n held held' : ℕ} → length (sources_led xs) ≡ n → held' ≡ held + n
+as_led : (xs : List NodeLeads) (held : ℕ) {n held' : ℕ} → length (sources_led xs) ≡ n → held' ≡ held + n
     → held' ≡ held + length (sources_led xs)
-as_led xs {held = held} e f = f ∙ ap (λ k. held + k) (sym e)
+as_led xs held e f = f ∙ ap (λ k. held + k) (sym e)
 
 named_then : (a b c n k : ℕ) → b ≡ a + n → c ≡ b + k → c ≡ a + (n + k)
 named_then a b c n k e f = omega (arith, e, f)
@@ -191,11 +191,11 @@ took_then {n = n} {k = k} a b c t u = record {
   paired = λ h. u.paired (t.paired h);
   pat_sources = then_more a.stored.pats.sources n.pats k.pats t.pat_sources u.pat_sources;
   pat_ways = led_behind pat_id (length a.stored.pats.entries) n.pat_leads k.pat_leads a.stored.pats.map
-      (as_led n.pat_leads t.pat_leads t.pats.more) t.pat_ways u.pat_ways;
+      (as_led n.pat_leads _ t.pat_leads t.pats.more) t.pat_ways u.pat_ways;
   type_sources = then_more a.stored.types.sources n.types k.types t.type_sources u.type_sources;
   lifetime_sources = then_more a.stored.lifetimes.sources n.lifetimes k.lifetimes t.lifetime_sources u.lifetime_sources;
   type_ways = led_behind type_id (length a.stored.types.entries) n.type_leads k.type_leads a.stored.types.map
-      (as_led n.type_leads (ap length t.type_leads) t.types.more) t.type_ways u.type_ways;
+      (as_led n.type_leads _ (ap length t.type_leads) t.types.more) t.type_ways u.type_ways;
   pat_leads = long_both n.pat_leads k.pat_leads n.pats k.pats t.pat_leads u.pat_leads;
   type_leads = same_both n.type_leads k.type_leads t.type_leads u.type_leads;
   names = named_then a.names b.names c.names n.names k.names t.names u.names;

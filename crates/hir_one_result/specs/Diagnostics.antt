@@ -1,4 +1,5 @@
--- The faults of what lowering reads of a tree, in some order: one for each disabled node that is asked about, and one for each
+-- The faults of what lowering reads of a tree, in some order: one for each disabled node that is asked about, one for each call of a
+-- macro that isn't found, and one for each
 -- named jump that has no target, or none in reach, one for each await outside of async code, one for each expression behind the
 -- two dots of a record that is assigned to, and one for each parameter that may only be a name and isn't. Those of constants in
 -- types and paths are among them. What is in a disabled node isn't read.
@@ -17,6 +18,7 @@ use Rattle.hir_env.specs.Answered.{TypePat, OptionTypePat, TypePats, Limit, Targ
 use Rattle.hir_env.specs.Answered.{Formals, Param, Params}
 use Rattle.hir_data.specs.Written.{written_path}
 use Rattle.hir_meaning.specs.Syntax.{is_typed}
+use Rattle.hir_steps.specs.Calls.{called_faults, condition_faults}
 use Rattle.hir_one_result.specs.Blocks.{where_some, where_goes_on, unless}
 use Rattle.hir_one_result.specs.PathRoom.{Seen, nothing_seen, at_first, segments_read, own_read, yields}
 use Rattle.hir_scope.specs.Ribs.{Rib, Target as JumpTarget, reachable, unreachable, undeclared, target, map_ribs}

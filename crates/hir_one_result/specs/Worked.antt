@@ -36,7 +36,7 @@ use Rattle.hir_scope.specs.Ribs.{try_rib, barrier_rib}
 use Rattle.hir_scope.specs.Scopes.{loop_scope, barrier}
 use Rattle.hir_env.specs.Answered as tree
 use Rattle.hir_env.specs.Answered.{ForItems, QuestionItems, Segment, Expr, OptionExpr, Exprs, Block, Stmts, Use, Pat, OptionPat}
-use Rattle.hir_env.specs.Answered.{Formals, Params}
+use Rattle.hir_env.specs.Answered.{Formals, Gone, Params}
 use Rattle.hir_data.specs.BindingRule.{made_for}
 use Rattle.hir_data.specs.Worked.{whole}
 use Rattle.hir_meaning.specs.Small.{at, root, one, two, literal_at, label_with, label_a, jump_a, first, in_braces, loop_of}

@@ -54,7 +54,7 @@ module _ {X : Type 0} (L : Listing X) where
 
   pub tells_made : (e : HirExpr) (at : Option Pointer) → Correct (alloc_made e at) (Tells L (nothing L))
   tells_made e at = correct_as (correct_alloc_made e at) (λ final ps m m' i g row. record {
-    told = λ ss x. added_none L (ap L.list row.stored ∙ L.unchanged m.stored (put_made e at m.stored) refl refl);
+    told = λ ss x. added_none L (ap L.list row.stored ∙ L.unchanged m.stored (put_made e at m.stored) refl refl refl);
   })
 
   place_tells : (place : Option ℕ) → Correct (counted_place place) (Tells L (nothing L))
@@ -67,7 +67,7 @@ module _ {X : Type 0} (L : Listing X) where
 
   pub field_tells : (p : PatId) (at : Pointer) → Correct (point_pat_field p at) (Tells L (nothing L))
   field_tells p at = correct_as (correct_point_pat_field p at) (λ final ps m m' u g row. record {
-    told = λ ss e. added_none L (ap L.list row.stored ∙ L.unchanged m.stored (with_field_pat p at m.stored) refl refl);
+    told = λ ss e. added_none L (ap L.list row.stored ∙ L.unchanged m.stored (with_field_pat p at m.stored) refl refl refl);
   })
 
   pub asked_tells : Correct try_target (Tells L (nothing L))
