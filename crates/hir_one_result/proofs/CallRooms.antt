@@ -87,7 +87,7 @@ types_called b at i e = record {
 }
 
 -- where the answer is the last pattern
-tells_called : (at : Pointer) {A : Type 0} (pat_in : A → PatId) {n : Size} {P : A → Type 0} {p : Lowering A} → LastPat pat_in p
+pub tells_called : (at : Pointer) {A : Type 0} (pat_in : A → PatId) {n : Size} {P : A → Type 0} {p : Lowering A} → LastPat pat_in p
     → Tells n P p → Tells (n ∪ a_pat_call at) P (p >>= (λ r. point_pat at (pat_in r) >>= (λ v. pure r)))
 unfolding point_pat storing.point_pat
 tells_called at {A = A} pat_in {n = n} {P = P} {p = p} l h =
@@ -99,7 +99,7 @@ tells_called at {A = A} pat_in {n = n} {P = P} {p = p} l h =
     by b (Ok r) c e x = (took_then b c _ x.0 (pats_called c at (pat_in r) e), x.1)
     by b (Err f) c e x = short_first n (a_pat_call at) b x
 
-takes_called_type : (at : Pointer) {n : Size} {p : Lowering TypeRefId} → LastType p → Takes n p
+pub takes_called_type : (at : Pointer) {n : Size} {p : Lowering TypeRefId} → LastType p → Takes n p
     → Takes (n ∪ a_type_call at) (p >>= (λ r. point_type at r >>= (λ v. pure r)))
 unfolding point_type storing.point_type
 takes_called_type at {n = n} {p = p} l h = record { takes = λ b d. by b (p b).0 (p b).1 (l.last b) (h.takes b d) }

@@ -1,5 +1,5 @@
 -- What calls of macros add to a list of what is told.
-use Rattle.std.proofs.Common.{◌≡◌, ◌∙◌, sym, ap, subst, List, [], ◌++◌, append-nil}
+use Rattle.std.proofs.Common.{◌≡◌, ◌∙◌, refl, sym, ap, subst, List, [], ◌++◌}
 use Rattle.hir_store.specs.Pointers.{Pointer}
 use Rattle.hir_store.specs.Stored.{Stored}
 use Rattle.hir_store.specs.declared.diagnostics.ExpressionStoreDiagnostics.{ExpressionStoreDiagnostics}
@@ -40,11 +40,11 @@ module _ {X : Type 0} (L : Listing X) where
       → Correct (note_gone why) (Tells L (λ ss. L.of_told (expansions_of_gone why) (condition_faults why.condition)))
   gone_tells why = only_tells (only_gone why)
 
-  tells_point_pat : (at : Pointer) (i : PatId) → Correct (point_pat at i) (Tells L (nothing L))
+  pub tells_point_pat : (at : Pointer) (i : PatId) → Correct (point_pat at i) (Tells L (nothing L))
   tells_point_pat at i = correct_as (correct_point_pat at i) (λ final ps m m' u g row.
       record { told = λ ss e. added_none L (ap L.list row.stored ∙ L.unchanged m.stored (pointing_pat at i m.stored) refl refl refl) })
 
-  tells_point_type : (at : Pointer) (i : TypeRefId) → Correct (point_type at i) (Tells L (nothing L))
+  pub tells_point_type : (at : Pointer) (i : TypeRefId) → Correct (point_type at i) (Tells L (nothing L))
   tells_point_type at i = correct_as (correct_point_type at i) (λ final ps m m' u g row.
       record { told = λ ss e. added_none L (ap L.list row.stored ∙ L.unchanged m.stored (pointing_type at i m.stored) refl refl refl) })
 

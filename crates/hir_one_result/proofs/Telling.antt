@@ -81,7 +81,7 @@ module _ {X : Type 0} (L : Listing X) where
   pub added_none : {a b : Stored} → L.list b ≡ L.list a → Added [] a b
   added_none e = record { more = []; is = e ∙ sym (append-nil _); like = L.same [] }
 
-  added_these : (xs : List X) {a b : Stored} → L.list b ≡ L.list a ++ xs → Added xs a b
+  pub added_these : (xs : List X) {a b : Stored} → L.list b ≡ L.list a ++ xs → Added xs a b
   added_these xs e = record { more = xs; is = e; like = L.same xs }
 
   pub added_then : {xs ys : List X} {a b c : Stored} → Added xs a b → Added ys b c → Added (xs ++ ys) a c

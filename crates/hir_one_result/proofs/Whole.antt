@@ -16,7 +16,7 @@ use Rattle.hir_one_result.specs.Size.{calls_led, led_by, sources_led}
 use Rattle.hir_one_result.proofs.AfterLowering.{after_lowering}
 use Rattle.hir_one_result.proofs.Bodies.{body_stands}
 use Rattle.hir_one_result.proofs.Fits.{bodies_fit}
-use Rattle.hir_one_result.proofs.FunctionRooms.{body_takes}
+use Rattle.hir_one_result.proofs.TreeRooms.{body_takes}
 use Rattle.hir_one_result.proofs.Lasting.{Unchanged}
 use Rattle.hir_one_result.proofs.Led.{leads_nowhere}
 use Rattle.hir_one_result.proofs.PatWays.{leads_back}
