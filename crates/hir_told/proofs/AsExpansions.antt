@@ -3,7 +3,6 @@ use Rattle.std.proofs.Common.{◌≡◌, ◌∙◌, refl, sym, [], ◌++◌, app
 use Rattle.hir_store.specs.Stored.{Stored}
 use Rattle.hir_store.specs.declared.expansions.ExpandedCall.{ExpandedCall}
 use Rattle.hir_store.specs.declared.ids.BlockId.{BlockId}
-use Rattle.hir_scope.specs.Scopes.{Scope}
 use Rattle.hir_lower_form.specs.Builder.{Builder}
 use Rattle.hir_lower_form.specs.Lowering.{Lowering}
 use Rattle.hir_steps.specs.Calls.{Expansions}
