@@ -6,7 +6,7 @@ use Rattle.hir_base.specs.declared.op.BinaryOp.TheVariants as op
 use Rattle.hir_syntax.specs.declared.ast.BlockExpr.{out-BlockExpr}
 use Rattle.hir_syntax.specs.declared.ast.ElseBranch.TheOpen.{ExprKind-F}
 use Rattle.hir_syntax.specs.declared.ast.Expr.{Expr as AstExpr}
-use Rattle.hir_syntax.specs.declared.ast.ExprKind.{ExprKind as AstExprKind, out-ExprKind, roll-ExprKind, roll-out-ExprKind}
+use Rattle.hir_syntax.specs.declared.ast.ExprKind.{ExprKind as AstExprKind, out-ExprKind, out-roll-ExprKind, roll-ExprKind, roll-out-ExprKind}
 use Rattle.hir_syntax.specs.declared.ast.ExprKind.TheVariants as kind
 use Rattle.hir_syntax.specs.declared.ast.Path.{Path as AstPath}
 use Rattle.hir_syntax.specs.declared.ast.RecordExprFieldList.{RecordExprFieldList as AstFieldList}
@@ -49,6 +49,14 @@ level at k s = expr_at at.answers (reader at.answers (into at)) k at.place s
 
 pub enabled_is : (at : Spot) (e : AstExpr) → at.answers.cfg (site_of (pointer_at at e.id e.range)) ≡ Ok tt → answered at e ≡ kept_expr at e
 enabled_is at e h = expr_is_level at e ∙ ap (λ r. asked (pointer_at at e.id e.range) r (kept_expr at e)) h
+
+pub opened : {k : AstExprKind} {l : ExprKindLayer written} → roll-ExprKind l ≡ k → out-ExprKind k ≡ l
+opened {k} {l} h = ap out-ExprKind (sym h) ∙ out-roll-ExprKind l
+
+-- one of this kind
+pub kept_as : (at : Spot) (e : AstExpr) (k : ExprKindLayer written) → answered at e ≡ kept_expr at e → out-ExprKind e.kind ≡ k
+    → answered at e ≡ level at k (pointer_at at e.id e.range)
+kept_as at e k is h = is ∙ ap (λ l. level at l (pointer_at at e.id e.range)) h
 
 -- one that a condition disables is a place
 pub disabled_is : (at : Spot) (e : AstExpr) (by : CfgId) → at.answers.cfg (site_of (pointer_at at e.id e.range)) ≡ Err by
