@@ -14,10 +14,10 @@ use crate::tables::site;
 use crate::tree::fragment_at;
 use hir_base::node::{HirFileId, InFile, NodeId};
 use hir_base::{Seq, Text};
-use hir_tables::table::{MacroAnswer, TableEnv};
 use hir_store::ids::{MacroDefId, ModuleId};
 use hir_store::name::Name;
 use hir_syntax::ast::Fragment;
+use hir_tables::table::{MacroAnswer, TableEnv};
 use json_faults::value::small;
 use json_kinds::kind::Kind;
 use serde_json::Value;
@@ -212,11 +212,7 @@ fn legacy(
 }
 
 /// Gives each macro of a module the number that the entries say.
-pub fn define_all(
-    alloc: Global,
-    tables: &mut TableEnv,
-    entries: &[Value],
-) -> Result<(), AllocError>
+pub fn define_all(alloc: Global, tables: &mut TableEnv, entries: &[Value]) -> Result<(), AllocError>
     ensures entries { OnOk result (tables.new.macro_defs ≡ with_definitions (items_view entries.now) tables.old.macro_defs) }
     ensures others { OnOk result (tables.new ≡ record tables.old { macro_defs = tables.new.macro_defs }) }
 {
