@@ -24,6 +24,7 @@ use serde_json::Value;
 use std::alloc::{AllocError, Global};
 
 /// The call that an entry is for.
+#[tactic(auto, using(crate::proofs::Tuples::call_under_two))]
 fn call_in(entry: &[Value]) -> Option<InFile<NodeId>>
     ensures { result ≡ call_in (Some (items_view entry.now)) }
 {
@@ -78,6 +79,7 @@ fn expanded(
 }
 
 /// What an entry says of its call.
+#[tactic(auto, using(crate::proofs::Tuples::answer_under_three, crate::proofs::Tuples::answer_over_five))]
 fn answer_in(
     alloc: Global,
     kinds: &[Option<Kind>],
@@ -184,6 +186,7 @@ fn legacy_definition(
 }
 
 /// What an entry says of a macro in a module.
+#[tactic(auto, using(crate::proofs::Tuples::defined_under_three, crate::proofs::Tuples::defined_over_three))]
 fn defined(
     alloc: Global,
     entry: &[Value],
@@ -197,6 +200,7 @@ fn defined(
 }
 
 /// What an entry says of a macro that `macro_rules` has defined.
+#[tactic(auto, using(crate::proofs::Tuples::legacy_under_four, crate::proofs::Tuples::legacy_over_four))]
 fn legacy(
     alloc: Global,
     entry: &[Value],
