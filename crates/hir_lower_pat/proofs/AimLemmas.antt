@@ -6,7 +6,8 @@ use Rattle.hir_base.specs.declared.op.BinaryOp.TheVariants as op
 use Rattle.hir_syntax.specs.declared.ast.BlockExpr.{out-BlockExpr}
 use Rattle.hir_syntax.specs.declared.ast.ElseBranch.TheOpen.{ExprKind-F}
 use Rattle.hir_syntax.specs.declared.ast.Expr.{Expr as AstExpr}
-use Rattle.hir_syntax.specs.declared.ast.ExprKind.{ExprKind as AstExprKind, out-ExprKind, out-roll-ExprKind, roll-ExprKind, roll-out-ExprKind}
+use Rattle.hir_syntax.specs.declared.ast.ExprKind.{ExprKind as AstExprKind, out-ExprKind, out-roll-ExprKind, roll-ExprKind}
+use Rattle.hir_syntax.specs.declared.ast.ExprKind.{roll-out-ExprKind}
 use Rattle.hir_syntax.specs.declared.ast.ExprKind.TheVariants as kind
 use Rattle.hir_syntax.specs.declared.ast.Path.{Path as AstPath}
 use Rattle.hir_syntax.specs.declared.ast.RecordExprFieldList.{RecordExprFieldList as AstFieldList}
@@ -35,7 +36,8 @@ use Rattle.hir_lower_form.specs.Lower.{lower, lower_path, lower_target, lower_ta
 use Rattle.hir_lower_form.specs.Pats.{Elements, no_elements}
 use Rattle.hir_lower_form.specs.Targets.{add_target, add_target_dots, array_target_form, path_target_form, path_target_of, place_form}
 use Rattle.hir_lower_form.specs.Targets.{rest_target}
-use Rattle.hir_lower_pat.specs.Aims.{ArrayParts, IsPlace, aim_of, aimed, array_rest, found_at, landed, names_read, path_aim, path_aimed}
+use Rattle.hir_lower_pat.specs.Aims.{Aims, ArrayParts, IsPlace, aim_of, aimed, array_rest, found_at, landed, names_read, path_aim}
+use Rattle.hir_lower_pat.specs.Aims.{path_aimed}
 use Rattle.hir_lower_pat.specs.Aims.{array_of, dots_kind, path_of_callee, placed, through}
 use Rattle.hir_lower_pat.specs.declared.aims.Aim.{Aim}
 use Rattle.hir_lower_pat.specs.declared.aims.Aim.TheVariants as aim
@@ -53,10 +55,14 @@ enabled_is at e h = expr_is_level at e ∙ ap (λ r. asked (pointer_at at e.id e
 pub opened : {k : AstExprKind} {l : ExprKindLayer written} → roll-ExprKind l ≡ k → out-ExprKind k ≡ l
 opened {k} {l} h = ap out-ExprKind (sym h) ∙ out-roll-ExprKind l
 
--- one of this kind
-pub kept_as : (at : Spot) (e : AstExpr) (k : ExprKindLayer written) → answered at e ≡ kept_expr at e → out-ExprKind e.kind ≡ k
-    → answered at e ≡ level at k (pointer_at at e.id e.range)
-kept_as at e k is h = is ∙ ap (λ l. level at l (pointer_at at e.id e.range)) h
+-- one of this kind, at this node
+pub aims_as : (at : Spot) (e : AstExpr) (k : ExprKindLayer written) (s : Pointer) (old : Builder) (r : Checked Aim) (new : Builder)
+    → s ≡ pointer_at at e.id e.range → answered at e ≡ kept_expr at e → out-ExprKind e.kind ≡ k → Aims at (level at k s) old r new
+    → Aims at (answered at e) old r new
+aims_as at e k s old r new here is h =
+    let same : level at k s ≡ answered at e =
+    ap (λ t. level at k t) here ∙ (ap (λ l. level at l (pointer_at at e.id e.range)) (sym h) ∙ sym is) in
+    subst (λ x. Aims at x old r new) same
 
 -- one that a condition disables is a place
 pub disabled_is : (at : Spot) (e : AstExpr) (by : CfgId) → at.answers.cfg (site_of (pointer_at at e.id e.range)) ≡ Err by
