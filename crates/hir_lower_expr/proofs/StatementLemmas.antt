@@ -228,9 +228,11 @@ nothing_on s (Err by) done c = let t = report (InactiveCode s by) c in told_noth
 pub nothing_behind : (s : Pointer) (r : Result (Unit {0}) CfgId) (done : List Statement) (old : Builder) (b : Bool) (new : Builder)
     → HasStatements old.stored done → Lowers HasFlag (enabled s r) old (Ok b) new
     → ValueBehind (gone_value s r) done old (Ok None) done new
-nothing_behind s r done old b new has h =
-    (nothing_on s r done old ∙ ap (λ z. go_on z.0 z.1 (left done)) h.0, h.1,
-    (still_has old.stored new.stored done h.1 has, omega arith))
+nothing_behind s r done old b new has h = (
+  nothing_on s r done old ∙ ap (λ z. go_on z.0 z.1 (left done)) h.0,
+  h.1,
+  (still_has old.stored new.stored done h.1 has, omega arith),
+)
 
 pub nothing_refused : (s : Pointer) (r : Result (Unit {0}) CfgId) (done : List Statement) (old : Builder) (e : StoreFault) (new : Builder)
     → (enabled s r old ≡ (Err e, new)) × SomeEnd new
