@@ -1,7 +1,7 @@
 -- What comes of targets: what their answered trees say of their kinds.
 use Rattle.std.proofs.Common.{◌≡◌, ◌∙◌, ap, refl, subst, sym, Bool, true, false, List, [], Option, Some, None, Result, Ok, Err}
 use Rattle.std.proofs.Common.{◌∷◌, ◌++◌, arith, ◌≤◌}
-use Rattle.std.specs.Prelude.{if◌then◌else◌, is_some, option_map}
+use Rattle.std.specs.Prelude.{if◌then◌else◌, option_map}
 use Rattle.hir_base.specs.declared.op.BinaryOp.TheVariants as op
 use Rattle.hir_syntax.specs.declared.ast.BlockExpr.{out-BlockExpr}
 use Rattle.hir_syntax.specs.declared.ast.ElseBranch.TheOpen.{ExprKind-F}
@@ -16,7 +16,6 @@ use Rattle.hir_store.specs.declared.ids.CfgId.{CfgId}
 use Rattle.hir_store.specs.declared.ids.ExprId.{ExprId}
 use Rattle.hir_store.specs.declared.ids.HygieneId.{HygieneId}
 use Rattle.hir_store.specs.declared.ids.PatId.{PatId}
-use Rattle.hir_store.specs.declared.pat.Pat.TheVariants as pat
 use Rattle.hir_store.specs.declared.path.Path.{Path as HirPath}
 use Rattle.hir_env.specs.Spot.{Spot, site_of}
 use Rattle.hir_env.specs.Answered as tree
@@ -35,7 +34,6 @@ use Rattle.hir_lower_form.specs.Lowering.{Checked, Lowering, ◌>>=◌, ◌>>◌
 use Rattle.hir_lower_form.specs.Lower.{lower, lower_path, lower_target, lower_targets}
 use Rattle.hir_lower_form.specs.Pats.{Elements, no_elements}
 use Rattle.hir_lower_form.specs.Targets.{add_target, add_target_dots, array_target_form, path_target_form, path_target_of, place_form}
-use Rattle.hir_lower_form.specs.Targets.{rest_target}
 use Rattle.hir_lower_pat.specs.Aims.{Aims, ArrayParts, IsPlace, aim_of, aimed, array_rest, found_at, landed, names_read, path_aim}
 use Rattle.hir_lower_pat.specs.Aims.{path_aimed}
 use Rattle.hir_lower_pat.specs.Aims.{array_of, dots_kind, path_of_callee, placed, through}

@@ -29,7 +29,7 @@ use Rattle.hir_lower_form.specs.Lower.{lower_target, lower_target_field, lower_t
 use Rattle.hir_lower_form.specs.Methods.{LowersTarget}
 use Rattle.hir_lower_form.specs.Pats.{Elements, no_elements}
 use Rattle.hir_lower_pat.specs.Aims.{array_made, array_of}
-use Rattle.hir_lower_pat.specs.Aims.{Aims, ArrayParts, HasAim, HasArrayParts, aim_of, aimed, array_read, array_rest, array_steps}
+use Rattle.hir_lower_pat.specs.Aims.{Aims, ArrayParts, HasAim, aim_of, aimed, array_read, array_rest, array_steps}
 use Rattle.hir_lower_pat.specs.Aims.{dots_tuple}
 use Rattle.hir_lower_pat.specs.Aims.{element_steps, elements_read, found_at}
 use Rattle.hir_lower_pat.specs.Aims.{is_first, landed, landing, path_of_callee, path_steps, patterned, placed}
