@@ -155,7 +155,8 @@ pub contents_on : (at : Spot) (b : AstBlockExpr) (c : Builder)
 contents_on at b c =
     let node = out-BlockExpr b in
     let run = run_part at node.stmts in
-    let tail : Defined → Spliced = λ d. value_or_none (read_stmt at.answers (into at)) (read_value at.answers (into at)) node.tail at.place d in
+    let tail : Defined → Spliced =
+    λ d. value_or_none (read_stmt at.answers (into at)) (read_value at.answers (into at)) node.tail at.place d in
     (λ i. flat_is [] (append run.stmts (tail run.defined).stmts) (kept_part (tail run.defined).last) i c)
     ∙ (ap (λ d. flat [] (append run.stmts (tail d).stmts) (kept_part (tail d).last) c) (run_defines at node.stmts)
     ∙ flat_append run.stmts (value_part at node.tail) c)
