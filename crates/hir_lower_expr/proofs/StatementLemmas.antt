@@ -1,6 +1,6 @@
 -- What is in a block, one statement behind the other.
 use Rattle.std.proofs.Common.{arith, ◌≡◌, ◌∙◌, ap, refl, subst, sym, slice_index_or}
-use Rattle.std.proofs.Common.{Bool, true, false, List, [], ◌∷◌, Option, Some, None}
+use Rattle.std.proofs.Common.{Bool, false, List, [], ◌∷◌, Option, Some, None}
 use Rattle.std.specs.Prelude.{◌≤◌, ◌-◌, ◌≢◌, IsErrAnd, Result, Ok, Err, drop, length, take}
 use Rattle.hir_base.specs.declared.node.AstPtr.{AstPtr}
 use Rattle.hir_syntax.specs.declared.ast.BlockExpr.{BlockExpr as AstBlockExpr, out-BlockExpr}
@@ -27,7 +27,7 @@ use Rattle.hir_env.specs.Answering.{asked_splice, ended, expr_kind, stmt_at, val
 use Rattle.hir_env.specs.Calls.{append, nothing, stmts_of, value_or_none}
 use Rattle.hir_env.specs.Layers.{Defined, ExprKindLayer, Spliced, StmtKindLayer, StmtReading}
 use Rattle.hir_env.specs.Spot.{Spot, ptr, site_of}
-use Rattle.hir_env.specs.Whole.{answered, answered_value, into, pointer_at, read_stmt, read_value, reader, stmt_level, value_level, written}
+use Rattle.hir_env.specs.Whole.{answered, answered_value, into, pointer_at, read_stmt, read_value, reader, stmt_level, written}
 use Rattle.hir_env.proofs.Levels.{expr_is_level, stmt_is_level, value_is_level}
 use Rattle.hir_lower_form.specs.Builder.{Builder}
 use Rattle.hir_lower_form.specs.Lower.{StoredContents, kept_part, lower_stmt, push_some}

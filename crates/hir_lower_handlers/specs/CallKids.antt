@@ -9,7 +9,7 @@ use Rattle.hir_syntax.specs.declared.macros.MacroCall.{MacroCall as AstMacroCall
 use Rattle.hir_store.specs.declared.ids.ExprId.{ExprId}
 use Rattle.hir_env.specs.declared.expand.FragmentKind.TheVariants as kind
 use Rattle.hir_env.specs.declared.place.Place.{Place}
-use Rattle.hir_env.specs.Answers.{Answers, Eager, Expanding, expanded}
+use Rattle.hir_env.specs.Answers.{Answers, Eager, expanded}
 use Rattle.hir_env.specs.Calls.{asked_call, expr_in, inside_file}
 use Rattle.hir_env.specs.Count.{count_expr, count_option_expr}
 use Rattle.hir_env.specs.Layers.{Entering}

@@ -1,4 +1,4 @@
-use Rattle.std.proofs.Common.{◌∙◌, arith, []}
+use Rattle.std.proofs.Common.{◌∙◌}
 use Rattle.hir_lower_form.specs.Methods.{HasContents, contents_at}
 use Rattle.hir_lower_expr.proofs.StatementLemmas.{contents_go_on, contents_refused, grows_on, refused}
 use Rattle.hir_lower_expr.proofs.blocks.flat_contents.Goals as goal

@@ -1,5 +1,4 @@
-use Rattle.std.proofs.Common.{◌∙◌, arith}
-use Rattle.std.proofs.lemmas.Grind.{common_steps}
+use Rattle.std.proofs.Common.{◌∙◌}
 use Rattle.hir_lower_expr.specs.Statements.{run_part}
 use Rattle.hir_lower_expr.proofs.StatementLemmas.{grows_on, rest_may, run_goes_on, run_refused, stmts_refused}
 use Rattle.hir_lower_expr.proofs.statements.collect_run.Goals as goal

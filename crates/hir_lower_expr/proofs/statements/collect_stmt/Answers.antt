@@ -1,4 +1,4 @@
-use Rattle.std.proofs.Common.{◌∙◌, ap, sym}
+use Rattle.std.proofs.Common.{◌∙◌, ap}
 use Rattle.hir_lower_form.specs.Forms.{push_some}
 use Rattle.hir_env.specs.Whole.{stmt_level}
 use Rattle.hir_lower_expr.proofs.StatementLemmas.{ended_behind, ended_refused, pushed_has, stmts_refused}
