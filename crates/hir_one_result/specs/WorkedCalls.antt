@@ -36,7 +36,7 @@ abbrev pub nested_pat : Entered → Pat
 nested_pat c = tree.macro_pat (at 0) (tree.entered c)
     (tree.some_pat (tree.macro_pat (at 1) (tree.entered c) (tree.some_pat (tree.leaf_pat (at 2) tree.wild_leaf))))
 
--- one that stands for `_`, and one that stands for no type
+-- a type that stands for `_`
 abbrev pub called_type : Entered → Type_
 called_type c = tree.macro_type (at 0) (tree.entered c) (tree.some_type (tree.leaf_type (at 1) tree.infer_leaf))
 
