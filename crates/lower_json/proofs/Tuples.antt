@@ -4,6 +4,7 @@ use Rattle.serde_json.specs.View.{items_view}
 use Rattle.serde_json.specs.declared.value.Value.{Value}
 use Rattle.json_kinds.specs.declared.kind.Kind.{Kind}
 use Rattle.serde_json.specs.Data.{Items}
+use Rattle.hir_tables.specs.declared.table.MacroAnswer.TheVariants as answer
 use Rattle.lower_json.specs.Macros.{answer_in, call_in, defined_of, legacy_of}
 use Rattle.lower_json.specs.Tables.{alias_of, decided_of, triple_of, quadruple_of, said_of, context_of}
 
@@ -95,6 +96,14 @@ answer_under_three ks ns [] h = refl
 answer_under_three ks ns (a ∷ []) h = refl
 answer_under_three ks ns (a ∷ b ∷ []) h = refl
 answer_under_three ks ns (a ∷ b ∷ c ∷ vs) h = absurd (omega arith)
+
+pub answer_three : (ks : List (Option Kind)) (ns : Items) (vs : List Value) → 3 ≤ length vs → length vs < 4
+    → Some answer.NoExpansion ≡ answer_in ks ns (Some (items_view vs))
+answer_three ks ns [] h l = absurd (omega arith)
+answer_three ks ns (a ∷ []) h l = absurd (omega arith)
+answer_three ks ns (a ∷ b ∷ []) h l = absurd (omega arith)
+answer_three ks ns (a ∷ b ∷ c ∷ []) h l = refl
+answer_three ks ns (a ∷ b ∷ c ∷ d ∷ vs) h l = absurd (omega arith)
 
 pub answer_over_five : (ks : List (Option Kind)) (ns : Items) (vs : List Value) → 6 ≤ length vs → None ≡ answer_in ks ns (Some (items_view vs))
 answer_over_five ks ns [] h = absurd (omega arith)

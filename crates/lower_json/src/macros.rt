@@ -79,7 +79,6 @@ fn expanded(
 }
 
 /// What an entry says of its call.
-#[tactic(auto, using(crate::proofs::Tuples::answer_under_three, crate::proofs::Tuples::answer_over_five))]
 fn answer_in(
     alloc: Global,
     kinds: &[Option<Kind>],
@@ -89,9 +88,9 @@ fn answer_in(
     ensures { IfOk result (λ a. a ≡ answer_in kinds.now (items_view nodes.now) (Some (items_view entry.now))) }
 {
     match entry {
-        [_, _, _] => Ok(Some(MacroAnswer::NoExpansion)),
-        [_, _, _, path] => unresolved(alloc, path),
-        [_, _, _, file, root] => expanded(alloc, kinds, nodes, file, root),
+        [_file, _node, _word] => Ok(Some(MacroAnswer::NoExpansion)),
+        [_file, _node, _word, path] => unresolved(alloc, path),
+        [_file, _node, _word, new, root] => expanded(alloc, kinds, nodes, new, root),
         _ => Ok(None),
     }
 }
