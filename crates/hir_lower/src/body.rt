@@ -480,11 +480,13 @@ fn body_steps<E: LowerEnv>(
 /// expressions and types do. Store, source map and diagnostics are one result of the parameters, the flags and the tree: what is
 /// stored stands for them and no more is stored, each expression and pattern with its source, all in the range of the one root; the
 /// source map leads from each written expression and label to what it became, from the nodes of patterns, types and lifetimes to
-/// them, from the values and patterns of a record's kept fields to their fields, and from nothing else; each binding is owned by
+/// them, from calls of macros to the pattern or type that they stand for, from the values and patterns of a record's kept fields to
+/// their fields, and from nothing else; each binding is owned by
 /// the innermost closure, coroutine, `const` block, length or argument around it, and where it stands in none of these, by nothing,
 /// as `self` and all that the outside hands its arguments to; the numbers of blocks come in the order of entering, and so do the
-/// calls of macros, each behind what else was expanded for it; the diagnostics are those that body, parameters and tree owe. Each name that is made up is of one binding or label at most, or of a parameter as
-/// it is handed in and of what its coroutine begins with. Each number in store and source map is in range. A skipped body is a
+/// calls of macros that are entered, each behind what else was expanded for it; the diagnostics are those that body, parameters and
+/// tree owe. Each name that is made up is of one binding or label at most, or of a parameter as it is handed in and of what its
+/// coroutine begins with. Each number in store and source map is in range. A skipped body is a
 /// missing expression, no coroutine, and owes no fault of its own. `Memory` where a growth was refused; `Full` only where
 /// parameters and tree become more expressions, labels, patterns, bindings, types or lifetimes than the arenas have room for, or a
 /// path in them has more `super`s, a pattern more parts in front of its two dots, or they more names that are made up, than 32 bits
