@@ -6,6 +6,8 @@ mod arenas;
 #[cfg(test)]
 mod bindings;
 #[cfg(test)]
+mod calls;
+#[cfg(test)]
 mod collectors;
 #[cfg(test)]
 mod constants;
