@@ -1,8 +1,9 @@
 -- The laws of tables.
 use Rattle.std.proofs.Common.{◌≡◌, ℕ, Bool, true, false, ◌&&◌, nat_eq, if◌then◌else◌, List, [], ◌∷◌, Option, Some, None, unwrap_or}
-use Rattle.std.proofs.Common.{refl, sym, ap, ◌∙◌}
+use Rattle.std.proofs.Common.{refl, sym, ap, ◌∙◌, true≢false}
 use lib.Pointwise.{pointwise}
-use Rattle.std.specs.Cmp.{IsTotalOrder, nat_cmp_total, on_total, then_total, both_tied, unsigned_ties, unsigned_tied}
+use Rattle.std.specs.Cmp.{IsTotalOrder, nat_cmp_total, on_total, then_total, both_tied}
+use Rattle.std.specs.Cmp.{unsigned_ties, unsigned_tied, unsigned_Decides, first_so, second_so}
 use Rattle.std.specs.Cmp.Lexicographic.{lists_ties, texts_ties}
 use Rattle.std.specs.Ordering.{eq_by_cmp, nat_cmp}
 use Rattle.hir_env.specs.declared.resolved.Resolved.{Resolved}
@@ -15,7 +16,7 @@ use Rattle.hir_store.specs.declared.path.ModPath.{ModPath}
 use Rattle.hir_store.specs.declared.path.PathKind.{PathKind}
 use Rattle.hir_store.specs.declared.path.PathKind.TheVariants as kind
 use Rattle.hir_tables.proofs.First.{found_first, found_first_below}
-use Rattle.hir_tables.specs.Laws.{same_kind, same_path, same_place, PathsAsKeys, NamesAsKeys, PlacesAsKeys, said}
+use Rattle.hir_tables.specs.Laws.{same_kind, same_path, PathsAsKeys, SamePathsAreOne, NamesAsKeys, PlacesAsKeys, said}
 use Rattle.hir_tables.specs.Laws.{FirstOfCall, FirstOfDefinition, FirstOfLegacy, FirstOfPath, PathEntry, is_of, told, first_told}
 use Rattle.hir_tables.specs.Tables.{Tables, place, place_cmp, found, path_found, with_path, definition_found, legacy_found}
 
@@ -39,7 +40,7 @@ same_names (name.Generated i) (name.Generated k) = with_true (nat_eq i k) ∙ te
 pub names_as_keys : NamesAsKeys
 names_as_keys a b = sym (same_names a b)
 
-same_places : (x y : ℕ × ℕ) → same_place x y ≡ eq_by_cmp place_cmp x y
+same_places : (x y : ℕ × ℕ) → (nat_eq x.0 y.0 && nat_eq x.1 y.1) ≡ eq_by_cmp place_cmp x y
 same_places x y = both_tied _ _ (nat_cmp x.0 y.0) (nat_cmp x.1 y.1) (unsigned_ties x.0 y.0) (unsigned_ties x.1 y.1)
 
 pub places_as_keys : PlacesAsKeys
@@ -75,6 +76,63 @@ same_kinds (kind.DollarCrate b) (kind.DollarCrate c) = unsigned_ties b.0 c.0
 pub paths_as_keys : PathsAsKeys
 paths_as_keys a b = sym (both_tied (same_kind a.kind b.kind) (pointwise same_name a.segments b.segments) _ _
     (same_kinds a.kind b.kind) (lists_ties name_cmp same_names a.segments b.segments))
+
+-- ---- the same is one
+
+one_number : (m n : ℕ) → nat_eq m n ≡ true → m ≡ n
+one_number m n e = (unsigned_Decides m n).0 e
+
+one_list : {X : Type 0} {same : X → X → Bool} → ((x y : X) → same x y ≡ true → x ≡ y) → (xs ys : List X)
+    → pointwise same xs ys ≡ true → xs ≡ ys
+one_list one [] [] e = refl
+one_list one [] (y ∷ ys) e = absurd (true≢false (sym e))
+one_list one (x ∷ xs) [] e = absurd (true≢false (sym e))
+one_list {X} {same} one (x ∷ xs) (y ∷ ys) e =
+    λ i. one x y (first_so (same x y) (pointwise same xs ys) e) i ∷ one_list one xs ys (second_so (same x y) (pointwise same xs ys) e) i
+
+one_name : (a b : Name) → same_name a b ≡ true → a ≡ b
+one_name (name.Text a) (name.Text b) e = ap name.Text (one_list one_number a b e)
+one_name (name.Text a) name.Missing e = absurd (true≢false (sym e))
+one_name (name.Text a) (name.Generated k) e = absurd (true≢false (sym e))
+one_name name.Missing (name.Text b) e = absurd (true≢false (sym e))
+one_name name.Missing name.Missing e = refl
+one_name name.Missing (name.Generated k) e = absurd (true≢false (sym e))
+one_name (name.Generated i) (name.Text b) e = absurd (true≢false (sym e))
+one_name (name.Generated i) name.Missing e = absurd (true≢false (sym e))
+one_name (name.Generated i) (name.Generated k) e = ap name.Generated (one_number i k e)
+
+one_kind : (a b : PathKind) → same_kind a b ≡ true → a ≡ b
+one_kind kind.Plain kind.Plain e = refl
+one_kind kind.Plain (kind.Super n) e = absurd (true≢false (sym e))
+one_kind kind.Plain kind.Crate e = absurd (true≢false (sym e))
+one_kind kind.Plain kind.Abs e = absurd (true≢false (sym e))
+one_kind kind.Plain (kind.DollarCrate c) e = absurd (true≢false (sym e))
+one_kind (kind.Super m) kind.Plain e = absurd (true≢false (sym e))
+one_kind (kind.Super m) (kind.Super n) e = ap kind.Super (one_number m n e)
+one_kind (kind.Super m) kind.Crate e = absurd (true≢false (sym e))
+one_kind (kind.Super m) kind.Abs e = absurd (true≢false (sym e))
+one_kind (kind.Super m) (kind.DollarCrate c) e = absurd (true≢false (sym e))
+one_kind kind.Crate kind.Plain e = absurd (true≢false (sym e))
+one_kind kind.Crate (kind.Super n) e = absurd (true≢false (sym e))
+one_kind kind.Crate kind.Crate e = refl
+one_kind kind.Crate kind.Abs e = absurd (true≢false (sym e))
+one_kind kind.Crate (kind.DollarCrate c) e = absurd (true≢false (sym e))
+one_kind kind.Abs kind.Plain e = absurd (true≢false (sym e))
+one_kind kind.Abs (kind.Super n) e = absurd (true≢false (sym e))
+one_kind kind.Abs kind.Crate e = absurd (true≢false (sym e))
+one_kind kind.Abs kind.Abs e = refl
+one_kind kind.Abs (kind.DollarCrate c) e = absurd (true≢false (sym e))
+one_kind (kind.DollarCrate b) kind.Plain e = absurd (true≢false (sym e))
+one_kind (kind.DollarCrate b) (kind.Super n) e = absurd (true≢false (sym e))
+one_kind (kind.DollarCrate b) kind.Crate e = absurd (true≢false (sym e))
+one_kind (kind.DollarCrate b) kind.Abs e = absurd (true≢false (sym e))
+one_kind (kind.DollarCrate b) (kind.DollarCrate c) e = λ i. kind.DollarCrate (record { 0 = one_number b.0 c.0 e i })
+
+pub same_paths_are_one : SamePathsAreOne
+same_paths_are_one a b e = λ i. record {
+  kind = one_kind a.kind b.kind (first_so (same_kind a.kind b.kind) (pointwise same_name a.segments b.segments) e) i;
+  segments = one_list one_name a.segments b.segments (second_so (same_kind a.kind b.kind) (pointwise same_name a.segments b.segments) e) i;
+}
 
 -- ---- the first counts
 

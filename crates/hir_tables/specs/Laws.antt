@@ -29,19 +29,23 @@ same_kind _ _ = false
 abbrev pub same_path : ModPath → ModPath → Bool
 same_path a b = same_kind a.kind b.kind && pointwise same_name a.segments b.segments
 
--- nodes are the same by the numbers of their file and their own
-abbrev pub same_place : ℕ × ℕ → ℕ × ℕ → Bool
-same_place x y = nat_eq x.0 y.0 && nat_eq x.1 y.1
+-- nodes are the same where they have one number in one file
+abbrev pub same_node : Site → Site → Bool
+same_node a b = nat_eq a.file_id.0 b.file_id.0 && nat_eq a.value.0 b.value.0
 
 -- neither of two keys stands in front of the other exactly where they are the same
 abbrev pub PathsAsKeys : Type 0
 PathsAsKeys = (a b : ModPath) → eq_by_cmp path_cmp a b ≡ same_path a b
 
+-- and these are one value
+abbrev pub SamePathsAreOne : Type 0
+SamePathsAreOne = (a b : ModPath) → same_path a b ≡ true → a ≡ b
+
 abbrev pub NamesAsKeys : Type 0
 NamesAsKeys = (a b : Name) → eq_by_cmp name_cmp a b ≡ same_name a b
 
 abbrev pub PlacesAsKeys : Type 0
-PlacesAsKeys = (a b : Site) → eq_by_cmp place_cmp (place a) (place b) ≡ same_place (place a) (place b)
+PlacesAsKeys = (a b : Site) → eq_by_cmp place_cmp (place a) (place b) ≡ same_node a b
 
 -- what was said before counts, and else what is said now, where that is of the same
 abbrev pub said : {T : Type 0} → Option T → Bool → T → Option T
@@ -51,7 +55,7 @@ said None false now = None
 
 abbrev pub FirstOfCall : Type 0
 FirstOfCall = (es : List ((ℕ × ℕ) × MacroAnswer)) (a b : Site) (answer : MacroAnswer)
-    → found (with_first es a answer) b ≡ said (found es b) (same_place (place b) (place a)) answer
+    → found (with_first es a answer) b ≡ said (found es b) (same_node b a) answer
 
 abbrev pub FirstOfDefinition : Type 0
 FirstOfDefinition = (es : List (Name × List (ℕ × MacroDefId))) (i j : ModuleId) (a b : Name) (d : MacroDefId)
@@ -59,7 +63,7 @@ FirstOfDefinition = (es : List (Name × List (ℕ × MacroDefId))) (i j : Module
 
 abbrev pub FirstOfLegacy : Type 0
 FirstOfLegacy = (es : List (Name × List ((ℕ × ℕ) × MacroDefId))) (i j : ModuleId) (a b : Name) (k l : ℕ) (d : MacroDefId)
-    → legacy_found (with_legacy es i a k d) j b l ≡ said (legacy_found es j b l) (same_name b a && same_place (j.0, l) (i.0, k)) d
+    → legacy_found (with_legacy es i a k d) j b l ≡ said (legacy_found es j b l) (same_name b a && (nat_eq j.0 i.0 && nat_eq l k)) d
 
 -- an entry of a path: that in this module the path stands for this
 pub record PathEntry : Type 0 where

@@ -3,7 +3,8 @@
 //! It stands beside what asks an environment, since whatever may drop a tree is dear to check, and tables hold trees.
 #![tactic(auto)]
 
-ghost use Rattle.hir_tables.specs.Laws.{PathsAsKeys, NamesAsKeys, PlacesAsKeys, FirstOfCall, FirstOfDefinition, FirstOfLegacy, FirstOfPath};
+ghost use Rattle.hir_tables.specs.Laws.{PathsAsKeys, SamePathsAreOne, NamesAsKeys, PlacesAsKeys};
+ghost use Rattle.hir_tables.specs.Laws.{FirstOfCall, FirstOfDefinition, FirstOfLegacy, FirstOfPath};
 
 mod first_below;
 mod first_of;
@@ -14,12 +15,17 @@ pub fn finds_the_same_path()
     ensures { PathsAsKeys }
 {}
 
+/// Paths that are the same differ in nothing.
+pub fn same_paths_are_one()
+    ensures { SamePathsAreOne }
+{}
+
 /// A name is found by the same name alone.
 pub fn finds_the_same_name()
     ensures { NamesAsKeys }
 {}
 
-/// A node is found by the numbers of its file and its own.
+/// A node is found by the same node alone: the one of its number in its file.
 pub fn finds_the_same_node()
     ensures { PlacesAsKeys }
 {}
