@@ -101,13 +101,13 @@ fn held(store: &ExpressionStore, source_map: &ExpressionStoreSourceMap) -> Held 
 
 /// What a collector answers to a constant, to the constant again where that was refused, and to the question for its store.
 #[derive(Clone, Copy, PartialEq)]
-struct Answers {
+struct Told {
     first: Option<LowerError>,
     again: Option<LowerError>,
     stored: Result<Held, LowerError>,
 }
 
-fn answers(alloc: Global, env: &TableEnv, constant: &ConstArg) -> Answers {
+fn asked(alloc: Global, env: &TableEnv, constant: &ConstArg) -> Told {
     let mut collector = collector(alloc, env, u32::MAX);
     let first = collector.lower_const_arg(constant).err();
     let again = match first {
@@ -115,27 +115,27 @@ fn answers(alloc: Global, env: &TableEnv, constant: &ConstArg) -> Answers {
         Some(_) => collector.lower_const_arg(constant).err(),
     };
     let stored = with_store(collector, &held);
-    Answers {
+    Told {
         first,
         again,
         stored,
     }
 }
 
-fn answers_to_length(alloc: Global, document: &Document) -> Option<Answers> {
+fn asked_of_length(alloc: Global, document: &Document) -> Option<Told> {
     let constant = length_in(document)?;
-    Some(answers(alloc, &document.env, constant))
+    Some(asked(alloc, &document.env, constant))
 }
 
 /// What is answered where no memory is refused.
-const GRANTED: Answers = Answers {
+const GRANTED: Told = Told {
     first: None,
     again: None,
     stored: Ok((1, 3, 0)),
 };
 
 /// What is answered where any request of the first call is refused, and no later one.
-const REFUSED: Answers = Answers {
+const REFUSED: Told = Told {
     first: Some(LowerError::Memory),
     again: Some(LowerError::Failed),
     stored: Err(LowerError::Failed),
@@ -144,10 +144,8 @@ const REFUSED: Answers = Answers {
 /// It passes whichever request for memory is refused, too: `rt try --test --fail-alloc N`.
 #[test]
 fn a_constant_that_is_refused_is_refused_for_good(rt: HostRuntime) {
-    let answers = with_document(rt.alloc(), Root::Type_, NESTED, &answers_to_length);
+    let told = with_document(rt.alloc(), Root::Type_, NESTED, &asked_of_length);
     assert!(rt;
-        answers == Ok(Some(GRANTED))
-            || answers == Ok(Some(REFUSED))
-            || answers == Err(ReadError::Memory)
+        told == Ok(Some(GRANTED)) || told == Ok(Some(REFUSED)) || told == Err(ReadError::Memory)
     );
 }
