@@ -30,6 +30,11 @@ pats_is : {A : Type 0} (h : A → Place → Pat) (xs : List A) (p : Place) → o
 pats_is h [] p = refl
 pats_is h (x ∷ xs) p = λ j. tree.more_pats (h x p) (pats_is h xs p j)
 
+elements_is : {A : Type 0} (h : A → Place → Pat) (xs : List A) (p : Place)
+    → of.elements_of (λ y. y.1) (listed (beside h) xs) p ≡ of.elements_of h xs p
+elements_is h [] p = refl
+elements_is h (x ∷ xs) p = λ j. of.element_in (h x p) (elements_is h xs p j)
+
 pat_fields_is : {A : Type 0} (h : A → Place → PatField) (xs : List A) (p : Place)
     → of.pat_fields_of (λ y. y.1) (listed (beside h) xs) p ≡ of.pat_fields_of h xs p
 pat_fields_is h [] p = refl
@@ -44,8 +49,8 @@ module _ (env : Answers) (into : Option Entering) where
   pat_at_is (PatKind-F.IdentPat n is_ref is_mut x) p s = λ j.
       of.ident_pat env p s (of.use_at env p n is_ref is_mut) (name_written n) (pat_is (fold_pat env into) x p j)
   pat_at_is (PatKind-F.TupleStructPat x comma xs) p s = λ j.
-      tree.tuple_struct_pat s (path_is (fold_path env into) x p j) comma (pats_is (fold_pat env into) xs p j)
-  pat_at_is (PatKind-F.TuplePat comma xs) p s = λ j. tree.tuple_pat s comma (pats_is (fold_pat env into) xs p j)
+      tree.tuple_struct_pat s (path_is (fold_path env into) x p j) comma (elements_is (fold_pat env into) xs p j)
+  pat_at_is (PatKind-F.TuplePat comma xs) p s = λ j. tree.tuple_pat s comma (elements_is (fold_pat env into) xs p j)
   pat_at_is (PatKind-F.RefPat is_mut x) p s = λ j. tree.over_pat s (tree.ref_to (mutability is_mut)) (pat_is (fold_pat env into) x p j)
   pat_at_is (PatKind-F.PathPat x) p s = λ j. tree.path_pat s (path_is (fold_path env into) x p j)
   pat_at_is (PatKind-F.OrPat xs) p s = λ j. tree.or_pat s (pats_is (fold_pat env into) xs p j)

@@ -3,6 +3,7 @@
 use Rattle.std.specs.Prelude.{List, ℕ, Option, Some, None, Bool}
 use Rattle.hir_base.specs.declared.node.HirFileId.{HirFileId}
 use Rattle.hir_store.specs.declared.path.ModPath.{ModPath}
+use Rattle.hir_store.specs.declared.ids.MacroDefId.{MacroDefId}
 use Rattle.hir_base.specs.declared.op.UnaryOp.{UnaryOp}
 use Rattle.hir_base.specs.declared.op.LogicOp.{LogicOp}
 use Rattle.hir_base.specs.declared.op.BinaryOp.{BinaryOp}
@@ -422,6 +423,8 @@ mutual
     item_stmt : Stmt
     -- a call that stood here for the statements behind it
     call_stmt : Entered → Stmt
+    -- the definition of a macro: how many of its name were counted before it in the block, and its number, without which it is an item
+    macro_stmt : ℕ → Option MacroDefId → Stmt
     let_stmt : OptionPat → OptionType → OptionExpr → OptionBlock → Stmt
 
   pub data Pat : Type 0 where
@@ -455,6 +458,8 @@ mutual
   pub data Pats : Type 0 where
     no_pats : Pats
     more_pats : Pat → Pats → Pats
+    -- a call in front of the two dots that it stands for
+    noted_pats : Called → Pats → Pats
 
   pub data PatFields : Type 0 where
     no_pat_fields : PatFields

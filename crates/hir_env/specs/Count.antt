@@ -193,6 +193,7 @@ abbrev mutual
   count_stmt (tree.expr_stmt e semi) = count_option_expr e
   count_stmt tree.item_stmt = 0
   count_stmt (tree.call_stmt c) = 1
+  count_stmt (tree.macro_stmt k d) = 0
   count_stmt (tree.let_stmt p t e b) = count_option_pat p + (count_option_type t + (count_option_expr e + count_option_block b))
 
   pub count_pat : Pat → ℕ
@@ -218,6 +219,7 @@ abbrev mutual
   pub count_pats : Pats → ℕ
   count_pats tree.no_pats = 0
   count_pats (tree.more_pats p ps) = count_pat p + count_pats ps
+  count_pats (tree.noted_pats called ps) = suc (count_pats ps)
 
   pub count_pat_fields : PatFields → ℕ
   count_pat_fields tree.no_pat_fields = 0

@@ -64,6 +64,7 @@ module _ (items : LangItems) where
     pub type_pats_of : Pats → TypePats
     type_pats_of tree.no_pats = tree.no_type_pats
     type_pats_of (tree.more_pats p ps) = tree.more_type_pats (type_pat_of p) (type_pats_of ps)
+    type_pats_of (tree.noted_pats called ps) = type_pats_of ps
 
   abbrev pub type_pat_or_none : OptionPat → OptionTypePat
   type_pat_or_none tree.no_pat = tree.no_type_pat

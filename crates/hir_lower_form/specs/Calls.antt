@@ -4,7 +4,10 @@ use Rattle.hir_syntax.specs.declared.macros.Fragment.{Fragment as AstFragment}
 use Rattle.hir_syntax.specs.declared.macros.MacroCall.{MacroCall as AstMacroCall}
 use Rattle.hir_store.specs.Pointers.{Pointer}
 use Rattle.hir_store.specs.declared.diagnostics.ExpressionStoreDiagnostics.TheVariants.{InactiveCode, UnresolvedMacroCall}
+use Rattle.hir_store.specs.declared.hir.Statement.{Statement}
+use Rattle.hir_store.specs.declared.hir.Statement.TheVariants as statement
 use Rattle.hir_store.specs.declared.ids.CfgId.{CfgId}
+use Rattle.hir_store.specs.declared.ids.MacroDefId.{MacroDefId}
 use Rattle.hir_env.specs.Spot.{site_of}
 use Rattle.hir_env.specs.declared.expand.FragmentKind.{FragmentKind}
 use Rattle.hir_env.specs.declared.place.Place.{Place}
@@ -13,8 +16,8 @@ use Rattle.hir_env.specs.Calls.{asked_call, call_pointer, called, inside_file}
 use Rattle.hir_env.specs.Lent.{fragment_lent}
 use Rattle.hir_env.specs.Spot.{Spot}
 use Rattle.hir_env.specs.Answered as tree
-use Rattle.hir_env.specs.Answered.{Called, Entered, Gone}
-use Rattle.hir_lower_form.specs.Lowering.{Lowering, Checked, ◌>>=◌, ◌>>◌, pure, record_expansion, report}
+use Rattle.hir_env.specs.Answered.{Called, Entered, Gone, Stmt}
+use Rattle.hir_lower_form.specs.Lowering.{Lowering, Checked, ◌>>=◌, ◌>>◌, pure, close, count_def, open_macro, record_expansion, report}
 use Rattle.hir_lower_form.specs.declared.calls.Entered.{Entered as LentEntered}
 use Rattle.hir_lower_form.specs.declared.calls.Entered.TheVariants as lent
 
@@ -52,6 +55,28 @@ unfoldable pub note_gone : Gone → Lowering (Unit {0})
 note_gone why = do
   note_each why.entered
   report_condition why.condition
+
+-- ---- definitions of macros
+
+abbrev pub defined : Option MacroDefId → Statement
+defined None = statement.Item
+defined (Some d) = statement.MacroDef d
+
+unfoldable pub define_form : ℕ → Option MacroDefId → Lowering (Option Statement)
+define_form k d = count_def k >> pure (Some (defined d))
+
+-- steps inside of the definition of a macro
+unfoldable pub inside_macro : {A : Type 0} → MacroDefId → Lowering A → Lowering A
+inside_macro d inner = do
+  open_macro d
+  x ← inner
+  close
+  pure x
+
+-- Steps behind a statement. Those behind the definition of a macro are inside of it.
+abbrev pub behind : {A : Type 0} → Stmt → Lowering A → Lowering A
+behind (tree.macro_stmt k (Some d)) rest = inside_macro d rest
+behind s rest = rest
 
 -- ---- what a call that is read here comes to
 
