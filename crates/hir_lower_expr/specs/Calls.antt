@@ -1,6 +1,7 @@
 -- A call of a macro in expression place, as the code reads it.
 use Rattle.std.specs.Prelude.{Option, Some, None}
 use denote.Ref.{Bor}
+use Rattle.hir_syntax.specs.declared.ast.ElseBranch.TheOpen.{ExprKind-F}
 use Rattle.hir_syntax.specs.declared.ast.Expr.{Expr as AstExpr}
 use Rattle.hir_syntax.specs.declared.macros.Fragment.{Fragment as AstFragment}
 use Rattle.hir_syntax.specs.declared.macros.Fragment.TheVariants as fragment
@@ -10,13 +11,19 @@ use Rattle.hir_store.specs.declared.hir.Expr.TheVariants as hir
 use Rattle.hir_store.specs.declared.ids.ExprId.{ExprId}
 use Rattle.hir_env.specs.Answered.{Expr}
 use Rattle.hir_env.specs.Calls.{entered_expr, lacking_call}
+use Rattle.hir_env.specs.Layers.{ExprKindLayer}
 use Rattle.hir_env.specs.Spot.{Spot}
-use Rattle.hir_env.specs.Whole.{answered, into}
+use Rattle.hir_env.specs.Whole.{answered, into, written}
 use Rattle.hir_env.specs.declared.place.Place.{Place}
 use Rattle.hir_lower_form.specs.Calls.{Found}
 use Rattle.hir_lower_form.specs.Lower.{lower_kept, some}
 use Rattle.hir_lower_form.specs.Lowering.{Lowering, ◌>>=◌, ◌>>◌, pure, alloc_expr, point}
 use Rattle.hir_lower_form.specs.Methods.{at_place}
+
+-- the call that an expression is, which the text may lack
+abbrev pub call_in : ExprKindLayer written → Option (Option AstMacroCall)
+call_in (ExprKind-F.MacroExpr c) = Some c
+call_in _ = None
 
 abbrev pub written_call : Spot → Pointer → AstMacroCall → Expr
 written_call at s c = entered_expr at.answers (into at) c at.place s

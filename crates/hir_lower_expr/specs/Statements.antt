@@ -2,7 +2,6 @@
 use Rattle.std.specs.Prelude.{◌≡◌, ◌≢◌, Bool, true, false, List, [], Option, Some, None, option_map, Result, Ok, Err}
 use Rattle.hir_syntax.specs.declared.ast.Expr.{Expr as AstExpr}
 use Rattle.hir_syntax.specs.declared.ast.Stmt.{Stmt as AstStmt}
-use Rattle.hir_syntax.specs.declared.ast.ElseBranch.TheOpen.{ExprKind-F}
 use Rattle.hir_store.specs.Pointers.{Pointer}
 use Rattle.hir_store.specs.Range.{Grows, HasExprOption, HasStatements}
 use Rattle.hir_store.specs.Stored.{Stored}
@@ -14,13 +13,13 @@ use Rattle.hir_store.specs.declared.ids.CfgId.{CfgId}
 use Rattle.hir_store.specs.declared.ids.ExprId.{ExprId}
 use Rattle.hir_env.specs.Answered.{Stmts}
 use Rattle.hir_env.specs.Calls.{stmts_of, value_or_none}
-use Rattle.hir_env.specs.Layers.{ExprKindLayer, Spliced, StmtReading}
+use Rattle.hir_env.specs.Layers.{Spliced, StmtReading}
 use Rattle.hir_env.specs.Spot.{Spot}
-use Rattle.hir_env.specs.Whole.{into, read_stmt, read_value, written}
+use Rattle.hir_env.specs.Whole.{into, read_stmt, read_value}
 use Rattle.hir_lower_form.specs.Builder.{Builder}
 use Rattle.hir_lower_form.specs.Lower.{kept_part}
 use Rattle.hir_lower_form.specs.Lowering.{Checked, Lowering, Lowers, SomeEnd, ◌>>◌, pure, report}
-use Rattle.hir_lower_form.specs.Methods.{HasContents, HasFlag, flat, stmts_alone}
+use Rattle.hir_lower_form.specs.Methods.{HasContents, flat, stmts_alone}
 
 -- the statements that are read here, and what stands behind them, where no macro is defined yet
 abbrev pub run_part : Spot → List AstStmt → StmtReading
@@ -45,11 +44,6 @@ ValueBehind r was old (Err e) is new = e ≢ Memory → (flat was r.stmts (kept_
 abbrev pub enabled : Pointer → Result (Unit {0}) CfgId → Lowering Bool
 enabled at (Ok _) = pure true
 enabled at (Err by) = report (InactiveCode at by) >> pure false
-
--- whether a kind is a call of a macro
-abbrev pub is_call : ExprKindLayer written → Bool
-is_call (ExprKind-F.MacroExpr c) = true
-is_call _ = false
 
 abbrev pub expr_stmt : Option ExprId → Bool → Option Statement
 expr_stmt value semi = option_map (λ id. statement.Expr id semi) value

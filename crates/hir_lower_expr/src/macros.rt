@@ -1,8 +1,9 @@
 //! Calls of macros in expression place.
 
 ghost use Rattle.std.specs.Prelude.{◌≡◌};
+ghost use Rattle.std.specs.Option.{option_copied};
+ghost use Rattle.hir_syntax.specs.declared.ast.ExprKind.{out-ExprKind};
 ghost use Rattle.hir_store.specs.Range.{HasExprOption};
-ghost use Rattle.hir_env.specs.declared.expand.FragmentKind.TheVariants.{Expr as ExprKind};
 ghost use Rattle.hir_lower_form.specs.Calls.{found_of};
 ghost use Rattle.hir_lower_form.specs.Lowering.{Lowers};
 ghost use Rattle.hir_lower_form.specs.Methods.{MaybeLowersExpr};
@@ -19,6 +20,16 @@ use hir_store::fault::StoreFault;
 use hir_store::hir::Expr;
 use hir_store::ids::ExprId;
 use hir_syntax::ast::{self, Fragment, MacroCall};
+
+/// The call that an expression is, which the text may lack.
+pub fn call_of(node: &ast::Expr) -> Option<&Option<MacroCall>>
+    ensures { option_copied result ≡ spec.call_in (out-ExprKind node.now.kind) }
+{
+    match &node.kind {
+        ast::ExprKind::MacroExpr { call } => Some(call),
+        _ => None,
+    }
+}
 
 /// The expression that a call stands for, and where it is read.
 fn expr_of<'a>(entered: Entered<'a>) -> Option<(Place, &'a ast::Expr)>

@@ -2,7 +2,6 @@
 //! one may stand for several.
 
 ghost use Rattle.std.specs.Prelude.{◌≡◌, []};
-ghost use Rattle.hir_syntax.specs.declared.ast.ExprKind.{out-ExprKind};
 ghost use Rattle.hir_syntax.specs.declared.ast.StmtKind.{out-StmtKind};
 ghost use Rattle.hir_store.specs.Range.{HasStatements};
 ghost use Rattle.hir_env.specs.Answering.{asked_stmt, site_of};
@@ -16,6 +15,7 @@ ghost use Rattle.hir_lower_expr.specs.Statements.{StmtsBehind, ValueBehind};
 
 use crate::kept::push_kept_statement;
 use crate::lets::let_stmt;
+use crate::macros::call_of;
 use hir_base::node::{AstPtr, InFile};
 use hir_lower_form::builder::BodyBuilder;
 use hir_lower_form::parts::{LowerParts, Lowerer, site};
@@ -43,13 +43,6 @@ fn is_enabled<P: LowerParts>(
     }
 }
 
-/// Whether an expression is a call of a macro.
-fn is_call(node: &ast::Expr) -> bool
-    ensures { result ≡ spec.is_call (out-ExprKind node.now.kind) }
-{
-    matches!(&node.kind, ast::ExprKind::MacroExpr { .. })
-}
-
 /// An expression in statement or tail place. A call isn't entered there yet, and leaves nothing.
 fn collect_value<P: LowerParts>(
     lowerer: &Lowerer<P>,
@@ -61,12 +54,14 @@ fn collect_value<P: LowerParts>(
     requires done { HasStatements state.old.stored done.old }
     ensures { ValueBehind (answered_value (P.spot lowerer.now.parts) [] node.now) done.old state.old result done.new state.new }
 {
-    if is_call(node) {
-        let at = lowerer.pointer(node.id, node.range);
-        let _ = is_enabled(lowerer, state, at)?;
-        return Ok(None);
+    match call_of(node) {
+        None => lowerer.parts.maybe_collect_expr(state, node),
+        Some(_) => {
+            let at = lowerer.pointer(node.id, node.range);
+            let _ = is_enabled(lowerer, state, at)?;
+            Ok(None)
+        }
     }
-    lowerer.parts.maybe_collect_expr(state, node)
 }
 
 /// The same, none where it is absent.

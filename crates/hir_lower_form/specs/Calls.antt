@@ -88,11 +88,14 @@ abbrev pub found_in : ℕ → Place → Expanding → Found
 found_in n p (expanded f x es) = Some (inside_file f n p, x)
 found_in n p _ = None
 
--- what is told of the call, and what is found
-abbrev pub asked_step : Answers → FragmentKind → AstMacroCall → ℕ → Place → Lowering Found
-asked_step env k c n p = let x = asked_call env k c p in do
-  told (called (call_pointer p c) x)
+-- what is told of the call at this node, and what is found
+abbrev pub told_step : Pointer → ℕ → Place → Expanding → Lowering Found
+told_step at n p x = do
+  told (called at x)
   pure (found_in n p x)
+
+abbrev pub asked_step : Answers → FragmentKind → AstMacroCall → ℕ → Place → Lowering Found
+asked_step env k c n p = told_step (call_pointer p c) n p (asked_call env k c p)
 
 -- where none may be entered nothing is asked
 abbrev pub enter_left : Answers → FragmentKind → AstMacroCall → ℕ → Place → Lowering Found

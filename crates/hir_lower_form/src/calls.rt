@@ -2,12 +2,10 @@
 
 ghost use Rattle.std.specs.Prelude.{◌≡◌};
 ghost use Rattle.hir_store.specs.Range.{HasNone};
-ghost use Rattle.hir_env.specs.Answers.{Expanding};
-ghost use Rattle.hir_env.specs.Calls.{called, call_pointer, inside_file};
+ghost use Rattle.hir_env.specs.Calls.{inside_file};
 ghost use Rattle.hir_env.specs.Lent.{shown};
-ghost use Rattle.hir_env.specs.Spot.{site_of};
-ghost use Rattle.hir_lower_form.specs.Calls.{entered_at, found, found_in, note, record_each, told};
-ghost use Rattle.hir_lower_form.specs.Lowering.{Lowers, ◌>>◌, pure};
+ghost use Rattle.hir_lower_form.specs.Calls.{entered_at, found, note, record_each, told_step};
+ghost use Rattle.hir_lower_form.specs.Lowering.{Lowers};
 ghost use Rattle.hir_lower_form.specs.Methods.{HasRead};
 
 use crate::builder::BodyBuilder;
@@ -75,8 +73,7 @@ fn told<'a>(
     call: InFile<AstPtr>,
     expansion: Expansion<'a>,
 ) -> Result<Entered<'a>, StoreFault>
-    ensures { Lowers HasRead (told (called call (shown expansion)) >> pure (found_in left place (shown expansion)))
-        state.old (found result) state.new }
+    ensures { Lowers HasRead (told_step call left place (shown expansion.entry)) state.old (found result) state.new }
 {
     match expansion {
         Expansion::NoExpansion => Ok(Entered::No),

@@ -2,6 +2,7 @@
 
 ghost use Rattle.hir_syntax.specs.declared.ast.ExprKind.{out-ExprKind};
 ghost use Rattle.hir_env.specs.Whole.{asked_expr, kept_expr};
+ghost use Rattle.hir_lower_form.specs.Families.{IsNoCall};
 ghost use Rattle.hir_lower_form.specs.Nests.{KidsExpr};
 ghost use Rattle.hir_lower_form.specs.Methods.{LowersExpr, MaybeLowersExpr};
 
@@ -9,7 +10,7 @@ use crate::families::{
     access_kind, control_kind, leaf_kind, leaving_kind, listing_kind, matching_kind, operator_kind,
     typed_kind,
 };
-use hir_lower_expr::macros::macro_form;
+use hir_lower_expr::macros::{call_of, macro_form};
 use hir_lower_form::builder::BodyBuilder;
 use hir_lower_form::parts::{LowerParts, Lowerer, site};
 use hir_store::diagnostics::ExpressionStoreDiagnostics;
@@ -23,7 +24,8 @@ fn expr_form<P: LowerParts>(
     state: &mut BodyBuilder,
     node: &ast::Expr,
 ) -> Result<ExprId, StoreFault>
-    requires { KidsExpr (P.can lowerer.now.parts) (P.spot lowerer.now.parts).place (out-ExprKind node.now.kind) }
+    requires call { IsNoCall (out-ExprKind node.now.kind) }
+    requires parts { KidsExpr (P.can lowerer.now.parts) (P.spot lowerer.now.parts).place (out-ExprKind node.now.kind) }
     ensures { LowersExpr (kept_expr (P.spot lowerer.now.parts) node.now) state.old result state.new }
 {
     let at = lowerer.pointer(node.id, node.range);
@@ -86,9 +88,9 @@ pub fn expr_node<P: LowerParts>(
             state.report(ExpressionStoreDiagnostics::InactiveCode { node: at, cfg })?;
             Ok(None)
         }
-        Ok(()) => match &node.kind {
-            ast::ExprKind::MacroExpr { call } => macro_form(lowerer, state, at, call),
-            _ => Ok(Some(expr_form(lowerer, state, node)?)),
+        Ok(()) => match call_of(node) {
+            Some(call) => macro_form(lowerer, state, at, call),
+            None => Ok(Some(expr_form(lowerer, state, node)?)),
         },
     }
 }

@@ -28,7 +28,7 @@ use Rattle.hir_env.specs.Answers.{Answers}
 use Rattle.hir_env.specs.Paths as of
 use Rattle.hir_env.specs.Paths.{inside_constant, inside_impl, outside_impl}
 use Rattle.hir_env.specs.Wrapped.{AstConstArg, AstGenericArgList, AstParenArgs, AstRetType, AstTypeArg}
-use Rattle.hir_env.specs.Whole.{written, reader, read_param, read_type_arg, read_ret_type, read_path_type}
+use Rattle.hir_env.specs.Whole.{entering, written, reader, read_param, read_type_arg, read_ret_type, read_path_type}
 use Rattle.hir_env.specs.TypeLayers.{GenericArgLayer, TypeKindLayer, AssocTypeArgLayer, ParamLayer}
 use Rattle.hir_env.specs.TypeLayers.{PathLayer, PathSegmentLayer, TypeBoundLayer}
 use Rattle.hir_env.specs.Count.{count_type, count_option_type, count_parts, count_path, count_option_path, count_segments, count_segment}
@@ -92,14 +92,14 @@ module _ (env : Answers) (C : Claims) (n : ℕ) (below : Below env C n) where
   pat p None h = tt
   pat p (Some x) h = below.pats p x h
 
-  type_arg : (p : Place) (x : AstTypeArg) → count_option_type (read_type_arg env x p) < n → KidsTypeArg C p x
+  type_arg : (p : Place) (x : AstTypeArg) → count_option_type (read_type_arg env (entering env p.left) x p) < n → KidsTypeArg C p x
   type_arg p x h = type_ p x h
 
   type_args : (p : Place) (xs : List AstTypeArg) → count_parts (type_args_part (spot_at env p) xs) < n → Each (KidsTypeArg C p) xs
   type_args p [] h = tt
   type_args p (x ∷ xs) h = (type_arg p x (omega (arith, h)), type_args p xs (omega (arith, h)))
 
-  ret : (p : Place) (r : AstRetType) → count_option_type (read_ret_type env r p) < n → KidsRet C p r
+  ret : (p : Place) (r : AstRetType) → count_option_type (read_ret_type env (entering env p.left) r p) < n → KidsRet C p r
   ret p r h = type_ p r h
 
   answer : (p : Place) (o : Option AstRetType) → count_option_type (answer_part (spot_at env p) o) < n → IfPresent (KidsRet C p) o
@@ -110,10 +110,10 @@ module _ (env : Answers) (C : Claims) (n : ℕ) (below : Below env C n) where
   ret_option p None h = tt
   ret_option p (Some r) h = ret p r h
 
-  params : (p : Place) (xs : List AstParam) → count_parts (of.params_of (read_param env) xs p) < n
+  params : (p : Place) (xs : List AstParam) → count_parts (of.params_of (read_param env (entering env p.left)) xs p) < n
       → Each (λ x. KidsParam C p (out-Param x)) xs
   params p [] h = tt
-  params p (x ∷ xs) h = split (out-Param x) (of.params_of (read_param env) xs p) (params p xs) (out-Param x).variadic refl
+  params p (x ∷ xs) h = split (out-Param x) (of.params_of (read_param env (entering env p.left)) xs p) (params p xs) (out-Param x).variadic refl
       (rw (param_is_level (spot_at env p) x) at h)
     where
       split : (y : ParamLayer written) (behind : Parts) → (count_parts behind < n → Each (λ x. KidsParam C p (out-Param x)) xs)
@@ -128,11 +128,11 @@ module _ (env : Answers) (C : Claims) (n : ℕ) (below : Below env C n) where
   params_option p None h = tt
   params_option p (Some xs) h = params p xs h
 
-  trait_ : (p : Place) (t : AstPathType) → count_option_path (read_path_type env t p).path < n → KidsTrait C p t
+  trait_ : (p : Place) (t : AstPathType) → count_option_path (read_path_type env (entering env p.left) t p).path < n → KidsTrait C p t
   trait_ p t h = let s = ap (λ r. count_option_path r.path) (path_type_is_level (spot_at env p) t) in
       path_below p (out-PathType t).path (omega (arith, h, s))
 
-  bound : (p : Place) (x : TypeBoundLayer written) → count_bound (of.type_bound_step env (reader env) x p) < n → KidsBound C p x
+  bound : (p : Place) (x : TypeBoundLayer written) → count_bound (of.type_bound_step env (reader env (entering env p.left)) x p) < n → KidsBound C p x
   bound p x h = by x.b refl x.ty refl h
     where
       by : (k : Option BoundKind) → x.b ≡ k → (t : Option AstPathType) → x.ty ≡ t
@@ -161,7 +161,7 @@ module _ (env : Answers) (C : Claims) (n : ℕ) (below : Below env C n) where
       by false h = bounds (inside_impl p) bs (omega (arith, h))
 
   pub kids_type : (p : Place) (at : Pointer) (k : TypeKindLayer written)
-      → count_type (of.type_at env (reader env) k p at) ≤ n → KidsType C p k
+      → count_type (of.type_at env (reader env (entering env p.left)) k p at) ≤ n → KidsType C p k
   kids_type p at (TypeKind-F.ParenType t) h = type_ p t (omega (arith, h))
   kids_type p at (TypeKind-F.SliceType t) h = type_ p t (omega (arith, h))
   kids_type p at (TypeKind-F.ArrayType t c) h = (constant p c (omega (arith, h)), type_ p t (omega (arith, h)))
@@ -174,10 +174,11 @@ module _ (env : Answers) (C : Claims) (n : ℕ) (below : Below env C n) where
   kids_type p at (TypeKind-F.ImplTraitType bs) h = impl_bounds p at bs h
   kids_type p at (TypeKind-F.DynTraitType bs) h = bounds p bs (omega (arith, h))
   kids_type p at (TypeKind-F.PatternType t x) h = (type_ p t (omega (arith, h)), pat p x (omega (arith, h)))
+  kids_type p at (TypeKind-F.MacroType c) h = tt
   kids_type p at TypeKind-F.NeverType h = tt
   kids_type p at TypeKind-F.InferType h = tt
 
-  assoc : (p : Place) (a : AssocTypeArgLayer written) → count_arg (of.assoc_type_arg_step env (reader env) a p) < n
+  assoc : (p : Place) (a : AssocTypeArgLayer written) → count_arg (of.assoc_type_arg_step env (reader env (entering env p.left)) a p) < n
       → KidsAssoc C p a
   assoc p a h = by a.params a.name h
     where
@@ -195,7 +196,7 @@ module _ (env : Answers) (C : Claims) (n : ℕ) (below : Below env C n) where
         bounds = bounds (outside_impl p) a.bounds (omega (arith, h));
       }
 
-  arg : (p : Place) (k : GenericArgLayer written) → count_arg (of.generic_arg_step env (reader env) k p) < n → KidsArg C p k
+  arg : (p : Place) (k : GenericArgLayer written) → count_arg (of.generic_arg_step env (reader env (entering env p.left)) k p) < n → KidsArg C p k
   arg p (GenericArg-F.TypeArg x) h = type_arg p x h
   arg p (GenericArg-F.AssocTypeArg x) h =
       let s = ap count_arg (assoc_arg_is_level (spot_at env p) x) in assoc p (out-AssocTypeArg x) (omega (arith, h, s))
@@ -210,7 +211,7 @@ module _ (env : Answers) (C : Claims) (n : ℕ) (below : Below env C n) where
       (arg p (out-GenericArg a) (omega (arith, h, s)), args p as' (omega (arith, h)))
 
   pub kids_args : (p : Place) (l : AstGenericArgList)
-      → suc (count_args (of.generic_arg_list_step env (reader env) l p)) ≤ n → KidsArgs C p l
+      → suc (count_args (of.generic_arg_list_step env (reader env (entering env p.left)) l p)) ≤ n → KidsArgs C p l
   kids_args p l h = args p l h
 
   parens : (p : Place) (o : Option AstParenArgs) (r : Option AstRetType) → count_option_parens (parens_part (spot_at env p) o r) < n
@@ -238,7 +239,7 @@ module _ (env : Answers) (C : Claims) (n : ℕ) (below : Below env C n) where
       by true h = tt
       by false h = (list p s.generics (omega (arith, h)), parens p s.parens s.ret (omega (arith, h)))
 
-  segment : (p : Place) (s : PathSegmentLayer written) → count_segment (of.segment_step env (reader env) s p) < n
+  segment : (p : Place) (s : PathSegmentLayer written) → count_segment (of.segment_step env (reader env (entering env p.left)) s p) < n
       → KidsSegment C p s
   segment p s h = by s.seg refl h
     where
@@ -270,7 +271,7 @@ module _ (env : Answers) (C : Claims) (n : ℕ) (below : Below env C n) where
   all_segments p [] h = tt
   all_segments p (s ∷ ss) h = (one_segment p s (omega (arith, h)), segments p ss (omega (arith, h)))
 
-  pub kids_path : (p : Place) (x : PathLayer written) → count_path (of.path_step env (reader env) x p) ≤ n → KidsPath C p x
+  pub kids_path : (p : Place) (x : PathLayer written) → count_path (of.path_step env (reader env (entering env p.left)) x p) ≤ n → KidsPath C p x
   kids_path p x h = (all_segments p x.segs (omega (arith, h)), path_below p x.use_ (omega (arith, h)))
 
 -- of the same list in the same environment the same is so

@@ -25,7 +25,7 @@ use Rattle.hir_env.specs.PatLayers.{PatKindLayer}
 use Rattle.hir_env.specs.Paths.{last_variadic, names_given, params_of}
 use Rattle.hir_env.specs.Pats.{minus_fits, name_or_bind, pat_at}
 use Rattle.hir_env.specs.TypePats.{name_given}
-use Rattle.hir_env.specs.Whole.{pat_part, pointer_at, read_param, reader, written}
+use Rattle.hir_env.specs.Whole.{entering, into, pat_part, pointer_at, read_param, reader, written}
 use Rattle.hir_env.proofs.PatLevels.{pat_is_level}
 use Rattle.hir_lower_form.specs.Builder.{Builder}
 use Rattle.hir_lower_form.specs.Lowering.{Checked, Lowering, Lowers, SomeEnd, go_on, pure}
@@ -34,11 +34,11 @@ use Rattle.hir_lower_type.specs.Params.{lower_param, name_of_kind, name_of_pat, 
 
 -- no answer decides whether the last is variadic
 pub variadic_is : (env : Answers) (p : Place) (b : Bool) (xs : List AstParam)
-    → last_variadic (read_param env) b xs p ≡ variadic_last b xs
+    → last_variadic (read_param env (entering env p.left)) b xs p ≡ variadic_last b xs
 variadic_is env p b [] = refl
 variadic_is env p b (x ∷ xs) =
     let at : Spot = record { answers = env; place = p } in
-    ap (λ r. last_variadic (read_param env) r.variadic xs p) (param_is_level at x) ∙ variadic_is env p (out-Param x).variadic xs
+    ap (λ r. last_variadic (read_param env (entering env p.left)) r.variadic xs p) (param_is_level at x) ∙ variadic_is env p (out-Param x).variadic xs
 
 typed : (done : List TypeRefId) (rest : Parts) (o : Checked TypeRefId) (c : Builder)
     → go_on o c (λ id. lower_parts (push_some done (Some id)) rest)
@@ -111,7 +111,7 @@ no_name_of_either true p q h k = h
 no_name_of_either false p q h k = k
 
 kind_name : (at : Spot) (k : PatKindLayer written) (s : Pointer)
-    → name_given (tree.some_pat (pat_at at.answers (reader at.answers) k at.place s)) ≡ name_of_kind k
+    → name_given (tree.some_pat (pat_at at.answers (reader at.answers (into at)) k at.place s)) ≡ name_of_kind k
 kind_name at (PatKind-F.IdentPat n is_ref is_mut x) s = one_name _ s _ _ _
 kind_name at (PatKind-F.TupleStructPat x comma ps) s = refl
 kind_name at (PatKind-F.TuplePat comma ps) s = refl
@@ -127,6 +127,8 @@ kind_name at (PatKind-F.LiteralPat None minus) s = refl
 kind_name at (PatKind-F.LiteralPat (Some l) minus) s = no_name_of_either (minus_fits minus l.literal.lit) _ _ refl refl
 kind_name at (PatKind-F.RangePat op low high) s = refl
 kind_name at (PatKind-F.CfgPredPat pred) s = refl
+kind_name at (PatKind-F.MacroPat None) s = refl
+kind_name at (PatKind-F.MacroPat (Some c)) s = refl
 kind_name at PatKind-F.WildcardPat s = refl
 kind_name at PatKind-F.RestPat s = refl
 kind_name at PatKind-F.NotNullPat s = refl
@@ -138,7 +140,7 @@ pat_name at (Some p) =
     ap (λ q. name_given (tree.some_pat q)) (pat_is_level at p) ∙ kind_name at (out-PatKind p.kind) (pointer_at at p.id p.range)
 
 -- no answer decides on the names
-pub names_are : (env : Answers) (p : Place) (xs : List AstParam) → names_given (read_param env) xs p ≡ param_names xs
+pub names_are : (env : Answers) (p : Place) (xs : List AstParam) → names_given (read_param env (entering env p.left)) xs p ≡ param_names xs
 names_are env p [] = refl
 names_are env p (x ∷ xs) =
     let at : Spot = record { answers = env; place = p } in

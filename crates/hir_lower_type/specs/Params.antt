@@ -12,12 +12,12 @@ use Rattle.hir_env.specs.TypeLayers.{ParamReading}
 use Rattle.hir_env.specs.Paths.{params_of}
 use Rattle.hir_env.specs.Answering.{name_or_missing}
 use Rattle.hir_env.specs.PatLayers.{PatKindLayer}
-use Rattle.hir_env.specs.Whole.{read_param, written}
+use Rattle.hir_env.specs.Whole.{into, read_param, written}
 use Rattle.hir_lower_form.specs.Lowering.{Lowering, pure}
 use Rattle.hir_lower_form.specs.Lower.{some, type_part}
 
 abbrev pub params_at : Spot → List AstParam → Parts
-params_at at xs = params_of (read_param at.answers) xs at.place
+params_at at xs = params_of (read_param at.answers (into at)) xs at.place
 
 -- whether the last is variadic, or else what is said where there is none
 abbrev pub variadic_last : Bool → List AstParam → Bool

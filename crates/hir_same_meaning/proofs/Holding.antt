@@ -94,8 +94,9 @@ pub holds_behind : {A B : Type 0} {R : Rel A} {k : Ids B} {es : Bodies} {p : Low
 holds_behind h k = correct_as (correct_bind h k) (λ final ps m m' b g row. record { same = row.second.same })
 
 -- steps behind that hold nothing
-pub holds_before : {A B : Type 0} {R : Rel B} {k : Ids A} {es : Bodies} {p : Lowering A} {q : A → Lowering B}
-    → Correct p (Holds k es) → ((a : A) → Correct (q a) R) → Correct (p >>= (λ a. q a >>= (λ b. pure a))) (Holds k es)
+pub holds_before : {A B : Type 0} {R : A → Rel B} {k : Ids A} {es : Bodies} {p : Lowering A} {q : A → Lowering B}
+    → Correct p (Holds k es) → ((a : A) → Correct (q a) (R a))
+    → Correct (p >>= (λ a. q a >>= (λ b. pure a))) (Holds k es)
 holds_before h k = correct_as (correct_bind h (λ a. correct_bind (k a) (λ b. correct_pure a)))
     (λ final ps m m' a g row. rw row.second.second.is (record {
       same = λ d le. row.first.same d (omega (le, row.after.nodes, row.after.entries, arith));

@@ -314,6 +314,18 @@ impl<S, L, A, D, R, F, C, M> SortGroup<CodeOf<S, L, A, D, R, F, C, M>> for Macro
     }
 }
 
+impl BoxedGroup for MacroStmtLists {
+    fn boxed(alloc: Global, refused: &mut bool, part: MacroStmts) -> Option<Boxed<MacroStmts>> {
+        match Boxed::new(alloc, part) {
+            Ok(part) => Some(part),
+            Err(_) => {
+                *refused = true;
+                None
+            }
+        }
+    }
+}
+
 impl KindGroup for Exprs {
     type Kind = ExprKind;
 

@@ -18,7 +18,7 @@ use Rattle.json_faults.specs.Faults.{Fault}
 use Rattle.json_faults.specs.Kinds.{kinds_of}
 use Rattle.json_nodes.specs.Fields.{number_or, flag_of, text_in}
 use Rattle.lower_json.specs.Reading.{tree_at}
-use Rattle.lower_json.specs.Tables.{tables_of}
+use Rattle.lower_json.specs.Environment.{tables_of}
 use Rattle.json_kinds.specs.ByWord.{with_word}
 use Rattle.lower_json.specs.declared.document.Document.{Document}
 use Rattle.lower_json.specs.declared.document.Root.{Root}
@@ -99,7 +99,7 @@ abbrev pub skip_of : Data → Bool
 skip_of d = flag_of (get (codes "skip") d)
 
 abbrev pub env_of : Data → Tables
-env_of d = record (tables_of (container_of d) (get (codes "env") d)) { skip = skip_of d }
+env_of d = record (tables_of (container_of d) (kinds_of (nodes d)) (nodes d) (get (codes "env") d)) { skip = skip_of d }
 
 -- what a document says
 abbrev pub document_of : Root → Data → Document

@@ -2,6 +2,8 @@ pub mod Reading
 pub mod Reads
 pub mod PathTexts
 pub mod Tables
+pub mod Macros
+pub mod Environment
 pub mod Documents
 pub mod Faults
 pub mod Refusals

@@ -4,6 +4,8 @@ use Rattle.serde_json.specs.Data.{Data, null, Items}
 use Rattle.serde_json.specs.Find.{get, get_item}
 use Rattle.hir_base.specs.declared.node.NodeId.{NodeId}
 use Rattle.hir_base.specs.declared.node.TextRange.{TextRange}
+use Rattle.hir_syntax.specs.declared.macros.Fragment.{Fragment}
+use Rattle.hir_syntax.specs.declared.macros.Fragment.TheVariants as fragment
 use Rattle.hir_syntax.specs.declared.params.ParamList.{ParamList}
 use Rattle.hir_syntax.specs.declared.pats.Pat.{Pat}
 use Rattle.hir_syntax.specs.declared.types.Param.{roll-Param}
@@ -16,6 +18,7 @@ use Rattle.json_kinds.specs.declared.kind.PathNode.{PathNode}
 use Rattle.json_nodes.specs.Branches.{branching, of_branch}
 use Rattle.json_nodes.specs.Exprs.{flow, plain, operation, member, leaving, partless, of_if, of_literal}
 use Rattle.json_nodes.specs.Fields.{number_or, range_of}
+use Rattle.json_nodes.specs.Macros.{of_macro}
 use Rattle.json_nodes.specs.Others.{of_block, of_stmt, other, function}
 use Rattle.json_nodes.specs.Params.{of_param}
 use Rattle.json_nodes.specs.Pats.{of_pat}
@@ -24,7 +27,7 @@ use Rattle.json_nodes.specs.Types.{of_type, of_path_type}
 use Rattle.json_nodes.specs.Typed.{typed, of_record, of_pat_field}
 use Rattle.json_nodes.specs.Args.{of_args}
 use Rattle.json_nodes.specs.Bounds.{of_bound}
-use Rattle.json_nodes.specs.Groups.{as_pat, as_type}
+use Rattle.json_nodes.specs.Groups.{as_expr, as_macro_stmts, as_pat, as_type}
 use Rattle.json_nodes.specs.Parts.{Here}
 use Rattle.json_kinds.specs.ByWord.{or_else}
 use Rattle.json_nodes.specs.declared.code_parts.ExprPart.{ExprPart}
@@ -45,8 +48,9 @@ of_path_part h k = or_else (of_path h k) (of_args h k)
 
 abbrev pub of_part : Here → PartNode → Option AnyPart
 of_part h k = or_else (option_map part.Type_ (of_bound h k)) (or_else (option_map part.Code (of_branch h k))
-    (or_else (option_map part.Code (of_record h k)) (or_else (option_map part.Pat (of_pat_field h k))
-    (or_else (option_map part.Param (of_param h k)) (option_map part.Name (other h k))))))
+    (or_else (option_map part.Code (of_record h k)) (or_else (option_map part.Code (of_macro h k))
+    (or_else (option_map part.Pat (of_pat_field h k)) (or_else (option_map part.Param (of_param h k))
+    (option_map part.Name (other h k)))))))
 
 -- what stands at a node of each kind
 unfoldable pub of_kind : Here → Kind → Option AnyPart
@@ -101,3 +105,17 @@ tree_of root.Pat k h = tree.Pat (only_param (option_and_then as_pat (option_and_
 unfoldable pub tree_at : Root → List (Option Kind) → Items → ℕ → Tree
 tree_at want kinds ns at =
     tree_of want (kind_at kinds at) (node_at (part_at 255 kinds ns) at (unwrap_or (get_item at ns) null))
+
+-- what stands at a node of a kind, as what a call of a macro is expanded to: a pattern, a type, statements, or else an expression
+abbrev pub fragment_of : Here → Kind → Option Fragment
+fragment_of h (kind.Pat k) = option_map fragment.Pat (option_and_then as_pat (of_kind h (kind.Pat k)))
+fragment_of h (kind.Type_ k) = option_map fragment.Type_ (option_and_then as_type (of_kind h (kind.Type_ k)))
+fragment_of h kind.PathType = option_map fragment.Type_ (option_and_then as_type (of_kind h kind.PathType))
+fragment_of h (kind.Part k) = option_map fragment.Stmts (option_and_then as_macro_stmts (of_kind h (kind.Part k)))
+fragment_of h k = option_map fragment.Expr (option_and_then as_expr (of_kind h k))
+
+-- the same at an index, on at most 256 levels, wherever the call stands
+unfoldable pub fragment_at : List (Option Kind) → Items → ℕ → Option Fragment
+fragment_at kinds ns at = option_and_then
+    (λ d. option_and_then (fragment_of (node_at (part_at 255 kinds ns) at d)) (kind_at kinds at))
+    (get_item at ns)

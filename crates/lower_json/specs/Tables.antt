@@ -2,9 +2,9 @@
 use Rattle.std.specs.Prelude.{ℕ, codes, Bool, true, List, [], ◌∷◌, ◌++◌, Option, Some, None, option_map, option_and_then}
 use Rattle.serde_json.specs.Data.{Data, null, boolean, number, string, array, object, Items, no_items, item}
 use Rattle.serde_json.specs.Find.{get, as_array, as_str}
-use Rattle.hir_env.specs.NodeMap.{Site, with_first, with_first_pred, with_first_context}
+use Rattle.hir_env.specs.NodeMap.{Site}
 use Rattle.hir_env.specs.Tables as answered
-use Rattle.hir_env.specs.Tables.{Tables, empty, numbered_items}
+use Rattle.hir_env.specs.Tables.{numbered_items}
 use Rattle.hir_env.specs.declared.lang.LangItems.{LangItems}
 use Rattle.hir_env.specs.declared.resolved.Resolution.{Resolution}
 use Rattle.hir_env.specs.declared.resolved.Resolution.TheVariants as resolution
@@ -20,11 +20,9 @@ use Rattle.hir_store.specs.declared.ids.BlockId.{BlockId}
 use Rattle.hir_store.specs.declared.ids.LangItemId.{LangItemId}
 use Rattle.hir_store.specs.declared.path.ModPath.{ModPath}
 use Rattle.hir_store.specs.declared.ids.ModuleId.{ModuleId}
-use Rattle.hir_store.specs.declared.ids.ItemContainerId.{ItemContainerId}
 use Rattle.hir_base.specs.declared.node.PredId.{PredId}
 use Rattle.json_faults.specs.Values.{is_alias_word, small_of}
 use Rattle.json_kinds.specs.ByWord.{with_word}
-use Rattle.json_nodes.specs.Fields.{flag_of}
 use Rattle.lower_json.specs.PathTexts.{path_of}
 
 -- the node of a number in a file
@@ -225,21 +223,3 @@ items_in lang = record {
 abbrev pub lang_of : Option Data → LangItems
 lang_of None = numbered_items
 lang_of (Some lang) = items_in lang
-
--- the tables with what an environment writes; of two entries for one node, predicate, context or path the first counts
-abbrev pub with_tables : Data → Tables → Tables
-with_tables env ts = record ts {
-  disabled = with_all with_first disabled_of (rows (codes "disabled") env) ts.disabled;
-  preds = with_all with_first_pred decided_of (rows (codes "preds") env) ts.preds;
-  hygiene = with_all with_first named_of (rows (codes "hygiene") env) ts.hygiene;
-  contexts = with_all with_first_context context_of (rows (codes "contexts") env) ts.contexts;
-  blocks = with_all with_first numbered_of (rows (codes "blocks") env) ts.blocks;
-  paths = with_paths (rows (codes "resolve") env) ts.paths;
-  lang_items = lang_of (get (codes "lang") env);
-  new_range = flag_of (get (codes "new_range") env);
-}
-
--- of a body that is not skipped and stands in the container; empty ones where there is no environment
-abbrev pub tables_of : ItemContainerId → Option Data → Tables
-tables_of container None = empty container
-tables_of container (Some env) = with_tables env (empty container)

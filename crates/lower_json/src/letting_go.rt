@@ -21,6 +21,8 @@ impl<F> LetsGo<AnyPart> for Level<'_, '_, F> {
             AnyPart::Code(CodePart::Guard(guard)) => drop(guard),
             AnyPart::Code(CodePart::RecordList(list)) => drop(list),
             AnyPart::Code(CodePart::RecordField(field)) => drop(field),
+            AnyPart::Code(CodePart::MacroCall(call)) => drop(call),
+            AnyPart::Code(CodePart::MacroStmts(stmts)) => drop(stmts),
             AnyPart::Pat(PatPart::Pat(pat)) => drop(pat),
             AnyPart::Pat(PatPart::PatField(field)) => drop(field),
             AnyPart::Param(ParamPart::Param(param)) => drop(param),

@@ -6,6 +6,7 @@ pub mod fault;
 mod heading;
 mod lang;
 mod letting_go;
+mod macros;
 mod path_text;
 pub mod read;
 mod resolve;

@@ -88,7 +88,7 @@ fn read_document(
     ensures { IfOk result (λ d. d ≡ document_of want (view document.now)) }
 {
     // The tree comes last, since each `?` behind it would have to let go of it.
-    let mut env = tables(alloc, document, container(document))?;
+    let mut env = tables(alloc, kinds, document, container(document))?;
     env.set_skip(skip(document));
     Ok(Document {
         tree: tree(alloc, want, kinds, document)?,

@@ -97,7 +97,8 @@ fn meaning(
     Some((module(inside)?, resolved(types, values, rest)?))
 }
 
-fn path(alloc: Global, value: &Value) -> Result<Option<ModPath>, AllocError>
+/// The path that a text is.
+pub fn path(alloc: Global, value: &Value) -> Result<Option<ModPath>, AllocError>
     ensures { IfOk result (λ path. path ≡ spec.path_in (view value.now)) }
 {
     match value.as_str() {

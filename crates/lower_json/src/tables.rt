@@ -3,25 +3,31 @@
 ghost use Rattle.std.specs.Prelude.{◌≡◌, Some, IfOk, OnOk, codes};
 ghost use Rattle.serde_json.specs.View.{view, items_view};
 ghost use Rattle.serde_json.specs.Find.{as_array, get};
+ghost use Rattle.json_faults.specs.Documents.{nodes};
 ghost use Rattle.json_faults.specs.Values.{small_of};
 ghost use Rattle.hir_env.specs.NodeMap.{with_first, with_first_pred, with_first_context};
 ghost use Rattle.lower_json.specs.Tables.{site_of, triple_of, quadruple_of, both, disabled_of, named_of, numbered_of};
-ghost use Rattle.lower_json.specs.Tables.{decision_of, decided_of, number_or_null, with_all, rows, with_tables, tables_of};
+ghost use Rattle.lower_json.specs.Environment.{with_tables, tables_of};
+ghost use Rattle.lower_json.specs.Tables.{decision_of, decided_of, number_or_null, with_all, rows};
 ghost use Rattle.lower_json.specs.Tables.{context_id_of, outer_macro_of, crate_root_of, frame_of, context_of};
 
 use crate::lang::lang_items;
+use crate::macros::{define_all, define_legacy, expand_all};
 use crate::resolve::resolve_all;
 use hir_base::node::{HirFileId, InFile, NodeId, PredId};
 use hir_env::table::{Context, TableEnv};
 use hir_store::ids::{
     BlockId, CfgId, CrateId, CtxId, HygieneId, ItemContainerId, MacroDefId, ModuleId,
 };
+use json_faults::document::nodes;
 use json_faults::value::small;
-use json_nodes::field::flag;
+use json_kinds::kind::Kind;
+use json_nodes::field::{flag, number_or};
 use serde_json::Value;
 use std::alloc::{AllocError, Global};
 
-fn site(file: &Value, node: &Value) -> Option<InFile<NodeId>>
+/// The node of a number in a file.
+pub fn site(file: &Value, node: &Value) -> Option<InFile<NodeId>>
     ensures { result ≡ site_of (small_of (view file.now)) (small_of (view node.now)) }
 {
     Some(InFile {
@@ -243,8 +249,15 @@ fn entries_of<'a>(env: &'a Value, name: &str) -> &'a [Value]
     }
 }
 
-fn fill(alloc: Global, tables: &mut TableEnv, env: &Value) -> Result<(), AllocError>
-    ensures { OnOk result (tables.new ≡ with_tables (view env.now) tables.old) }
+/// Fills the tables from an environment, whose trees stand among the nodes.
+fn fill(
+    alloc: Global,
+    tables: &mut TableEnv,
+    kinds: &[Option<Kind>],
+    nodes: &[Value],
+    env: &Value,
+) -> Result<(), AllocError>
+    ensures { OnOk result (tables.new ≡ with_tables kinds.now (items_view nodes.now) (view env.now) tables.old) }
 {
     disable_all(tables, entries_of(env, "disabled"))?;
     decide_all(tables, entries_of(env, "preds"))?;
@@ -252,22 +265,28 @@ fn fill(alloc: Global, tables: &mut TableEnv, env: &Value) -> Result<(), AllocEr
     frame_all(tables, entries_of(env, "contexts"))?;
     number_all(tables, entries_of(env, "blocks"))?;
     resolve_all(alloc, tables, entries_of(env, "resolve"))?;
+    expand_all(alloc, tables, kinds, nodes, entries_of(env, "macros"))?;
+    define_all(alloc, tables, entries_of(env, "macro_defs"))?;
+    define_legacy(alloc, tables, entries_of(env, "legacy"))?;
     tables.set_lang_items(lang_items(env.get("lang")));
     tables.set_new_range(flag(env, "new_range"));
+    tables.set_limit(number_or(env, "limit", 16));
     Ok(())
 }
 
 /// The tables that a document writes for a body that is not skipped and stands in the container.
 pub fn tables(
     alloc: Global,
+    kinds: &[Option<Kind>],
     document: &Value,
     container: ItemContainerId,
 ) -> Result<TableEnv, AllocError>
-    ensures { IfOk result (λ tables. tables ≡ tables_of container (get (codes "env") (view document.now))) }
+    ensures { let d = view document.now in
+        IfOk result (λ tables. tables ≡ tables_of container kinds.now (nodes d) (get (codes "env") d)) }
 {
     let mut tables = TableEnv::new(alloc, container);
     if let Some(env) = document.get("env") {
-        fill(alloc, &mut tables, env)?;
+        fill(alloc, &mut tables, kinds, nodes(document), env)?;
     }
     Ok(tables)
 }

@@ -2,35 +2,35 @@
 
 ghost use Rattle.std.specs.Prelude.{◌≡◌, IfOk, option_and_then};
 ghost use Rattle.serde_json.specs.View.{view, items_view};
-ghost use Rattle.json_nodes.specs.Groups.{as_pat};
 ghost use Rattle.json_nodes.specs.Kept.{Kept};
 ghost use Rattle.json_nodes.specs.Nodes.{here};
 ghost use Rattle.lower_json.specs.Reads.{Reads};
 ghost use Rattle.lower_json.specs.Reading as spec;
-ghost use Rattle.lower_json.specs.Reading.{of_kind, node_at, tree_of, tree_at};
+ghost use Rattle.lower_json.specs.Reading.{fragment_of, of_kind, node_at, tree_of, tree_at};
 
 use crate::document::{Root, Tree};
 use hir_base::Boxed;
 use hir_base::node::{NodeId, TextRange};
-use hir_syntax::ast::{Param, ParamList, Pat};
+use hir_syntax::ast::{Fragment, Param, ParamList, Pat};
 use json_faults::kinds::kind_at;
 use json_faults::value::item_at;
 use json_kinds::kind::{ExprNode, Kind, PartNode, PathNode};
 use json_nodes::args::of_args;
 use json_nodes::bounds::of_bound;
 use json_nodes::branches::{branching, of_branch};
-use json_nodes::code_parts::ExprPart;
+use json_nodes::code_parts::{ExprPart, Exprs, MacroStmtLists};
 use json_nodes::exprs::{flow, of_if, of_literal, plain};
 use json_nodes::field::{number_or, range};
 use json_nodes::fields::Fields;
 use json_nodes::leaving::leaving;
+use json_nodes::macros::of_macro;
 use json_nodes::members::member;
 use json_nodes::node::Node;
 use json_nodes::operations::operation;
 use json_nodes::others::{function, of_block, of_stmt, other};
 use json_nodes::param_parts::Pats;
 use json_nodes::params::of_param;
-use json_nodes::part::{AnyPart, Group, ReadParts, in_box, served};
+use json_nodes::part::{AnyPart, BoxedGroup, Group, ReadParts, in_box, served};
 use json_nodes::partless::partless;
 use json_nodes::path_parts::PathPart;
 use json_nodes::paths::{of_path, path};
@@ -125,6 +125,9 @@ fn of_part<F: Fields>(node: &F, refused: &mut bool, kind: PartNode) -> Option<An
         return Some(AnyPart::Code(part));
     }
     if let Some(part) = of_record(node, refused, kind) {
+        return Some(AnyPart::Code(part));
+    }
+    if let Some(part) = of_macro(node, refused, kind) {
         return Some(AnyPart::Code(part));
     }
     if let Some(part) = of_pat_field(node, refused, kind) {
@@ -234,18 +237,18 @@ fn one_of<G: Group<AnyPart>, P: ReadParts>(
     served::<AnyPart, G, P>(node.parts, part)
 }
 
-/// The pattern at a node in a box, if one stands there.
-fn boxed_pat<P: ReadParts>(
+/// The same in a box.
+fn boxed<G: BoxedGroup, P: ReadParts>(
     node: &Node<'_, P>,
     refused: &mut bool,
     kind: Option<Kind>,
-) -> Option<Boxed<Pat>>
+) -> Option<Boxed<G::Part>>
     requires { P.can node.now.parts.now }
     ensures { Kept refused.old refused.new
-        (result ≡ option_and_then as_pat (option_and_then (of_kind (here P.parts node.now)) kind)) }
+        (result ≡ option_and_then G.as_group (option_and_then (of_kind (here P.parts node.now)) kind)) }
 {
-    let pat = one_of::<Pats, P>(node, refused, kind)?;
-    in_box::<Pats>(node.alloc, refused, pat)
+    let part = one_of::<G, P>(node, refused, kind)?;
+    in_box::<G>(node.alloc, refused, part)
 }
 
 /// A pattern as the only parameter of a function.
@@ -281,7 +284,7 @@ fn tree_of<P: ReadParts>(
         Root::Path => Tree::Path(path(node, refused)),
         Root::Type_ => Tree::Type_(one_of::<Types, P>(node, refused, kind)),
         Root::Pat => {
-            let pat = boxed_pat(node, refused, kind);
+            let pat = boxed::<Pats, P>(node, refused, kind);
             Tree::Pat(only_param(node, refused, pat))
         }
     }
@@ -330,4 +333,69 @@ pub fn read_tree_at(
         Some(value) => whole_tree(alloc, &inside, want, kind, value, root),
         None => whole_tree(alloc, &inside, want, kind, &Value::Null, root),
     }
+}
+
+/// What stands at a node of a kind, as what a call of a macro is expanded to.
+fn fragment_of<P: ReadParts>(node: &Node<'_, P>, refused: &mut bool, kind: Kind) -> Option<Fragment>
+    requires { P.can node.now.parts.now }
+    ensures { Kept refused.old refused.new (result ≡ fragment_of (here P.parts node.now) kind) }
+{
+    match kind {
+        Kind::Pat(_) => Some(Fragment::Pat(boxed::<Pats, P>(node, refused, Some(kind))?)),
+        Kind::Type_(_) | Kind::PathType => {
+            Some(Fragment::Type_(boxed::<Types, P>(node, refused, Some(kind))?))
+        }
+        Kind::Part(_) => Some(Fragment::Stmts(boxed::<MacroStmtLists, P>(
+            node,
+            refused,
+            Some(kind),
+        )?)),
+        _ => Some(Fragment::Expr(boxed::<Exprs, P>(node, refused, Some(kind))?)),
+    }
+}
+
+/// The same, by the value and the index of the node.
+fn whole_fragment<P: ReadParts>(
+    alloc: Global,
+    parts: &P,
+    kind: Kind,
+    value: &Value,
+    at: u32,
+) -> Result<Option<Fragment>, AllocError>
+    requires { P.can parts.now }
+    ensures { IfOk result (λ tree. tree ≡ fragment_of (node_at (P.parts parts.now) at (view value.now)) kind) }
+{
+    let mut refused = false;
+    let fragment = fragment_of(&node_at(alloc, parts, value, at), &mut refused, kind);
+    if !refused {
+        return Ok(fragment);
+    }
+    drop(fragment);
+    Err(AllocError)
+}
+
+/// What a call of a macro is expanded to, whose root is at an index, if it is there. Its root is on the first level, wherever
+/// the call stands.
+#[tactic(auto, unfolding(crate::specs::Reading::fragment_at))]
+pub fn fragment_at(
+    alloc: Global,
+    kinds: &[Option<Kind>],
+    nodes: &[Value],
+    root: u32,
+) -> Result<Option<Fragment>, AllocError>
+    ensures { IfOk result (λ tree. tree ≡ spec.fragment_at kinds.now (items_view nodes.now) root) }
+{
+    let Some(value) = item_at(nodes, root as usize) else {
+        return Ok(None);
+    };
+    let Some(kind) = kind_at(kinds, root as usize) else {
+        return Ok(None);
+    };
+    let inside = Level {
+        kinds,
+        nodes,
+        levels: LEVELS_BELOW,
+        read: read_part,
+    };
+    whole_fragment(alloc, &inside, kind, value, root)
 }

@@ -7,11 +7,11 @@ use Rattle.hir_env.specs.Answering.{inside, ptr, numbered}
 use Rattle.hir_env.specs.declared.place.Place.{Place}
 use Rattle.hir_env.specs.Count.{count_block, count_path, count_stmts, count_option_expr, count_type}
 use Rattle.hir_env.specs.Paths.{inside_constant}
-use Rattle.hir_env.specs.Whole.{answered_path, answered_plain, expr_part, pointer_at, stmts_part}
+use Rattle.hir_env.specs.Whole.{answered_path, answered_plain, contents_part, pointer_at}
 use Rattle.hir_env.proofs.Levels.{expr_is_level, plain_is_level}
 use Rattle.hir_env.proofs.PathLevels.{path_is_level, type_is_level}
 use Rattle.hir_lower_handlers.specs.Nests.{HandlesArgs, HandlesBlock, HandlesConstant, HandlesExpr, HandlesPat, HandlesPath, HandlesType}
-use Rattle.hir_lower_handlers.specs.Nests.{HandlesTarget}
+use Rattle.hir_lower_handlers.specs.Nests.{HandlesCall, HandlesTarget}
 use Rattle.hir_lower_handlers.specs.Spots.{complete, spot_at}
 use Rattle.hir_lower_pat.proofs.AimLemmas.{kept_below}
 use Rattle.hir_lower_knot.proofs.Kids.{kids_expr, kids_block, in_inside, same_number}
@@ -72,8 +72,8 @@ collect_block_inside-block_node-requires-clause-parts g t c =
     let env = g.E.LowerEnv.answers c.args.env.now in
     let inner = rw c.number-found.ensures at c.inside-inner.ensures in
     let node = out-BlockExpr c.args.node.now in
-    let tail : Place → ℕ = λ q. count_option_expr (expr_part (spot_at (complete env) q) node.tail) in
-    let level : Place → ℕ = λ q. suc (count_stmts (stmts_part (spot_at (complete env) q) node.stmts) + tail q) in
+    let level : Place → ℕ = λ q. let contents = contents_part (spot_at (complete env) q) node.stmts node.tail in
+    suc (count_stmts contents.0 + count_option_expr contents.1) in
     let same : numbered (complete env) c.args.place node.id ≡ numbered env c.args.place node.id = same_number env c.args.place node.id in
     let size : count_block (answered_plain (spot_at (complete env) c.args.place) c.args.node.now) ≡ level c.inside-inner.result =
     ap count_block (plain_is_level (spot_at (complete env) c.args.place) c.args.node.now)
@@ -127,6 +127,7 @@ read_path_segments-path_node-requires-clause-parts g t c =
       constant = λ p o. Unit {0};
       pat = λ p x. Unit {0};
       target = λ p e. Unit {0};
+      call = λ p c. Unit {0};
     }) t
     (record {
       types = λ p x h. record {
@@ -167,6 +168,7 @@ lower_type_node-type_node-requires g t c =
       constant = HandlesConstant g.E.LowerEnv.answers _ _ c.args.env.now;
       pat = HandlesPat g.E.LowerEnv.answers _ _ c.args.env.now;
       target = λ p e. Unit {0};
+      call = λ p c. Unit {0};
     }) t
     (record {
       types = λ p x h. record {
@@ -207,6 +209,7 @@ lower_arg_list-args_node-requires g t c =
       constant = HandlesConstant g.E.LowerEnv.answers _ _ c.args.env.now;
       pat = HandlesPat g.E.LowerEnv.answers _ _ c.args.env.now;
       target = HandlesTarget g.E.LowerEnv.answers _ _ _ _ c.args.env.now;
+      call = HandlesCall g.E.LowerEnv.answers _ _ c.args.env.now;
     }) t
     (record {
       types = λ p x h. record {

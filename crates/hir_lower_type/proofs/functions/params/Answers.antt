@@ -1,6 +1,6 @@
 use Rattle.std.proofs.Common.{arith, ◌∙◌, []}
 use Rattle.hir_store.specs.Range.{HasTypes}
-use Rattle.hir_env.specs.Whole.{read_param}
+use Rattle.hir_env.specs.Whole.{into, read_param}
 use Rattle.hir_lower_form.specs.Lower.{lower_parts}
 use Rattle.hir_lower_type.specs.Params.{params_at}
 use Rattle.hir_lower_type.proofs.Params.{handed_on, params_more, params_refused}
@@ -14,7 +14,7 @@ returns-in_err-id g c =
     c.from_residual.ensures.1
     (λ other.
     let h = c.in_err-id.ensures other in
-    let is = params_refused (read_param at.answers) at.place l.done l.left.now _ _ _ _ c.one-item.is c.in-len1-up.len_at_least h.0 in
+    let is = params_refused (read_param at.answers (into at)) at.place l.done l.left.now _ _ _ _ c.one-item.is c.in-len1-up.len_at_least h.0 in
     (l.invariant.so_far ∙ is, h.1))
 
 pub loop-left-init : goal.loop-left-init
