@@ -80,9 +80,9 @@ one_of_both true ps qs h k = h
 one_of_both false ps qs h k = k
 
 -- an alternative alone is itself
-first_unmade : (at : Pointer) (d : PatData) (ds : PatsData) → Unmade d → Unmade (alternatives_data at (datum.more_patterns d ds))
-first_unmade at d datum.no_patterns h = h
-first_unmade at d (datum.more_patterns e ds) h = plain refl refl
+one_unmade : (at : Pointer) (d : PatData) (ds : PatsData) → Unmade d → Unmade (alternatives_data at (datum.more_patterns d ds))
+one_unmade at d datum.no_patterns h = h
+one_unmade at d (datum.more_patterns e ds) h = plain refl refl
 
 mutual
   pub pattern_unmade : (p : Pat) (us : FirstUses) → Unmade (pattern_data p us)
@@ -104,7 +104,7 @@ mutual
 
   alternatives_unmade : (at : Pointer) (ps : Pats) (us : FirstUses) → Unmade (alternatives_data at (patterns_data ps us))
   alternatives_unmade at tree.no_pats us = plain refl refl
-  alternatives_unmade at (tree.more_pats p ps) us = first_unmade at _ (patterns_data ps (uses_after p us)) (pattern_unmade p us)
+  alternatives_unmade at (tree.more_pats p ps) us = one_unmade at _ (patterns_data ps (uses_after p us)) (pattern_unmade p us)
   alternatives_unmade at (tree.noted_pats called ps) us = alternatives_unmade at ps us
 
   part_unmade : (p : OptionPat) (us : FirstUses) → Unmade (pattern_part_data p us)
