@@ -50,16 +50,15 @@ fn pointed(
     requires { HasExprOption state.old.stored inner }
     ensures { Lowers HasExprOption (spec.pointed at inner) state.old result state.new }
 {
-    match inner {
-        None => Ok(None),
-        Some(id) => {
-            state.point(at, id)?;
-            Ok(Some(id))
-        }
-    }
+    let Some(id) = inner else {
+        return Ok(None);
+    };
+    state.point(at, id)?;
+    Ok(Some(id))
 }
 
 /// A call that is written here.
+#[tactic(auto, using(crate::proofs::CallLemmas::call_on))]
 fn call_form<P: LowerParts>(
     lowerer: &Lowerer<P>,
     state: &mut BodyBuilder,
@@ -83,6 +82,7 @@ fn call_form<P: LowerParts>(
 
 /// A call as an expression: what it stands for, which is missing at the call where it stands for no expression. Of one that the text
 /// lacks, and of one whose expression a condition disables, nothing is left.
+#[tactic(auto, unfolding(hir_lower_form::specs::Calls::note_gone))]
 pub fn macro_form<P: LowerParts>(
     lowerer: &Lowerer<P>,
     state: &mut BodyBuilder,

@@ -88,3 +88,16 @@ pub type_pat-returns-in_default : goal.type_pat-returns-in_default
 type_pat-returns-in_default g t c =
     let here = at_place (g.P.LowerParts.spot c.args.lowerer.now.parts) c.args.place in
     rw (pat_is_level here c.args.node.now) c.other_form.ensures
+
+pub type_pat-returns-in-MacroPat-None : goal.type_pat-returns-in-MacroPat-None
+type_pat-returns-in-MacroPat-None g t c =
+    let here = at_place (g.P.LowerParts.spot c.args.lowerer.now.parts) c.args.place in
+    let m = c.in-MacroPat-None in
+    rw (pat_is_level here c.args.node.now, opened (kind.rolls-MacroPat _ ∙ sym m.is), m.call-is) c.missing_pat.ensures
+
+pub type_pat-returns-in-MacroPat-Some : goal.type_pat-returns-in-MacroPat-Some
+type_pat-returns-in-MacroPat-Some g t c =
+    let here = at_place (g.P.LowerParts.spot c.args.lowerer.now.parts) c.args.place in
+    let m = c.in-MacroPat-Some in
+    rw (pat_is_level here c.args.node.now, opened (kind.rolls-MacroPat _ ∙ sym m.is), m.call-is)
+    (rw c.pointer_in-at.ensures at c.unentered_form.ensures)
