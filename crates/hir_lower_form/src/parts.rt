@@ -9,7 +9,7 @@ ghost use Rattle.hir_env.specs.Whole.{answered, answered_arg_list, answered_path
 ghost use Rattle.hir_env.specs.Whole.{block_part, expr_part, pointer_at};
 ghost use Rattle.hir_scope.specs.Ribs.{search, sought_first};
 ghost use Rattle.hir_lower_scope.specs.Labels.{answer};
-ghost use Rattle.hir_lower_form.specs.Nests.{CallsNest, Claims, IfPresent, PatsNest, TargetsArePlaces, TargetsNest};
+ghost use Rattle.hir_lower_form.specs.Nests.{CallsNest, Claims, IfPresent, PatsNest, TargetsArePlaces, TargetsNest, TypeCallsNest};
 ghost use Rattle.hir_lower_form.specs.Methods.{HasRole, LowersBlock, LowersBlockOpt, LowersExpr, LowersExprOpt, LowersIfPresent};
 ghost use Rattle.hir_lower_form.specs.Methods.{LowersInside, MaybeLowersExpr, MaybeLowersExprOpt};
 ghost use Rattle.hir_lower_form.specs.Methods.{HasWalk, LowersArgs, LowersConstant, LowersType, ReadsPath, at_place, constant_at};
@@ -192,6 +192,7 @@ pub trait LowerParts {
 
     /// What a call that may be entered stands for may be handed in where it is entered.
     ghost call_kids: { CallsNest can spot };
+    ghost type_call_kids: { TypeCallsNest can spot };
 }
 
 /// The node that a pointer leads to, as it is asked about.

@@ -17,9 +17,9 @@ use Rattle.hir_env.specs.declared.expand.FragmentKind.TheVariants as kind
 use Rattle.hir_env.specs.declared.place.Place.{Place}
 use Rattle.hir_env.specs.Answers.{Answers}
 use Rattle.hir_env.specs.Answered as tree
-use Rattle.hir_env.specs.Answered.{Binder, OptionExpr}
-use Rattle.hir_env.specs.Calls.{asked_call, expr_in}
-use Rattle.hir_env.specs.Count.{count_expr, count_option_expr}
+use Rattle.hir_env.specs.Answered.{Binder, OptionExpr, OptionType}
+use Rattle.hir_env.specs.Calls.{asked_call, expr_in, type_in}
+use Rattle.hir_env.specs.Count.{count_expr, count_option_expr, count_option_type, count_type}
 use Rattle.hir_env.specs.Layers.{Entering}
 use Rattle.hir_env.specs.Paths.{inside_constant}
 use Rattle.hir_env.specs.Wrapped.{AstGenericArgList}
@@ -132,7 +132,19 @@ abbrev pub InCall : Answers → (Place → AstExpr → Type 0) → Place → Ast
 InCall env expr p c = (q : Place) (e : AstExpr)
     → count_expr (answered (spot_at env q) e) ≤ count_option_expr (inside_call env (entering env p.left) p c) → expr q e
 
+-- the same for types
+abbrev pub inside_type_call : Answers → Option Entering → Place → AstMacroCall → OptionType
+inside_type_call env None p c = tree.no_type
+inside_type_call env (Some into) p c = type_in into p (asked_call env kind.Type_ c p)
+
+abbrev pub InTypeCall : Answers → (Place → AstType_ → Type 0) → Place → AstMacroCall → Type 0
+InTypeCall env type_ p c = (q : Place) (t : AstType_)
+    → count_type (answered_type (spot_at env q) t) ≤ count_option_type (inside_type_call env (entering env p.left) p c) → type_ q t
+
 module _ {E : Type 0} (answers : E → Answers) where
+  abbrev pub HandlesTypeCall : TypePre E → TypePost E → E → Place → AstMacroCall → Type 0
+  HandlesTypeCall pre post env = InTypeCall (complete (answers env)) (HandlesType answers pre post env)
+
   abbrev pub HandlesCall : Pre E → Post E (Option ExprId) → E → Place → AstMacroCall → Type 0
   HandlesCall pre post env = InCall (complete (answers env)) (HandlesExpr answers pre post env)
 
@@ -152,4 +164,5 @@ module _ {E : Type 0} (answers : E → Answers) (pre : Pre E) (post : Post E (Op
     pat = HandlesPat answers path_pre path_post env;
     target = HandlesTarget answers pre post path_pre path_post env;
     call = HandlesCall answers pre post env;
+    type_call = HandlesTypeCall answers type_pre type_post env;
   }

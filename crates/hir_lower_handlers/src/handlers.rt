@@ -1,7 +1,7 @@
 //! What lowers the parts of a form, of functions that are handed in.
 
 ghost use Rattle.hir_lower_pat.proofs.Nested.{pat_nests, target_is_place, target_nests};
-ghost use Rattle.hir_lower_handlers.proofs.CallKids.{call_nests};
+ghost use Rattle.hir_lower_handlers.proofs.CallKids.{call_nests, type_call_nests};
 ghost use Rattle.hir_lower_handlers.specs.Nests.{Handled, HandlesExpr, HandlesPath};
 ghost use Rattle.hir_lower_handlers.specs.Spots.{complete, spot_at};
 
@@ -84,6 +84,7 @@ impl<
         (HandlesPath E.answers (Q.pre it.path) (Q.post it.path) it.env.now) it.place };
 
     ghost call_kids = { λ it. call_nests E.answers (F.pre it.expr) (F.post it.expr) it.env.now it.place };
+    ghost type_call_kids = { λ it. type_call_nests E.answers (T.pre it.type_ref) (T.post it.type_ref) it.env.now it.place };
 
     ghost spot = { λ it. spot_at (E.answers it.env.now) it.place };
 

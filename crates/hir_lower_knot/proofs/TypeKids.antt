@@ -10,6 +10,7 @@ use Rattle.hir_syntax.specs.declared.ast.SegmentKind.TheVariants as kind
 use Rattle.hir_syntax.specs.declared.pats.Pat.{Pat as AstPat}
 use Rattle.hir_syntax.specs.declared.types.BoundKind.{BoundKind}
 use Rattle.hir_syntax.specs.declared.types.BoundKind.TheVariants as bound_kind
+use Rattle.hir_syntax.specs.declared.macros.MacroCall.{MacroCall as AstMacroCall}
 use Rattle.hir_syntax.specs.declared.types.Type_.{Type_ as AstType_}
 use Rattle.hir_syntax.specs.declared.types.Param.{Param as AstParam, out-Param}
 use Rattle.hir_syntax.specs.declared.types.PathType.{PathType as AstPathType, out-PathType}
@@ -25,6 +26,8 @@ use Rattle.hir_env.specs.Spot.{Spot}
 use Rattle.hir_env.specs.Answered as tree
 use Rattle.hir_env.specs.Answered.{Parts}
 use Rattle.hir_env.specs.Answers.{Answers}
+use Rattle.hir_env.specs.Calls.{entered_type}
+use Rattle.hir_env.specs.Layers.{Entering}
 use Rattle.hir_env.specs.Paths as of
 use Rattle.hir_env.specs.Paths.{inside_constant, inside_impl, outside_impl}
 use Rattle.hir_env.specs.Wrapped.{AstConstArg, AstGenericArgList, AstParenArgs, AstRetType, AstTypeArg}
@@ -46,6 +49,7 @@ use Rattle.hir_lower_form.specs.Nests.{KidsQualified, KidsSegment, KidsSegments,
 use Rattle.hir_lower_form.specs.Builder.{Builder}
 use Rattle.hir_lower_form.specs.Lowering.{Checked}
 use Rattle.hir_lower_form.specs.Methods.{LowersArgs, constant_at}
+use Rattle.hir_lower_handlers.specs.Nests.{inside_type_call}
 use Rattle.hir_lower_handlers.specs.Spots.{spot_at}
 
 -- what holds of each node smaller than n, at whatever place it is read
@@ -55,8 +59,16 @@ pub record Below (env : Answers) (C : Claims) (n : ℕ) : Type 0 where
   -- by the expression, which is read inside of it
   pub constants : (p : Place) (e : AstExpr) → count_expr (answered (spot_at env (inside_constant p)) e) < n → C.constant p (Some e)
   pub no_constant : (p : Place) → C.constant p None
+  -- of a call by what it stands for
+  pub type_calls : (p : Place) (c : AstMacroCall) → count_option_type (inside_type_call env (entering env p.left) p c) < n → C.type_call p c
   pub pats : (p : Place) (x : AstPat) → count_pat (answered_pat (spot_at env (inside_constant p)) x) < n → C.pat (inside_constant p) x
   pub lists : (p : Place) (l : AstGenericArgList) → suc (count_args (answered_arg_list (spot_at env p) l)) < n → C.args p l
+
+-- a call counts more than what it stands for
+type_call_more : (env : Answers) (o : Option Entering) (p : Place) (c : AstMacroCall) (s : Pointer)
+    → suc (count_option_type (inside_type_call env o p c)) ≤ count_type (entered_type env o c p s)
+type_call_more env None p c s = omega arith
+type_call_more env (Some into) p c s = omega arith
 
 module _ (env : Answers) (C : Claims) (n : ℕ) (below : Below env C n) where
   type_ : (p : Place) (o : Option AstType_) → count_option_type (type_part (spot_at env p) o) < n → IfPresent (C.type_ p) o
@@ -174,7 +186,9 @@ module _ (env : Answers) (C : Claims) (n : ℕ) (below : Below env C n) where
   kids_type p at (TypeKind-F.ImplTraitType bs) h = impl_bounds p at bs h
   kids_type p at (TypeKind-F.DynTraitType bs) h = bounds p bs (omega (arith, h))
   kids_type p at (TypeKind-F.PatternType t x) h = (type_ p t (omega (arith, h)), pat p x (omega (arith, h)))
-  kids_type p at (TypeKind-F.MacroType c) h = tt
+  kids_type p at (TypeKind-F.MacroType None) h = tt
+  kids_type p at (TypeKind-F.MacroType (Some c)) h =
+      let more = type_call_more env (entering env p.left) p c at in below.type_calls p c (omega (arith, h, more))
   kids_type p at TypeKind-F.NeverType h = tt
   kids_type p at TypeKind-F.InferType h = tt
 

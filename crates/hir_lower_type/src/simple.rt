@@ -37,19 +37,6 @@ fn written_mutability(mut_: bool) -> Mutability
     }
 }
 
-/// A call that isn't entered: its node leads to an error that comes from none.
-#[tactic(auto, unfolding(hir_lower_form::specs::Types::called_type_form))]
-pub(crate) fn unentered_form(
-    state: &mut BodyBuilder,
-    at: InFile<AstPtr>,
-) -> Result<TypeRefId, StoreFault>
-    ensures { LowersType None (tree.macro_type at tree.unentered tree.no_type) state.old result state.new }
-{
-    let id = state.error_type()?;
-    state.point_type(at, id)?;
-    Ok(id)
-}
-
 /// `for<..> T` is what T is.
 pub(crate) fn for_form<P: LowerParts, T: TypePart>(
     lowerer: &Lowerer<P>,
