@@ -1,22 +1,29 @@
 -- What is in a block, one statement behind the other.
-use Rattle.std.proofs.Common.{◌≡◌, ◌∙◌, ap, refl, sym, List, [], ◌∷◌, Option, Some, None}
-use Rattle.std.specs.Prelude.{Result, Ok, Err}
+use Rattle.std.proofs.Common.{arith, ◌≡◌, ◌∙◌, ap, refl, subst, sym, slice_index_or}
+use Rattle.std.proofs.Common.{Bool, true, false, List, [], ◌∷◌, Option, Some, None}
+use Rattle.std.specs.Prelude.{◌≤◌, ◌-◌, ◌≢◌, IsErrAnd, Result, Ok, Err, drop, length, take}
 use Rattle.hir_base.specs.declared.node.AstPtr.{AstPtr}
 use Rattle.hir_syntax.specs.declared.ast.BlockExpr.{BlockExpr as AstBlockExpr, out-BlockExpr}
 use Rattle.hir_syntax.specs.declared.ast.ElseBranch.TheOpen.{ExprKind-F, StmtKind-F}
 use Rattle.hir_syntax.specs.declared.ast.Expr.{Expr as AstExpr}
 use Rattle.hir_syntax.specs.declared.ast.ExprKind.{out-ExprKind}
 use Rattle.hir_syntax.specs.declared.ast.Stmt.{Stmt as AstStmt}
-use Rattle.hir_syntax.specs.declared.ast.StmtKind.{out-StmtKind}
+use Rattle.hir_syntax.specs.declared.ast.StmtKind.{out-StmtKind, out-roll-StmtKind}
+use Rattle.hir_syntax.specs.declared.ast.StmtKind.TheVariants as kind
 use Rattle.hir_syntax.specs.declared.macros.MacroCall.{MacroCall as AstMacroCall}
 use Rattle.hir_store.specs.Pointers.{Pointer}
+use Rattle.hir_store.specs.Past.{join, past_present, past_statement, past_statements}
+use Rattle.hir_store.specs.Range.{Grows, HasExprOption, HasStatements}
+use Rattle.hir_store.specs.Stored.{Stored}
+use Rattle.hir_store.specs.declared.diagnostics.ExpressionStoreDiagnostics.TheVariants.{InactiveCode}
 use Rattle.hir_store.specs.declared.fault.StoreFault.{StoreFault}
+use Rattle.hir_store.specs.declared.fault.StoreFault.TheVariants.{Memory}
 use Rattle.hir_store.specs.declared.hir.Statement.{Statement}
 use Rattle.hir_store.specs.declared.ids.CfgId.{CfgId}
 use Rattle.hir_store.specs.declared.ids.ExprId.{ExprId}
 use Rattle.hir_env.specs.Answered as tree
-use Rattle.hir_env.specs.Answered.{Stmts}
-use Rattle.hir_env.specs.Answering.{asked_splice, expr_kind, stmt_at, value_kind, whole_value}
+use Rattle.hir_env.specs.Answered.{Expr, Stmts}
+use Rattle.hir_env.specs.Answering.{asked_splice, ended, expr_kind, stmt_at, value_kind, whole_value}
 use Rattle.hir_env.specs.Calls.{append, nothing, stmts_of, value_or_none}
 use Rattle.hir_env.specs.Layers.{Defined, ExprKindLayer, Spliced, StmtKindLayer, StmtReading}
 use Rattle.hir_env.specs.Spot.{Spot, ptr, site_of}
@@ -24,11 +31,12 @@ use Rattle.hir_env.specs.Whole.{answered, answered_value, into, pointer_at, read
 use Rattle.hir_env.proofs.Levels.{expr_is_level, stmt_is_level, value_is_level}
 use Rattle.hir_lower_form.specs.Builder.{Builder}
 use Rattle.hir_lower_form.specs.Lower.{StoredContents, kept_part, lower_stmt, push_some}
-use Rattle.hir_lower_form.specs.Lowering.{Checked, Lowering, go_on, pure}
-use Rattle.hir_lower_form.specs.Methods.{contents_at, flat, stmts_alone}
+use Rattle.hir_lower_form.specs.Lowering.{Checked, HasFlag, Lowering, Lowers, SomeEnd, go_on, pure, report}
+use Rattle.hir_lower_form.specs.Methods.{MaybeLowersExpr, contents_at, flat, stmts_alone}
+use Rattle.hir_lower_form.specs.Nests.{Each}
 use Rattle.hir_lower_form.proofs.Flat.{flat_is}
 use Rattle.hir_lower_expr.specs.Calls.{call_in}
-use Rattle.hir_lower_expr.specs.Statements.{run_part, value_part}
+use Rattle.hir_lower_expr.specs.Statements.{StmtsBehind, ValueBehind, enabled, expr_stmt, run_part, value_part}
 
 -- ---- an expression in statement or tail place
 
@@ -154,19 +162,178 @@ contents_on at b c =
 
 -- ---- step by step
 
-pub run_goes_on : (at : Spot) (s : AstStmt) (ss : List AstStmt) (done now : List Statement) (c d : Builder)
-    → stmts_alone done (stmt_level at [] s).stmts c ≡ (Ok now, d)
-    → stmts_alone done (run_part at (s ∷ ss)).stmts c ≡ stmts_alone now (run_part at ss).stmts d
-run_goes_on at s ss done now c d h =
-    ap (λ x. stmts_alone done x c) (run_more at s ss) ∙ (alone_append done (stmt_level at [] s).stmts (run_part at ss).stmts c
-    ∙ ap (λ z. go_on z.0 z.1 (λ xs. stmts_alone xs (run_part at ss).stmts)) h)
+-- no arena is shorter than it was two steps ago
+pub grows_on : (a b c : Stored) → Grows a b → Grows b c → Grows a c
+grows_on a b c h k = (
+  omega (arith, h.0, k.0),
+  omega (arith, h.1, k.1),
+  omega (arith, h.2, k.2),
+  omega (arith, h.3, k.3),
+  omega (arith, h.4, k.4),
+  omega (arith, h.5, k.5),
+)
 
-pub run_fails : (at : Spot) (s : AstStmt) (ss : List AstStmt) (done : List Statement) (e : StoreFault) (c d : Builder)
-    → stmts_alone done (stmt_level at [] s).stmts c ≡ (Err e, d) → stmts_alone done (run_part at (s ∷ ss)).stmts c ≡ (Err e, d)
-run_fails at s ss done e c d h =
-    ap (λ x. stmts_alone done x c) (run_more at s ss) ∙ (alone_append done (stmt_level at [] s).stmts (run_part at ss).stmts c
-    ∙ ap (λ z. go_on z.0 z.1 (λ xs. stmts_alone xs (run_part at ss).stmts)) h)
+pub still_has : (old new : Stored) (ss : List Statement) → Grows old new → HasStatements old ss → HasStatements new ss
+still_has old new ss h k =
+    (omega (arith, h, k.0), omega (arith, h, k.1), omega (arith, h, k.2), omega (arith, h, k.3))
 
+-- what is refused is refused in what it stands in
+pub refused : {A : Type 0} (Has : Stored → A → Type 0) (steps : Lowering A) (old : Builder) (e : StoreFault) (r : Checked A)
+    (new : Builder) → IsErrAnd r (λ f. f ≡ e) → (e ≢ Memory → (steps old ≡ (Err e, new)) × SomeEnd new) → Lowers Has steps old r new
+refused Has steps old e (Ok a) new is h = absurd is
+refused Has steps old e (Err f) new is h = rw is h
+
+pub value_refused : (x : Spliced) (was is : List Statement) (old : Builder) (e : StoreFault) (r : Checked (Option ExprId)) (new : Builder)
+    → IsErrAnd r (λ f. f ≡ e) → (e ≢ Memory → (flat was x.stmts (kept_part x.last) old ≡ (Err e, new)) × SomeEnd new)
+    → ValueBehind x was old r is new
+value_refused x was is old e (Ok a) new same h = absurd same
+value_refused x was is old e (Err f) new same h = rw same h
+
+pub stmts_refused : (ss : Stmts) (was is : List Statement) (old : Builder) (e : StoreFault) (r : Checked (Unit {0})) (new : Builder)
+    → IsErrAnd r (λ f. f ≡ e) → (e ≢ Memory → (stmts_alone was ss old ≡ (Err e, new)) × SomeEnd new) → StmtsBehind ss was old r is new
+stmts_refused ss was is old e (Ok a) new same h = absurd same
+stmts_refused ss was is old e (Err f) new same h = rw same h
+
+-- an expression that is no call, behind what is done
+pub whole_behind : (e : Expr) (done : List Statement) (old : Builder) (r : Checked (Option ExprId)) (new : Builder)
+    → HasStatements old.stored done → MaybeLowersExpr e old r new → ValueBehind (whole_value e []) done old r done new
+whole_behind e done old (Ok id) new has h =
+    (ap (λ z. go_on z.0 z.1 (λ t. pure (done, t))) h.0, h.1, (still_has old.stored new.stored done h.1 has, h.2))
+whole_behind e done old (Err x) new has h =
+    λ other. let k = h other in (ap (λ z. go_on z.0 z.1 (λ t. pure (done, t))) k.0, k.1)
+
+-- a call, which leaves nothing
+abbrev left : List Statement → Bool → Lowering StoredContents
+left done b = pure (done, None)
+
+abbrev nothing_left : Unit {0} → Lowering (Option Statement)
+nothing_left u = pure None
+
+told_nothing : (done : List Statement) (o : Checked (Unit {0})) (c : Builder)
+    → (let x = go_on o c nothing_left in
+    let y = go_on x.0 x.1 (λ s. pure (push_some done s)) in
+    go_on y.0 y.1 (λ xs. pure {A = StoredContents} (xs, None)))
+    ≡ (let x = go_on o c (λ _. pure false) in go_on x.0 x.1 (left done))
+told_nothing done (Ok _) c = refl
+told_nothing done (Err e) c = refl
+
+abbrev pub gone_value : Pointer → Result (Unit {0}) CfgId → Spliced
+gone_value s r = asked_splice s r (nothing []) []
+
+nothing_on : (s : Pointer) (r : Result (Unit {0}) CfgId) (done : List Statement) (c : Builder)
+    → flat done (gone_value s r).stmts (kept_part (gone_value s r).last) c ≡ go_on (enabled s r c).0 (enabled s r c).1 (left done)
+nothing_on s (Ok _) done c = refl
+nothing_on s (Err by) done c = let t = report (InactiveCode s by) c in told_nothing done t.0 t.1
+
+pub nothing_behind : (s : Pointer) (r : Result (Unit {0}) CfgId) (done : List Statement) (old : Builder) (b : Bool) (new : Builder)
+    → HasStatements old.stored done → Lowers HasFlag (enabled s r) old (Ok b) new
+    → ValueBehind (gone_value s r) done old (Ok None) done new
+nothing_behind s r done old b new has h =
+    (nothing_on s r done old ∙ ap (λ z. go_on z.0 z.1 (left done)) h.0, h.1,
+    (still_has old.stored new.stored done h.1 has, omega arith))
+
+pub nothing_refused : (s : Pointer) (r : Result (Unit {0}) CfgId) (done : List Statement) (old : Builder) (e : StoreFault) (new : Builder)
+    → (enabled s r old ≡ (Err e, new)) × SomeEnd new
+    → (flat done (gone_value s r).stmts (kept_part (gone_value s r).last) old ≡ (Err e, new)) × SomeEnd new
+nothing_refused s r done old e new h = (nothing_on s r done old ∙ ap (λ z. go_on z.0 z.1 (left done)) h.0, h.1)
+
+-- an expression statement
+abbrev ended_by : Bool → StoredContents → Lowering (List Statement)
+ended_by semi z = pure (push_some z.0 (expr_stmt z.1 semi))
+
+value_then : (done : List Statement) (semi : Bool) (o : Checked (Option ExprId)) (c : Builder)
+    → (let x = go_on o c (λ v. pure (expr_stmt v semi)) in go_on x.0 x.1 (λ s. pure (push_some done s)))
+    ≡ (let x = go_on o c (λ v. pure {A = StoredContents} (done, v)) in go_on x.0 x.1 (ended_by semi))
+value_then done semi (Ok v) c = refl
+value_then done semi (Err e) c = refl
+
+last_then : (r : Spliced) (semi : Bool) (o : Checked (List Statement)) (c : Builder)
+    → go_on o c (λ xs. stmts_alone xs (tree.more_stmts (tree.expr_stmt r.last semi) tree.no_stmts))
+    ≡ (let x = go_on o c (λ xs d. go_on (kept_part r.last d).0 (kept_part r.last d).1 (λ v. pure {A = StoredContents} (xs, v))) in
+    go_on x.0 x.1 (ended_by semi))
+last_then r semi (Ok xs) c = value_then xs semi (kept_part r.last c).0 (kept_part r.last c).1
+last_then r semi (Err e) c = refl
+
+ended_on : (r : Spliced) (semi : Bool) (done : List Statement) (c : Builder)
+    → stmts_alone done (ended semi r).stmts c
+    ≡ (let x = flat done r.stmts (kept_part r.last) c in go_on x.0 x.1 (ended_by semi))
+ended_on r semi done c =
+    alone_append done r.stmts (tree.more_stmts (tree.expr_stmt r.last semi) tree.no_stmts) c
+    ∙ last_then r semi (stmts_alone done r.stmts c).0 (stmts_alone done r.stmts c).1
+
+stmt_expr : (at : Spot) (s : AstStmt) (e : Option AstExpr) (semi : Bool) → s.kind ≡ kind.ExprStmt e semi
+    → stmt_level at [] s ≡ ended semi (value_part at e)
+stmt_expr at s e semi h =
+    ap (λ k. stmt_at at.answers (reader at.answers (into at)) k at.place (pointer_at at s.id s.range) [])
+    (ap out-StmtKind (h ∙ sym (kind.rolls-ExprStmt e semi)) ∙ out-roll-StmtKind (StmtKind-F.ExprStmt e semi))
+
+pub ended_behind : (at : Spot) (s : AstStmt) (e : Option AstExpr) (semi : Bool) (was done now : List Statement) (v : Option ExprId)
+    (old new : Builder) → s.kind ≡ kind.ExprStmt e semi → ValueBehind (value_part at e) was old (Ok v) done new
+    → now ≡ push_some done (expr_stmt v semi) → stmts_alone was (stmt_level at [] s).stmts old ≡ (Ok now, new)
+ended_behind at s e semi was done now v old new h k is =
+    ap (λ r. stmts_alone was r.stmts old) (stmt_expr at s e semi h)
+    ∙ (ended_on (value_part at e) semi was old
+    ∙ (ap (λ z. go_on z.0 z.1 (ended_by semi)) k.0 ∙ ap (λ xs. (Ok xs, new)) (sym is)))
+
+pub ended_refused : (at : Spot) (s : AstStmt) (e : Option AstExpr) (semi : Bool) (was : List Statement) (x : StoreFault)
+    (old new : Builder) → s.kind ≡ kind.ExprStmt e semi
+    → flat was (value_part at e).stmts (kept_part (value_part at e).last) old ≡ (Err x, new)
+    → stmts_alone was (stmt_level at [] s).stmts old ≡ (Err x, new)
+ended_refused at s e semi was x old new h k =
+    ap (λ r. stmts_alone was r.stmts old) (stmt_expr at s e semi h)
+    ∙ (ended_on (value_part at e) semi was old ∙ ap (λ z. go_on z.0 z.1 (ended_by semi)) k)
+
+pub pushed_has : (s : Stored) (done now : List Statement) (v : Option ExprId) (semi : Bool) → HasStatements s done → HasExprOption s v
+    → past_statements now ≡ join (past_statements done) (past_present past_statement (expr_stmt v semi)) → HasStatements s now
+pushed_has s done now None semi h k is =
+    rw is (omega (arith, h.0), omega (arith, h.1), omega (arith, h.2), omega (arith, h.3))
+pushed_has s done now (Some id) semi h k is =
+    rw is (omega (arith, h.0, k), omega (arith, h.1), omega (arith, h.2), omega (arith, h.3))
+
+-- a run of statements
+take_all : {A : Type 0} (xs : List A) → take (length xs) xs ≡ xs
+take_all [] = refl
+take_all (x ∷ xs) = ap (λ ys. x ∷ ys) (take_all xs)
+
+-- what is first, and what is behind it
+first_of : {A : Type 0} (xs : List A) (x : A) → x ≡ slice_index_or xs 0 x → 1 ≤ length xs
+    → xs ≡ x ∷ take (length xs - 1) (drop 1 xs)
+first_of [] x h le = absurd (omega (arith, le))
+first_of (y ∷ ys) x h le =
+    let rest : length (y ∷ ys) - 1 ≡ length ys = omega arith in
+    λ j. sym h j ∷ sym (ap (λ n. take n ys) rest ∙ take_all ys) j
+
+pub rest_may : {A : Type 0} (K : A → Type 0) (xs : List A) (x : A) → x ≡ slice_index_or xs 0 x → 1 ≤ length xs
+    → Each K xs → Each K (take (length xs - 1) (drop 1 xs))
+rest_may K xs x h le all = (subst (Each K) (first_of xs x h le) all).1
+
+pub first_may : {A : Type 0} (K : A → Type 0) (xs : List A) (x : A) → x ≡ slice_index_or xs 0 x → 1 ≤ length xs → Each K xs → K x
+first_may K xs x h le all = (subst (Each K) (first_of xs x h le) all).0
+
+run_on : (at : Spot) (s : AstStmt) (ss : List AstStmt) (done : List Statement) (c : Builder)
+    → stmts_alone done (run_part at (s ∷ ss)).stmts c
+    ≡ go_on (stmts_alone done (stmt_level at [] s).stmts c).0 (stmts_alone done (stmt_level at [] s).stmts c).1
+    (λ xs. stmts_alone xs (run_part at ss).stmts)
+run_on at s ss done c =
+    ap (λ x. stmts_alone done x c) (run_more at s ss) ∙ alone_append done (stmt_level at [] s).stmts (run_part at ss).stmts c
+
+pub run_goes_on : (at : Spot) (xs : List AstStmt) (x : AstStmt) (done now : List Statement) (c d : Builder)
+    → x ≡ slice_index_or xs 0 x → 1 ≤ length xs → stmts_alone done (stmt_level at [] x).stmts c ≡ (Ok now, d)
+    → stmts_alone done (run_part at xs).stmts c ≡ stmts_alone now (run_part at (take (length xs - 1) (drop 1 xs))).stmts d
+run_goes_on at xs x done now c d h le is =
+    let behind = take (length xs - 1) (drop 1 xs) in
+    ap (λ ys. stmts_alone done (run_part at ys).stmts c) (first_of xs x h le)
+    ∙ (run_on at x behind done c ∙ ap (λ z. go_on z.0 z.1 (λ ys. stmts_alone ys (run_part at behind).stmts)) is)
+
+pub run_refused : (at : Spot) (xs : List AstStmt) (x : AstStmt) (done : List Statement) (e : StoreFault) (c d : Builder)
+    → x ≡ slice_index_or xs 0 x → 1 ≤ length xs → stmts_alone done (stmt_level at [] x).stmts c ≡ (Err e, d)
+    → stmts_alone done (run_part at xs).stmts c ≡ (Err e, d)
+run_refused at xs x done e c d h le is =
+    let behind = take (length xs - 1) (drop 1 xs) in
+    ap (λ ys. stmts_alone done (run_part at ys).stmts c) (first_of xs x h le)
+    ∙ (run_on at x behind done c ∙ ap (λ z. go_on z.0 z.1 (λ ys. stmts_alone ys (run_part at behind).stmts)) is)
+
+-- what is in a block
 pub contents_go_on : (at : Spot) (b : AstBlockExpr) (done : List Statement) (c d : Builder)
     → stmts_alone [] (run_part at (out-BlockExpr b).stmts).stmts c ≡ (Ok done, d)
     → contents_at at b c
@@ -174,7 +341,7 @@ pub contents_go_on : (at : Spot) (b : AstBlockExpr) (done : List Statement) (c d
 contents_go_on at b done c d h =
     contents_on at b c ∙ ap (λ z. go_on z.0 z.1 (behind (value_part at (out-BlockExpr b).tail))) h
 
-pub contents_fail : (at : Spot) (b : AstBlockExpr) (e : StoreFault) (c d : Builder)
+pub contents_refused : (at : Spot) (b : AstBlockExpr) (e : StoreFault) (c d : Builder)
     → stmts_alone [] (run_part at (out-BlockExpr b).stmts).stmts c ≡ (Err e, d) → contents_at at b c ≡ (Err e, d)
-contents_fail at b e c d h =
+contents_refused at b e c d h =
     contents_on at b c ∙ ap (λ z. go_on z.0 z.1 (behind (value_part at (out-BlockExpr b).tail))) h

@@ -38,7 +38,7 @@ use Rattle.hir_store.specs.declared.diagnostics.AwaitLocation.{AwaitLocation}
 use Rattle.hir_env.specs.Answered as tree
 use Rattle.hir_env.specs.Answered.{Called, Leaf, Unary, Binary, Leaving, Listing, Label, Jump, Expr}
 use Rattle.hir_lower_form.specs.Calls.{note_gone, told}
-use Rattle.hir_lower_form.specs.Lowering.{Lowering, ◌>>=◌, ◌>>◌, pure, alloc_expr, point, point_field, report, enter_block}
+use Rattle.hir_lower_form.specs.Lowering.{Lowering, ◌>>=◌, ◌>>◌, pure, alloc_expr, point, point_field, enter_block}
 use Rattle.hir_lower_form.specs.Lowering.{report_await, note_yield, open_label, open_barrier, close, close_barrier, jump_target}
 use Rattle.hir_lower_form.specs.Lowering.{enter_root, leave_root}
 use Rattle.hir_lower_form.specs.Types.{TypeSteps}

@@ -29,6 +29,7 @@ fn type_of<'a>(entered: Entered<'a>) -> Option<(Place, &'a ast::Type_)>
 
 /// A call that is written here, with the names of the `for<..>` directly around it: what it stands for, which is an error where it
 /// stands for no type. Its node leads there.
+#[tactic(auto, using(crate::proofs::CallLemmas::call_on))]
 pub(crate) fn call_form<P: LowerParts>(
     lowerer: &Lowerer<P>,
     state: &mut BodyBuilder,

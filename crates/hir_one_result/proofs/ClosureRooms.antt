@@ -61,6 +61,9 @@ owning_takes {A = A} {owner = owner} {n = n} {p = p} h k =
       pat_ways = took.pat_ways;
       type_sources = took.type_sources;
       lifetime_sources = took.lifetime_sources;
+      type_ways = took.type_ways;
+      pat_leads = took.pat_leads;
+      type_leads = took.type_leads;
       names = took.names;
       as_many = as_many_owned n.exprs n.owners took.as_many;
       owners = λ m. last_owns b.stored.bindings.owners (length b.stored.exprs.entries) n.exprs n.owners (owner a)

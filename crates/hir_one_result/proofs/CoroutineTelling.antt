@@ -54,7 +54,7 @@ module _ {X : Type 0} (L : Listing X) where
   tells_beside : (x : Pat) (p : PatId) → Correct (alloc_beside x p) (Tells L (nothing L))
   tells_beside x p = correct_as (correct_alloc_beside x p) (λ final ps m m' i g row. record {
     told = λ ss e. let after = put_made_pat x (source_in m.stored p) m.stored in
-        added_none L (ap L.list row.stored ∙ L.unchanged m.stored after refl refl);
+        added_none L (ap L.list row.stored ∙ L.unchanged m.stored after refl refl refl);
   })
 
   handed_tells : (x : Handed) → Correct (handed_form x) (Tells L (nothing L))
@@ -136,7 +136,7 @@ module _ {X : Type 0} (L : Listing X) where
       (λ final ps m m' i g row.
       let w = row.within in
       let node = stored_coroutine_closure kind moves row.formals w in
-      let same = L.unchanged row.left.stored (with_owned (binding_id m.bindings) w.coroutine row.left.stored) refl refl in record {
+      let same = L.unchanged row.left.stored (with_owned (binding_id m.bindings) w.coroutine row.left.stored) refl refl refl in record {
         told = λ ss e.
             let around = ap (λ y. barrier_rib ∷ y) e in
             let inside = barrier ∷ ss in

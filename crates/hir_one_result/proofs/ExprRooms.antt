@@ -27,9 +27,10 @@ use Rattle.hir_store.specs.declared.type_ref.ConstRef.{ConstRef}
 use Rattle.hir_lower_form.specs.Types.{TypeSteps}
 use Rattle.hir_one_result.specs.PathRoom.{Seen}
 use Rattle.hir_one_result.specs.Room.{label_size, front_size}
+use Rattle.hir_steps.proofs.Calls.{only_gone}
 use Rattle.hir_one_result.proofs.Rooms.{Takes, takes_then, takes_as, takes_end, takes_begin, takes_pure, takes_report, takes_block}
 use Rattle.hir_one_result.proofs.Rooms.{takes_close, takes_point, takes_jump, takes_alloc, takes_open, takes_report_await}
-use Rattle.hir_one_result.proofs.Rooms.{takes_point_field}
+use Rattle.hir_one_result.proofs.Rooms.{takes_only, takes_point_field}
 use Rattle.hir_one_result.proofs.Took.{nothing_first}
 use Rattle.hir_one_result.proofs.Tellings.{tells_then, tells_any, takes_of, Tells}
 use Rattle.hir_one_result.proofs.PathRooms.{GivesPath, option_seen}
@@ -168,5 +169,5 @@ labelled_takes (Some l) h =
     takes_then (takes_open l) (λ n. takes_end (h (Some n)) (λ i. takes_end takes_close (λ u. takes_pure i)))
 
 pub kept_takes : (e : Expr) {n : Size} {p : ExprSteps} → Takes n p → Takes (if_so (is_kept e) n) (kept e p)
-kept_takes (tree.disabled_expr at by e) h = takes_end (takes_report _) (λ u. takes_pure None)
+kept_takes (tree.disabled_expr why e) h = takes_end (takes_only (only_gone why)) (λ u. takes_pure None)
 kept_takes e h = some_takes h

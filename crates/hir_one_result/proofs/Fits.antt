@@ -28,6 +28,7 @@ fits {A = A} {n = n} {p = p} h old d = by (p old).0 (p old).1 (h.takes old d)
       pat_ways = h.pat_ways;
       type_sources = h.type_sources;
       lifetime_sources = h.lifetime_sources;
+      type_ways = h.type_ways;
     }
     by (Err f) new h = h
 

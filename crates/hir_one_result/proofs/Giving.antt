@@ -68,7 +68,7 @@ some_gives : (p : ExprSteps) → Gives (IsThere true) (some p)
 some_gives p = gives_then (gives_any p) (λ i u. gives_pure (Some i) (i, refl))
 
 kept_gives : (e : Expr) (p : ExprSteps) → Gives (IsThere (is_kept e)) (kept e p)
-kept_gives (tree.disabled_expr at by e) p = gives_then (gives_any _) (λ u v. gives_pure None refl)
+kept_gives (tree.disabled_expr why e) p = gives_then (gives_any _) (λ u v. gives_pure None refl)
 kept_gives e p = some_gives p
 
 kept_part_gives : (e : OptionExpr) → Gives (IsThere (is_left e)) (kept_part e)
@@ -139,6 +139,11 @@ stmts_give (tree.more_stmts (tree.expr_stmt x semi) ss) e done =
     (ap (λ z. option_to_list z ++ new) k.2) n s)
     (λ ys. stmts_give ss e ys) done
 stmts_give (tree.more_stmts (tree.disabled_stmt at by s) ss) e done =
+    more_given (λ x. x ≡ None) (gives_then (gives_any _) (λ u v. gives_pure None refl))
+    (λ x k new n. subst (λ y. IsEmpty (none_left ss) (option_to_list y ++ new)) (sym k) n)
+    (λ x k new n s. subst (λ y. Settled (gives_value ss false) (option_to_list y ++ new)) (sym k) s)
+    (λ ys. stmts_give ss e ys) done
+stmts_give (tree.more_stmts (tree.call_stmt c) ss) e done =
     more_given (λ x. x ≡ None) (gives_then (gives_any _) (λ u v. gives_pure None refl))
     (λ x k new n. subst (λ y. IsEmpty (none_left ss) (option_to_list y ++ new)) (sym k) n)
     (λ x k new n s. subst (λ y. Settled (gives_value ss false) (option_to_list y ++ new)) (sym k) s)

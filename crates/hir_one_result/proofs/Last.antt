@@ -13,7 +13,9 @@ use Rattle.hir_store.specs.declared.ids.ExprId.{ExprId}
 use Rattle.hir_store.specs.declared.ids.TypeRefId.{TypeRefId}
 use Rattle.hir_lower_form.specs.Builder.{Builder}
 use Rattle.hir_lower_form.specs.declared.closures.ClosureParams.{ClosureParams}
-use Rattle.hir_lower_form.specs.Forms.{ExprSteps, constant_form, coroutine_form, missing, paren_form}
+use Rattle.hir_env.specs.Answered.{Called}
+use Rattle.hir_lower_form.specs.Calls.{told}
+use Rattle.hir_lower_form.specs.Forms.{ExprSteps, called_form, constant_form, coroutine_form, missing, paren_form, uncalled_form}
 use Rattle.hir_lower_form.specs.Lowering.{Checked, go_on, Lowering, ◌>>=◌, pure, alloc_expr, alloc_made, bindings_end, close, close_barrier}
 use Rattle.hir_lower_form.specs.Lowering.{enter_root, leave_root, open_barrier, outside_root, own, owning, point, record_root}
 use Rattle.hir_lower_form.specs.Preludes.{let_params, made_coroutine_form, no_prelude, within_form}
@@ -139,6 +141,14 @@ missing_last = last_alloc _ None
 pub paren_last : (at : Pointer) {p : ExprSteps} → IsLast p → IsLast (paren_form at p)
 unfolding paren_form
 paren_last at h = last_hands h (λ i. hands_then (quiet_point at i) (λ u. hands_pure i refl))
+
+pub called_last : (at : Pointer) (c : Called) {p : ExprSteps} → IsLast p → IsLast (called_form at c p)
+unfolding called_form
+called_last at c h = last_then (told c) (λ u. paren_last at h)
+
+pub uncalled_last : (at : Pointer) (c : Called) → IsLast (uncalled_form at c)
+unfolding uncalled_form
+uncalled_last at c = last_then (told c) (λ u. last_alloc _ _)
 
 pub owning_last : {A : Type 0} {owner : A → ExprId} {p : Lowering A} → Last owner p → Last owner (owning owner p)
 unfolding owning

@@ -26,14 +26,15 @@ use Rattle.hir_lower_form.specs.Forms.{method_call_form, await_form, cast_form, 
 use Rattle.hir_lower_form.specs.Forms.{match_form, assign_form, block_form, labelled, closure_form, coroutine_block_form, missing}
 use Rattle.hir_lower_form.specs.Lower.{lower, lower_block, lower_part}
 use Rattle.hir_lower_form.specs.Lowering.{Lowering, alloc_expr, close, close_barrier, enter_block, jump_target, made_number, note_yield}
-use Rattle.hir_lower_form.specs.Lowering.{open_barrier, open_label, open_try, owning, report, report_await}
+use Rattle.hir_lower_form.specs.Calls.{note_gone}
+use Rattle.hir_lower_form.specs.Lowering.{open_barrier, open_label, open_try, owning, report_await}
 use Rattle.hir_lower_form.specs.Preludes.{coroutine_closure_form, lower_handed, within_form}
 use Rattle.hir_lower_form.specs.Made.{flow_arm_form, for_form, for_turn_form, item_call_form, made_bind_form, made_loop_form}
 use Rattle.hir_lower_form.specs.Made.{made_path_form, question_form, residual_form, try_block_form, typed_try_form, wrapped_form}
 use Rattle.hir_lower_form.specs.Ranges.{made_range, range_form}
 use Rattle.hir_lower_form.specs.Types.{TypeSteps}
 use Rattle.hir_one_result.proofs.Last.{IsLast, coroutine_last, hands_pure, hands_then, last_alloc, last_hands, last_made, last_then}
-use Rattle.hir_one_result.proofs.Last.{missing_last, owning_last, paren_last, quiet_close}
+use Rattle.hir_one_result.proofs.Last.{called_last, missing_last, owning_last, paren_last, quiet_close, uncalled_last}
 
 module _ (at : Pointer) where
   stored_last : (e : HirExpr) → IsLast (alloc_expr e (Some at))
@@ -201,7 +202,7 @@ block_last (tree.block at is_unsafe label _ number ss e) = labelled_last label (
 
 mutual
   node_last : (e : Expr) → IsLast (lower e)
-  node_last (tree.disabled_expr at by e) = last_then (report _) (λ u. missing_last)
+  node_last (tree.disabled_expr why e) = last_then (note_gone why) (λ u. missing_last)
   node_last (tree.if_expr at c t e) = if_last at _ _ _
   node_last (tree.block_expr b) = block_last b
   node_last (tree.loop_expr at label _ b) = loop_last at _ label _
@@ -217,6 +218,8 @@ mutual
   node_last (tree.continue_expr at jump) = continue_last at jump
   node_last (tree.break_expr at jump e) = break_last at jump _
   node_last (tree.paren_expr at e) = paren_last at (part_last e)
+  node_last (tree.macro_expr at c tree.no_expr) = uncalled_last at c
+  node_last (tree.macro_expr at c (tree.some_expr e)) = called_last at c (node_last e)
   node_last (tree.literal_expr at l) = stored_last at _
   node_last (tree.leaf_expr at form) = stored_last at _
   node_last (tree.unary_expr at form e) = operand_last at _ _

@@ -66,6 +66,9 @@ takes_made e source = record { takes = λ b d. by b (nat_lt (length b.stored.exp
       pat_ways = refl;
       type_sources = no_sources b.stored.types refl;
       lifetime_sources = no_sources b.stored.lifetimes refl;
+      type_ways = refl;
+      pat_leads = refl;
+      type_leads = refl;
       names = unnamed refl;
       as_many = refl;
       owners = λ h. no_owners b.stored.bindings.owners refl;
@@ -99,6 +102,9 @@ takes_number = record { takes = λ b d. by b (nat_lt (suc b.names) (2 ^ 32)) ref
       pat_ways = refl;
       type_sources = no_sources b.stored.types refl;
       lifetime_sources = no_sources b.stored.lifetimes refl;
+      type_ways = refl;
+      pat_leads = refl;
+      type_leads = refl;
       names = sym (add-one b.names);
       as_many = refl;
       owners = λ h. no_owners b.stored.bindings.owners refl;
@@ -143,6 +149,9 @@ takes_named at typed k = record { takes = λ b d. by b (nat_lt (length b.stored.
       pat_ways = refl;
       type_sources = no_sources b.stored.types refl;
       lifetime_sources = no_sources b.stored.lifetimes refl;
+      type_ways = refl;
+      pat_leads = refl;
+      type_leads = refl;
       names = unnamed refl;
       as_many = refl;
       owners = λ h. no_owners b.stored.bindings.owners refl;

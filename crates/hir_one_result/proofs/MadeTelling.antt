@@ -28,7 +28,7 @@ use Rattle.hir_one_result.proofs.Telling.{tells_pure, tells_alloc, tells_enter_b
 module _ {X : Type 0} (L : Listing X) where
   tells_made : (e : HirExpr) (at : Option Pointer) → Correct (alloc_made e at) (Tells L (nothing L))
   tells_made e at = correct_as (correct_alloc_made e at) (λ final ps m m' i g row.
-      record { told = λ ss x. added_none L (ap L.list row.stored ∙ L.unchanged m.stored (put_made e at m.stored) refl refl) })
+      record { told = λ ss x. added_none L (ap L.list row.stored ∙ L.unchanged m.stored (put_made e at m.stored) refl refl refl) })
 
   pub tells_number : Correct made_number (Tells L (nothing L))
   tells_number = correct_as correct_made_number (λ final ps m m' n g row. record { told = λ ss e. added_none L (ap L.list row.stored) })

@@ -125,6 +125,8 @@ counts None = record {
   pats = refl;
   types = refl;
   lifetimes = refl;
+  pat_leads = refl;
+  type_leads = refl;
   overcounts = λ x. x;
 }
 counts (Some n) = record {
@@ -136,6 +138,8 @@ counts (Some n) = record {
   pats = refl;
   types = refl;
   lifetimes = refl;
+  pat_leads = refl;
+  type_leads = refl;
   overcounts = λ x. absurd x;
 }
 
@@ -344,6 +348,8 @@ module _ (at : Pointer) where
     pats = refl;
     types = refl;
     lifetimes = refl;
+    pat_leads = refl;
+    type_leads = refl;
     overcounts = λ h. ⊎_elim (λ y. ⊎_elim (λ x. inl x) (λ x. absurd x) y) (λ x. inr x) h;
   }
   small (Some n) = record {
@@ -355,6 +361,8 @@ module _ (at : Pointer) where
     pats = refl;
     types = refl;
     lifetimes = refl;
+    pat_leads = refl;
+    type_leads = refl;
     overcounts = λ h. ⊎_elim (λ y. ⊎_elim (λ x. inl x) (λ x. absurd x) y) (λ x. inr x) h;
   }
 

@@ -45,23 +45,23 @@ spread_fault L (Some at) = L.of_faults (FruInDestructuringAssignment at ∷ [])
 module _ {X : Type 0} (L : Listing X) where
   pub tells_pat : (p : HirPat) (source : Option Pointer) → Correct (alloc_pat p source) (Tells L (nothing L))
   tells_pat p source = correct_as (correct_alloc_pat p source) (λ final ps m m' i g row.
-      record { told = λ ss e. added_none L (ap L.list row.stored ∙ L.unchanged m.stored (with_pat p source m.stored) refl refl) })
+      record { told = λ ss e. added_none L (ap L.list row.stored ∙ L.unchanged m.stored (with_pat p source m.stored) refl refl refl) })
 
   pub tells_binding : (b : Binding) → Correct (alloc_binding b) (Tells L (nothing L))
   tells_binding b = correct_as (correct_alloc_binding b) (λ final ps m m' i g row.
-      record { told = λ ss e. added_none L (ap L.list row.stored ∙ L.unchanged m.stored (with_new_binding b m.stored) refl refl) })
+      record { told = λ ss e. added_none L (ap L.list row.stored ∙ L.unchanged m.stored (with_new_binding b m.stored) refl refl refl) })
 
   pub tells_define : (id : BindingId) (p : PatId) → Correct (define id p) (Tells L (nothing L))
   tells_define id p = correct_as (correct_define id p) (λ final ps m m' u g row.
-      record { told = λ ss e. added_none L (ap L.list row.stored ∙ L.unchanged m.stored (defining id p m.stored) refl refl) })
+      record { told = λ ss e. added_none L (ap L.list row.stored ∙ L.unchanged m.stored (defining id p m.stored) refl refl refl) })
 
   tells_problem : (id : BindingId) (p : Option BindingProblems) → Correct (set_problem id p) (Tells L (nothing L))
   tells_problem id p = correct_as (correct_set_problem id p) (λ final ps m m' u g row.
-      record { told = λ ss e. added_none L (ap L.list row.stored ∙ L.unchanged m.stored (with_problem_of id p m.stored) refl refl) })
+      record { told = λ ss e. added_none L (ap L.list row.stored ∙ L.unchanged m.stored (with_problem_of id p m.stored) refl refl refl) })
 
   tells_pat_field : (i : PatId) (at : Pointer) → Correct (point_pat_field i at) (Tells L (nothing L))
   tells_pat_field i at = correct_as (correct_point_pat_field i at) (λ final ps m m' u g row.
-      record { told = λ ss e. added_none L (ap L.list row.stored ∙ L.unchanged m.stored (with_field_pat i at m.stored) refl refl) })
+      record { told = λ ss e. added_none L (ap L.list row.stored ∙ L.unchanged m.stored (with_field_pat i at m.stored) refl refl refl) })
 
   pub missing_pat_tells : Correct missing_pat (Tells L (nothing L))
   unfolding missing_pat

@@ -1,17 +1,13 @@
--- Where the nodes of patterns lead once patterns are stored.
-use Rattle.std.proofs.Common.{arith, ◌≡◌, ◌∙◌, refl, sym, ap, subst, ℕ, suc, ◌+◌, List, [], ◌∷◌, ◌++◌, append-nil, append_assoc, length}
-use Rattle.std.proofs.Common.{length-append, map}
-use Rattle.std.proofs.lemmas.List.{length-map, map-append}
-use Rattle.hir_store.specs.Arenas.{MapsBack, pointed, sourced_of}
-use Rattle.hir_store.specs.Pointers.{Pointer}
-use Rattle.hir_store.specs.Storing.{pat_id}
-use Rattle.hir_store.specs.declared.ids.PatId.{PatId}
-use Rattle.hir_store.proofs.Maps.{maps_back_entry, maps_back_none}
+-- Where the nodes of patterns and types lead once those are stored.
+use Rattle.std.proofs.Common.{arith, ◌≡◌, ◌∙◌, ◌⊎◌, inl, inr, ⊎_elim, refl, sym, ap, subst, ℕ, zero, suc, ◌+◌, ◌-◌, ◌<◌, ◌≤◌, List, [], ◌∷◌, ◌++◌}
+use Rattle.std.proofs.Common.{append-nil, append_assoc, length, length-append, Bool, true, false, true≢false, Option, Some, None, is_some}
+use Rattle.std.proofs.Common.{slice_get, Contains}
+use Rattle.std.proofs.lemmas.List.Elements.{Contains-append_left, Contains-push}
+use Rattle.std.proofs.lemmas.Option.{same_Some}
+use Rattle.hir_store.specs.Pointers.{Pointer, found, same_pointer}
+use Rattle.hir_store.proofs.Maps.{entered, found_new, found_other, found_split, pointer_is}
 use Rattle.hir_one_result.specs.Leads.{LeadBack}
-use Rattle.hir_one_result.specs.Size.{PatFrom, led_source, pats_led}
-
-abbrev Nodes : Type 0
-Nodes = List (Pointer × PatId)
+use Rattle.hir_one_result.specs.Size.{NodeLeads, called_at, calls_led, led_by, sources_led, stored_from}
 
 none_further : (n : ℕ) → n ≡ n + 0
 none_further n = omega arith
@@ -19,44 +15,121 @@ none_further n = omega arith
 one_further : (n k : ℕ) → suc n + k ≡ n + suc k
 one_further n k = omega arith
 
--- once the one and then the other are stored
-pub led_then : (n : ℕ) (xs ys : List PatFrom) (es : Nodes) → pats_led n (xs ++ ys) es ≡ pats_led (n + length xs) ys (pats_led n xs es)
-led_then n [] ys es = ap (λ k. pats_led k ys es) (none_further n)
-led_then n (x ∷ xs) ys es =
-    let now = pointed es (led_source x) (pat_id n) in
-    led_then (suc n) xs ys now ∙ ap (λ k. pats_led k ys (pats_led (suc n) xs now)) (one_further n (length xs))
+pub sources_both : (xs ys : List NodeLeads) → sources_led (xs ++ ys) ≡ sources_led xs ++ sources_led ys
+sources_both [] ys = refl
+sources_both (stored_from s ∷ xs) ys = ap (λ zs. s ∷ zs) (sources_both xs ys)
+sources_both (called_at p ∷ xs) ys = sources_both xs ys
 
--- where what came before is known
-pub led_behind : (n : ℕ) (xs ys : List PatFrom) (es : Nodes) {k : ℕ} {fs gs : Nodes} → k ≡ n + length xs → fs ≡ pats_led n xs es
-    → gs ≡ pats_led k ys fs → gs ≡ pats_led n (xs ++ ys) es
-led_behind n xs ys es e f g = g ∙ ((λ i. pats_led (e i) ys (f i)) ∙ sym (led_then n xs ys es))
+module _ {I : Type 0} (number : ℕ → I) where
+  -- once the one and then the other are stored
+  led_then : (n : ℕ) (xs ys : List NodeLeads) (es : List (Pointer × I))
+      → led_by number n (xs ++ ys) es ≡ led_by number (n + length (sources_led xs)) ys (led_by number n xs es)
+  led_then n [] ys es = ap (λ k. led_by number k ys es) (none_further n)
+  led_then n (stored_from s ∷ xs) ys es =
+      let now = led_by number n (stored_from s ∷ []) es in
+      led_then (suc n) xs ys now
+      ∙ ap (λ k. led_by number k ys (led_by number (suc n) xs now)) (one_further n (length (sources_led xs)))
+  led_then n (called_at p ∷ xs) ys es = led_then n xs ys (led_by number n (called_at p ∷ []) es)
 
--- as it is said of entries that stand beside these sources
-abbrev Back : List PatFrom → Nodes → Type 0
-Back xs es = MapsBack (λ i. i.0) (sourced_of xs (map led_source xs) es 0)
+  -- where what came before is known
+  pub led_behind : (n : ℕ) (xs ys : List NodeLeads) (es : List (Pointer × I)) {k : ℕ} {fs gs : List (Pointer × I)}
+      → k ≡ n + length (sources_led xs) → fs ≡ led_by number n xs es → gs ≡ led_by number k ys fs → gs ≡ led_by number n (xs ++ ys) es
+  led_behind n xs ys es e f g = g ∙ ((λ i. led_by number (e i) ys (f i)) ∙ sym (led_then n xs ys es))
 
-back_one : (done : List PatFrom) (x : PatFrom) (es : Nodes) → Back done es
-    → Back (done ++ x ∷ []) (pointed es (led_source x) (pat_id (length done)))
-back_one done x es h = subst
-    (λ ss. MapsBack (λ i. i.0) (sourced_of (done ++ x ∷ []) ss (pointed es (led_source x) (pat_id (length done))) 0))
-    (sym (map-append led_source done (x ∷ [])))
-    (maps_back_entry (λ i. i.0) pat_id (λ n. refl) (sourced_of done (map led_source done) es 0) x (length-map done led_source) h
-    (led_source x))
+-- ---- where nothing was stored before
 
-back_from : (done xs : List PatFrom) (es : Nodes) → Back done es → Back (done ++ xs) (pats_led (length done) xs es)
-back_from done [] es h = subst (λ ys. Back ys es) (sym (append-nil done)) h
-back_from done (x ∷ xs) es h =
-    let now = pointed es (led_source x) (pat_id (length done)) in
-    let more = length-append done (x ∷ []) in
-    let long : length (done ++ x ∷ []) ≡ suc (length done) = omega (arith, more) in
-    let whole = append_assoc done (x ∷ []) xs in
-    let far = back_from (done ++ x ∷ []) xs now (back_one done x es h) in
-    subst (λ ys. Back ys (pats_led (suc (length done)) xs now)) whole
-    (subst (λ n. Back ((done ++ x ∷ []) ++ xs) (pats_led n xs now)) long far)
+push_new : {A : Type 0} (xs : List A) (x : A) → slice_get (xs ++ x ∷ []) (length xs) ≡ Some x
+push_new [] x = refl
+push_new (y ∷ xs) x = push_new xs x
 
--- where nothing was stored before
-pub ways_back : (xs : List PatFrom) → LeadBack (λ i. i.0) (pats_led 0 xs []) (map led_source xs)
-ways_back xs = let h = back_from [] xs [] (maps_back_none (λ i. i.0) 0) in record {
-  to_source = h.to_source;
-  to_entry = λ n p e. let l = h.to_entry n p e in (l.id, l.is, l.from);
-}
+push_old : {A : Type 0} (xs : List A) (x y : A) (n : ℕ) → slice_get xs n ≡ Some y → slice_get (xs ++ x ∷ []) n ≡ Some y
+push_old [] x y n h = absurd (true≢false (sym (ap is_some h)))
+push_old (z ∷ xs) x y zero h = h
+push_old (z ∷ xs) x y (suc n) h = push_old xs x y n h
+
+push_cases : {A : Type 0} (xs : List A) (x y : A) (n : ℕ) → slice_get (xs ++ x ∷ []) n ≡ Some y
+    → (slice_get xs n ≡ Some y) ⊎ ((n ≡ length xs) × (x ≡ y))
+push_cases [] x y zero h = inr (refl, same_Some x y h)
+push_cases [] x y (suc n) h = inl h
+push_cases (z ∷ xs) x y zero h = inl h
+push_cases (z ∷ xs) x y (suc n) h = ⊎_elim (λ l. inl l) (λ e. inr (ap suc e.0, e.1)) (push_cases xs x y n h)
+
+below : {A : Type 0} (xs : List A) (x : A) (n : ℕ) → slice_get xs n ≡ Some x → n < length xs
+below [] x n h = absurd (true≢false (sym (ap is_some h)))
+below (y ∷ xs) x zero h = omega arith
+below (y ∷ xs) x (suc n) h = let b = below xs x n h in omega (arith, b)
+
+module _ {I : Type 0} (place : I → ℕ) (number : ℕ → I) (placed : (n : ℕ) → place (number n) ≡ n) where
+  abbrev Back : List (Option Pointer) → List Pointer → List (Pointer × I) → Type 0
+  Back ss cs es = LeadBack place es ss cs
+
+  back_none : Back [] [] []
+  back_none = record {
+    to_source = λ p i f. absurd (true≢false (sym (ap is_some f)));
+    to_entry = λ n p g. absurd (true≢false (sym (ap is_some g)));
+  }
+
+  module _ (ss : List (Option Pointer)) (cs : List Pointer) (es : List (Pointer × I)) (h : Back ss cs es) where
+    back_stored_none : Back (ss ++ None ∷ []) cs es
+    back_stored_none = record {
+      to_source = λ p i f. ⊎_elim (λ o. inl (push_old ss None (Some p) (place i) o)) (λ c. inr c) (h.to_source p i f);
+      to_entry = λ n p g. ⊎_elim (λ o. h.to_entry n p o) (λ e. absurd (true≢false (ap is_some (sym e.1)))) (push_cases ss None (Some p) n g);
+    }
+
+    -- a node leads to what is the last by then
+    module _ (s : Pointer) (ts : List (Option Pointer)) (last : I) where
+      still_led : (n : ℕ) (p : Pointer) → n ≤ place last → (i : I) × (found es p ≡ Some i) × (n ≤ place i)
+          → (i : I) × (found (entered s last es) p ≡ Some i) × (n ≤ place i)
+      still_led n p le l = by (same_pointer s p) refl
+        where
+          by : (c : Bool) → same_pointer s p ≡ c → (i : I) × (found (entered s last es) p ≡ Some i) × (n ≤ place i)
+          by true e = (last, subst (λ q. found (entered s last es) q ≡ Some last) (pointer_is s p e) (found_new s last es), le)
+          by false e = (l.0, found_other s last es p e ∙ l.1, l.2)
+
+    back_stored : (s : Pointer) → Back (ss ++ Some s ∷ []) cs (entered s (number (length ss)) es)
+    back_stored s = record {
+      to_source = λ p i f. ⊎_elim
+          (λ o. ⊎_elim (λ x. inl (push_old ss (Some s) (Some p) (place i) x)) (λ c. inr c) (h.to_source p i o))
+          (λ e. inl (ap (λ j. slice_get (ss ++ Some s ∷ []) (place j)) (sym e.1)
+          ∙ (ap (slice_get (ss ++ Some s ∷ [])) (placed (length ss)) ∙ (push_new ss (Some s) ∙ ap (λ y. Some (Some y)) e.0))))
+          (found_split s (number (length ss)) es p i f);
+      to_entry = λ n p g. ⊎_elim
+          (λ o. let b = below ss (Some p) n o in
+          still_led s ss (number (length ss)) n p (let k = placed (length ss) in omega (arith, k, b)) (h.to_entry n p o))
+          (λ e. (number (length ss), subst (λ q. found (entered s (number (length ss)) es) q ≡ Some (number (length ss)))
+          (same_Some s p e.1) (found_new s (number (length ss)) es), let k = placed (length ss) in omega (arith, k, e.0)))
+          (push_cases ss (Some s) (Some p) n g);
+    }
+
+    back_called : (s : Pointer) → Back ss (cs ++ s ∷ []) (entered s (number (length ss - 1)) es)
+    back_called s = record {
+      to_source = λ p i f. ⊎_elim
+          (λ o. ⊎_elim (λ x. inl x) (λ c. inr (Contains-append_left cs (s ∷ []) p c)) (h.to_source p i o))
+          (λ e. inr (subst (Contains (cs ++ s ∷ [])) e.0 (Contains-push cs s)))
+          (found_split s (number (length ss - 1)) es p i f);
+      to_entry = λ n p g. let b = below ss (Some p) n g in
+          still_led s ss (number (length ss - 1)) n p (let k = placed (length ss - 1) in omega (arith, k, b)) (h.to_entry n p g);
+    }
+
+  back_from : (ss : List (Option Pointer)) (cs : List Pointer) (xs : List NodeLeads) (es : List (Pointer × I)) → Back ss cs es
+      → Back (ss ++ sources_led xs) (cs ++ calls_led xs) (led_by number (length ss) xs es)
+  back_from ss cs [] es h = subst (λ ts. Back ts (cs ++ []) es) (sym (append-nil ss))
+      (subst (λ ds. Back ss ds es) (sym (append-nil cs)) h)
+  back_from ss cs (stored_from s ∷ xs) es h =
+      let more = length-append ss (s ∷ []) in
+      let long : length (ss ++ s ∷ []) ≡ suc (length ss) = omega (arith, more) in
+      let now = led_by number (length ss) (stored_from s ∷ []) es in
+      subst (λ ts. Back ts (cs ++ calls_led xs) (led_by number (suc (length ss)) xs now)) (append_assoc ss (s ∷ []) (sources_led xs))
+      (subst (λ n. Back ((ss ++ s ∷ []) ++ sources_led xs) (cs ++ calls_led xs) (led_by number n xs now)) long
+      (back_from (ss ++ s ∷ []) cs xs now (one s)))
+    where
+      one : (s : Option Pointer) → Back (ss ++ s ∷ []) cs (led_by number (length ss) (stored_from s ∷ []) es)
+      one None = back_stored_none ss cs es h
+      one (Some p) = back_stored ss cs es h p
+  back_from ss cs (called_at p ∷ xs) es h =
+      let now = led_by number (length ss) (called_at p ∷ []) es in
+      subst (λ ds. Back (ss ++ sources_led xs) ds (led_by number (length ss) xs now)) (append_assoc cs (p ∷ []) (calls_led xs))
+      (back_from ss (cs ++ p ∷ []) xs now (back_called ss cs es h p))
+
+  pub leads_back : (xs : List NodeLeads) → LeadBack place (led_by number 0 xs []) (sources_led xs) (calls_led xs)
+  leads_back xs = back_from [] [] xs [] back_none

@@ -181,6 +181,8 @@ super_counts n = record {
   pats = refl;
   types = refl;
   lifetimes = refl;
+  pat_leads = refl;
+  type_leads = refl;
   overcounts = λ x. absurd x;
 }
 

@@ -1,5 +1,5 @@
 -- Steps by how much they store.
-use Rattle.std.proofs.Common.{arith, ◌≡◌, refl, Bool, true, false, nat_lt, if◌then◌else◌, length, Option, Some, None, Ok, Err, inl, inr}
+use Rattle.std.proofs.Common.{arith, ◌≡◌, refl, sym, subst, List, Bool, true, false, nat_lt, if◌then◌else◌, length, Option, Some, None, Ok, Err, inl, inr}
 use Rattle.std.proofs.lemmas.Bool.{ltb-false}
 use Rattle.hir_store.specs.Pointers.{Pointer}
 use Rattle.hir_store.specs.Arenas.{Sourced, with_entry, with_made}
@@ -35,6 +35,8 @@ use Rattle.hir_store.specs.declared.type_ref.LifetimeRef.{LifetimeRef}
 use Rattle.hir_store.specs.declared.ids.TypeRefId.{TypeRefId}
 use Rattle.hir_store.specs.declared.ids.LifetimeRefId.{LifetimeRefId}
 use Rattle.hir_steps.specs.Keeps.{Paired}
+use Rattle.hir_steps.specs.Calls.{Expansions}
+use Rattle.hir_steps.proofs.Calls.{Only}
 use Rattle.hir_steps.proofs.Logic.{one_more}
 use Rattle.hir_one_result.specs.Size.{Size, nothing, an_expr, a_label, a_binding, a_made_pat, a_pat, a_type, a_lifetime, a_body, ◌∪◌}
 use Rattle.hir_one_result.proofs.Owners.{no_owners}
@@ -85,6 +87,13 @@ takes_pure a = record { takes = λ b d. took_none b }
 pub takes_report : (d : ExpressionStoreDiagnostics) → Takes nothing (report d)
 unfolding report storing.report
 takes_report d = record { takes = λ b d. took_besides _ _ refl refl refl refl refl refl refl refl refl refl refl }
+
+-- what only tells
+pub takes_only : {es : Expansions} {ds : List ExpressionStoreDiagnostics} {p : Lowering (Unit {0})} → Only es ds p → Takes nothing p
+takes_only h = record {
+  takes = λ b d. subst (λ r. Room nothing b r.0 r.1) (sym (h.is b))
+      (took_besides _ _ refl refl refl refl refl refl refl refl refl refl refl);
+}
 
 pub takes_report_await : (at : Pointer) (location : Option AwaitLocation) → Takes nothing (report_await at location)
 unfolding report_await
@@ -146,6 +155,9 @@ takes_alloc e source = record { takes = λ b d. by b (nat_lt (length b.stored.ex
       pat_ways = refl;
       type_sources = no_sources b.stored.types refl;
       lifetime_sources = no_sources b.stored.lifetimes refl;
+      type_ways = refl;
+      pat_leads = refl;
+      type_leads = refl;
       names = unnamed refl;
       as_many = refl;
       owners = λ h. no_owners b.stored.bindings.owners refl;
@@ -185,6 +197,9 @@ takes_open l = record { takes = λ b d. by b (nat_lt (length b.stored.labels.ent
       pat_ways = refl;
       type_sources = no_sources b.stored.types refl;
       lifetime_sources = no_sources b.stored.lifetimes refl;
+      type_ways = refl;
+      pat_leads = refl;
+      type_leads = refl;
       names = unnamed refl;
       as_many = refl;
       owners = λ h. no_owners b.stored.bindings.owners refl;
@@ -219,6 +234,9 @@ takes_type x source = record { takes = λ b d. by b (nat_lt (length b.stored.typ
       pat_ways = refl;
       type_sources = refl;
       lifetime_sources = no_sources b.stored.lifetimes refl;
+      type_ways = refl;
+      pat_leads = refl;
+      type_leads = refl;
       names = unnamed refl;
       as_many = refl;
       owners = λ h. no_owners b.stored.bindings.owners refl;
@@ -255,6 +273,9 @@ takes_lifetime x source = record { takes = λ b d. by b (nat_lt (length b.stored
       pat_ways = refl;
       type_sources = no_sources b.stored.types refl;
       lifetime_sources = refl;
+      type_ways = refl;
+      pat_leads = refl;
+      type_leads = refl;
       names = unnamed refl;
       as_many = refl;
       owners = λ h. no_owners b.stored.bindings.owners refl;
@@ -293,6 +314,9 @@ takes_pat x source = record { takes = λ b d. by b (nat_lt (length b.stored.pats
       pat_ways = refl;
       type_sources = no_sources b.stored.types refl;
       lifetime_sources = no_sources b.stored.lifetimes refl;
+      type_ways = refl;
+      pat_leads = refl;
+      type_leads = refl;
       names = unnamed refl;
       as_many = refl;
       owners = λ h. no_owners b.stored.bindings.owners refl;
@@ -329,6 +353,9 @@ takes_made_pat x source = record { takes = λ b d. by b (nat_lt (length b.stored
       pat_ways = refl;
       type_sources = no_sources b.stored.types refl;
       lifetime_sources = no_sources b.stored.lifetimes refl;
+      type_ways = refl;
+      pat_leads = refl;
+      type_leads = refl;
       names = unnamed refl;
       as_many = refl;
       owners = λ h. no_owners b.stored.bindings.owners refl;
@@ -363,6 +390,9 @@ takes_binding x = record { takes = λ b d. by b (nat_lt (length b.stored.binding
       pat_ways = refl;
       type_sources = no_sources b.stored.types refl;
       lifetime_sources = no_sources b.stored.lifetimes refl;
+      type_ways = refl;
+      pat_leads = refl;
+      type_leads = refl;
       names = unnamed refl;
       as_many = refl;
       owners = λ h. refl;
@@ -418,6 +448,8 @@ as_body x n = record {
   pats = refl;
   types = refl;
   lifetimes = refl;
+  pat_leads = refl;
+  type_leads = refl;
   overcounts = λ x. x;
 }
 

@@ -41,6 +41,7 @@ use Rattle.hir_steps.proofs.Steps.{correct_both, correct_point_field, with_field
 use Rattle.hir_steps.proofs.Steps.{correct_report, correct_report_await, correct_point, correct_enter_block, correct_alloc, correct_opened}
 use Rattle.hir_steps.proofs.Steps.{correct_target, with_fault, with_block, with_expr, with_await, with_label, pointing, with_target}
 use Rattle.hir_steps.proofs.Steps.{with_jump}
+use Rattle.hir_steps.specs.Calls.{Expansions, with_told}
 use Rattle.hir_steps.proofs.Aside.{Aside}
 use Rattle.hir_steps.proofs.Frames.{Frame, loop_at, block_at, ribs}
 use Rattle.hir_one_result.specs.Diagnostics.{forget, Around, target_faults, jump_faults, await_faults}
@@ -49,18 +50,23 @@ use Rattle.hir_lower_form.specs.Ranges.{inner_form}
 use Rattle.hir_steps.proofs.Constants.{correct_constant, correct_inner, with_root}
 use Rattle.hir_steps.proofs.Owning.{owning_keeps, with_owned}
 
--- A list of what is stored, which faults and entered blocks add to, and in which way a list may be another.
+-- A list of what is stored, which faults, entered blocks and calls add to, and in which way a list may be another.
 pub record Listing (X : Type 0) : Type 1 where
   pub list : Stored → List X
   pub of_faults : List ExpressionStoreDiagnostics → List X
   pub of_block : Option BlockId → List X
+  -- what is told of calls, and of why something is gone
+  pub of_told : Expansions → List ExpressionStoreDiagnostics → List X
   pub fault : (d : ExpressionStoreDiagnostics) (s : Stored) → list (with_fault d s) ≡ list s ++ of_faults (d ∷ [])
   pub no_fault : of_faults [] ≡ []
   pub block : (n : Option BlockId) (s : Stored) → list (with_block n s) ≡ list s ++ of_block n
+  pub tells : (es : Expansions) (ds : List ExpressionStoreDiagnostics) (s : Stored) → list (with_told es ds s) ≡ list s ++ of_told es ds
+  pub told_nothing : of_told [] [] ≡ []
   pub expr : (e : HirExpr) (at : Option Pointer) (s : Stored) → list (with_expr e at s) ≡ list s
   pub label : (l : Label) (s : Stored) → list (with_label l s) ≡ list s
   pub way : (p : Pointer) (i : ExprId) (s : Stored) → list (pointing p i s) ≡ list s
-  pub unchanged : (a b : Stored) → b.diagnostics ≡ a.diagnostics → b.block_scopes ≡ a.block_scopes → list b ≡ list a
+  pub unchanged : (a b : Stored) → b.diagnostics ≡ a.diagnostics → b.block_scopes ≡ a.block_scopes → b.expansions ≡ a.expansions
+      → list b ≡ list a
   pub Like : List X → List X → Type 0
   pub same : (xs : List X) → Like xs xs
   pub trans : (xs ys zs : List X) → Like xs ys → Like ys zs → Like xs zs
@@ -75,7 +81,7 @@ module _ {X : Type 0} (L : Listing X) where
   pub added_none : {a b : Stored} → L.list b ≡ L.list a → Added [] a b
   added_none e = record { more = []; is = e ∙ sym (append-nil _); like = L.same [] }
 
-  added_these : (xs : List X) {a b : Stored} → L.list b ≡ L.list a ++ xs → Added xs a b
+  pub added_these : (xs : List X) {a b : Stored} → L.list b ≡ L.list a ++ xs → Added xs a b
   added_these xs e = record { more = xs; is = e; like = L.same xs }
 
   pub added_then : {xs ys : List X} {a b c : Stored} → Added xs a b → Added ys b c → Added (xs ++ ys) a c
@@ -135,12 +141,12 @@ module _ {X : Type 0} (L : Listing X) where
 
   pub tells_aside : {A : Type 0} {p : Lowering A} → Correct p Aside → Correct p (Tells nothing)
   tells_aside h = correct_as h (λ final ps m m' a g row.
-      record { told = λ ss e. added_none (L.unchanged m.stored m'.stored row.diagnostics row.block_scopes) })
+      record { told = λ ss e. added_none (L.unchanged m.stored m'.stored row.diagnostics row.block_scopes row.expansions) })
 
   pub tells_point_field : (i : ExprId) (at : Pointer) → Correct (point_field i at) (Tells nothing)
   tells_point_field i at =
       correct_as (correct_point_field i at) (λ final ps m m' u g row.
-      record { told = λ ss e. added_none (ap L.list row.stored ∙ L.unchanged m.stored (with_field i at m.stored) refl refl) })
+      record { told = λ ss e. added_none (ap L.list row.stored ∙ L.unchanged m.stored (with_field i at m.stored) refl refl refl) })
 
   pub tells_report : (d : ExpressionStoreDiagnostics) → Correct (report d) (Tells (λ ss. L.of_faults (d ∷ [])))
   tells_report d =
@@ -243,7 +249,7 @@ module _ {X : Type 0} (L : Listing X) where
   owning_tells owner h = owning_keeps owner
       (λ final ps m left start id a row. record {
         told = λ ss e. last_none (added_then (row.told ss e)
-            (added_none (L.unchanged left.stored (with_owned start id left.stored) refl refl)));
+            (added_none (L.unchanged left.stored (with_owned start id left.stored) refl refl refl)));
       })
       h
 
@@ -393,7 +399,7 @@ module _ {X : Type 0} (L : Listing X) where
 
   root_none : (i : ExprId) {a b : Stored} → (b ≡ a) ⊎ (b ≡ with_root i a) → Added [] a b
   root_none i (inl e) = added_none (ap L.list e)
-  root_none i {a = a} (inr e) = added_none (ap L.list e ∙ L.unchanged a (with_root i a) refl refl)
+  root_none i {a = a} (inr e) = added_none (ap L.list e ∙ L.unchanged a (with_root i a) refl refl refl)
 
   -- what is behind a barrier, as a body of its own
   pub rooted_tells : {D : List Scope → List X} {p : ExprSteps} → Correct p (Tells D)

@@ -1,17 +1,17 @@
 -- How much more is stored, and that there is no room for it.
 use Rattle.std.proofs.Common.{arith, ◌≡◌, ◌∙◌, refl, sym, ap, subst, ℕ, ◌+◌, ◌<◌, ◌≤◌, ◌^◌, length}
 use Rattle.std.proofs.Common.{length-append, append-nil, append_assoc, List, [], ◌∷◌, ◌++◌, map, Option, Ok, Err, inl, inr, ⊎_elim}
-use Rattle.std.proofs.lemmas.List.{map-append}
 use Rattle.hir_store.specs.Pointers.{Pointer}
 use Rattle.hir_store.specs.Arenas.{Sourced}
+use Rattle.hir_store.specs.Storing.{pat_id, type_id}
 use Rattle.hir_lower_form.specs.Builder.{Builder}
 use Rattle.hir_lower_form.specs.Lowering.{Checked}
 use Rattle.hir_steps.specs.Keeps.{Paired}
 use Rattle.hir_one_result.specs.Laws.{MayBeOwned}
 use Rattle.hir_one_result.specs.Room.{Short}
-use Rattle.hir_one_result.specs.Size.{PatFrom, Size, nothing, pat_source_of, pats_led, placed, ◌∪◌}
+use Rattle.hir_one_result.specs.Size.{NodeLeads, Size, led_by, nothing, placed, sources_led, ◌∪◌}
 use Rattle.hir_one_result.proofs.Owners.{as_many_both, as_many_placed, further_none, no_owners, owners_joined, owners_then}
-use Rattle.hir_one_result.proofs.PatWays.{led_behind}
+use Rattle.hir_one_result.proofs.PatWays.{led_behind, sources_both}
 
 -- an arena of this limit that held so many holds n more
 pub record Grew (n limit held limit' held' : ℕ) : Type 0 where
@@ -65,10 +65,14 @@ pub record Took (n : Size) (before after : Builder) : Type 0 where
   pub lifetimes : let a = before.stored.lifetimes in let b = after.stored.lifetimes in
       Grew (length n.lifetimes) a.limit (length a.entries) b.limit (length b.entries)
   pub paired : Paired before.stored → Paired after.stored
-  pub pat_sources : after.stored.pats.sources ≡ before.stored.pats.sources ++ map pat_source_of n.pats
-  pub pat_ways : after.stored.pats.map ≡ pats_led (length before.stored.pats.entries) n.pats before.stored.pats.map
+  pub pat_sources : after.stored.pats.sources ≡ before.stored.pats.sources ++ n.pats
+  pub pat_ways : after.stored.pats.map ≡ led_by pat_id (length before.stored.pats.entries) n.pat_leads before.stored.pats.map
   pub type_sources : after.stored.types.sources ≡ before.stored.types.sources ++ n.types
   pub lifetime_sources : after.stored.lifetimes.sources ≡ before.stored.lifetimes.sources ++ n.lifetimes
+  pub type_ways : after.stored.types.map ≡ led_by type_id (length before.stored.types.entries) n.type_leads before.stored.types.map
+  -- what leads to patterns and types is as much as those are
+  pub pat_leads : length (sources_led n.pat_leads) ≡ length n.pats
+  pub type_leads : sources_led n.type_leads ≡ n.types
   pub names : after.names ≡ before.names + n.names
   pub as_many : length n.owners ≡ n.bindings
   pub owners : MayBeOwned before.stored
@@ -88,6 +92,8 @@ pub record Same (n k : Size) : Type 0 where
   pub pats : n.pats ≡ k.pats
   pub types : n.types ≡ k.types
   pub lifetimes : n.lifetimes ≡ k.lifetimes
+  pub pat_leads : n.pat_leads ≡ k.pat_leads
+  pub type_leads : n.type_leads ≡ k.type_leads
   pub overcounts : n.overcounts → k.overcounts
 
 -- there is as little room for more, where it is so for each arena, for what overcounts, and for the names that are made up
@@ -148,11 +154,20 @@ short_as {n = n} {k = k} b same h = let s = b.stored in shorter n k b b
 then_more : (xs ys zs : List (Option Pointer)) {us vs : List (Option Pointer)} → us ≡ xs ++ ys → vs ≡ us ++ zs → vs ≡ xs ++ (ys ++ zs)
 then_more xs ys zs e f = f ∙ (ap (λ ws. ws ++ zs) e ∙ append_assoc xs ys zs)
 
--- of patterns
-came_then : (xs : List (Option Pointer)) (ys zs : List PatFrom) {us vs : List (Option Pointer)} → us ≡ xs ++ map pat_source_of ys
-    → vs ≡ us ++ map pat_source_of zs → vs ≡ xs ++ map pat_source_of (ys ++ zs)
-came_then xs ys zs e f =
-    then_more xs (map pat_source_of ys) (map pat_source_of zs) e f ∙ ap (λ ws. xs ++ ws) (sym (map-append pat_source_of ys zs))
+-- of what leads to patterns, and to types
+long_both : (xs ys : List NodeLeads) (us vs : List (Option Pointer)) → length (sources_led xs) ≡ length us
+    → length (sources_led ys) ≡ length vs → length (sources_led (xs ++ ys)) ≡ length (us ++ vs)
+long_both xs ys us vs e f =
+    ap length (sources_both xs ys) ∙ (length-append (sources_led xs) (sources_led ys) ∙ ((λ i. e i + f i) ∙ joined us vs))
+
+same_both : (xs ys : List NodeLeads) {us vs : List (Option Pointer)} → sources_led xs ≡ us → sources_led ys ≡ vs
+    → sources_led (xs ++ ys) ≡ us ++ vs
+same_both xs ys e f = sources_both xs ys ∙ (λ i. e i ++ f i)
+
+-- so many more by what leads to them
+as_led : (xs : List NodeLeads) (held : ℕ) {n held' : ℕ} → length (sources_led xs) ≡ n → held' ≡ held + n
+    → held' ≡ held + length (sources_led xs)
+as_led xs held e f = f ∙ ap (λ k. held + k) (sym e)
 
 named_then : (a b c n k : ℕ) → b ≡ a + n → c ≡ b + k → c ≡ a + (n + k)
 named_then a b c n k e f = omega (arith, e, f)
@@ -174,10 +189,15 @@ took_then {n = n} {k = k} a b c t u = record {
   types = grew_as (joined n.types k.types) (grew_then t.types u.types);
   lifetimes = grew_as (joined n.lifetimes k.lifetimes) (grew_then t.lifetimes u.lifetimes);
   paired = λ h. u.paired (t.paired h);
-  pat_sources = came_then a.stored.pats.sources n.pats k.pats t.pat_sources u.pat_sources;
-  pat_ways = led_behind (length a.stored.pats.entries) n.pats k.pats a.stored.pats.map t.pats.more t.pat_ways u.pat_ways;
+  pat_sources = then_more a.stored.pats.sources n.pats k.pats t.pat_sources u.pat_sources;
+  pat_ways = led_behind pat_id (length a.stored.pats.entries) n.pat_leads k.pat_leads a.stored.pats.map
+      (as_led n.pat_leads _ t.pat_leads t.pats.more) t.pat_ways u.pat_ways;
   type_sources = then_more a.stored.types.sources n.types k.types t.type_sources u.type_sources;
   lifetime_sources = then_more a.stored.lifetimes.sources n.lifetimes k.lifetimes t.lifetime_sources u.lifetime_sources;
+  type_ways = led_behind type_id (length a.stored.types.entries) n.type_leads k.type_leads a.stored.types.map
+      (as_led n.type_leads _ (ap length t.type_leads) t.types.more) t.type_ways u.type_ways;
+  pat_leads = long_both n.pat_leads k.pat_leads n.pats k.pats t.pat_leads u.pat_leads;
+  type_leads = same_both n.type_leads k.type_leads t.type_leads u.type_leads;
   names = named_then a.names b.names c.names n.names k.names t.names u.names;
   as_many = as_many_both n.exprs n.owners k.owners t.as_many u.as_many;
   owners = λ h. owners_then a.stored.bindings.owners (length a.stored.exprs.entries) n.exprs n.owners k.owners t.exprs.more (t.owners h)
@@ -193,10 +213,13 @@ took_as {a = a} same t = record {
   types = grew_as (ap length same.types) t.types;
   lifetimes = grew_as (ap length same.lifetimes) t.lifetimes;
   paired = t.paired;
-  pat_sources = t.pat_sources ∙ ap (λ xs. a.stored.pats.sources ++ map pat_source_of xs) same.pats;
-  pat_ways = t.pat_ways ∙ ap (λ xs. pats_led (length a.stored.pats.entries) xs a.stored.pats.map) same.pats;
+  pat_sources = t.pat_sources ∙ ap (λ xs. a.stored.pats.sources ++ xs) same.pats;
+  pat_ways = t.pat_ways ∙ ap (λ xs. led_by pat_id (length a.stored.pats.entries) xs a.stored.pats.map) same.pat_leads;
   type_sources = t.type_sources ∙ ap (λ xs. a.stored.types.sources ++ xs) same.types;
   lifetime_sources = t.lifetime_sources ∙ ap (λ xs. a.stored.lifetimes.sources ++ xs) same.lifetimes;
+  type_ways = t.type_ways ∙ ap (λ xs. led_by type_id (length a.stored.types.entries) xs a.stored.types.map) same.type_leads;
+  pat_leads = sym (ap (λ xs. length (sources_led xs)) same.pat_leads) ∙ (t.pat_leads ∙ ap length same.pats);
+  type_leads = sym (ap sources_led same.type_leads) ∙ (t.type_leads ∙ same.types);
   names = t.names ∙ ap (λ k. a.names + k) same.names;
   as_many = sym (ap length same.owners) ∙ (t.as_many ∙ same.bindings);
   owners = λ h. t.owners h
@@ -242,6 +265,9 @@ took_besides before after e from limit l n most os p t f k = let a = before.stor
   };
   pat_sources = no_sources a.pats p;
   pat_ways = ap (λ s. s.map) p;
+  type_ways = ap (λ s. s.map) t;
+  pat_leads = refl;
+  type_leads = refl;
   type_sources = no_sources a.types t;
   lifetime_sources = no_sources a.lifetimes f;
   names = unnamed k;
@@ -271,6 +297,8 @@ none_after n = record {
   pats = append-nil n.pats;
   types = append-nil n.types;
   lifetimes = append-nil n.lifetimes;
+  pat_leads = append-nil n.pat_leads;
+  type_leads = append-nil n.type_leads;
   overcounts = λ h. ⊎_elim (λ x. x) (λ x. absurd x) h;
 }
 
@@ -284,6 +312,8 @@ none_before n = record {
   pats = refl;
   types = refl;
   lifetimes = refl;
+  pat_leads = refl;
+  type_leads = refl;
   overcounts = λ h. ⊎_elim (λ x. absurd x) (λ x. x) h;
 }
 
@@ -298,6 +328,8 @@ nothing_first n = record {
   pats = refl;
   types = refl;
   lifetimes = refl;
+  pat_leads = refl;
+  type_leads = refl;
   overcounts = λ h. inr h;
 }
 
@@ -311,6 +343,8 @@ moved_in n k j = record {
   pats = sym (append_assoc n.pats k.pats j.pats);
   types = sym (append_assoc n.types k.types j.types);
   lifetimes = sym (append_assoc n.lifetimes k.lifetimes j.lifetimes);
+  pat_leads = sym (append_assoc n.pat_leads k.pat_leads j.pat_leads);
+  type_leads = sym (append_assoc n.type_leads k.type_leads j.type_leads);
   overcounts = λ h. ⊎_elim (λ x. inl (inl x)) (λ y. ⊎_elim (λ x. inl (inr x)) (λ x. inr x) y) h;
 }
 
@@ -324,5 +358,7 @@ moved_out n k j = record {
   pats = append_assoc n.pats k.pats j.pats;
   types = append_assoc n.types k.types j.types;
   lifetimes = append_assoc n.lifetimes k.lifetimes j.lifetimes;
+  pat_leads = append_assoc n.pat_leads k.pat_leads j.pat_leads;
+  type_leads = append_assoc n.type_leads k.type_leads j.type_leads;
   overcounts = λ h. ⊎_elim (λ y. ⊎_elim (λ x. inl x) (λ x. inr (inl x)) y) (λ x. inr (inr x)) h;
 }

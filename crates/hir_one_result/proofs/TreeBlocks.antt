@@ -72,6 +72,8 @@ use Rattle.hir_store.specs.declared.ids.PatId.{PatId}
 use Rattle.hir_lower_form.specs.Pats as forms
 use Rattle.hir_lower_form.specs.Pats.{Elements, Table, no_elements, no_names, next_alternative}
 use Rattle.hir_one_result.specs.Formals.{lower_self, each_formal, lower_formals, lower_body, plain_body, formals_read}
+use Rattle.hir_one_result.proofs.CallTelling.{called_pat_tells, called_tells, called_type_tells, gone_tells, note_tells}
+use Rattle.hir_one_result.proofs.CallTelling.{told_tells, uncalled_pat_tells, uncalled_tells, uncalled_type_tells}
 use Rattle.hir_one_result.proofs.PatTelling.{tells_pat, tells_binding, missing_pat_tells, alone_tells, settle_tells, element_tells}
 use Rattle.hir_one_result.proofs.PatTelling.{path_pat_tells, bind_tells, over_pat_tells, tuple_pat_tells, tuple_struct_tells}
 use Rattle.hir_one_result.proofs.PatTelling.{record_pat_tells, pat_field_tells, slice_pat_tells, or_tells, literal_pat_tells}
@@ -91,13 +93,16 @@ entered = record {
   list = λ s. s.block_scopes;
   of_faults = λ ds. [];
   of_block = λ n. option_to_list n;
+  of_told = λ es ds. [];
   fault = λ d s. sym (append-nil s.block_scopes);
   no_fault = refl;
   block = entered_block;
+  tells = λ es ds s. sym (append-nil s.block_scopes);
+  told_nothing = refl;
   expr = λ e at s. refl;
   label = λ l s. refl;
   way = λ p i s. refl;
-  unchanged = λ a b faults blocks. blocks;
+  unchanged = λ a b faults blocks expansions. blocks;
   Like = λ xs ys. xs ≡ ys;
   same = λ xs. refl;
   trans = λ xs ys zs e f. e ∙ f;
@@ -109,7 +114,7 @@ abbrev pub Enters : {A : Type 0} → List BlockId → Lowering A → Type 0
 Enters ns p = Correct p (Tells entered (λ ss. ns))
 
 kept_blocks : (e : Expr) {p : ExprSteps} → Enters (blocks_of e) p → Enters (blocks_of e) (kept e p)
-kept_blocks (tree.disabled_expr at by e) h = tells_end entered (tells_report entered _) (λ u. tells_pure entered None)
+kept_blocks (tree.disabled_expr why e) h = tells_end entered (gone_tells entered why) (λ u. tells_pure entered None)
 kept_blocks e h = tells_some entered h
 
 -- two dots of a tuple are no part
@@ -126,6 +131,8 @@ no_spread o w (Some at) ns = refl
 mutual
   one_type_enters : (b : Option Binder) (t : Type_) → Enters (blocks_of_type t) (lower_type b t)
   one_type_enters b (tree.paren_type t) = type_enters b t
+  one_type_enters b (tree.macro_type at c tree.no_type) = uncalled_type_tells entered at c
+  one_type_enters b (tree.macro_type at c (tree.some_type t)) = called_type_tells entered at c (one_type_enters b t)
   one_type_enters b (tree.for_type names t) = type_enters (Some names) t
   one_type_enters b (tree.leaf_type at form) = tells_type entered _ _
   one_type_enters b (tree.over_type at form t) = over_tells entered at form (type_enters None t)
@@ -241,6 +248,8 @@ mutual
 
   type_pat_enters : (p : TypePat) → Enters (blocks_of_type_pat p) (lower_type_pat p)
   type_pat_enters (tree.not_null_type_pat at) = tells_pat entered _ _
+  type_pat_enters (tree.macro_type_pat at c tree.no_type_pat) = uncalled_pat_tells entered at c
+  type_pat_enters (tree.macro_type_pat at c (tree.some_type_pat p)) = called_pat_tells entered at c (λ i. i) (type_pat_enters p)
   type_pat_enters (tree.or_type_pat at ps) = type_alternatives_tell entered at (type_pats_enters [] ps)
   type_pat_enters (tree.range_type_pat at low high) = limits_tell entered at (limit_enters low) (limit_enters high)
   type_pat_enters (tree.other_type_pat at) = tells_pat entered _ _
@@ -266,7 +275,7 @@ mutual
   limit_side_enters tree.other_side = missing_tells entered
 
   node_blocks : (e : Expr) → Enters (blocks_of e) (lower e)
-  node_blocks (tree.disabled_expr at by e) = tells_end entered (tells_report entered _) (λ u. missing_tells entered)
+  node_blocks (tree.disabled_expr why e) = tells_end entered (gone_tells entered why) (λ u. missing_tells entered)
   node_blocks (tree.if_expr at c t e) = if_tells entered at (part_blocks c) (block_part_blocks t) (present_blocks e)
   node_blocks (tree.block_expr b) = block_blocks b
   node_blocks (tree.loop_expr at label _ b) = loop_tells entered at _ label (block_part_blocks b)
@@ -288,6 +297,8 @@ mutual
   node_blocks (tree.continue_expr at jump) = continue_tells entered at jump
   node_blocks (tree.break_expr at jump e) = break_tells entered at jump (present_blocks e)
   node_blocks (tree.paren_expr at e) = paren_tells entered at (part_blocks e)
+  node_blocks (tree.macro_expr at c tree.no_expr) = uncalled_tells entered at c
+  node_blocks (tree.macro_expr at c (tree.some_expr e)) = called_tells entered at c (node_blocks e)
   node_blocks (tree.literal_expr at l) = tells_alloc entered _ _
   node_blocks (tree.leaf_expr at form) = tells_alloc entered _ _
   node_blocks (tree.unary_expr at form e) = operand_tells entered at _ (part_blocks e)
@@ -390,6 +401,7 @@ mutual
   stmt_blocks (tree.expr_stmt e semi) = tells_end entered (kept_part_blocks e) (λ x. tells_pure entered _)
   stmt_blocks (tree.disabled_stmt at by s) = tells_end entered (tells_report entered _) (λ u. tells_pure entered None)
   stmt_blocks tree.item_stmt = tells_pure entered _
+  stmt_blocks (tree.call_stmt c) = tells_end entered (note_tells entered c) (λ u. tells_pure entered None)
   stmt_blocks (tree.let_stmt p t e b) =
       let_stmt_tells entered (top_enters p) (present_type_enters t) (present_blocks e) (present_block_enters b)
 
@@ -404,6 +416,8 @@ mutual
   pat_enters (tree.or_pat at tree.no_pats) = alone_tells entered (tells_pat entered _ _)
   pat_enters (tree.or_pat at (tree.more_pats p ps)) = or_tells entered at (pat_enters p) (λ done. later_enters ps done)
   pat_enters (tree.paren_pat at p) = pat_part_enters p
+  pat_enters (tree.macro_pat at c tree.no_pat) = alone_tells entered (uncalled_pat_tells entered at c)
+  pat_enters (tree.macro_pat at c (tree.some_pat p)) = λ t. called_pat_tells entered at c (λ r. r.0) (pat_enters p t)
   pat_enters (tree.slice_pat at before middle behind) =
       slice_pat_tells entered at (pats_enters [] before) (subpat_enters middle) (pats_enters [] behind)
   pat_enters (tree.over_pat at form p) = over_pat_tells entered at form (pat_part_enters p)
@@ -457,6 +471,7 @@ mutual
   target_enters : (t : Target) → Enters (blocks_of_target t) (lower_target t)
   target_enters tree.absent_target = missing_pat_tells entered
   target_enters (tree.place_target at e) = place_target_tells entered at (node_blocks e)
+  target_enters (tree.macro_target at c t) = tells_bind entered (told_tells entered c) (λ u. target_enters t)
   target_enters (tree.wild_target at) = tells_pat entered _ _
   target_enters (tree.path_target at p h) =
       path_target_tells entered at h (tells_end entered (reading_enters p start) (λ r. tells_pure entered _))

@@ -72,6 +72,8 @@ use Rattle.hir_store.specs.declared.ids.PatId.{PatId}
 use Rattle.hir_lower_form.specs.Pats as forms
 use Rattle.hir_lower_form.specs.Pats.{Elements, Table, no_elements, no_names, next_alternative}
 use Rattle.hir_one_result.specs.Formals.{lower_self, lower_formal, each_formal, lower_formals, lower_body, plain_body}
+use Rattle.hir_one_result.proofs.CallTelling.{called_pat_tells, called_tells, called_type_tells, gone_tells, note_tells}
+use Rattle.hir_one_result.proofs.CallTelling.{told_tells, uncalled_pat_tells, uncalled_tells, uncalled_type_tells}
 use Rattle.hir_one_result.proofs.PatTelling.{tells_pat, tells_binding, missing_pat_tells, alone_tells, settle_tells, element_tells}
 use Rattle.hir_one_result.proofs.PatTelling.{path_pat_tells, bind_tells, over_pat_tells, tuple_pat_tells, tuple_struct_tells}
 use Rattle.hir_one_result.proofs.PatTelling.{record_pat_tells, pat_field_tells, slice_pat_tells, or_tells, literal_pat_tells}
@@ -94,13 +96,16 @@ reported = record {
   list = λ s. s.diagnostics;
   of_faults = λ ds. ds;
   of_block = λ n. [];
+  of_told = λ es ds. ds;
   fault = λ d s. refl;
   no_fault = refl;
   block = no_fault_in_block;
+  tells = λ es ds s. refl;
+  told_nothing = refl;
   expr = λ e at s. refl;
   label = λ l s. refl;
   way = λ p i s. refl;
-  unchanged = λ a b faults blocks. faults;
+  unchanged = λ a b faults blocks expansions. faults;
   Like = IsPermutation;
   same = IsPermutation-refl;
   trans = IsPermutation-trans;
@@ -114,7 +119,7 @@ turned : (c t e : Faults) → IsPermutation (c ++ (t ++ e)) (t ++ (e ++ c))
 turned c t e = subst (IsPermutation (c ++ (t ++ e))) (append_assoc t e c) (IsPermutation-append_comm c (t ++ e))
 
 kept_faults : (e : Expr) {p : ExprSteps} → Reports (λ ss. diagnostics ss e) p → Reports (λ ss. diagnostics ss e) (kept e p)
-kept_faults (tree.disabled_expr at by e) h = tells_end reported (tells_report reported _) (λ u. tells_pure reported None)
+kept_faults (tree.disabled_expr why e) h = tells_end reported (gone_tells reported why) (λ u. tells_pure reported None)
 kept_faults e h = tells_some reported h
 
 -- two dots of a tuple are no part
@@ -130,6 +135,8 @@ spread_like o w (Some at) fs = IsPermutation-refl _
 mutual
   one_type_reports : (b : Option Binder) (t : Type_) → Reports (λ ss. type_faults ss t) (lower_type b t)
   one_type_reports b (tree.paren_type t) = type_reports b t
+  one_type_reports b (tree.macro_type at c tree.no_type) = uncalled_type_tells reported at c
+  one_type_reports b (tree.macro_type at c (tree.some_type t)) = called_type_tells reported at c (one_type_reports b t)
   one_type_reports b (tree.for_type names t) = type_reports (Some names) t
   one_type_reports b (tree.leaf_type at form) = tells_type reported _ _
   one_type_reports b (tree.over_type at form t) = over_tells reported at form (type_reports None t)
@@ -247,6 +254,8 @@ mutual
 
   type_pat_reports : (p : TypePat) → Reports (λ ss. type_pat_faults ss p) (lower_type_pat p)
   type_pat_reports (tree.not_null_type_pat at) = tells_pat reported _ _
+  type_pat_reports (tree.macro_type_pat at c tree.no_type_pat) = uncalled_pat_tells reported at c
+  type_pat_reports (tree.macro_type_pat at c (tree.some_type_pat p)) = called_pat_tells reported at c (λ i. i) (type_pat_reports p)
   type_pat_reports (tree.or_type_pat at ps) = type_alternatives_tell reported at (type_pats_reports [] ps)
   type_pat_reports (tree.range_type_pat at low high) = limits_tell reported at (limit_reports low) (limit_reports high)
   type_pat_reports (tree.other_type_pat at) = tells_pat reported _ _
@@ -272,7 +281,7 @@ mutual
   limit_side_reports tree.other_side = missing_tells reported
 
   node_faults : (e : Expr) → Reports (λ ss. diagnostics ss e) (lower e)
-  node_faults (tree.disabled_expr at by e) = tells_end reported (tells_report reported _) (λ u. missing_tells reported)
+  node_faults (tree.disabled_expr why e) = tells_end reported (gone_tells reported why) (λ u. missing_tells reported)
   node_faults (tree.if_expr at c t e) = tells_as reported (if_tells reported at (part_faults c) (block_part_faults t) (present_faults e))
       (λ ss. turned (part_diagnostics ss c) (block_part_diagnostics ss t) (part_diagnostics ss e))
   node_faults (tree.block_expr b) = block_faults b
@@ -298,6 +307,8 @@ mutual
   node_faults (tree.continue_expr at jump) = continue_tells reported at jump
   node_faults (tree.break_expr at jump e) = break_tells reported at jump (present_faults e)
   node_faults (tree.paren_expr at e) = paren_tells reported at (part_faults e)
+  node_faults (tree.macro_expr at c tree.no_expr) = uncalled_tells reported at c
+  node_faults (tree.macro_expr at c (tree.some_expr e)) = called_tells reported at c (node_faults e)
   node_faults (tree.literal_expr at l) = tells_alloc reported _ _
   node_faults (tree.leaf_expr at form) = tells_alloc reported _ _
   node_faults (tree.unary_expr at form e) = operand_tells reported at _ (part_faults e)
@@ -397,6 +408,7 @@ mutual
   stmt_reports (tree.expr_stmt e semi) = tells_end reported (kept_part_faults e) (λ x. tells_pure reported _)
   stmt_reports (tree.disabled_stmt at by s) = tells_end reported (tells_report reported _) (λ u. tells_pure reported None)
   stmt_reports tree.item_stmt = tells_pure reported _
+  stmt_reports (tree.call_stmt c) = tells_end reported (note_tells reported c) (λ u. tells_pure reported None)
   stmt_reports (tree.let_stmt p t e b) =
       let_stmt_tells reported (top_reports p) (present_type_reports t) (present_faults e) (present_block_reports b)
 
@@ -412,6 +424,8 @@ mutual
   pat_reports (tree.or_pat at tree.no_pats) = alone_tells reported (tells_pat reported _ _)
   pat_reports (tree.or_pat at (tree.more_pats p ps)) = or_tells reported at (pat_reports p) (λ done. later_reports ps done)
   pat_reports (tree.paren_pat at p) = pat_part_reports p
+  pat_reports (tree.macro_pat at c tree.no_pat) = alone_tells reported (uncalled_pat_tells reported at c)
+  pat_reports (tree.macro_pat at c (tree.some_pat p)) = λ t. called_pat_tells reported at c (λ r. r.0) (pat_reports p t)
   pat_reports (tree.slice_pat at before middle behind) =
       slice_pat_tells reported at (pats_reports [] before) (subpat_reports middle) (pats_reports [] behind)
   pat_reports (tree.over_pat at form p) = over_pat_tells reported at form (pat_part_reports p)
@@ -466,6 +480,7 @@ mutual
   target_reports : (t : Target) → Reports (λ ss. target_faults_in ss t) (lower_target t)
   target_reports tree.absent_target = missing_pat_tells reported
   target_reports (tree.place_target at e) = place_target_tells reported at (node_faults e)
+  target_reports (tree.macro_target at c t) = tells_bind reported (told_tells reported c) (λ u. target_reports t)
   target_reports (tree.wild_target at) = tells_pat reported _ _
   target_reports (tree.path_target at p h) =
       path_target_tells reported at h (tells_end reported (reading_reports p start) (λ r. tells_pure reported _))

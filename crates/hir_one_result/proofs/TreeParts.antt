@@ -26,6 +26,8 @@ use Rattle.hir_one_result.specs.Leads.{Ways, No, OneWay, ◌&◌}
 use Rattle.hir_one_result.specs.Stands.{StandsFields, Open, ThereIf, statement_of, StandsPart, StandsKept, StandsEach, StandsContents}
 use Rattle.hir_one_result.specs.Stands.{StandsArms, StandsTarget, StandsTargets, StandsTargetFields}
 use Rattle.hir_one_result.specs.StandsWhole.{StandsAssigned}
+use Rattle.hir_steps.proofs.Calls.{only_gone}
+use Rattle.hir_one_result.proofs.CallStanding.{only_facts}
 use Rattle.hir_one_result.proofs.Contents.{has_contents}
 use Rattle.hir_one_result.proofs.Lasting.{Correct, correct_as, correct_bind, correct_both, correct_pure, correct_report}
 use Rattle.hir_one_result.proofs.Leading.{Shown, shown_as, shown_none, shown_before, moved_then}
@@ -34,8 +36,9 @@ use Rattle.hir_one_result.proofs.Standing.{Of, Placed, Shows, moved_pure, moved_
 
 pub kept_stands : (e : Expr) {p : ExprSteps} {S : Of ExprId} → Correct p (Shows S)
     → Correct (kept e p) (Shows (λ final rs o. ThereIf (is_kept e) (λ i. S final rs i) o))
-kept_stands (tree.disabled_expr at by e) h = correct_as (correct_bind (correct_report _) (λ u. correct_pure None)) (λ final ps m m' o g row.
-    let moved = moved_then (moved_fault (InactiveCode at by) row.first.stored) (moved_pure row.second.still) in
+kept_stands (tree.disabled_expr why e) h = correct_as (correct_bind (only_facts (only_gone why)) (λ u. correct_pure None))
+    (λ final ps m m' o g row.
+    let moved = moved_then row.first.moved (moved_pure row.second.still) in
     record { shown = shown_none moved (row.second.is, refl) })
 kept_stands e h = present_some h
 

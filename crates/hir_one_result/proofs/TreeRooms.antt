@@ -53,6 +53,9 @@ use Rattle.hir_one_result.proofs.ClosureRooms.{closure_takes, const_block_takes,
 use Rattle.hir_one_result.proofs.CoroutineRooms.{coroutine_closure_takes}
 use Rattle.hir_one_result.proofs.FunctionRooms.{coroutine_body_takes}
 use Rattle.hir_one_result.proofs.LastTree.{part_last}
+use Rattle.hir_one_result.proofs.CallRooms.{called_pat_takes, called_pat_tells, called_takes, called_type_takes, takes_gone, takes_note}
+use Rattle.hir_one_result.proofs.CallRooms.{takes_told, uncalled_pat_takes, uncalled_takes, uncalled_type_takes}
+use Rattle.hir_one_result.proofs.LastStored.{lower_pat_last, type_last, type_pat_last}
 use Rattle.hir_one_result.proofs.Rooms.{Takes, takes_then, takes_as, takes_end, takes_begin, takes_pure, takes_report, takes_alloc}
 use Rattle.hir_one_result.proofs.Rooms.{takes_binding, takes_constant, takes_inner, takes_type, takes_pat}
 use Rattle.hir_one_result.proofs.Took.{nothing_first, moved_in, moved_out}
@@ -119,6 +122,8 @@ whole_targets ts h = tells_less (λ r e. e ∙ from_none (target_dots ts)) h
 mutual
   pub type_takes : (b : Option Binder) (t : Type_) → Takes (type_size t) (lower_type b t)
   type_takes b (tree.paren_type t) = type_part_takes b t
+  type_takes b (tree.macro_type at c tree.no_type) = uncalled_type_takes at c
+  type_takes b (tree.macro_type at c (tree.some_type t)) = called_type_takes at c (type_last b t) (type_takes b t)
   type_takes b (tree.for_type names t) = type_part_takes (Some names) t
   type_takes b (tree.leaf_type at form) = takes_type _ _
   type_takes b (tree.over_type at form t) = over_takes at form (type_part_takes None t)
@@ -244,6 +249,8 @@ mutual
 
   type_pat_takes : (p : TypePat) → Takes (type_pat_size p) (lower_type_pat p)
   type_pat_takes (tree.not_null_type_pat at) = takes_pat _ _
+  type_pat_takes (tree.macro_type_pat at c tree.no_type_pat) = uncalled_pat_takes at c
+  type_pat_takes (tree.macro_type_pat at c (tree.some_type_pat p)) = called_pat_takes at c (type_pat_last p) (type_pat_takes p)
   type_pat_takes (tree.or_type_pat at ps) = type_alternatives_take at (type_pats_take [] ps)
   type_pat_takes (tree.range_type_pat at low high) = limits_take at (limit_takes low) (limit_takes high)
   type_pat_takes (tree.other_type_pat at) = takes_pat _ _
@@ -269,7 +276,7 @@ mutual
   limit_side_takes tree.other_side = missing_takes
 
   node_takes : (e : Expr) → Takes (size e) (lower e)
-  node_takes (tree.disabled_expr at by e) = takes_begin (takes_report _) (λ u. missing_takes)
+  node_takes (tree.disabled_expr why e) = takes_begin (takes_gone why) (λ u. missing_takes)
   node_takes (tree.if_expr at c t e) = if_takes at (part_takes c) (block_part_takes t) (present_takes e)
   node_takes (tree.block_expr b) = block_takes b
   node_takes (tree.loop_expr at label _ b) = loop_takes at _ label (block_part_takes b)
@@ -290,6 +297,8 @@ mutual
   node_takes (tree.continue_expr at jump) = continue_takes at jump
   node_takes (tree.break_expr at jump e) = break_takes at jump (present_takes e)
   node_takes (tree.paren_expr at e) = paren_takes at (part_takes e)
+  node_takes (tree.macro_expr at c tree.no_expr) = uncalled_takes at c
+  node_takes (tree.macro_expr at c (tree.some_expr e)) = called_takes at c (node_takes e)
   node_takes (tree.literal_expr at l) = takes_alloc _ (Some at)
   node_takes (tree.leaf_expr at form) = takes_alloc _ (Some at)
   node_takes (tree.unary_expr at form e) = operand_takes at _ (part_takes e)
@@ -390,6 +399,7 @@ mutual
   stmt_takes (tree.expr_stmt e semi) = takes_end (kept_part_takes e) (λ x. takes_pure _)
   stmt_takes (tree.disabled_stmt at by s) = takes_end (takes_report _) (λ u. takes_pure None)
   stmt_takes tree.item_stmt = takes_pure _
+  stmt_takes (tree.call_stmt c) = takes_end (takes_note c) (λ u. takes_pure None)
   stmt_takes (tree.let_stmt p t e b) =
       let_stmt_takes (top_takes p) (present_type_takes t) (present_takes e) (block_present_takes b)
 
@@ -404,6 +414,9 @@ mutual
   pat_takes (tree.or_pat at tree.no_pats) us = alone_takes at us (takes_as (nothing_first _) (takes_pat _ _))
   pat_takes (tree.or_pat at (tree.more_pats p ps)) us = or_form_takes at p ps (pat_takes p us) (later_take ps (names_after p us))
   pat_takes (tree.paren_pat at p) us = pat_part_takes p us
+  pat_takes (tree.macro_pat at c tree.no_pat) us = alone_takes at us (uncalled_pat_takes at c)
+  pat_takes (tree.macro_pat at c (tree.some_pat p)) us =
+      λ t k. called_pat_tells at c (λ r. r.0) (lower_pat_last p t) (pat_takes p us t k)
   pat_takes (tree.slice_pat at before middle behind) us =
       slice_takes at (pats_take before us []) (subpat_takes middle (names_after_each before us))
       (pats_take behind (names_after_part middle (names_after_each before us)) [])
@@ -464,6 +477,7 @@ mutual
   target_takes : (t : Target) → Takes (target_size t) (lower_target t)
   target_takes tree.absent_target = missing_pat_takes
   target_takes (tree.place_target at e) = place_target_takes at (node_takes e)
+  target_takes (tree.macro_target at c t) = takes_begin (takes_told c) (λ u. target_takes t)
   target_takes (tree.wild_target at) = takes_pat _ _
   target_takes (tree.path_target at p h) =
       path_target_takes at h (takes_end (takes_of (reading_tells p start)) (λ r. takes_pure _))

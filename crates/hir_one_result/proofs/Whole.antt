@@ -1,31 +1,33 @@
 -- What is stored where one body was lowered is one result of its tree.
-use Rattle.std.proofs.Common.{arith, refl, sym, ap, subst, ℕ, is_some, true≢false, map, [], ◌∷◌, ◌++◌, ◌∙◌}
+use Rattle.std.proofs.Common.{arith, refl, sym, ap, subst, ℕ, is_some, true≢false, [], ◌∷◌, ◌++◌, ◌∙◌, inl}
 use Rattle.hir_store.proofs.Extending.{extends_refl, extends_root}
 use Rattle.hir_store.specs.Arenas.{Sourced, MapsBack}
 use Rattle.hir_store.specs.Stored.{store_of}
-use Rattle.hir_store.specs.Storing.{root_at, record_root}
+use Rattle.hir_store.specs.Storing.{pat_id, record_root, root_at, type_id}
 use Rattle.hir_store.proofs.Maps.{maps_back_none}
 use Rattle.hir_steps.specs.Keeps.{KeepsAll, Keeps, Paired, Mapped}
 use Rattle.hir_steps.proofs.Keeping.{any, kept_by}
-use Rattle.hir_steps.proofs.Mapping.{maps_none}
+use Rattle.hir_steps.proofs.Mapping.{leads_none}
 use Rattle.hir_one_result.specs.Laws.{Defined, Grown, GrownUnless}
 use Rattle.hir_one_result.specs.Leads.{LeadBack}
 use Rattle.hir_one_result.specs.OneResult.{OneResults, fresh_owing, in_root_of, with_root}
 use Rattle.hir_one_result.specs.Room.{body_size}
-use Rattle.hir_one_result.specs.Size.{led_source}
+use Rattle.hir_one_result.specs.Size.{calls_led, led_by, sources_led}
 use Rattle.hir_one_result.proofs.AfterLowering.{after_lowering}
 use Rattle.hir_one_result.proofs.Bodies.{body_stands}
 use Rattle.hir_one_result.proofs.Fits.{bodies_fit}
+use Rattle.hir_one_result.proofs.TreeRooms.{body_takes}
 use Rattle.hir_one_result.proofs.Lasting.{Unchanged}
 use Rattle.hir_one_result.proofs.Led.{leads_nowhere}
-use Rattle.hir_one_result.proofs.PatWays.{ways_back}
+use Rattle.hir_one_result.proofs.PatWays.{leads_back}
+use Rattle.hir_one_result.proofs.Took.{Room, Took}
 use Rattle.hir_one_result.proofs.TreeBlocks.{body_enters}
 use Rattle.hir_one_result.proofs.TreeFaults.{body_reports}
 
 -- as it is said of a source map
-pub lead_back : {T I : Type 0} (place : I → ℕ) (a : Sourced T I) → MapsBack place a → LeadBack place a.map a.sources
+pub lead_back : {T I : Type 0} (place : I → ℕ) (a : Sourced T I) → MapsBack place a → LeadBack place a.map a.sources []
 lead_back place a h = record {
-  to_source = h.to_source;
+  to_source = λ p i e. inl (h.to_source p i e);
   to_entry = λ n p e. let l = h.to_entry n p e in (l.id, l.is, l.from);
 }
 
@@ -35,8 +37,8 @@ one_results limit owed kind skipped f e given id new is =
     let old = in_root_of (fresh_owing limit owed) in
     let none : Paired old.stored = record { exprs = refl; labels = refl; pats = refl; types = refl; lifetimes = refl } in
     let nowhere : Mapped old.stored = record {
-      pats = maps_none (λ i. i.0) limit;
-      types = maps_back_none (λ i. i.0) limit;
+      pats = leads_none limit;
+      types = leads_none limit;
       lifetimes = maps_back_none (λ i. i.0) limit;
     } in
     let undefined : Defined old.stored = record {
@@ -55,6 +57,8 @@ one_results limit owed kind skipped f e given id new is =
     let moved = standing.moved in
     let fits : Grown (body_size kind skipped f e) old.stored new.stored =
     subst (λ r. GrownUnless (body_size kind skipped f e) old r.0 r.1) is (bodies_fit kind skipped f e old none) in
+    let took : Took (body_size kind skipped f e) old new =
+    subst (λ r. Room (body_size kind skipped f e) old r.0 r.1) is ((body_takes kind skipped f e).takes old none) in
     let reported = after_lowering (body_reports kind skipped f e) old (given, id) new none is new.stored (extends_refl new.stored) in
     let faults = reported.told [] refl in
     let entered = after_lowering (body_enters kind skipped f e) old (given, id) new none is new.stored (extends_refl new.stored) in
@@ -73,9 +77,15 @@ one_results limit owed kind skipped f e given id new is =
       pats = let n = fits.pats in omega (arith, n);
       types = let n = fits.types in omega (arith, n);
       lifetimes = let n = fits.lifetimes in omega (arith, n);
-      pat_ways = subst (λ es. LeadBack (λ i. i.0) es (map led_source (body_size kind skipped f e).pats)) (sym fits.pat_ways)
-          (ways_back (body_size kind skipped f e).pats);
-      type_ways = lead_back (λ i. i.0) new.stored.types mapped.types;
+      pat_map = fits.pat_ways;
+      pat_ways = let leads = (body_size kind skipped f e).pat_leads in
+          subst (λ es. LeadBack (λ i. i.0) es (sources_led leads) (calls_led leads)) (sym fits.pat_ways)
+          (leads_back (λ i. i.0) pat_id (λ n. refl) leads);
+      types_map = fits.type_ways;
+      type_ways = let leads = (body_size kind skipped f e).type_leads in
+          subst (λ es. LeadBack (λ i. i.0) es new.stored.types.sources (calls_led leads)) (sym fits.type_ways)
+          (subst (λ ss. LeadBack (λ i. i.0) (led_by type_id 0 leads []) ss (calls_led leads)) (took.type_leads ∙ sym fits.type_sources)
+          (leads_back (λ i. i.0) type_id (λ n. refl) leads));
       lifetime_ways = lead_back (λ i. i.0) new.stored.lifetimes mapped.lifetimes;
       definitions = moved.defined undefined;
       ways = standing.ways;

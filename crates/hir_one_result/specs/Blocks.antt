@@ -30,6 +30,7 @@ abbrev mutual
 
   pub blocks_of_type : Type_ → List BlockId
   blocks_of_type (tree.paren_type t) = blocks_of_type_part t
+  blocks_of_type (tree.macro_type at called t) = blocks_of_type_part t
   blocks_of_type (tree.for_type names t) = blocks_of_type_part t
   blocks_of_type (tree.leaf_type at form) = []
   blocks_of_type (tree.over_type at form t) = blocks_of_type_part t
@@ -124,6 +125,7 @@ abbrev mutual
 
   pub blocks_of_type_pat : TypePat → List BlockId
   blocks_of_type_pat (tree.not_null_type_pat at) = []
+  blocks_of_type_pat (tree.macro_type_pat at called p) = blocks_of_type_pat_part p
   blocks_of_type_pat (tree.or_type_pat at ps) = blocks_of_type_pats ps
   blocks_of_type_pat (tree.range_type_pat at low high) = blocks_of_limit low ++ blocks_of_limit high
   blocks_of_type_pat (tree.other_type_pat at) = []
@@ -148,7 +150,7 @@ abbrev mutual
   -- ---- expressions
 
   pub blocks_of : Expr → List BlockId
-  blocks_of (tree.disabled_expr at by e) = []
+  blocks_of (tree.disabled_expr why e) = []
   -- the branches are read before the condition
   blocks_of (tree.if_expr at c t e) = blocks_of_block_part t ++ (blocks_of_part e ++ blocks_of_part c)
   blocks_of (tree.block_expr b) = blocks_of_block b
@@ -166,6 +168,7 @@ abbrev mutual
   blocks_of (tree.continue_expr at jump) = []
   blocks_of (tree.break_expr at jump e) = blocks_of_part e
   blocks_of (tree.paren_expr at e) = blocks_of_part e
+  blocks_of (tree.macro_expr at called e) = blocks_of_part e
   blocks_of (tree.literal_expr at l) = []
   blocks_of (tree.leaf_expr at form) = []
   blocks_of (tree.unary_expr at form e) = blocks_of_part e
@@ -253,6 +256,7 @@ abbrev mutual
   blocks_of_stmt (tree.expr_stmt e semi) = blocks_of_part e
   blocks_of_stmt (tree.disabled_stmt at by s) = []
   blocks_of_stmt tree.item_stmt = []
+  blocks_of_stmt (tree.call_stmt c) = []
   blocks_of_stmt (tree.let_stmt p t e b) =
       blocks_of_top p ++ (blocks_of_present_type t ++ (blocks_of_part e ++ blocks_of_block_part b))
 
@@ -268,6 +272,7 @@ abbrev mutual
   blocks_of_pat (tree.record_pat at p fs dots) = blocks_of_whole p ++ where_some (written_path p) (blocks_of_pat_fields fs)
   blocks_of_pat (tree.or_pat at ps) = blocks_of_pats ps
   blocks_of_pat (tree.paren_pat at p) = blocks_of_top p
+  blocks_of_pat (tree.macro_pat at called p) = blocks_of_top p
   blocks_of_pat (tree.slice_pat at before middle behind) =
       blocks_of_pats before ++ (blocks_of_top middle ++ blocks_of_pats behind)
   blocks_of_pat (tree.over_pat at form p) = blocks_of_top p
@@ -296,6 +301,7 @@ abbrev mutual
   pub blocks_of_target : Target → List BlockId
   blocks_of_target tree.absent_target = []
   blocks_of_target (tree.place_target at e) = blocks_of e
+  blocks_of_target (tree.macro_target at called t) = blocks_of_target t
   blocks_of_target (tree.wild_target at) = []
   blocks_of_target (tree.path_target at p h) = blocks_of_path p nothing_seen
   blocks_of_target (tree.tuple_target at ts) = blocks_of_targets ts

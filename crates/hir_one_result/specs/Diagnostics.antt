@@ -1,4 +1,5 @@
--- The faults of what lowering reads of a tree, in some order: one for each disabled node that is asked about, and one for each
+-- The faults of what lowering reads of a tree, in some order: one for each disabled node that is asked about, one for each call of a
+-- macro that isn't found, and one for each
 -- named jump that has no target, or none in reach, one for each await outside of async code, one for each expression behind the
 -- two dots of a record that is assigned to, and one for each parameter that may only be a name and isn't. Those of constants in
 -- types and paths are among them. What is in a disabled node isn't read.
@@ -17,6 +18,7 @@ use Rattle.hir_env.specs.Answered.{TypePat, OptionTypePat, TypePats, Limit, Targ
 use Rattle.hir_env.specs.Answered.{Formals, Param, Params}
 use Rattle.hir_data.specs.Written.{written_path}
 use Rattle.hir_meaning.specs.Syntax.{is_typed}
+use Rattle.hir_steps.specs.Calls.{called_faults, condition_faults}
 use Rattle.hir_one_result.specs.Blocks.{where_some, where_goes_on, unless}
 use Rattle.hir_one_result.specs.PathRoom.{Seen, nothing_seen, at_first, segments_read, own_read, yields}
 use Rattle.hir_scope.specs.Ribs.{Rib, Target as JumpTarget, reachable, unreachable, undeclared, target, map_ribs}
@@ -49,6 +51,7 @@ abbrev mutual
 
   pub type_faults : List Scope → Type_ → Faults
   type_faults ss (tree.paren_type t) = type_part_faults ss t
+  type_faults ss (tree.macro_type at called t) = called_faults called ++ type_part_faults ss t
   type_faults ss (tree.for_type names t) = type_part_faults ss t
   type_faults ss (tree.leaf_type at form) = []
   type_faults ss (tree.over_type at form t) = type_part_faults ss t
@@ -144,6 +147,7 @@ abbrev mutual
 
   pub type_pat_faults : List Scope → TypePat → Faults
   type_pat_faults ss (tree.not_null_type_pat at) = []
+  type_pat_faults ss (tree.macro_type_pat at called p) = called_faults called ++ type_pat_part_faults ss p
   type_pat_faults ss (tree.or_type_pat at ps) = type_pats_faults ss ps
   type_pat_faults ss (tree.range_type_pat at low high) = limit_faults ss low ++ limit_faults ss high
   type_pat_faults ss (tree.other_type_pat at) = []
@@ -169,7 +173,7 @@ abbrev mutual
   -- ---- expressions
 
   pub diagnostics : List Scope → Expr → Faults
-  diagnostics ss (tree.disabled_expr at by e) = InactiveCode at by ∷ []
+  diagnostics ss (tree.disabled_expr why e) = condition_faults why.condition
   diagnostics ss (tree.if_expr at c t e) = part_diagnostics ss c ++ (block_part_diagnostics ss t ++ part_diagnostics ss e)
   diagnostics ss (tree.block_expr b) = block_diagnostics ss b
   diagnostics ss (tree.loop_expr at label _ b) = block_part_diagnostics (loop_scope label ∷ ss) b
@@ -191,6 +195,7 @@ abbrev mutual
   diagnostics ss (tree.continue_expr at jump) = jump_faults ss jump
   diagnostics ss (tree.break_expr at jump e) = jump_faults ss jump ++ part_diagnostics ss e
   diagnostics ss (tree.paren_expr at e) = part_diagnostics ss e
+  diagnostics ss (tree.macro_expr at called e) = called_faults called ++ part_diagnostics ss e
   diagnostics ss (tree.literal_expr at l) = []
   diagnostics ss (tree.leaf_expr at form) = []
   diagnostics ss (tree.unary_expr at form e) = part_diagnostics ss e
@@ -280,6 +285,7 @@ abbrev mutual
   stmt_diagnostics ss (tree.expr_stmt e semi) = part_diagnostics ss e
   stmt_diagnostics ss (tree.disabled_stmt at by s) = InactiveCode at by ∷ []
   stmt_diagnostics ss tree.item_stmt = []
+  stmt_diagnostics ss (tree.call_stmt c) = []
   stmt_diagnostics ss (tree.let_stmt p t e b) =
       top_faults ss p ++ (present_type_faults ss t ++ (part_diagnostics ss e ++ block_part_diagnostics ss b))
 
@@ -295,6 +301,7 @@ abbrev mutual
   pat_faults ss (tree.record_pat at p fs dots) = whole_faults ss p ++ where_some (written_path p) (pat_fields_faults ss fs)
   pat_faults ss (tree.or_pat at ps) = pats_faults ss ps
   pat_faults ss (tree.paren_pat at p) = top_faults ss p
+  pat_faults ss (tree.macro_pat at called p) = called_faults called ++ top_faults ss p
   pat_faults ss (tree.slice_pat at before middle behind) = pats_faults ss before ++ (top_faults ss middle ++ pats_faults ss behind)
   pat_faults ss (tree.over_pat at form p) = top_faults ss p
   pat_faults ss (tree.literal_pat at own l) = []
@@ -322,6 +329,7 @@ abbrev mutual
   pub target_faults_in : List Scope → Target → Faults
   target_faults_in ss tree.absent_target = []
   target_faults_in ss (tree.place_target at e) = diagnostics ss e
+  target_faults_in ss (tree.macro_target at called t) = called_faults called ++ target_faults_in ss t
   target_faults_in ss (tree.wild_target at) = []
   target_faults_in ss (tree.path_target at p h) = path_faults ss p nothing_seen
   target_faults_in ss (tree.tuple_target at ts) = targets_faults ss ts

@@ -2,7 +2,7 @@
 use Rattle.std.specs.Prelude.{◌≡◌, ◌+◌, Bool, List, ◌++◌, length, map, Option, Ok, Err, IsPermutation}
 use Rattle.hir_store.specs.Arenas.{Prefix}
 use Rattle.hir_store.specs.Stored.{Stored, store_of, map_of}
-use Rattle.hir_store.specs.Storing.{Checked, Extends}
+use Rattle.hir_store.specs.Storing.{Checked, Extends, pat_id, type_id}
 use Rattle.hir_store.specs.declared.hir.CoroutineKind.{CoroutineKind}
 use Rattle.hir_store.specs.declared.ids.ExprId.{ExprId}
 use Rattle.hir_store.specs.declared.ids.LabelId.{LabelId}
@@ -18,7 +18,7 @@ use Rattle.hir_one_result.specs.Leads.{Way, label_ways, Covers, CoversLabels, Co
 use Rattle.hir_one_result.specs.Stands.{StandsPart}
 use Rattle.hir_one_result.specs.Diagnostics.{Faults, part_diagnostics, Around}
 use Rattle.hir_one_result.specs.Blocks.{blocks_of_part}
-use Rattle.hir_one_result.specs.Size.{Size, pat_source_of, pats_led, placed}
+use Rattle.hir_one_result.specs.Size.{Size, led_by, placed}
 use Rattle.hir_one_result.specs.Room.{Short, body_size, size_part, type_part_size, whole_size}
 
 -- what is claimed where the tree is lowered into a `Paired` store
@@ -96,12 +96,13 @@ pub record Grown (n : Size) (old new : Stored) : Type 0 where
   pub owners : MayBeOwned old → new.bindings.owners ≡ old.bindings.owners ++ placed (length old.exprs.entries) n.owners
   pub may_be_owned : MayBeOwned old → MayBeOwned new
   pub pats : length new.pats.entries ≡ length old.pats.entries + length n.pats
-  pub pat_sources : new.pats.sources ≡ old.pats.sources ++ map pat_source_of n.pats
-  pub pat_ways : new.pats.map ≡ pats_led (length old.pats.entries) n.pats old.pats.map
+  pub pat_sources : new.pats.sources ≡ old.pats.sources ++ n.pats
+  pub pat_ways : new.pats.map ≡ led_by pat_id (length old.pats.entries) n.pat_leads old.pats.map
   pub types : length new.types.entries ≡ length old.types.entries + length n.types
   pub lifetimes : length new.lifetimes.entries ≡ length old.lifetimes.entries + length n.lifetimes
   pub type_sources : new.types.sources ≡ old.types.sources ++ n.types
   pub lifetime_sources : new.lifetimes.sources ≡ old.lifetimes.sources ++ n.lifetimes
+  pub type_ways : new.types.map ≡ led_by type_id (length old.types.entries) n.type_leads old.types.map
 
 -- where lowering is refused there is no room for them
 abbrev pub GrownUnless : {A : Type 0} → Size → Builder → Checked A → Builder → Type 0

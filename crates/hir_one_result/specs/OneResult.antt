@@ -2,7 +2,7 @@
 use Rattle.std.specs.Prelude.{◌≡◌, ℕ, Bool, true, false, List, [], ◌∷◌, ◌++◌, length, map, Option, Some, None, Ok, IsPermutation}
 use Rattle.std.specs.Prelude.{slice_get}
 use Rattle.hir_store.specs.Stored.{Stored, Store, SourceMap, store_of, map_of}
-use Rattle.hir_store.specs.Storing.{root_at, record_root}
+use Rattle.hir_store.specs.Storing.{pat_id, record_root, root_at, type_id}
 use Rattle.hir_store.specs.declared.hir.CoroutineKind.{CoroutineKind}
 use Rattle.hir_store.specs.declared.hir.CoroutineSource.TheVariants as source
 use Rattle.hir_store.specs.declared.hir.Statement.{Statement}
@@ -21,7 +21,7 @@ use Rattle.hir_one_result.specs.Formals.{Given, Received, formals_read, lower_bo
 use Rattle.hir_one_result.specs.Leads.{Way, Ways, No, OneBindingWay, OneUnled, OwnedBy, ◌&◌, label_ways, Covers, CoversLabels}
 use Rattle.hir_one_result.specs.Leads.{CoversBindings, LeadBack, MapLeads, OwnersAre}
 use Rattle.hir_one_result.specs.Room.{body_size, formals_data}
-use Rattle.hir_one_result.specs.Size.{led_source, pat_source_of, placed}
+use Rattle.hir_one_result.specs.Size.{calls_led, led_by, placed, sources_led}
 use Rattle.hir_one_result.specs.Stands.{Open, Absent, StandsBefore, StandsPart}
 use Rattle.hir_one_result.specs.StandsPreludes.{IsCoroutine, Named, StandsHanded, StandsLets, StandsSelfLet}
 use Rattle.hir_one_result.specs.StandsWhole.{StandsTop}
@@ -67,7 +67,8 @@ StandsBody store source_map rs (Some kind) skipped f e given i = λ ws. (body : 
 -- are as many; each binding is that of a name of a top pattern, or of `self`, or of a name that is made up or that a parameter is handed
 -- in by, has the patterns that make it, and is owned by the innermost closure, coroutine, `const` block, length or argument around it, or
 -- by nothing, as its way says and as it is counted. The source map leads from each written expression and label to what it became, and
--- from nowhere else; the nodes of patterns, types and lifetimes lead to them, but for patterns that are made up, and no other nodes do.
+-- from nowhere else; the nodes of patterns, types and lifetimes lead to them, but for patterns that are made up, and of other nodes those of
+-- calls do, each to the last pattern or type that is stored by then, for which the call stands.
 -- Behind the faults that the body owes as a whole come those of what is read of the tree, in some order. The blocks with numbers are those
 -- of the tree, in the order of entering.
 pub record OneResult (store : Store) (source_map : SourceMap) (owed : Faults) (kind : Option CoroutineKind) (skipped : Bool) (f : Formals)
@@ -76,7 +77,7 @@ pub record OneResult (store : Store) (source_map : SourceMap) (owed : Faults) (k
   pub only : store.roots ≡ root_at store root ∷ []
   pub expr_sources : length source_map.expr_sources ≡ length store.exprs
   pub label_sources : length source_map.label_sources ≡ length store.labels
-  pub pat_sources : source_map.pat_sources ≡ map pat_source_of (body_size kind skipped f e).pats
+  pub pat_sources : source_map.pat_sources ≡ (body_size kind skipped f e).pats
   pub type_sources : source_map.type_sources ≡ (body_size kind skipped f e).types
   pub lifetime_sources : source_map.lifetime_sources ≡ (body_size kind skipped f e).lifetimes
   pub exprs : length store.exprs ≡ (body_size kind skipped f e).exprs
@@ -85,9 +86,13 @@ pub record OneResult (store : Store) (source_map : SourceMap) (owed : Faults) (k
   pub pats : length store.pats ≡ length (body_size kind skipped f e).pats
   pub types : length store.types ≡ length (body_size kind skipped f e).types
   pub lifetimes : length store.lifetimes ≡ length (body_size kind skipped f e).lifetimes
-  pub pat_ways : LeadBack (λ i. i.0) source_map.pat_map (map led_source (body_size kind skipped f e).pats)
-  pub type_ways : LeadBack (λ i. i.0) source_map.types_map source_map.type_sources
-  pub lifetime_ways : LeadBack (λ i. i.0) source_map.lifetime_map source_map.lifetime_sources
+  pub pat_map : source_map.pat_map ≡ led_by pat_id 0 (body_size kind skipped f e).pat_leads []
+  pub pat_ways : let leads = (body_size kind skipped f e).pat_leads in
+      LeadBack (λ i. i.0) source_map.pat_map (sources_led leads) (calls_led leads)
+  pub types_map : source_map.types_map ≡ led_by type_id 0 (body_size kind skipped f e).type_leads []
+  pub type_ways : let leads = (body_size kind skipped f e).type_leads in
+      LeadBack (λ i. i.0) source_map.types_map source_map.type_sources (calls_led leads)
+  pub lifetime_ways : LeadBack (λ i. i.0) source_map.lifetime_map source_map.lifetime_sources []
   pub definitions : DefinitionsAre store.pats (length store.bindings) source_map.binding_definitions
   pub ways : List Way
   pub stands : StandsBody store source_map [] kind skipped f e given root ways

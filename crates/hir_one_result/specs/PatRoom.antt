@@ -31,6 +31,7 @@ abbrev mutual
   names_after (tree.record_pat at p fs dots) us = where_read p us (names_after_fields fs us)
   names_after (tree.or_pat at ps) us = names_after_each ps us
   names_after (tree.paren_pat at p) us = names_after_part p us
+  names_after (tree.macro_pat at called p) us = names_after_part p us
   names_after (tree.slice_pat at before middle behind) us =
       names_after_each behind (names_after_part middle (names_after_each before us))
   names_after (tree.over_pat at form p) us = names_after_part p us

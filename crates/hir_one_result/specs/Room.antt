@@ -24,6 +24,7 @@ use Rattle.hir_one_result.specs.PatRoom.{names_after, names_after_part, names_af
 use Rattle.hir_one_result.specs.PatRoom.{or_size, name_side_size, rest_size, range_size}
 use Rattle.hir_one_result.specs.PreludeRoom.{handed_size, prelude_size, self_let_size}
 use Rattle.hir_one_result.specs.Size.{Size, nothing, an_expr, a_label, a_binding, a_pat, a_type, a_lifetime, a_super, a_body, dots_behind}
+use Rattle.hir_one_result.specs.Size.{a_pat_call, a_type_call, uncalled_pat_size, uncalled_type_size}
 use Rattle.hir_one_result.specs.Size.{a_made_name, a_made_bind, a_flow_arm, a_for_turn, an_item_call, owned, ◌∪◌, if_so, or_missing}
 use Rattle.hir_one_result.specs.PathRoom.{Seen, nothing_seen, at_first, segments_read, own_read, whole_read, before, yields, lifetime_size}
 use Rattle.hir_one_result.specs.PathRoom.{uses_size}
@@ -48,6 +49,8 @@ abbrev mutual
   -- each type becomes one, but parentheses and a `for` become none besides what is in them
   pub type_size : Type_ → Size
   type_size (tree.paren_type t) = type_part_size t
+  type_size (tree.macro_type at called tree.no_type) = uncalled_type_size at called
+  type_size (tree.macro_type at called (tree.some_type t)) = type_size t ∪ a_type_call at
   type_size (tree.for_type names t) = type_part_size t
   type_size (tree.leaf_type at form) = a_type (Some at)
   type_size (tree.over_type at form t) = type_part_size t ∪ a_type (Some at)
@@ -154,6 +157,8 @@ abbrev mutual
 
   pub type_pat_size : TypePat → Size
   type_pat_size (tree.not_null_type_pat at) = a_pat (Some at)
+  type_pat_size (tree.macro_type_pat at called tree.no_type_pat) = uncalled_pat_size at called
+  type_pat_size (tree.macro_type_pat at called (tree.some_type_pat p)) = type_pat_size p ∪ a_pat_call at
   type_pat_size (tree.or_type_pat at ps) = type_pats_size ps ∪ a_pat (Some at)
   type_pat_size (tree.range_type_pat at low high) = limit_size low ∪ limit_size high ∪ a_pat (Some at)
   type_pat_size (tree.other_type_pat at) = a_pat (Some at)
@@ -180,7 +185,7 @@ abbrev mutual
   -- ---- expressions
 
   pub size : Expr → Size
-  size (tree.disabled_expr at by e) = an_expr
+  size (tree.disabled_expr why e) = an_expr
   -- the branches are lowered before the condition
   size (tree.if_expr at c t e) = block_part_size t ∪ size_present e ∪ size_part c ∪ an_expr
   size (tree.block_expr b) = block_size b
@@ -213,6 +218,7 @@ abbrev mutual
   size (tree.continue_expr at jump) = an_expr
   size (tree.break_expr at jump e) = size_present e ∪ an_expr
   size (tree.paren_expr at e) = size_part e
+  size (tree.macro_expr at called e) = size_part e
   size (tree.literal_expr at l) = an_expr
   size (tree.leaf_expr at form) = an_expr
   size (tree.unary_expr at form e) = size_part e ∪ an_expr
@@ -311,6 +317,7 @@ abbrev mutual
   stmt_size (tree.expr_stmt e semi) = size_kept e
   stmt_size (tree.disabled_stmt at by s) = nothing
   stmt_size tree.item_stmt = nothing
+  stmt_size (tree.call_stmt c) = nothing
   stmt_size (tree.let_stmt p t e b) = top_size p ∪ present_size t ∪ size_present e ∪ block_present_size b
 
   -- ---- patterns, where these names have a use
@@ -331,6 +338,8 @@ abbrev mutual
       whole_size p ∪ or_missing (is_some (whole_read p)) (pat_fields_size fs us ∪ a_pat (Some at))
   pat_size (tree.or_pat at ps) us = pats_size ps us ∪ or_size at ps
   pat_size (tree.paren_pat at p) us = pat_part_size p us
+  pat_size (tree.macro_pat at called tree.no_pat) us = uncalled_pat_size at called
+  pat_size (tree.macro_pat at called (tree.some_pat p)) us = pat_size p us ∪ a_pat_call at
   pat_size (tree.slice_pat at before middle behind) us =
       let between = names_after_each before us in
       let past = names_after_part middle between in
@@ -385,6 +394,7 @@ abbrev mutual
   pub target_size : Target → Size
   target_size tree.absent_target = a_pat None
   target_size (tree.place_target at e) = size e ∪ a_pat (Some at)
+  target_size (tree.macro_target at called t) = target_size t
   target_size (tree.wild_target at) = a_pat (Some at)
   target_size (tree.path_target at p h) = path_size p nothing_seen ∪ a_pat (Some at)
   target_size (tree.tuple_target at ts) = targets_size ts ∪ dots_behind (target_dots ts) ∪ a_pat (Some at)

@@ -1,31 +1,37 @@
 -- What lowering stores, and what it counts.
 use Rattle.std.specs.Prelude.{ℕ, suc, ◌+◌, ◌-◌, ◌≤◌, ◌^◌, ◌⊎◌, Bool, true, false, List, [], ◌∷◌, ◌++◌, map, Option, Some, None, option_map}
+use Rattle.indexmap.specs.IndexMap.{insert_entry}
 use Rattle.hir_store.specs.Arenas.{pointed}
-use Rattle.hir_store.specs.Pointers.{Pointer}
-use Rattle.hir_store.specs.Storing.{expr_id, pat_id}
+use Rattle.hir_store.specs.Pointers.{Pointer, same_pointer}
+use Rattle.hir_store.specs.Storing.{expr_id}
 use Rattle.hir_store.specs.declared.ids.ExprId.{ExprId}
-use Rattle.hir_store.specs.declared.ids.PatId.{PatId}
+use Rattle.hir_env.specs.Answered as tree
+use Rattle.hir_env.specs.Answered.{Called}
 use Rattle.hir_meaning.specs.InnerWritten.{InnerBody, Bodies}
 
--- Where a pattern comes from: from a node, which leads to it, or from none; or it is made up for a node, which doesn't lead to it, or for
--- none.
-pub data PatFrom : Type 0 where
-  from_node : Option Pointer → PatFrom
-  made_for : Option Pointer → PatFrom
+-- What leads to a pattern or a type: one is stored, to which this node leads, or none; or the node of a call leads to the last that is
+-- stored by then, for which the call stands.
+pub data NodeLeads : Type 0 where
+  stored_from : Option Pointer → NodeLeads
+  called_at : Pointer → NodeLeads
 
-abbrev pub pat_source_of : PatFrom → Option Pointer
-pat_source_of (from_node source) = source
-pat_source_of (made_for source) = source
+-- of each that is stored the node that leads to it
+abbrev pub sources_led : List NodeLeads → List (Option Pointer)
+sources_led [] = []
+sources_led (stored_from source ∷ xs) = source ∷ sources_led xs
+sources_led (called_at at ∷ xs) = sources_led xs
 
--- the node that leads to it
-abbrev pub led_source : PatFrom → Option Pointer
-led_source (from_node source) = source
-led_source (made_for source) = None
+-- the nodes of the calls
+abbrev pub calls_led : List NodeLeads → List Pointer
+calls_led [] = []
+calls_led (stored_from source ∷ xs) = calls_led xs
+calls_led (called_at at ∷ xs) = at ∷ calls_led xs
 
--- where the nodes of patterns lead once these are stored, of which the first has this number
-abbrev pub pats_led : ℕ → List PatFrom → List (Pointer × PatId) → List (Pointer × PatId)
-pats_led n [] es = es
-pats_led n (x ∷ xs) es = pats_led (suc n) xs (pointed es (led_source x) (pat_id n))
+-- where nodes lead then, where the first that is stored has this number
+abbrev pub led_by : {I : Type 0} → (ℕ → I) → ℕ → List NodeLeads → List (Pointer × I) → List (Pointer × I)
+led_by number n [] es = es
+led_by number n (stored_from source ∷ xs) es = led_by number (suc n) xs (pointed es source (number n))
+led_by number n (called_at at ∷ xs) es = led_by number n xs (insert_entry same_pointer es at (number (n - 1)))
 
 pub record Size : Type 1 where
   pub exprs : ℕ
@@ -37,9 +43,12 @@ pub record Size : Type 1 where
   -- names that lowering makes up
   pub names : ℕ
   -- of each pattern, each type and each lifetime where it comes from, in the order in which they are stored
-  pub pats : List PatFrom
+  pub pats : List (Option Pointer)
   pub types : List (Option Pointer)
   pub lifetimes : List (Option Pointer)
+  -- what leads to the patterns and to the types, in that order
+  pub pat_leads : List NodeLeads
+  pub type_leads : List NodeLeads
   -- the bodies inside that stand in no other one, in the order in which they are done
   pub inner : Bodies
   -- some path that is read has more `super`s than are counted, or more parts stand in front of two dots
@@ -55,6 +64,8 @@ nothing = record {
   pats = [];
   types = [];
   lifetimes = [];
+  pat_leads = [];
+  type_leads = [];
   inner = [];
   overcounts = ⊥;
 }
@@ -72,14 +83,21 @@ abbrev pub a_made_name : Size
 a_made_name = record nothing { names = 1 }
 
 abbrev pub a_pat : Option Pointer → Size
-a_pat source = record nothing { pats = from_node source ∷ [] }
+a_pat source = record nothing { pats = source ∷ []; pat_leads = stored_from source ∷ [] }
 
--- one that is made up for a node
+-- one that is made up for a node, which doesn't lead to it
 abbrev pub a_made_pat : Option Pointer → Size
-a_made_pat source = record nothing { pats = made_for source ∷ [] }
+a_made_pat source = record nothing { pats = source ∷ []; pat_leads = stored_from None ∷ [] }
 
 abbrev pub a_type : Option Pointer → Size
-a_type source = record nothing { types = source ∷ [] }
+a_type source = record nothing { types = source ∷ []; type_leads = stored_from source ∷ [] }
+
+-- the node of a call leads to the last pattern, and to the last type
+abbrev pub a_pat_call : Pointer → Size
+a_pat_call at = record nothing { pat_leads = called_at at ∷ [] }
+
+abbrev pub a_type_call : Pointer → Size
+a_type_call at = record nothing { type_leads = called_at at ∷ [] }
 
 abbrev pub a_lifetime : Option Pointer → Size
 a_lifetime source = record nothing { lifetimes = source ∷ [] }
@@ -129,6 +147,8 @@ a ∪ b = record {
   pats = a.pats ++ b.pats;
   types = a.types ++ b.types;
   lifetimes = a.lifetimes ++ b.lifetimes;
+  pat_leads = a.pat_leads ++ b.pat_leads;
+  type_leads = a.type_leads ++ b.type_leads;
   inner = a.inner ++ b.inner;
   overcounts = a.overcounts ⊎ b.overcounts;
 }
@@ -153,6 +173,16 @@ a_for_turn body = ((an_expr ∪ an_expr) ∪ an_item_call) ∪ (a_pat None ∪ a
 abbrev pub if_so : Bool → Size → Size
 if_so true a = a
 if_so false a = nothing
+
+-- a call that the text lacks is a missing pattern, or an error from its node, to which no other way leads; the node of another one that
+-- stands for nothing leads to what is missing
+abbrev pub uncalled_pat_size : Pointer → Called → Size
+uncalled_pat_size at tree.callless = a_pat None
+uncalled_pat_size at called = a_pat None ∪ a_pat_call at
+
+abbrev pub uncalled_type_size : Pointer → Called → Size
+uncalled_type_size at tree.callless = a_type (Some at)
+uncalled_type_size at called = a_type None ∪ a_type_call at
 
 -- a pattern whose path isn't read is missing
 abbrev pub or_missing : Bool → Size → Size

@@ -173,6 +173,7 @@ module _ (store : Store) (source_map : SourceMap) where
 
     pub TypeWays : Open → Type_ → Ways
     TypeWays rs (tree.paren_type t) = TypePartWays rs t
+    TypeWays rs (tree.macro_type at called t) = TypePartWays rs t
     TypeWays rs (tree.for_type names t) = TypePartWays rs t
     TypeWays rs (tree.leaf_type at form) = No
     TypeWays rs (tree.over_type at form t) = TypePartWays rs t
@@ -272,6 +273,7 @@ module _ (store : Store) (source_map : SourceMap) where
 
     pub TypePatWays : Open → TypePat → Ways
     TypePatWays rs (tree.not_null_type_pat at) = No
+    TypePatWays rs (tree.macro_type_pat at called p) = TypePatPartWays rs p
     TypePatWays rs (tree.or_type_pat at ps) = TypePatsWays rs ps
     TypePatWays rs (tree.range_type_pat at low high) =
         SomeExpr (λ i. StandsLimit (barrier_rib ∷ rs) low i) & SomeExpr (λ i. StandsLimit (barrier_rib ∷ rs) high i)
@@ -305,7 +307,7 @@ module _ (store : Store) (source_map : SourceMap) where
     -- ---- expressions
 
     pub Stands : Open → Expr → ExprId → Ways
-    Stands rs (tree.disabled_expr at by e) i = StandsMissing i
+    Stands rs (tree.disabled_expr why e) i = StandsMissing i
     Stands rs (tree.if_expr at c t e) i = λ ws.
         (condition : ExprId) × (then_branch : ExprId) × (else_branch : Option ExprId)
         × ExprAt store source_map i (hir.If condition then_branch else_branch) (Some at)
@@ -346,6 +348,9 @@ module _ (store : Store) (source_map : SourceMap) where
         × (StandsPresent rs e value & OneWay at i) ws
     -- the parentheses became what is in them
     Stands rs (tree.paren_expr at e) i = StandsPart rs e i & OneWay at i
+    -- a call that stands for no expression is missing, and the node of another one leads to what it stands for
+    Stands rs (tree.macro_expr at called tree.no_expr) i = StandsAlone hir.Missing at i
+    Stands rs (tree.macro_expr at called (tree.some_expr e)) i = Stands rs e i & OneWay at i
     Stands rs (tree.literal_expr at l) i = StandsLiteral at l i
     Stands rs (tree.leaf_expr at form) i = StandsAlone (leaf_form form) at i
     Stands rs (tree.unary_expr at form e) i = StandsOver (unary_form form) at (λ x. StandsPart rs e x) i
@@ -470,6 +475,7 @@ module _ (store : Store) (source_map : SourceMap) where
     StandsContents rs (tree.more_stmts tree.item_stmt ss) Tail is tail = λ ws.
         (others : List Statement) × (is ≡ statement.Item ∷ others) × StandsContents rs ss Tail others tail ws
     StandsContents rs (tree.more_stmts (tree.disabled_stmt at by s) ss) Tail is tail = StandsContents rs ss Tail is tail
+    StandsContents rs (tree.more_stmts (tree.call_stmt c) ss) Tail is tail = StandsContents rs ss Tail is tail
     StandsContents rs (tree.more_stmts (tree.let_stmt p t e b) ss) Tail is tail = λ ws.
         (q : PatId) × (y : Option TypeRefId) × (x : Option ExprId) × (z : Option ExprId) × (others : List Statement)
         × (is ≡ statement.Let q y x z ∷ others)
@@ -499,6 +505,7 @@ module _ (store : Store) (source_map : SourceMap) where
         × StandsPatFields ks rs fs us is ws) No
     StandsPat ks rs (tree.or_pat at ps) us i = λ ws. (is : List PatId) × OrIs is i × StandsPats ks rs ps us is ws
     StandsPat ks rs (tree.paren_pat at p) us i = StandsPatPart ks rs p us i
+    StandsPat ks rs (tree.macro_pat at called p) us i = StandsPatPart ks rs p us i
     StandsPat ks rs (tree.slice_pat at before middle behind) us i = λ ws.
         (bs : List PatId) × (m : Option PatId) × (as' : List PatId) × PatIs i (pat.Slice bs m as')
         × (StandsPats ks rs before us bs & StandsSubpat ks rs middle (uses_after_each before us) m
@@ -554,6 +561,7 @@ module _ (store : Store) (source_map : SourceMap) where
     pub StandsTarget : Open → Target → PatId → Ways
     StandsTarget rs tree.absent_target i = No
     StandsTarget rs (tree.place_target at e) i = λ ws. (x : ExprId) × PatIs i (pat.Expr x) × Stands rs e x ws
+    StandsTarget rs (tree.macro_target at called t) i = StandsTarget rs t i
     StandsTarget rs (tree.wild_target at) i = No
     StandsTarget rs (tree.path_target at p h) i = PathWays rs p nothing_seen
     StandsTarget rs (tree.tuple_target at ts) i = StandsTuple (λ dots is. pat.Tuple dots is) false (λ is. StandsTargets rs ts is) i

@@ -36,7 +36,7 @@ use Rattle.hir_scope.specs.Ribs.{try_rib, barrier_rib}
 use Rattle.hir_scope.specs.Scopes.{loop_scope, barrier}
 use Rattle.hir_env.specs.Answered as tree
 use Rattle.hir_env.specs.Answered.{ForItems, QuestionItems, Segment, Expr, OptionExpr, Exprs, Block, Stmts, Use, Pat, OptionPat}
-use Rattle.hir_env.specs.Answered.{Formals, Params}
+use Rattle.hir_env.specs.Answered.{Formals, Gone, Params}
 use Rattle.hir_data.specs.BindingRule.{made_for}
 use Rattle.hir_data.specs.Worked.{whole}
 use Rattle.hir_meaning.specs.Small.{at, root, one, two, literal_at, label_with, label_a, jump_a, first, in_braces, loop_of}
@@ -85,11 +85,15 @@ pub record Jumps : Type 0 where
 
 -- statements
 
+-- why something is gone at this node, without a call
+abbrev pub disabled_at : ℕ → CfgId → Gone
+disabled_at n by = record { entered = []; condition = Some (at n, by) }
+
 -- a block with a number, in which is a fault, disabled
 abbrev pub disabled_block : CfgId → Expr
 disabled_block by =
     let number : BlockId = record { 0 = 7 } in
-    tree.disabled_expr (at 2) by (tree.block_expr (tree.block (at 2) false None tt (Some number) tree.no_stmts (tree.some_expr break_a)))
+    tree.disabled_expr (disabled_at 2 by) (tree.block_expr (tree.block (at 2) false None tt (Some number) tree.no_stmts (tree.some_expr break_a)))
 
 -- a literal, with or without a semicolon, and then what is disabled
 abbrev pub literal_first : CfgId → Bool → Stmts

@@ -27,7 +27,7 @@ use Rattle.hir_one_result.specs.Diagnostics.{diagnostics}
 use Rattle.hir_one_result.specs.Forms.{path_of_name}
 use Rattle.hir_one_result.specs.Leads.{Way}
 use Rattle.hir_one_result.specs.Room.{body_size, size}
-use Rattle.hir_one_result.specs.Size.{PatFrom, from_node, made_for, pats_led, placed}
+use Rattle.hir_one_result.specs.Size.{led_by, placed}
 use Rattle.hir_one_result.specs.Stands.{Stands, opened}
 use Rattle.hir_one_result.specs.StandsPreludes.{let_from}
 use Rattle.hir_one_result.specs.Worked.{block_id, break_a, closure_of, just, letter, literal_part, owner, owners_in, self_and_x, use_x}
@@ -89,8 +89,11 @@ BecomesClosure moves takes =
 
 -- ---- where patterns come from
 
-abbrev pub patterns_of : CoroutineKind → OptionPat → List PatFrom
+abbrev pub patterns_of : CoroutineKind → OptionPat → List (Option Pointer)
 patterns_of kind p = (size (coroutine_closure_of kind false (only p) (literal_part 1))).pats
+
+abbrev pub nodes_of : CoroutineKind → OptionPat → List (Pointer × PatId)
+nodes_of kind p = led_by pat_id 0 (size (coroutine_closure_of kind false (only p) (literal_part 1))).pat_leads []
 
 abbrev pub from_eight : Option Pointer
 from_eight = Some (at 8)
@@ -102,11 +105,11 @@ pub record CoroutineClosures : Type 0 where
   pub unreachable : (kind : CoroutineKind) (moves : Bool)
       → diagnostics (loop_scope (Some label_a) ∷ []) (async_break kind moves) ≡ UnreachableLabel jump_a.pointer jump_a.name ∷ []
   -- one that is made up for a pattern's node, and for `ref x` one in between
-  pub plain : (kind : CoroutineKind) → patterns_of kind plain_x ≡ from_node from_eight ∷ made_for from_eight ∷ []
+  pub plain : (kind : CoroutineKind) → patterns_of kind plain_x ≡ from_eight ∷ from_eight ∷ []
   pub between : (kind : CoroutineKind)
-      → patterns_of kind ref_x ≡ from_node from_eight ∷ made_for from_eight ∷ made_for from_eight ∷ []
+      → patterns_of kind ref_x ≡ from_eight ∷ from_eight ∷ from_eight ∷ []
   -- the node leads to what was written
-  pub led : (kind : CoroutineKind) → pats_led 0 (patterns_of kind ref_x) [] ≡ (at 8, pat_id 0) ∷ []
+  pub led : (kind : CoroutineKind) → nodes_of kind ref_x ≡ (at 8, pat_id 0) ∷ []
   -- a name is made up for what has none
   pub named : (kind : CoroutineKind) → (size (coroutine_closure_of kind false (only ref_x) (literal_part 1))).names ≡ 0
   pub unnamed : (kind : CoroutineKind) → (size (coroutine_closure_of kind false (only tree.no_pat) (literal_part 1))).names ≡ 1

@@ -5,6 +5,8 @@ use Rattle.hir_lower_form.specs.Lower.{lower_part}
 use Rattle.hir_lower_form.specs.Lowering.{Lowering, ◌>>=◌, pure}
 use Rattle.hir_lower_form.specs.Pats.{new_binding}
 use Rattle.hir_lower_form.specs.Walks.{super_read}
+use Rattle.hir_steps.proofs.CallForms.{gone_apart, note_apart, told_apart}
+use Rattle.hir_steps.proofs.Calls.{point_pat_apart, point_type_apart}
 use Rattle.hir_steps.proofs.Apart.{Apart, apart_trans, binding_apart, closure_apart, constant_apart, coroutine_apart, define_apart}
 use Rattle.hir_steps.proofs.Apart.{enter_block_apart, expr_apart, inner_apart, jump_apart, made_apart, named_apart, opened_apart}
 use Rattle.hir_steps.proofs.Apart.{opened_try_apart, owning_apart, point_apart, point_field_apart, point_pat_field_apart, pure_apart}
@@ -56,6 +58,12 @@ apart_graded = record {
   define_is = λ b p. define_apart b p;
   field_is = λ p at. point_pat_field_apart p at;
   fault_is = λ d. report_apart d;
+  noted_is = λ c. note_apart c;
+  told_is = λ c. told_apart c;
+  gone_is = λ why. gone_apart why;
+  type_call_is = λ at l h. then_apart h (λ i. then_apart (point_type_apart at i) (λ u. pure_apart i));
+  pat_call_is = λ at l h. then_apart h (λ i. then_apart (point_pat_apart at i) (λ u. pure_apart i));
+  hands_call_is = λ at t l h. then_apart h (λ r. then_apart (point_pat_apart at r.0) (λ u. pure_apart r));
   super_is = λ w. counted_apart (super_read w);
   dots_is = λ comma place. dots_apart comma place;
   block_is = λ n. enter_block_apart n;

@@ -26,6 +26,8 @@ use Rattle.hir_one_result.specs.Formals.{coroutine_body, each_formal, lower_self
 use Rattle.hir_one_result.specs.Room.{self_size}
 use Rattle.hir_one_result.specs.Size.{Size, dots_behind, nothing, a_label, a_made_name, ◌∪◌}
 use Rattle.hir_one_result.specs.Laws.{GrownUnless}
+use Rattle.hir_steps.proofs.Calls.{only_note}
+use Rattle.hir_one_result.proofs.CallRooms.{takes_called_type, takes_gone, takes_told, tells_called}
 use Rattle.hir_one_result.proofs.FunctionRooms.{coroutine_body_takes}
 use Rattle.hir_one_result.proofs.ClosureRooms.{closure_takes, coroutine_takes, takes_owned, takes_owning}
 use Rattle.hir_one_result.proofs.CoroutineRooms.{coroutine_closure_takes}
@@ -35,7 +37,7 @@ use Rattle.hir_one_result.proofs.LastTree.{closure_last, coroutine_block_last, c
 use Rattle.hir_one_result.proofs.MadeRooms.{made_bind_takes, takes_made, takes_number, takes_target, takes_try}
 use Rattle.hir_one_result.proofs.PatRooms.{settle_takes}
 use Rattle.hir_one_result.proofs.PathRooms.{counted_tells, counts_out}
-use Rattle.hir_one_result.proofs.Rooms.{Takes, takes_alloc, takes_as, takes_begin, takes_binding, takes_block, takes_close, takes_constant}
+use Rattle.hir_one_result.proofs.Rooms.{Takes, takes_alloc, takes_as, takes_begin, takes_binding, takes_block, takes_close, takes_constant, takes_only}
 use Rattle.hir_one_result.proofs.Rooms.{takes_define, takes_end, takes_inner, takes_jump, takes_lifetime, takes_note, takes_open, takes_pat}
 use Rattle.hir_one_result.proofs.Rooms.{takes_point, takes_point_field, takes_point_pat_field, takes_pure, takes_report}
 use Rattle.hir_one_result.proofs.Rooms.{takes_then, takes_type}
@@ -69,6 +71,8 @@ counts None = record {
   pats = refl;
   types = refl;
   lifetimes = refl;
+  pat_leads = refl;
+  type_leads = refl;
   overcounts = λ x. x;
 }
 counts (Some n) = record {
@@ -80,6 +84,8 @@ counts (Some n) = record {
   pats = refl;
   types = refl;
   lifetimes = refl;
+  pat_leads = refl;
+  type_leads = refl;
   overcounts = λ x. absurd x;
 }
 
@@ -189,6 +195,12 @@ rooms_graded = record {
   define_is = λ b p. takes_define b p;
   field_is = λ p at. takes_point_pat_field p at;
   fault_is = λ d. takes_report d;
+  noted_is = λ c. takes_only (only_note c);
+  told_is = λ c. takes_told c;
+  gone_is = λ why. takes_gone why;
+  type_call_is = λ at l h. takes_called_type at l h;
+  pat_call_is = λ at l h. takes_of (tells_called at (λ i. i) l (tells_any h));
+  hands_call_is = λ at t l h. takes_of (tells_called at (λ r. r.0) l (tells_any h));
   super_is = λ w. takes_of (counted_tells w);
   dots_is = λ comma place. dots_take comma place;
   block_is = λ n. takes_block n;
@@ -264,6 +276,9 @@ fits {A = A} {n = n} {p = p} h old d = by (p old).0 (p old).1 (h.takes old d)
       pat_ways = h.pat_ways;
       type_sources = h.type_sources;
       lifetime_sources = h.lifetime_sources;
+      type_ways = h.type_ways;
+      pat_leads = h.pat_leads;
+      type_leads = h.type_leads;
     }
     by (Err f) new h = h
 

@@ -25,6 +25,7 @@ use Rattle.hir_steps.proofs.Steps.{Correct, correct_as, correct_count_out}
 use Rattle.hir_one_result.specs.Diagnostics.{Around}
 use Rattle.hir_one_result.proofs.AfterLowering.{after_lowering}
 use Rattle.hir_one_result.proofs.Around.{block_is_rib, in_loop, loop_is_rib, try_is_rib}
+use Rattle.hir_one_result.proofs.CallTelling.{gone_tells, note_tells, tells_point_pat, tells_point_type, told_tells}
 use Rattle.hir_one_result.proofs.ClosureTelling.{closure_tells, coroutine_tells}
 use Rattle.hir_one_result.proofs.CoroutineTelling.{coroutine_body_tells, coroutine_closure_tells}
 use Rattle.hir_one_result.proofs.MadeTelling.{tells_number}
@@ -54,7 +55,7 @@ module _ {X : Type 0} (L : Listing X) where
 
   pub tells_made : (e : HirExpr) (at : Option Pointer) → Correct (alloc_made e at) (Tells L (nothing L))
   tells_made e at = correct_as (correct_alloc_made e at) (λ final ps m m' i g row. record {
-    told = λ ss x. added_none L (ap L.list row.stored ∙ L.unchanged m.stored (put_made e at m.stored) refl refl);
+    told = λ ss x. added_none L (ap L.list row.stored ∙ L.unchanged m.stored (put_made e at m.stored) refl refl refl);
   })
 
   place_tells : (place : Option ℕ) → Correct (counted_place place) (Tells L (nothing L))
@@ -67,7 +68,7 @@ module _ {X : Type 0} (L : Listing X) where
 
   pub field_tells : (p : PatId) (at : Pointer) → Correct (point_pat_field p at) (Tells L (nothing L))
   field_tells p at = correct_as (correct_point_pat_field p at) (λ final ps m m' u g row. record {
-    told = λ ss e. added_none L (ap L.list row.stored ∙ L.unchanged m.stored (with_field_pat p at m.stored) refl refl);
+    told = λ ss e. added_none L (ap L.list row.stored ∙ L.unchanged m.stored (with_field_pat p at m.stored) refl refl refl);
   })
 
   pub asked_tells : Correct try_target (Tells L (nothing L))
@@ -103,7 +104,7 @@ module _ {X : Type 0} (L : Listing X) where
             (added_is (λ x. k x ss) row.first.second.1 (row.second.told ss e));
       })
 
-  abbrev pub tells_graded : Graded (listed L.of_faults L.of_block)
+  abbrev pub tells_graded : Graded (listed L.of_faults L.of_block L.of_told)
   tells_graded = record {
     Claim = λ D p. Correct p (Tells L D);
     Made = λ D p. Correct p (Tells L D);
@@ -132,6 +133,12 @@ module _ {X : Type 0} (L : Listing X) where
     define_is = λ b p. tells_define L b p;
     field_is = λ p at. field_tells p at;
     fault_is = λ d. tells_report L d;
+    noted_is = λ c. note_tells L c;
+    told_is = λ c. told_tells L c;
+    gone_is = λ why. gone_tells L why;
+    type_call_is = λ at l h. tells_bind L h (λ i. tells_end L (tells_point_type L at i) (λ u. tells_pure L i));
+    pat_call_is = λ at l h. tells_bind L h (λ i. tells_end L (tells_point_pat L at i) (λ u. tells_pure L i));
+    hands_call_is = λ at t l h. tells_bind L h (λ r. tells_end L (tells_point_pat L at r.0) (λ u. tells_pure L r));
     super_is = λ w. tells_aside L (counted_aside (super_read w));
     dots_is = λ comma place. dots_tell comma place;
     block_is = λ n. tells_enter_block L n;
@@ -157,13 +164,13 @@ module _ {X : Type 0} (L : Listing X) where
     owning_is = λ h. owning_tells L (λ i. i) h;
   }
 
-  abbrev pub tells_bodies : GradedBodies tells_graded (bodies_listed L.of_faults L.of_block)
+  abbrev pub tells_bodies : GradedBodies tells_graded (bodies_listed L.of_faults L.of_block L.of_told)
   tells_bodies = record {
     coroutine_body_is = λ kind skipped f e hs hf he. coroutine_body_tells L kind skipped f e hs hf he;
   }
 
   -- what the list is behind what was told, where it is told as it is added
-  behind : {A : Type 0} {D : List Scope → List X} {p : Lowering A} → ((xs ys : List X) → L.Like xs ys → xs ≡ ys) → Correct p (Tells L D)
+  pub behind : {A : Type 0} {D : List Scope → List X} {p : Lowering A} → ((xs ys : List X) → L.Like xs ys → xs ≡ ys) → Correct p (Tells L D)
       → (old new : Builder) (a : A) → Paired old.stored → p old ≡ (Ok a, new) → (ss : List Scope) → Around ss old.scopes
       → L.list new.stored ≡ L.list old.stored ++ D ss
   behind {D = D} like h old new a paired is ss around =
@@ -179,13 +186,16 @@ reported = record {
   list = λ s. s.diagnostics;
   of_faults = λ ds. ds;
   of_block = λ n. [];
+  of_told = λ es ds. ds;
   fault = λ d s. refl;
   no_fault = refl;
   block = no_fault_in_block;
+  tells = λ es ds s. refl;
+  told_nothing = refl;
   expr = λ e at s. refl;
   label = λ l s. refl;
   way = λ p i s. refl;
-  unchanged = λ a b faults blocks. faults;
+  unchanged = λ a b faults blocks expansions. faults;
   Like = λ xs ys. xs ≡ ys;
   same = λ xs. refl;
   trans = λ xs ys zs e f. e ∙ f;

@@ -10,6 +10,8 @@ use Rattle.hir_lower_form.specs.Made.{made_bind_form}
 use Rattle.hir_lower_form.specs.Pats.{new_binding}
 use Rattle.hir_lower_form.specs.Walks.{super_read}
 use Rattle.hir_steps.specs.Keeps.{Paired}
+use Rattle.hir_steps.proofs.Calls.{only_gone, only_note, only_told, point_pat_apart, point_type_apart, still_only, still_point_pat}
+use Rattle.hir_steps.proofs.Calls.{still_point_type}
 use Rattle.hir_steps.proofs.Apart.{Apart, binding_apart, point_apart, try_target_apart}
 use Rattle.hir_steps.proofs.ApartPats.{settle_apart}
 use Rattle.hir_steps.proofs.Barriers.{raises_yield, still_closure, still_constant, still_coroutine, still_inner}
@@ -111,6 +113,21 @@ yields_graded = let apart = apart_graded in record {
   define_is = λ b p. off (apart.define_is b p) (still_define b p);
   field_is = λ p at. off (apart.field_is p at) (still_point_pat_field p at);
   fault_is = λ d. off (apart.fault_is d) (still_report d);
+  noted_is = λ c. off (apart.noted_is c) (still_only (only_note c));
+  told_is = λ c. off (apart.told_is c) (still_only (only_told c));
+  gone_is = λ why. off (apart.gone_is why) (still_only (only_gone why));
+  type_call_is = λ at l h. (
+    apart.type_call_is at l h.0,
+    raises_then h.1 (λ i. raises_begin (raises_still (point_type_apart at i) (still_point_type at i)) (λ u. raises_pure i)),
+  );
+  pat_call_is = λ at l h. (
+    apart.pat_call_is at l h.0,
+    raises_then h.1 (λ i. raises_begin (raises_still (point_pat_apart at i) (still_point_pat at i)) (λ u. raises_pure i)),
+  );
+  hands_call_is = λ at t l h. (
+    apart.hands_call_is at t l h.0,
+    raises_then h.1 (λ r. raises_begin (raises_still (point_pat_apart at r.0) (still_point_pat at r.0)) (λ u. raises_pure r)),
+  );
   super_is = λ w. off (apart.super_is w) (counted_still (super_read w));
   dots_is = λ comma place. off (apart.dots_is comma place) (dots_still comma place);
   block_is = λ n. off (apart.block_is n) (still_enter_block n);

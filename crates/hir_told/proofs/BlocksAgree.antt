@@ -8,6 +8,7 @@ use Rattle.hir_store.specs.declared.ids.BlockId.{BlockId}
 use Rattle.hir_store.specs.declared.name.Name.{Name}
 use Rattle.hir_store.specs.declared.name.Name.TheVariants as name
 use Rattle.hir_env.specs.Answered as tree
+use Rattle.hir_env.specs.Answered.{Called}
 use Rattle.hir_env.specs.Answered.{Type_, OptionType, Parts, Path, OptionPath, Segments, Segment, SegmentArgs, OptionParens, OptionRet}
 use Rattle.hir_env.specs.Answered.{OptionArgs, Args, Arg, Bounds, Bound, Constant, Expr, OptionExpr, Exprs, Fields, Field, Spread, Block}
 use Rattle.hir_env.specs.Answered.{OptionBlock, Stmts, Stmt, Arms, Arm, Guard, Pat, OptionPat, Pats, PatFields, PatField, Side, TypePat}
@@ -138,8 +139,17 @@ element_is q D ss e = e
 
 -- a disabled one is nothing
 kept_is : (e : Expr) (D : Told) (ss : List Scope) → D ss ≡ now.blocks_of e → p.kept_of blocks e D ss ≡ now.blocks_of e
-kept_is (tree.disabled_expr at by e) D ss h = refl
+kept_is (tree.disabled_expr why e) D ss h = refl
 kept_is e D ss h = h
+
+-- a call that stands for nothing enters none
+uncalled_pat_is : (at : Pointer) (c : Called) (ss : List Scope) → p.grade_uncalled_pat blocks at c ss ≡ []
+uncalled_pat_is at tree.callless ss = refl
+uncalled_pat_is at c ss = refl
+
+uncalled_type_is : (at : Pointer) (c : Called) (ss : List Scope) → p.grade_uncalled_type blocks at c ss ≡ []
+uncalled_type_is at tree.callless ss = refl
+uncalled_type_is at c ss = refl
 
 labelled_is : (label : Option Label) {D : Told} {xs : List BlockId} (ss : List Scope) → ((ss : List Scope) → D ss ≡ xs)
     → p.labelled_of blocks label D ss ≡ xs
@@ -156,6 +166,8 @@ mutual
 
   type_is : (t : Type_) (ss : List Scope) → g.grade_type blocks t ss ≡ now.blocks_of_type t
   type_is (tree.paren_type t) ss = part_is t ss
+  type_is (tree.macro_type at c tree.no_type) ss = uncalled_type_is at c ss
+  type_is (tree.macro_type at c (tree.some_type t)) ss = behind (type_is t ss)
   type_is (tree.for_type names t) ss = part_is t ss
   type_is (tree.leaf_type at form) ss = refl
   type_is (tree.over_type at form t) ss = behind (part_is t ss)
@@ -268,6 +280,8 @@ mutual
 
   type_pat_is : (q : TypePat) (ss : List Scope) → g.grade_type_pat blocks q ss ≡ now.blocks_of_type_pat q
   type_pat_is (tree.not_null_type_pat at) ss = refl
+  type_pat_is (tree.macro_type_pat at c tree.no_type_pat) ss = uncalled_pat_is at c ss
+  type_pat_is (tree.macro_type_pat at c (tree.some_type_pat q)) ss = behind (type_pat_is q ss)
   type_pat_is (tree.or_type_pat at ps) ss = behind (type_pats_are ps ss)
   type_pat_is (tree.range_type_pat at low high) ss = both (limit_is low ss) (behind (limit_is high ss))
   type_pat_is (tree.other_type_pat at) ss = refl
@@ -312,6 +326,8 @@ mutual
   pat_is (tree.record_pat at q fs dots) us ss = both (whole_is q ss) (missing_is q _ ss (behind (pat_fields_are fs us ss)))
   pat_is (tree.or_pat at ps) us ss = alternatives_are at ps us ss
   pat_is (tree.paren_pat at q) us ss = pat_part_is q us ss
+  pat_is (tree.macro_pat at c tree.no_pat) us ss = uncalled_pat_is at c ss
+  pat_is (tree.macro_pat at c (tree.some_pat q)) us ss = behind (pat_is q us ss)
   pat_is (tree.slice_pat at before middle after) us ss =
       both (pats_are before us ss) (both (subpat_is middle (names_after_each before us) ss)
       (behind (pats_are after (names_after_part middle (names_after_each before us)) ss)))
@@ -359,6 +375,7 @@ mutual
   target_is : (t : Target) (ss : List Scope) → g.grade_target blocks t ss ≡ now.blocks_of_target t
   target_is tree.absent_target ss = refl
   target_is (tree.place_target at e) ss = behind (expr_is e ss)
+  target_is (tree.macro_target at c t) ss = target_is t ss
   target_is (tree.wild_target at) ss = refl
   target_is (tree.path_target at q h) ss = behind (path_is q nothing_seen ss)
   target_is (tree.tuple_target at ts) ss = behind (targets_are ts ss)
@@ -385,7 +402,7 @@ mutual
   -- ---- expressions
 
   expr_is : (e : Expr) (ss : List Scope) → g.grade_expr blocks e ss ≡ now.blocks_of e
-  expr_is (tree.disabled_expr at by e) ss = refl
+  expr_is (tree.disabled_expr why e) ss = refl
   expr_is (tree.if_expr at c t e) ss = both (block_part_is t ss) (both (expr_present_is e ss) (behind (expr_part_is c ss)))
   expr_is (tree.block_expr b) ss = block_is b ss
   expr_is (tree.loop_expr at label _ b) ss = block_part_is b (loop_scope label ∷ ss)
@@ -405,6 +422,7 @@ mutual
   expr_is (tree.continue_expr at jump) ss = refl
   expr_is (tree.break_expr at jump e) ss = behind (expr_present_is e ss)
   expr_is (tree.paren_expr at e) ss = expr_part_is e ss
+  expr_is (tree.macro_expr at c e) ss = expr_part_is e ss
   expr_is (tree.literal_expr at l) ss = refl
   expr_is (tree.leaf_expr at form) ss = refl
   expr_is (tree.unary_expr at form e) ss = behind (expr_part_is e ss)
@@ -506,6 +524,7 @@ mutual
   stmt_is (tree.expr_stmt e semi) ss = kept_part_is e ss
   stmt_is (tree.disabled_stmt at by s) ss = refl
   stmt_is tree.item_stmt ss = refl
+  stmt_is (tree.call_stmt c) ss = refl
   stmt_is (tree.let_stmt q t e b) ss =
       both (top_is q ss) (both (present_is t ss) (both (expr_present_is e ss) (block_present_is b ss)))
 

@@ -40,9 +40,9 @@ module _ {ℓ} {S : Grading {ℓ}} (L : Graded S) where
   pub some_graded : {g : S.G} {p : ExprSteps} → L.Made g p → L.Claim g (some p)
   some_graded h = map_is L _ (L.made_is h)
 
-  -- a disabled one leaves a fault and nothing else
+  -- what is gone leaves what is told of that and nothing else
   pub kept_graded : (e : Expr) {g : S.G} {p : ExprSteps} → L.Made g p → L.Claim (kept_of S e g) (kept e p)
-  kept_graded (tree.disabled_expr at by e) h = map_is L _ (L.fault_is _)
+  kept_graded (tree.disabled_expr why e) h = map_is L _ (L.gone_is why)
   kept_graded e h = some_graded h
 
   report_graded : (at : Pointer) (location : Option AwaitLocation) → L.Claim (grade_await S at location) (report_await at location)

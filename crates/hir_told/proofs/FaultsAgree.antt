@@ -8,6 +8,7 @@ use Rattle.hir_store.specs.declared.ids.BlockId.{BlockId}
 use Rattle.hir_store.specs.declared.name.Name.{Name}
 use Rattle.hir_store.specs.declared.name.Name.TheVariants as name
 use Rattle.hir_env.specs.Answered as tree
+use Rattle.hir_env.specs.Answered.{Called}
 use Rattle.hir_env.specs.Answered.{Type_, OptionType, Parts, Path, OptionPath, Segments, Segment, SegmentArgs, OptionParens, OptionRet}
 use Rattle.hir_env.specs.Answered.{OptionArgs, Args, Arg, Bounds, Bound, Constant, Expr, OptionExpr, Exprs, Fields, Field, Spread, Block}
 use Rattle.hir_env.specs.Answered.{OptionBlock, Stmts, Stmt, Arms, Arm, Guard, Pat, OptionPat, Pats, PatFields, PatField, Side, TypePat}
@@ -19,6 +20,7 @@ use Rattle.hir_data.specs.Uses.{FirstUses}
 use Rattle.hir_data.specs.Written.{written_path}
 use Rattle.hir_meaning.specs.Left.{gives_value, is_left}
 use Rattle.hir_scope.specs.Scopes.{Scope, barrier, block_scope, loop_scope, scopes_in_block, try_scope}
+use Rattle.hir_steps.specs.Calls.{called_faults}
 use Rattle.hir_one_result.specs.Blocks.{unless, where_goes_on, where_some}
 use Rattle.hir_one_result.specs.Diagnostics as now
 use Rattle.hir_one_result.specs.Diagnostics.{Faults, await_faults, spread_faults}
@@ -165,8 +167,17 @@ element_is q D ss e = e
 -- a disabled one is a fault and nothing else
 kept_is : (e : Expr) (D : Told) (ss : List Scope) → Like (D ss) (now.diagnostics ss e) → Like (p.kept_of faults e D ss)
     (now.diagnostics ss e)
-kept_is (tree.disabled_expr at by e) D ss h = same _
+kept_is (tree.disabled_expr why e) D ss h = same _
 kept_is e D ss h = h
+
+-- a call that stands for nothing is what is told of it
+uncalled_pat_is : (at : Pointer) (c : Called) (ss : List Scope) → Like (p.grade_uncalled_pat faults at c ss) (called_faults c ++ [])
+uncalled_pat_is at tree.callless ss = same _
+uncalled_pat_is at c ss = same _
+
+uncalled_type_is : (at : Pointer) (c : Called) (ss : List Scope) → Like (p.grade_uncalled_type faults at c ss) (called_faults c ++ [])
+uncalled_type_is at tree.callless ss = same _
+uncalled_type_is at c ss = same _
 
 labelled_is : (label : Option Label) (D f : Told) (ss : List Scope) → ((ss : List Scope) → Like (D ss) (f ss))
     → Like (p.labelled_of faults label D ss) (f (scopes_in_block label ss))
@@ -182,6 +193,8 @@ mutual
 
   type_is : (t : Type_) (ss : List Scope) → Like (g.grade_type faults t ss) (now.type_faults ss t)
   type_is (tree.paren_type t) ss = part_is t ss
+  type_is (tree.macro_type at c tree.no_type) ss = uncalled_type_is at c ss
+  type_is (tree.macro_type at c (tree.some_type t)) ss = both (same _) (behind (type_is t ss))
   type_is (tree.for_type names t) ss = part_is t ss
   type_is (tree.leaf_type at form) ss = same _
   type_is (tree.over_type at form t) ss = behind (part_is t ss)
@@ -294,6 +307,8 @@ mutual
 
   type_pat_is : (q : TypePat) (ss : List Scope) → Like (g.grade_type_pat faults q ss) (now.type_pat_faults ss q)
   type_pat_is (tree.not_null_type_pat at) ss = same _
+  type_pat_is (tree.macro_type_pat at c tree.no_type_pat) ss = uncalled_pat_is at c ss
+  type_pat_is (tree.macro_type_pat at c (tree.some_type_pat q)) ss = both (same _) (behind (type_pat_is q ss))
   type_pat_is (tree.or_type_pat at ps) ss = behind (type_pats_are ps ss)
   type_pat_is (tree.range_type_pat at low high) ss = both (limit_is low ss) (behind (limit_is high ss))
   type_pat_is (tree.other_type_pat at) ss = same _
@@ -338,6 +353,8 @@ mutual
   pat_is (tree.record_pat at q fs dots) us ss = both (whole_is q ss) (missing_is q _ ss (behind (pat_fields_are fs us ss)))
   pat_is (tree.or_pat at ps) us ss = alternatives_are at ps us ss
   pat_is (tree.paren_pat at q) us ss = pat_part_is q us ss
+  pat_is (tree.macro_pat at c tree.no_pat) us ss = uncalled_pat_is at c ss
+  pat_is (tree.macro_pat at c (tree.some_pat q)) us ss = both (same _) (behind (pat_is q us ss))
   pat_is (tree.slice_pat at before middle after) us ss =
       both (pats_are before us ss) (both (subpat_is middle (names_after_each before us) ss)
       (behind (pats_are after (names_after_part middle (names_after_each before us)) ss)))
@@ -386,6 +403,7 @@ mutual
   target_is : (t : Target) (ss : List Scope) → Like (g.grade_target faults t ss) (now.target_faults_in ss t)
   target_is tree.absent_target ss = same _
   target_is (tree.place_target at e) ss = behind (expr_is e ss)
+  target_is (tree.macro_target at c t) ss = both (same _) (target_is t ss)
   target_is (tree.wild_target at) ss = same _
   target_is (tree.path_target at q h) ss = behind (path_is q nothing_seen ss)
   target_is (tree.tuple_target at ts) ss = behind (targets_are ts ss)
@@ -412,7 +430,7 @@ mutual
   -- ---- expressions
 
   expr_is : (e : Expr) (ss : List Scope) → Like (g.grade_expr faults e ss) (now.diagnostics ss e)
-  expr_is (tree.disabled_expr at by e) ss = same _
+  expr_is (tree.disabled_expr why e) ss = behind (same _)
   expr_is (tree.if_expr at c t e) ss = turned (now.part_diagnostics ss c) (now.block_part_diagnostics ss t) (now.part_diagnostics ss e)
       (both (block_part_is t ss) (both (expr_present_is e ss) (behind (expr_part_is c ss))))
   expr_is (tree.block_expr b) ss = block_is b ss
@@ -437,6 +455,7 @@ mutual
   expr_is (tree.continue_expr at jump) ss = behind (same _)
   expr_is (tree.break_expr at jump e) ss = both (same _) (behind (expr_present_is e ss))
   expr_is (tree.paren_expr at e) ss = expr_part_is e ss
+  expr_is (tree.macro_expr at c e) ss = both (same _) (expr_part_is e ss)
   expr_is (tree.literal_expr at l) ss = same _
   expr_is (tree.leaf_expr at form) ss = same _
   expr_is (tree.unary_expr at form e) ss = behind (expr_part_is e ss)
@@ -539,6 +558,7 @@ mutual
   stmt_is (tree.expr_stmt e semi) ss = kept_part_is e ss
   stmt_is (tree.disabled_stmt at by s) ss = same _
   stmt_is tree.item_stmt ss = same _
+  stmt_is (tree.call_stmt c) ss = same _
   stmt_is (tree.let_stmt q t e b) ss =
       both (top_is q ss) (both (present_is t ss) (both (expr_present_is e ss) (block_present_is b ss)))
 

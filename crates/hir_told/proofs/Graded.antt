@@ -16,23 +16,26 @@ use Rattle.hir_store.specs.declared.ids.TypeRefId.{TypeRefId}
 use Rattle.hir_store.specs.declared.pat.Pat.{Pat as HirPat}
 use Rattle.hir_store.specs.declared.type_ref.LifetimeRef.{LifetimeRef}
 use Rattle.hir_store.specs.declared.type_ref.TypeRef.{TypeRef}
-use Rattle.hir_env.specs.Answered.{Jump, Label, Limit, OptionExpr, OptionType, Params, Use}
+use Rattle.hir_env.specs.Answered.{Called, Entered, Gone, Jump, Label, Limit, OptionExpr, OptionType, Params, Use}
 use Rattle.hir_data.specs.Patterns.{moved_by}
 use Rattle.hir_scope.specs.Ribs.{Try}
 use Rattle.hir_lower_form.specs.declared.closures.ClosureParams.{ClosureParams}
 use Rattle.hir_lower_form.specs.declared.walk.PathWalk.{PathWalk}
+use Rattle.hir_lower_form.specs.Calls.{note, note_gone, told}
 use Rattle.hir_lower_form.specs.Forms.{ExprSteps, StoredContents, closure_form, constant_form, coroutine_block_form}
 use Rattle.hir_lower_form.specs.Forms.{coroutine_form, no_closure_params, value_form, yield_form}
 use Rattle.hir_lower_form.specs.Lower.{lower_params, lower_part, present_type}
 use Rattle.hir_lower_form.specs.Lowering.{Lowering, ◌>>=◌, pure, alloc_binding, alloc_expr, alloc_lifetime, alloc_made, alloc_pat}
 use Rattle.hir_lower_form.specs.Lowering.{alloc_type, close, define, enter_block, jump_target, made_number, open_label}
-use Rattle.hir_lower_form.specs.Lowering.{open_try, owning, point, point_field, point_pat_field, report, try_target}
+use Rattle.hir_lower_form.specs.Lowering.{open_try, owning, point, point_field, point_pat, point_pat_field, point_type, report, try_target}
 use Rattle.hir_lower_form.specs.Made.{made_bind_form}
 use Rattle.hir_lower_form.specs.Paths.{counted}
 use Rattle.hir_lower_form.specs.Pats.{Table, counted_dots, key_of, new_binding, no_names, settle}
 use Rattle.hir_lower_form.specs.Preludes.{coroutine_closure_form}
 use Rattle.hir_lower_form.specs.Ranges.{inner_form}
+use Rattle.hir_lower_form.specs.Types.{TypeSteps}
 use Rattle.hir_lower_form.specs.Walks.{super_read, supers}
+use Rattle.hir_one_result.proofs.LastStored.{LastPat, LastType}
 use Rattle.hir_told.specs.Grading.{Grading, made_bind}
 use Rattle.hir_told.proofs.Answering.{Answering, anything, answering_any, answering_pure, answering_then, answering_less}
 
@@ -86,6 +89,16 @@ pub record Graded {ℓ} (S : Grading {ℓ}) : Type (ℓ ⊔ 1) where
   pub field_is : (p : PatId) (at : Pointer) → Claim S.none (point_pat_field p at)
   -- ---- what is reported, counted, entered and asked
   pub fault_is : (d : ExpressionStoreDiagnostics) → Claim (S.fault d) (report d)
+  -- of calls of macros; the node of one leads to the last pattern, or to the last type
+  pub noted_is : (c : Entered) → Claim (S.noted c) (note c)
+  pub told_is : (c : Called) → Claim (S.told c) (told c)
+  pub gone_is : (why : Gone) → Claim (S.gone why) (note_gone why)
+  pub type_call_is : (at : Pointer) {g : S.G} {t : TypeSteps} → LastType t → Claim g t
+      → Claim (S.then' g (S.type_call at)) (t >>= (λ i. point_type at i >>= (λ _. pure i)))
+  pub pat_call_is : (at : Pointer) {g : S.G} {p : Lowering PatId} → LastPat (λ i. i) p → Claim g p
+      → Claim (S.then' g (S.pat_call at)) (p >>= (λ i. point_pat at i >>= (λ _. pure i)))
+  pub hands_call_is : (at : Pointer) (t : Table) {g : S.G} {p : Lowering (PatId × Table)} → LastPat (λ r. r.0) p → Hands t g p
+      → Hands t (S.then' g (S.pat_call at)) (p >>= (λ r. point_pat at r.0 >>= (λ _. pure r)))
   pub super_is : (w : PathWalk) → Claim (S.super (supers w.kind)) (counted (super_read w))
   pub dots_is : (comma : Bool) (place : Option ℕ) → Claim (S.dots (moved_by comma place)) (counted_dots comma place)
   pub block_is : (n : Option BlockId) → Claim (S.block n) (enter_block n)

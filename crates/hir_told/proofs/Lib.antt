@@ -6,6 +6,7 @@ pub mod PatForms
 pub mod TargetForms
 pub mod ExprForms
 pub mod MadeForms
+pub mod CallForms
 pub mod Tree
 pub mod Bodies
 pub mod PathsAgree
@@ -15,4 +16,5 @@ pub mod CorrectWhere
 pub mod AsApart
 pub mod AsYields
 pub mod AsTelling
+pub mod AsExpansions
 pub mod AsRooms

@@ -45,6 +45,7 @@ use Rattle.hir_read_back.proofs.PatParts.{dots_behind, no_dots, dots_here, one_f
 use Rattle.hir_one_result.specs.PathRoom.{at_first, found, segment_read, segments_read, path_read, outer_read, whole_read}
 use Rattle.hir_one_result.specs.PathRoom.{any_arg, yields}
 use Rattle.hir_one_result.specs.PatRoom.{names_after, names_after_part, names_after_each, names_after_fields, names_after_field}
+use Rattle.hir_one_result.proofs.LastStored.{lower_pat_last, type_last, type_pat_last}
 use Rattle.hir_one_result.proofs.PathRooms.{seen, seen_read, seen_named, seen_dollar, seen_self, Gives, GivesPath, Yields, Fills, full}
 use Rattle.hir_one_result.proofs.PathRooms.{full_arg, full_binding, yields_full, or_nothing}
 use Rattle.hir_one_result.proofs.PatRooms.{none_keyed, from_none}
@@ -57,6 +58,7 @@ use Rattle.hir_told.proofs.PatForms as pats
 use Rattle.hir_told.proofs.PatForms.{PatTold, PartsTold, LaterTold}
 use Rattle.hir_told.proofs.TargetForms as targets
 use Rattle.hir_told.proofs.TargetForms.{TargetsTold}
+use Rattle.hir_told.proofs.CallForms as calls
 use Rattle.hir_told.proofs.ExprForms as exprs
 use Rattle.hir_told.proofs.MadeForms as made
 use Rattle.hir_told.proofs.Knowing.{block_value}
@@ -110,6 +112,8 @@ module _ {ℓ} {S : Grading {ℓ}} (L : Graded S) where
 
     pub type_graded : (b : Option Binder) (t : Type_) → L.Claim (g.grade_type S t) (lower_type b t)
     type_graded b (tree.paren_type t) = part_graded b t
+    type_graded b (tree.macro_type at c tree.no_type) = calls.uncalled_type_graded L at c
+    type_graded b (tree.macro_type at c (tree.some_type t)) = calls.called_type_graded L at c (type_last b t) (type_graded b t)
     type_graded b (tree.for_type names t) = part_graded (Some names) t
     type_graded b (tree.leaf_type at form) = L.type_is _ _
     type_graded b (tree.over_type at form t) = forms.over_graded L at form (part_graded None t)
@@ -228,6 +232,9 @@ module _ {ℓ} {S : Grading {ℓ}} (L : Graded S) where
 
     pub type_pat_graded : (p : TypePat) → L.Claim (g.grade_type_pat S p) (lower_type_pat p)
     type_pat_graded (tree.not_null_type_pat at) = L.pat_is _ _
+    type_pat_graded (tree.macro_type_pat at c tree.no_type_pat) = calls.uncalled_pat_graded L at c
+    type_pat_graded (tree.macro_type_pat at c (tree.some_type_pat p)) =
+        calls.called_type_pat_graded L at c (type_pat_last p) (type_pat_graded p)
     type_pat_graded (tree.or_type_pat at ps) = pats.type_alternatives_graded L at (type_pats_graded [] ps)
     type_pat_graded (tree.range_type_pat at low high) = pats.limits_graded L at (limit_graded low) (limit_graded high)
     type_pat_graded (tree.other_type_pat at) = L.pat_is _ _
@@ -265,6 +272,8 @@ module _ {ℓ} {S : Grading {ℓ}} (L : Graded S) where
     pat_graded (tree.record_pat at p fs dots) us = pats.record_pat_graded L at dots (path_graded p) (pat_fields_graded fs us [])
     pat_graded (tree.or_pat at ps) us = alternatives_graded at ps us
     pat_graded (tree.paren_pat at p) us = pat_part_graded p us
+    pat_graded (tree.macro_pat at c tree.no_pat) us = pats.alone_graded L us (calls.uncalled_pat_graded L at c)
+    pat_graded (tree.macro_pat at c (tree.some_pat p)) us = calls.called_pat_graded L at c (lower_pat_last p) (pat_graded p us)
     pat_graded (tree.slice_pat at before middle behind) us =
         pats.slice_graded L at (pats_graded before us []) (subpat_graded middle (names_after_each before us))
         (pats_graded behind (names_after_part middle (names_after_each before us)) [])
@@ -335,6 +344,7 @@ module _ {ℓ} {S : Grading {ℓ}} (L : Graded S) where
     pub target_graded : (t : Target) → L.Claim (g.grade_target S t) (lower_target t)
     target_graded tree.absent_target = pats.missing_pat_graded L
     target_graded (tree.place_target at e) = targets.place_graded L at (L.made_is (expr_graded e))
+    target_graded (tree.macro_target at c t) = calls.told_target_graded L c (target_graded t)
     target_graded (tree.wild_target at) = L.pat_is _ _
     target_graded (tree.path_target at p h) = targets.path_target_graded L at h (map_is L _ (reading_graded p start).claim)
     target_graded (tree.tuple_target at ts) = targets.tuple_target_graded L at (all_targets ts (targets_graded ts no_elements))
@@ -374,7 +384,7 @@ module _ {ℓ} {S : Grading {ℓ}} (L : Graded S) where
     -- ---- expressions
 
     pub expr_graded : (e : Expr) → L.Made (g.grade_expr S e) (lower e)
-    expr_graded (tree.disabled_expr at by e) = made_next L (L.fault_is _) (λ u. exprs.missing_graded L)
+    expr_graded (tree.disabled_expr why e) = made_next L (L.gone_is why) (λ u. exprs.missing_graded L)
     expr_graded (tree.if_expr at c t e) = exprs.if_graded L at (expr_part_graded c) (block_part_graded t) (expr_present_graded e)
     expr_graded (tree.block_expr b) = block_graded b
     expr_graded (tree.loop_expr at label is b) = exprs.loop_graded L at _ label is (block_part_graded b)
@@ -396,6 +406,8 @@ module _ {ℓ} {S : Grading {ℓ}} (L : Graded S) where
     expr_graded (tree.continue_expr at jump) = exprs.continue_graded L at jump
     expr_graded (tree.break_expr at jump e) = exprs.break_graded L at jump (expr_present_graded e)
     expr_graded (tree.paren_expr at e) = exprs.paren_graded L at (expr_part_graded e)
+    expr_graded (tree.macro_expr at c tree.no_expr) = calls.uncalled_graded L at c
+    expr_graded (tree.macro_expr at c (tree.some_expr e)) = calls.called_graded L at c (expr_graded e)
     expr_graded (tree.literal_expr at l) = L.expr_is _ _
     expr_graded (tree.leaf_expr at form) = L.expr_is _ _
     expr_graded (tree.unary_expr at form e) = exprs.operand_graded L at _ (expr_part_graded e)
@@ -496,5 +508,6 @@ module _ {ℓ} {S : Grading {ℓ}} (L : Graded S) where
     stmt_graded (tree.expr_stmt e semi) = map_is L _ (kept_part_graded e)
     stmt_graded (tree.disabled_stmt at by s) = map_is L _ (L.fault_is _)
     stmt_graded tree.item_stmt = L.pure_is _
+    stmt_graded (tree.call_stmt c) = map_is L _ (L.noted_is c)
     stmt_graded (tree.let_stmt p t e b) =
         exprs.let_stmt_graded L (top_graded p) (present_graded t) (expr_present_graded e) (block_present_graded b)

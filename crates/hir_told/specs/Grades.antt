@@ -15,6 +15,7 @@ use Rattle.hir_one_result.specs.PathRoom.{Seen, nothing_seen, at_first, segments
 use Rattle.hir_one_result.specs.PatRoom.{names_after, names_after_part, names_after_each, names_after_field}
 use Rattle.hir_told.specs.Grading.{Grading, if_so, before, grade_lifetime, grade_uses, or_missing, grade_name, behind_comma, grade_or}
 use Rattle.hir_told.specs.Grading.{grade_name_side, grade_rest, grade_spread, kept_of, labelled_of, grade_front, record_of, grade_await}
+use Rattle.hir_told.specs.Grading.{grade_uncalled_pat, grade_uncalled_type}
 use Rattle.hir_told.specs.Grading.{grade_range, made_bind, item_call, flow_arm, residual, for_turn, grade_try}
 
 module _ {ℓ} (S : Grading {ℓ}) where
@@ -23,6 +24,8 @@ module _ {ℓ} (S : Grading {ℓ}) where
 
     pub grade_type : Type_ → S.G
     grade_type (tree.paren_type t) = grade_part t
+    grade_type (tree.macro_type at called tree.no_type) = grade_uncalled_type S at called
+    grade_type (tree.macro_type at called (tree.some_type t)) = S.then' (S.told called) (S.then' (grade_type t) (S.type_call at))
     grade_type (tree.for_type names t) = grade_part t
     grade_type (tree.leaf_type at form) = S.type_at (Some at)
     grade_type (tree.over_type at form t) = S.then' (grade_part t) (S.type_at (Some at))
@@ -124,6 +127,9 @@ module _ {ℓ} (S : Grading {ℓ}) where
 
     pub grade_type_pat : TypePat → S.G
     grade_type_pat (tree.not_null_type_pat at) = S.pat_at (Some at)
+    grade_type_pat (tree.macro_type_pat at called tree.no_type_pat) = grade_uncalled_pat S at called
+    grade_type_pat (tree.macro_type_pat at called (tree.some_type_pat p)) =
+        S.then' (S.told called) (S.then' (grade_type_pat p) (S.pat_call at))
     grade_type_pat (tree.or_type_pat at ps) = S.then' (grade_type_pats ps) (S.pat_at (Some at))
     grade_type_pat (tree.range_type_pat at low high) = S.then' (grade_limit low) (S.then' (grade_limit high) (S.pat_at (Some at)))
     grade_type_pat (tree.other_type_pat at) = S.pat_at (Some at)
@@ -166,6 +172,8 @@ module _ {ℓ} (S : Grading {ℓ}) where
         (or_missing S (is_some (whole_read p)) (S.then' (grade_pat_fields fs us) (S.pat_at (Some at))))
     grade_pat (tree.or_pat at ps) us = grade_alternatives at ps us
     grade_pat (tree.paren_pat at p) us = grade_pat_part p us
+    grade_pat (tree.macro_pat at called tree.no_pat) us = grade_uncalled_pat S at called
+    grade_pat (tree.macro_pat at called (tree.some_pat p)) us = S.then' (S.told called) (S.then' (grade_pat p us) (S.pat_call at))
     grade_pat (tree.slice_pat at before middle behind) us =
         let between = names_after_each before us in
         let past = names_after_part middle between in
@@ -227,6 +235,7 @@ module _ {ℓ} (S : Grading {ℓ}) where
     pub grade_target : Target → S.G
     grade_target tree.absent_target = S.pat_at None
     grade_target (tree.place_target at e) = S.then' (grade_expr e) (S.pat_at (Some at))
+    grade_target (tree.macro_target at called t) = S.then' (S.told called) (grade_target t)
     grade_target (tree.wild_target at) = S.pat_at (Some at)
     grade_target (tree.path_target at p h) = S.then' (grade_path p nothing_seen) (S.pat_at (Some at))
     grade_target (tree.tuple_target at ts) = S.then' (grade_targets ts) (S.then' (S.dots (target_dots ts)) (S.pat_at (Some at)))
@@ -265,7 +274,7 @@ module _ {ℓ} (S : Grading {ℓ}) where
     -- ---- expressions
 
     pub grade_expr : Expr → S.G
-    grade_expr (tree.disabled_expr at by e) = S.then' (S.fault (InactiveCode at by)) S.expr
+    grade_expr (tree.disabled_expr why e) = S.then' (S.gone why) S.expr
     -- the branches are lowered before the condition
     grade_expr (tree.if_expr at c t e) =
         S.then' (grade_block_part t) (S.then' (grade_expr_present e) (S.then' (grade_expr_part c) S.expr))
@@ -293,6 +302,7 @@ module _ {ℓ} (S : Grading {ℓ}) where
     grade_expr (tree.continue_expr at jump) = S.then' (S.jump jump) S.expr
     grade_expr (tree.break_expr at jump e) = S.then' (S.jump jump) (S.then' (grade_expr_present e) S.expr)
     grade_expr (tree.paren_expr at e) = grade_expr_part e
+    grade_expr (tree.macro_expr at called e) = S.then' (S.told called) (grade_expr_part e)
     grade_expr (tree.literal_expr at l) = S.expr
     grade_expr (tree.leaf_expr at form) = S.expr
     grade_expr (tree.unary_expr at form e) = S.then' (grade_expr_part e) S.expr
@@ -396,5 +406,6 @@ module _ {ℓ} (S : Grading {ℓ}) where
     grade_stmt (tree.expr_stmt e semi) = grade_kept e
     grade_stmt (tree.disabled_stmt at by s) = S.fault (InactiveCode at by)
     grade_stmt tree.item_stmt = S.none
+    grade_stmt (tree.call_stmt c) = S.noted c
     grade_stmt (tree.let_stmt p t e b) =
         S.then' (grade_top p) (S.then' (grade_present t) (S.then' (grade_expr_present e) (grade_block_present b)))

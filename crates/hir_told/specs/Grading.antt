@@ -2,14 +2,14 @@
 use Rattle.std.specs.Prelude.{ℕ, Bool, true, false, not, ◌||◌, List, [], ◌∷◌, Option, Some, None}
 use Rattle.hir_store.specs.Pointers.{Pointer}
 use Rattle.hir_store.specs.declared.diagnostics.ExpressionStoreDiagnostics.{ExpressionStoreDiagnostics}
-use Rattle.hir_store.specs.declared.diagnostics.ExpressionStoreDiagnostics.TheVariants.{AwaitOutsideOfAsync, InactiveCode}
+use Rattle.hir_store.specs.declared.diagnostics.ExpressionStoreDiagnostics.TheVariants.{AwaitOutsideOfAsync}
 use Rattle.hir_store.specs.declared.diagnostics.ExpressionStoreDiagnostics.TheVariants.{FruInDestructuringAssignment}
 use Rattle.hir_store.specs.declared.diagnostics.AwaitLocation.{AwaitLocation}
 use Rattle.hir_store.specs.declared.ids.BlockId.{BlockId}
 use Rattle.hir_store.specs.declared.name.Name.{Name}
 use Rattle.hir_store.specs.declared.name.Name.TheVariants as name
 use Rattle.hir_env.specs.Answered as tree
-use Rattle.hir_env.specs.Answered.{Expr, Jump, Label, Lifetime, Limit, Listing, OptionExpr, Params, Pats, RangeForm}
+use Rattle.hir_env.specs.Answered.{Called, Entered, Expr, Gone, Jump, Label, Lifetime, Limit, Listing, OptionExpr, Params, Pats, RangeForm}
 use Rattle.hir_env.specs.Answered.{Stmts, Use, UseRead}
 use Rattle.hir_data.specs.Uses.{FirstUses}
 use Rattle.hir_meaning.specs.Left.{is_left, gives_value}
@@ -29,6 +29,13 @@ pub record Grading {ℓ} : Type (ℓ + 1) where
   pub expr : G
   pub binding : G
   pub fault : ExpressionStoreDiagnostics → G
+  -- ---- calls of macros: one that is entered, what a call comes to, and why something is gone; the node of one leads to the last pattern
+  -- or to the last type
+  pub noted : Entered → G
+  pub told : Called → G
+  pub gone : Gone → G
+  pub pat_call : Pointer → G
+  pub type_call : Pointer → G
   -- ---- what is counted: a `super` where so many stand behind it, and the parts in front of two dots
   pub super : ℕ → G
   pub dots : Option ℕ → G
@@ -103,6 +110,18 @@ module _ {ℓ} (S : Grading {ℓ}) where
   grade_name_side name.Missing = S.none
   grade_name_side n = S.expr
 
+  -- ---- calls of macros that stand for nothing
+
+  -- one that the text lacks is missing, and the node of another one leads to what is missing
+  abbrev pub grade_uncalled_pat : Pointer → Called → S.G
+  grade_uncalled_pat at tree.callless = S.pat_at None
+  grade_uncalled_pat at called = S.then' (S.told called) (S.then' (S.pat_at None) (S.pat_call at))
+
+  -- or an error, from its node
+  abbrev pub grade_uncalled_type : Pointer → Called → S.G
+  grade_uncalled_type at tree.callless = S.type_at (Some at)
+  grade_uncalled_type at called = S.then' (S.told called) (S.then' (S.type_at None) (S.type_call at))
+
   -- ---- what is assigned to
 
   -- the two dots of an array
@@ -117,9 +136,9 @@ module _ {ℓ} (S : Grading {ℓ}) where
 
   -- ---- expressions
 
-  -- a disabled part leaves a fault and nothing else
+  -- what is gone leaves what is told of that and nothing else
   abbrev pub kept_of : Expr → S.G → S.G
-  kept_of (tree.disabled_expr at by e) g = S.fault (InactiveCode at by)
+  kept_of (tree.disabled_expr why e) g = S.gone why
   kept_of e g = g
 
   abbrev pub labelled_of : Option Label → S.G → S.G

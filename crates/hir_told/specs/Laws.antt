@@ -6,16 +6,18 @@ use Rattle.hir_store.specs.declared.ids.BlockId.{BlockId}
 use Rattle.hir_store.specs.declared.ids.ExprId.{ExprId}
 use Rattle.hir_store.specs.declared.ids.PatId.{PatId}
 use Rattle.hir_store.specs.declared.ids.TypeRefId.{TypeRefId}
-use Rattle.hir_env.specs.Answered.{Formals, OptionExpr, OptionPat, OptionType, Target}
+use Rattle.hir_store.specs.declared.path.Path.{Path as HirPath}
+use Rattle.hir_env.specs.Answered.{Binder, Formals, OptionExpr, OptionPat, OptionPath, OptionType, Target}
 use Rattle.hir_scope.specs.Scopes.{Scope}
 use Rattle.hir_lower_form.specs.Builder.{Builder}
-use Rattle.hir_lower_form.specs.Lower.{lower_part, lower_target, lower_top, type_part}
+use Rattle.hir_lower_form.specs.Lower.{lower_part, lower_path, lower_target, lower_top, type_part}
 use Rattle.hir_steps.specs.Keeps.{Paired}
 use Rattle.hir_one_result.specs.Diagnostics.{Around}
 use Rattle.hir_one_result.specs.Formals.{Given, lower_body}
 use Rattle.hir_one_result.specs.Laws.{GrownUnless, WhereLowered}
-use Rattle.hir_told.specs.Grades.{grade_expr_part, grade_part, grade_target, grade_top}
 use Rattle.hir_told.specs.Bodies.{grade_body}
+use Rattle.hir_told.specs.Expanded.{bodies_expanded, expansions}
+use Rattle.hir_told.specs.Grades.{grade_expr_part, grade_part, grade_target, grade_top, grade_whole}
 use Rattle.hir_told.specs.Grading.{Grading}
 use Rattle.hir_told.specs.Lists.{bodies_listed, listed}
 use Rattle.hir_told.specs.Sizes.{bodies_sized, sizes}
@@ -41,10 +43,10 @@ TargetsNote = (t : Target) (old new : Builder) (i : PatId) → Paired old.stored
 -- ---- faults and numbers of blocks come behind those that were there, in the order in which they are told, in whatever scopes
 
 abbrev pub faults : Grading {0}
-faults = listed {X = ExpressionStoreDiagnostics} (λ ds. ds) (λ n. [])
+faults = listed {X = ExpressionStoreDiagnostics} (λ ds. ds) (λ n. []) (λ es ds. ds)
 
 abbrev pub blocks : Grading {0}
-blocks = listed {X = BlockId} (λ ds. []) option_to_list
+blocks = listed {X = BlockId} (λ ds. []) option_to_list (λ es ds. [])
 
 abbrev pub ExprsReport : Type 0
 ExprsReport = WhereLowered (λ e old id new. (ss : List Scope) → Around ss old.scopes
@@ -53,6 +55,19 @@ ExprsReport = WhereLowered (λ e old id new. (ss : List Scope) → Around ss old
 abbrev pub ExprsEnter : Type 0
 ExprsEnter = WhereLowered (λ e old id new. (ss : List Scope) → Around ss old.scopes
     → new.stored.block_scopes ≡ old.stored.block_scopes ++ grade_expr_part blocks e ss)
+
+-- ---- the calls that are entered come behind those that were there, in the order in which they are told
+
+abbrev pub ExprsExpand : Type 0
+ExprsExpand = WhereLowered (λ e old id new. new.stored.expansions ≡ old.stored.expansions ++ grade_expr_part expansions e)
+
+abbrev pub TypesExpand : Type 0
+TypesExpand = (binder : Option Binder) (t : OptionType) (old new : Builder) (i : TypeRefId) → Paired old.stored
+    → type_part binder t old ≡ (Ok i, new) → new.stored.expansions ≡ old.stored.expansions ++ grade_part expansions t
+
+abbrev pub PathsExpand : Type 0
+PathsExpand = (p : OptionPath) (old new : Builder) (r : Option HirPath) → Paired old.stored → lower_path p old ≡ (Ok r, new)
+    → new.stored.expansions ≡ old.stored.expansions ++ grade_whole expansions p
 
 -- ---- as much is stored as is told, or there is no room for it
 
@@ -69,11 +84,15 @@ WhereBodyLowered R = (kind : Option CoroutineKind) (skipped : Bool) (f : Formals
 
 abbrev pub BodiesReport : Type 0
 BodiesReport = WhereBodyLowered (λ kind skipped f e old new. (ss : List Scope) → Around ss old.scopes
-    → new.stored.diagnostics ≡ old.stored.diagnostics ++ grade_body faults (bodies_listed (λ ds. ds) (λ n. [])) kind skipped f e ss)
+    → new.stored.diagnostics ≡ old.stored.diagnostics ++ grade_body faults (bodies_listed (λ ds. ds) (λ n. []) (λ es ds. ds)) kind skipped f e ss)
 
 abbrev pub BodiesEnter : Type 0
 BodiesEnter = WhereBodyLowered (λ kind skipped f e old new. (ss : List Scope) → Around ss old.scopes
-    → new.stored.block_scopes ≡ old.stored.block_scopes ++ grade_body blocks (bodies_listed (λ ds. []) option_to_list) kind skipped f e ss)
+    → new.stored.block_scopes ≡ old.stored.block_scopes ++ grade_body blocks (bodies_listed (λ ds. []) option_to_list (λ es ds. [])) kind skipped f e ss)
+
+abbrev pub BodiesExpand : Type 0
+BodiesExpand = WhereBodyLowered (λ kind skipped f e old new.
+    new.stored.expansions ≡ old.stored.expansions ++ grade_body expansions bodies_expanded kind skipped f e)
 
 abbrev pub BodiesFit : Type 0
 BodiesFit = (kind : Option CoroutineKind) (skipped : Bool) (f : Formals) (e : OptionExpr) (old : Builder) → Paired old.stored

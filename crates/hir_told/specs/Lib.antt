@@ -4,5 +4,6 @@ pub mod Bodies
 pub mod Silent
 pub mod Yields
 pub mod Lists
+pub mod Expanded
 pub mod Sizes
 pub mod Laws

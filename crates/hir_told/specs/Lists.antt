@@ -1,13 +1,16 @@
--- What is added to a list in scopes: what a fault adds, and a block that is entered.
+-- What is added to a list in scopes: what a fault adds, a block that is entered, and what is told of calls.
 use Rattle.std.specs.Prelude.{List, [], ◌∷◌, ◌++◌, Option}
 use Rattle.hir_store.specs.declared.diagnostics.ExpressionStoreDiagnostics.{ExpressionStoreDiagnostics}
 use Rattle.hir_store.specs.declared.ids.BlockId.{BlockId}
 use Rattle.hir_scope.specs.Scopes.{Scope, barrier, block_scope, loop_scope, try_scope}
 use Rattle.hir_one_result.specs.Diagnostics.{jump_faults}
+use Rattle.hir_steps.specs.Calls.{Expansions, called_faults, condition_faults, expansions_of_called, expansions_of_entered}
+use Rattle.hir_steps.specs.Calls.{expansions_of_gone}
 use Rattle.hir_told.specs.Bodies.{GradingBodies}
 use Rattle.hir_told.specs.Grading.{Grading}
 
-module _ {X : Type 0} (of_faults : List ExpressionStoreDiagnostics → List X) (of_block : Option BlockId → List X) where
+module _ {X : Type 0} (of_faults : List ExpressionStoreDiagnostics → List X) (of_block : Option BlockId → List X)
+    (of_told : Expansions → List ExpressionStoreDiagnostics → List X) where
   abbrev nothing : List Scope → List X
   nothing ss = []
 
@@ -22,6 +25,11 @@ module _ {X : Type 0} (of_faults : List ExpressionStoreDiagnostics → List X) (
     expr = nothing;
     binding = nothing;
     fault = λ d. λ ss. of_faults (d ∷ []);
+    noted = λ c. λ ss. of_told (expansions_of_entered c) [];
+    told = λ c. λ ss. of_told (expansions_of_called c) (called_faults c);
+    gone = λ why. λ ss. of_told (expansions_of_gone why) (condition_faults why.condition);
+    pat_call = λ at. nothing;
+    type_call = λ at. nothing;
     super = λ n. nothing;
     dots = λ n. nothing;
     jump = λ j. λ ss. of_faults (jump_faults ss j);

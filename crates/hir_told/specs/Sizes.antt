@@ -7,6 +7,7 @@ use Rattle.hir_one_result.specs.PreludeRoom.{handed_size, prelude_size, self_let
 use Rattle.hir_one_result.specs.Room.{formals_data, label_size}
 use Rattle.hir_one_result.specs.Size as size
 use Rattle.hir_one_result.specs.Size.{Size, a_binding, a_body, a_label, a_lifetime, a_made_name, a_pat, a_super, a_type}
+use Rattle.hir_one_result.specs.Size.{a_pat_call, a_type_call}
 use Rattle.hir_one_result.specs.Size.{an_expr, dots_behind, nothing, ◌∪◌}
 use Rattle.hir_told.specs.Bodies.{GradingBodies}
 use Rattle.hir_told.specs.Grading.{Grading}
@@ -22,6 +23,11 @@ sizes = record {
   expr = an_expr;
   binding = a_binding;
   fault = λ d. nothing;
+  noted = λ c. nothing;
+  told = λ c. nothing;
+  gone = λ why. nothing;
+  pat_call = λ at. a_pat_call at;
+  type_call = λ at. a_type_call at;
   super = λ n. a_super n;
   dots = λ n. dots_behind n;
   jump = λ j. nothing;

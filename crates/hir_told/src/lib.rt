@@ -2,8 +2,9 @@
 #![tactic(auto)]
 
 ghost use Rattle.hir_one_result.specs.Laws.{BlocksAre, DiagnosticsAre};
-ghost use Rattle.hir_told.specs.Laws.{BodiesEnter, BodiesFit, BodiesReport};
-ghost use Rattle.hir_told.specs.Laws.{ExprsEnter, ExprsFit, ExprsNote, ExprsReport, PatsNote, TargetsNote, TypesNote};
+ghost use Rattle.hir_told.specs.Laws.{BodiesEnter, BodiesExpand, BodiesFit, BodiesReport};
+ghost use Rattle.hir_told.specs.Laws.{ExprsEnter, ExprsExpand, ExprsFit, ExprsNote, ExprsReport};
+ghost use Rattle.hir_told.specs.Laws.{PathsExpand, PatsNote, TargetsNote, TypesExpand, TypesNote};
 
 /// A `yield` is noted where one is told of an expression, and nowhere else.
 pub fn exprs_note()
@@ -33,6 +34,23 @@ pub fn exprs_report()
 /// So do the numbers of the blocks that it enters.
 pub fn exprs_enter()
     ensures { ExprsEnter }
+{}
+
+/// The calls of macros that are entered in an expression come behind those that were entered before, each behind what else was expanded for
+/// it, in the order in which they are told.
+pub fn exprs_expand()
+    ensures { ExprsExpand }
+{}
+
+/// Of a type likewise, and of a path.
+pub fn types_expand()
+    ensures types { TypesExpand }
+    ensures paths { PathsExpand }
+{}
+
+/// Of a body behind its parameters likewise.
+pub fn bodies_expand()
+    ensures { BodiesExpand }
 {}
 
 /// As much is stored as is told of an expression, or there is no room for it.

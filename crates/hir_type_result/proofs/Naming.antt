@@ -19,13 +19,16 @@ use Rattle.hir_store.specs.declared.pat.Binding.{Binding}
 use Rattle.hir_store.specs.declared.type_ref.ConstRef.{ConstRef}
 use Rattle.hir_env.specs.Answered.{Label, Jump, Use}
 use Rattle.hir_scope.specs.Ribs.{Rib, Target, reachable, unreachable, undeclared, target}
-use Rattle.hir_lower_form.specs.Lowering.{Lowering, ◌>>=◌, pure, alloc_binding, alloc_expr, define, point, point_field, point_pat_field}
+use Rattle.hir_lower_form.specs.Lowering.{Lowering, ◌>>=◌, pure, alloc_binding, alloc_expr, define, point, point_field, point_pat}
+use Rattle.hir_lower_form.specs.Lowering.{point_pat_field, point_type}
 use Rattle.hir_lower_form.specs.Lowering.{report, report_await, enter_block, open_label, close, jump_target, alloc_made, made_number}
 use Rattle.hir_lower_form.specs.Lowering.{open_try, try_target}
 use Rattle.hir_lower_form.specs.Lower.{ExprSteps, constant_form, some}
 use Rattle.hir_lower_form.specs.Pats.{Key, Notes, Table, binding_of, key_of, new_binding, number_of, same_key, settle}
 use Rattle.hir_lower_form.specs.Pats.{settle_from, use_name, use_of_known, with_use}
 use Rattle.hir_lower_form.specs.Ranges.{inner_form}
+use Rattle.hir_steps.specs.Calls.{Expansions}
+use Rattle.hir_steps.proofs.Calls.{Only, correct_only, correct_point_pat, correct_point_type, only_told}
 use Rattle.hir_steps.proofs.Constants.{correct_constant, correct_inner, with_root}
 use Rattle.hir_steps.proofs.Frames.{Frame, rib, ribs}
 use Rattle.hir_steps.proofs.MadeSteps.{correct_made_number, correct_opened_try, correct_try_target}
@@ -37,7 +40,7 @@ use Rattle.hir_type_result.specs.Named.{Look, of_bindings_alone, of_expr}
 use Rattle.hir_type_result.proofs.Counted.{times, less, ◌⊑◌, less_grows}
 use Rattle.hir_type_result.proofs.Adding.{Sort, the_types, the_pats, known, grows, named, Quiet, linked, adds_pure, adds_then}
 use Rattle.hir_type_result.proofs.Adding.{Adds, adds_still, adds_expr, adds_made, adds_done, Numbers, none, Steps, look, made_then}
-use Rattle.hir_type_result.proofs.Adding.{none_made, wider, adds_seq}
+use Rattle.hir_type_result.proofs.Adding.{adds_quiet, none_made, wider, adds_seq}
 
 pub quiet_pure : {A : Type 0} (a : A) → Correct (pure a) Quiet
 quiet_pure a = adds_pure a (λ f k. omega arith)
@@ -142,6 +145,32 @@ quiet_writes : {p : Lowering (Unit {0})} {f : Stored → Stored} → Correct p (
 quiet_writes h none still = correct_as h (λ final ps m m' u g row. adds_still g
     (ap (λ x. x.pats.entries) row.stored ∙ none m.stored)
     (λ s d k. ap (λ x. named s final d x k) row.stored ∙ still s final d k m.stored) (λ l k. omega arith))
+
+-- steps that only tell
+pub quiet_only : {es : Expansions} {ds : List ExpressionStoreDiagnostics} {p : Lowering (Unit {0})} → Only es ds p → Correct p Quiet
+quiet_only h = quiet_writes (correct_only h) (λ x. refl) (λ s final d k x. refl)
+
+-- the node of a call leads somewhere
+
+quiet_point_pat : (at : Pointer) (i : PatId) → Correct (point_pat at i) Quiet
+quiet_point_pat at i = quiet_writes (correct_point_pat at i) (λ x. refl) (λ s final d k x. refl)
+
+quiet_point_type : (at : Pointer) (i : TypeRefId) → Correct (point_type at i) Quiet
+quiet_point_type at i = quiet_writes (correct_point_type at i) (λ x. refl) (λ s final d k x. refl)
+
+-- what a call stands for names what it names
+
+pub called_names : (at : Pointer) (c : Called) {A : Type 0} (pat_in : A → PatId) {now : A → Numbers} {p : Lowering A}
+    → Correct p (Adds none now) → Correct (called_pat_form at c pat_in p) (Adds none now)
+unfolding called_pat_form
+called_names at c pat_in h = adds_then (quiet_only (only_told c)) (λ u. adds_then h
+    (λ r. adds_then (adds_quiet (quiet_point_pat at (pat_in r))) (λ v. adds_pure r (λ l k. omega arith))))
+
+pub called_type_names : (at : Pointer) (c : Called) {now : TypeRefId → Numbers} {t : TypeSteps} → Correct t (Adds none now)
+    → Correct (called_type_form at c t) (Adds none now)
+unfolding called_type_form
+called_type_names at c h = adds_then (quiet_only (only_told c)) (λ u. adds_then h
+    (λ i. adds_then (adds_quiet (quiet_point_type at i)) (λ v. adds_pure i (λ l k. omega arith))))
 
 pub quiet_point_pat_field : (i : PatId) (at : Pointer) → Correct (point_pat_field i at) Quiet
 quiet_point_pat_field i at = quiet_writes (correct_point_pat_field i at) (λ x. refl) (λ s final d k x. refl)

@@ -70,6 +70,7 @@ pub settled_less : (ss : List Statement) (o : Option ExprId) (l : Look) → stat
 settled_less ss (Some i) l k = omega arith
 settled_less [] None l k = omega arith
 settled_less (statement.Item ∷ ss) None l k = settled_less ss None l k
+settled_less (statement.MacroDef d ∷ ss) None l k = settled_less ss None l k
 settled_less (statement.Let p t e b ∷ ss) None l k =
     let r = settled_less ss None l k in
     let x = times_append k (of_statement l (statement.Let p t e b)) (statements ss l) in
@@ -115,6 +116,14 @@ module _ (at : Pointer) where
   pub paren_quiet : {e : ExprSteps} → Correct e Quiet → Correct (paren_form at e) Quiet
   unfolding paren_form
   paren_quiet h = quiet_then h (λ i. quiet_then (quiet_point at i) (λ u. quiet_pure i))
+
+  pub uncalled_quiet : (c : Called) → Correct (uncalled_form at c) Quiet
+  unfolding uncalled_form
+  uncalled_quiet c = quiet_then (quiet_only (only_told c)) (λ u. quiet_alloc _ (Some at) (λ f k. omega arith))
+
+  pub called_quiet : (c : Called) {e : ExprSteps} → Correct e Quiet → Correct (called_form at c e) Quiet
+  unfolding called_form
+  called_quiet c h = quiet_then (quiet_only (only_told c)) (λ u. paren_quiet h)
 
   pub operand_quiet : (form : ExprId → HirExpr) {e : ExprSteps} → ((i : ExprId) → NamesNothing (form i)) → Correct e Quiet
       → Correct (operand_form at form e) Quiet
@@ -203,5 +212,5 @@ labelled_quiet None h = h None
 labelled_quiet (Some l) h = quiet_opened block_at l (λ n ps. refl) (λ n. h (Some n)) (λ n i. quiet_pure i)
 
 pub kept_quiet : (e : Expr) {p : ExprSteps} → Correct p Quiet → Correct (kept e p) Quiet
-kept_quiet (tree.disabled_expr at by e) h = quiet_then (quiet_report _) (λ u. quiet_pure None)
+kept_quiet (tree.disabled_expr why e) h = quiet_then (quiet_only (only_gone why)) (λ u. quiet_pure None)
 kept_quiet e h = quiet_some h

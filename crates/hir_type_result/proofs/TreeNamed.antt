@@ -93,6 +93,8 @@ mutual
 
   type_adds : (b : Option Binder) (t : Type_) → Correct (lower_type b t) (Adds none a_type)
   type_adds b (tree.paren_type t) = part_adds b t
+  type_adds b (tree.macro_type at c tree.no_type) = uncalled_type_names at c
+  type_adds b (tree.macro_type at c (tree.some_type t)) = called_type_names at c (type_adds b t)
   type_adds b (tree.for_type names t) = part_adds (Some names) t
   type_adds b (tree.leaf_type at form) = adds_type _ (Some at) (leaf_below form)
   type_adds b (tree.over_type at form t) = over_adds at form (part_adds None t)
@@ -215,6 +217,8 @@ mutual
 
   type_pat_adds : (p : TypePat) → Correct (lower_type_pat p) (Adds none a_pat)
   type_pat_adds (tree.not_null_type_pat at) = adds_pat _ (Some at) (λ l k. omega arith)
+  type_pat_adds (tree.macro_type_pat at c tree.no_type_pat) = uncalled_pat_names at c
+  type_pat_adds (tree.macro_type_pat at c (tree.some_type_pat p)) = called_names at c (λ i. i) (type_pat_adds p)
   type_pat_adds (tree.or_type_pat at ps) = pats.type_alternatives_adds at (type_pats_add [] ps)
   type_pat_adds (tree.range_type_pat at low high) = pats.limits_adds at (limit_quiet low) (limit_quiet high)
   type_pat_adds (tree.other_type_pat at) = adds_pat _ (Some at) (λ l k. omega arith)
@@ -238,7 +242,7 @@ mutual
   -- expressions
 
   node_quiet : (e : Expr) → Correct (lower e) Quiet
-  node_quiet (tree.disabled_expr at by e) = quiet_then (quiet_report _) (λ u. missing_quiet)
+  node_quiet (tree.disabled_expr why e) = quiet_then (quiet_only (only_gone why)) (λ u. missing_quiet)
   node_quiet (tree.if_expr at c t e) = if_quiet at (part_quiet c) (block_part_quiet t) (present_quiet e)
   node_quiet (tree.block_expr b) = block_quiet b
   node_quiet (tree.loop_expr at label _ b) = loop_quiet at _ label (block_part_quiet b)
@@ -258,6 +262,8 @@ mutual
   node_quiet (tree.continue_expr at jump) = continue_quiet at jump
   node_quiet (tree.break_expr at jump e) = break_quiet at jump (present_quiet e)
   node_quiet (tree.paren_expr at e) = paren_quiet at (part_quiet e)
+  node_quiet (tree.macro_expr at c tree.no_expr) = uncalled_quiet at c
+  node_quiet (tree.macro_expr at c (tree.some_expr e)) = called_quiet at c (node_quiet e)
   node_quiet (tree.literal_expr at l) = quiet_alloc _ (Some at) (λ f k. omega arith)
   node_quiet (tree.leaf_expr at form) = quiet_alloc _ (Some at) (leaf_quiet form)
   node_quiet (tree.unary_expr at form e) = operand_quiet at _ (unary_quiet form) (part_quiet e)
@@ -340,6 +346,7 @@ mutual
   stmt_adds (tree.expr_stmt e semi) = adds_then (kept_part_quiet e) (expr_statement semi)
   stmt_adds (tree.disabled_stmt at by s) = adds_then (quiet_report _) (λ u. adds_pure None (λ l k. omega arith))
   stmt_adds tree.item_stmt = adds_pure _ (λ l k. omega arith)
+  stmt_adds (tree.call_stmt c) = adds_then (quiet_only (only_note c)) (λ u. adds_pure None (λ l k. omega arith))
   stmt_adds (tree.let_stmt p t e b) = pats.let_stmt_adds (top_adds p) (present_adds t) (present_quiet e) (present_block_quiet b)
 
   present_block_quiet : (b : OptionBlock) → Correct (present_block b) Quiet
@@ -375,6 +382,8 @@ mutual
   pat_adds (tree.record_pat at p fs dots) t = pats.record_pat_adds at dots (pat_fields_add [] fs) (path_adds p) t
   pat_adds (tree.or_pat at ps) t = alternatives_add at ps t
   pat_adds (tree.paren_pat at p) t = pat_part_adds p t
+  pat_adds (tree.macro_pat at c tree.no_pat) t = pats.alone_adds (uncalled_pat_names at c) t
+  pat_adds (tree.macro_pat at c (tree.some_pat p)) t = pats.called_adds at c (pat_adds p) t
   pat_adds (tree.slice_pat at before p behind) t =
       pats.slice_pat_adds at (pats_add [] before) (subpat_adds p) (pats_add [] behind) t
   pat_adds (tree.over_pat at form p) t = pats.over_pat_adds at form (pat_part_adds p) t
@@ -431,6 +440,7 @@ mutual
   target_adds : (t : Target) → Correct (lower_target t) (Adds none a_pat)
   target_adds tree.absent_target = pats.missing_named
   target_adds (tree.place_target at e) = pats.place_adds at (node_quiet e)
+  target_adds (tree.macro_target at c t) = adds_then (quiet_only (only_told c)) (λ u. target_adds t)
   target_adds (tree.wild_target at) = adds_pat _ (Some at) (λ l k. omega arith)
   target_adds (tree.path_target at p h) = pats.path_target_adds at h (adds_then (reading_adds p start)
       (λ r. adds_pure (path_read r) (λ o. numbers.path_read_less o.types r)))

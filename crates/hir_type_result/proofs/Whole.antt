@@ -1,6 +1,7 @@
 -- What is stored where one type was lowered is one result of its tree.
-use Rattle.std.proofs.Common.{arith, refl, sym, ap, subst, ℕ, map, [], None, IsPermutation, is_some, true≢false}
+use Rattle.std.proofs.Common.{arith, refl, sym, ap, subst, ◌∙◌, ℕ, [], None, IsPermutation, is_some, true≢false}
 use Rattle.hir_store.specs.Stored.{store_of, map_of}
+use Rattle.hir_store.specs.Storing.{pat_id, type_id}
 use Rattle.hir_store.proofs.Arenas.{prefix_refl}
 use Rattle.hir_store.proofs.Maps.{maps_back_none}
 use Rattle.hir_store.proofs.Extending.{extends_refl}
@@ -8,17 +9,19 @@ use Rattle.hir_lower_form.specs.Builder.{fresh}
 use Rattle.hir_read_back.proofs.Now.{type_law}
 use Rattle.hir_steps.specs.Keeps.{Paired, Mapped, Keeps, KeepsAll}
 use Rattle.hir_steps.proofs.Keeping.{types_keep}
-use Rattle.hir_steps.proofs.Mapping.{maps_none}
+use Rattle.hir_steps.proofs.Mapping.{leads_none}
 use Rattle.hir_one_result.specs.Diagnostics.{type_part_faults}
 use Rattle.hir_one_result.specs.Laws.{Defined, Grown, GrownUnless, Settled}
 use Rattle.hir_one_result.specs.Leads.{LeadBack}
 use Rattle.hir_one_result.specs.Room.{type_part_size}
-use Rattle.hir_one_result.specs.Size.{led_source}
+use Rattle.hir_one_result.specs.Size.{calls_led, led_by, sources_led}
 use Rattle.hir_one_result.proofs.Fits.{types_fit}
 use Rattle.hir_one_result.proofs.Led.{leads_nowhere}
-use Rattle.hir_one_result.proofs.PatWays.{ways_back}
+use Rattle.hir_one_result.proofs.PatWays.{leads_back}
+use Rattle.hir_one_result.proofs.Took.{Room, Took}
 use Rattle.hir_one_result.proofs.TreeBlocks.{type_enters}
 use Rattle.hir_one_result.proofs.TreeFaults.{type_reports}
+use Rattle.hir_one_result.proofs.TreeRooms.{type_part_takes}
 use Rattle.hir_one_result.proofs.TreeStands.{type_left}
 use Rattle.hir_one_result.proofs.Whole.{lead_back}
 use Rattle.hir_type_result.specs.Roots.{RootsAre, RootsOf, lengths_of, no_lengths}
@@ -32,8 +35,8 @@ nothing_paired limit = record { exprs = refl; labels = refl; pats = refl; types 
 
 nothing_mapped : (limit : ℕ) → Mapped (fresh limit).stored
 nothing_mapped limit = record {
-  pats = maps_none (λ i. i.0) limit;
-  types = maps_back_none (λ i. i.0) limit;
+  pats = leads_none limit;
+  types = leads_none limit;
   lifetimes = maps_back_none (λ i. i.0) limit;
 }
 
@@ -53,6 +56,8 @@ type_results limit t i new is =
     let mapped = kept.mapped none (nothing_mapped limit) in
     let fits : Grown (type_part_size t) old.stored new.stored =
     subst (λ r. GrownUnless (type_part_size t) old r.0 r.1) is (types_fit None t old none) in
+    let took : Took (type_part_size t) old new =
+    subst (λ r. Room (type_part_size t) old r.0 r.1) is ((type_part_takes None t).takes old none) in
     let stays = extends_refl new.stored in
     let settled : Settled new.stored new.stored = prefix_refl new.stored.bindings.entries in
     let left = ways_behind old new i none is (type_left None t) new.stored stays settled in
@@ -73,9 +78,15 @@ type_results limit t i new is =
       pat_sources = fits.pat_sources;
       type_sources = fits.type_sources;
       lifetime_sources = fits.lifetime_sources;
-      pat_ways = subst (λ es. LeadBack (λ i. i.0) es (map led_source (type_part_size t).pats)) (sym fits.pat_ways)
-          (ways_back (type_part_size t).pats);
-      type_ways = lead_back (λ i. i.0) new.stored.types mapped.types;
+      pat_map = fits.pat_ways;
+      pat_ways = let leads = (type_part_size t).pat_leads in
+          subst (λ es. LeadBack (λ i. i.0) es (sources_led leads) (calls_led leads)) (sym fits.pat_ways)
+          (leads_back (λ i. i.0) pat_id (λ n. refl) leads);
+      types_map = fits.type_ways;
+      type_ways = let leads = (type_part_size t).type_leads in
+          subst (λ es. LeadBack (λ i. i.0) es new.stored.types.sources (calls_led leads)) (sym fits.type_ways)
+          (subst (λ ss. LeadBack (λ i. i.0) (led_by type_id 0 leads []) ss (calls_led leads)) (took.type_leads ∙ sym fits.type_sources)
+          (leads_back (λ i. i.0) type_id (λ n. refl) leads));
       lifetime_ways = lead_back (λ i. i.0) new.stored.lifetimes mapped.lifetimes;
       definitions = left.moved.defined (nothing_defined limit);
       ways = left.ways;

@@ -46,6 +46,7 @@ of_bindings_alone = record { types = λ i. []; pats = λ i. []; bindings = λ b.
 module _ (l : Look) where
   abbrev pub of_statement : Statement → List ℕ
   of_statement statement.Item = []
+  of_statement (statement.MacroDef d) = []
   of_statement (statement.Expr e semi) = []
   of_statement (statement.Let p t e b) = l.pats p ++ of_present l.types t
 

@@ -46,12 +46,16 @@ pub record TypeResult (store : Store) (source_map : SourceMap) (i : TypeRefId) (
   pub lifetimes : length store.lifetimes ≡ length (type_part_size t).lifetimes
   pub expr_sources : length source_map.expr_sources ≡ length store.exprs
   pub label_sources : length source_map.label_sources ≡ length store.labels
-  pub pat_sources : source_map.pat_sources ≡ map pat_source_of (type_part_size t).pats
+  pub pat_sources : source_map.pat_sources ≡ (type_part_size t).pats
   pub type_sources : source_map.type_sources ≡ (type_part_size t).types
   pub lifetime_sources : source_map.lifetime_sources ≡ (type_part_size t).lifetimes
-  pub pat_ways : LeadBack (λ i. i.0) source_map.pat_map (map led_source (type_part_size t).pats)
-  pub type_ways : LeadBack (λ i. i.0) source_map.types_map source_map.type_sources
-  pub lifetime_ways : LeadBack (λ i. i.0) source_map.lifetime_map source_map.lifetime_sources
+  pub pat_map : source_map.pat_map ≡ led_by pat_id 0 (type_part_size t).pat_leads []
+  pub pat_ways : let leads = (type_part_size t).pat_leads in
+      LeadBack (λ i. i.0) source_map.pat_map (sources_led leads) (calls_led leads)
+  pub types_map : source_map.types_map ≡ led_by type_id 0 (type_part_size t).type_leads []
+  pub type_ways : let leads = (type_part_size t).type_leads in
+      LeadBack (λ i. i.0) source_map.types_map source_map.type_sources (calls_led leads)
+  pub lifetime_ways : LeadBack (λ i. i.0) source_map.lifetime_map source_map.lifetime_sources []
   pub definitions : DefinitionsAre store.pats (length store.bindings) source_map.binding_definitions
   pub ways : List Way
   pub stands : TypePartWays store source_map [] t ways

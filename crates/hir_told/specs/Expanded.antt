@@ -1,0 +1,43 @@
+-- Which calls of macros are entered, each behind what else was expanded for it, in the order of lowering.
+use Rattle.std.specs.Prelude.{[], ◌++◌}
+use Rattle.hir_steps.specs.Calls.{Expansions, expansions_of_called, expansions_of_entered, expansions_of_gone}
+use Rattle.hir_told.specs.Bodies.{GradingBodies}
+use Rattle.hir_told.specs.Grading.{Grading}
+
+abbrev pub expansions : Grading {0}
+expansions = record {
+  G = Expansions;
+  none = [];
+  then' = λ es fs. es ++ fs;
+  type_at = λ at. [];
+  lifetime_at = λ at. [];
+  pat_at = λ at. [];
+  expr = [];
+  binding = [];
+  fault = λ d. [];
+  noted = λ c. expansions_of_entered c;
+  told = λ c. expansions_of_called c;
+  gone = λ why. expansions_of_gone why;
+  pat_call = λ at. [];
+  type_call = λ at. [];
+  super = λ n. [];
+  dots = λ n. [];
+  jump = λ j. [];
+  block = λ n. [];
+  made_name = [];
+  yielding = λ es. es;
+  looped = λ label es. es;
+  labelled = λ l es. es;
+  tried = λ typed es fs ks. (es ++ fs) ++ ks;
+  inner = λ l es. es;
+  constant = λ e es. es;
+  rooted = λ e es. es;
+  closure = λ es fs ks. es ++ (fs ++ ks);
+  coroutine_closure = λ xs es fs ks. es ++ (fs ++ ks);
+  coroutine = λ n es. es;
+  owned = λ es. es;
+}
+
+-- `self`, the other parameters, and the body
+abbrev pub bodies_expanded : GradingBodies expansions
+bodies_expanded = record { coroutine_body = λ skipped f es fs ks. es ++ (fs ++ ks) }
