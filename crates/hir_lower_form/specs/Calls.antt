@@ -16,13 +16,8 @@ use Rattle.hir_env.specs.Calls.{asked_call, call_pointer, called, inside_file}
 use Rattle.hir_env.specs.Lent.{fragment_lent}
 use Rattle.hir_env.specs.Spot.{Spot}
 use Rattle.hir_env.specs.Answered as tree
-<<<<<<< HEAD
 use Rattle.hir_env.specs.Answered.{Called, Entered, Gone, Stmt}
 use Rattle.hir_lower_form.specs.Lowering.{Lowering, Checked, ◌>>=◌, ◌>>◌, pure, close, count_def, open_macro, record_expansion, report}
-=======
-use Rattle.hir_env.specs.Answered.{Called, Entered, Gone}
-use Rattle.hir_lower_form.specs.Lowering.{Lowering, Checked, ◌>>◌, pure, record_expansion, report}
->>>>>>> 789d8b635e3bbd643cf9ee413ef698d7de266a7d
 use Rattle.hir_lower_form.specs.declared.calls.Entered.{Entered as LentEntered}
 use Rattle.hir_lower_form.specs.declared.calls.Entered.TheVariants as lent
 
