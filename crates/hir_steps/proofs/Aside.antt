@@ -23,6 +23,7 @@ pub record Aside {A : Type 0} (final : Stored) (ps : List Frame) (m m' : Mark) (
   pub labels_are : m'.stored.labels ≡ m.stored.labels
   pub diagnostics : m'.stored.diagnostics ≡ m.stored.diagnostics
   pub block_scopes : m'.stored.block_scopes ≡ m.stored.block_scopes
+  pub expansions : m'.stored.expansions ≡ m.stored.expansions
   pub field_map_back : m'.stored.field_map_back ≡ m.stored.field_map_back
 
 pub aside_pure : {A : Type 0} (a : A) → Correct (pure a) Aside
@@ -33,6 +34,7 @@ aside_pure a = correct_as (correct_pure a) (λ final ps m m' b g row. record {
   labels_are = ap (λ x. x.stored.labels) row.still;
   diagnostics = ap (λ x. x.stored.diagnostics) row.still;
   block_scopes = ap (λ x. x.stored.block_scopes) row.still;
+  expansions = ap (λ x. x.stored.expansions) row.still;
   field_map_back = ap (λ x. x.stored.field_map_back) row.still;
 })
 
@@ -45,6 +47,7 @@ aside_then h k = correct_as (correct_bind h k) (λ final ps m m' a g row. let on
   labels_are = two.labels_are ∙ one.labels_are;
   diagnostics = two.diagnostics ∙ one.diagnostics;
   block_scopes = two.block_scopes ∙ one.block_scopes;
+  expansions = two.expansions ∙ one.expansions;
   field_map_back = two.field_map_back ∙ one.field_map_back;
 })
 
@@ -56,6 +59,7 @@ aside_type t source = correct_as (correct_alloc_type t source) (λ final ps m m'
   labels_are = ap (λ s. s.labels) row.stored;
   diagnostics = ap (λ s. s.diagnostics) row.stored;
   block_scopes = ap (λ s. s.block_scopes) row.stored;
+  expansions = ap (λ s. s.expansions) row.stored;
   field_map_back = ap (λ s. s.field_map_back) row.stored;
 })
 
@@ -67,6 +71,7 @@ aside_lifetime l source = correct_as (correct_alloc_lifetime l source) (λ final
   labels_are = ap (λ s. s.labels) row.stored;
   diagnostics = ap (λ s. s.diagnostics) row.stored;
   block_scopes = ap (λ s. s.block_scopes) row.stored;
+  expansions = ap (λ s. s.expansions) row.stored;
   field_map_back = ap (λ s. s.field_map_back) row.stored;
 })
 
