@@ -1,5 +1,5 @@
 -- What a kind is made of, and that no kind of a family is left where each was taken.
-use Rattle.std.proofs.Common.{◌≡◌, ◌∙◌, ap, sym, refl, Bool, List, Option}
+use Rattle.std.proofs.Common.{◌≡◌, ◌∙◌, ap, sym, refl, Bool, List, Ok, Option}
 use Rattle.hir_syntax.specs.declared.ast.ElseBranch.TheOpen.{ExprKind-F}
 use Rattle.hir_syntax.specs.declared.ast.ExprKind.{ExprKind as AstExprKind, out-ExprKind, roll-ExprKind}
 use Rattle.hir_syntax.specs.declared.ast.ExprKind.{out-roll-ExprKind, roll-out-ExprKind}
@@ -21,8 +21,10 @@ use Rattle.hir_syntax.specs.declared.branches.MatchArm.{MatchArm as AstMatchArm}
 use Rattle.hir_syntax.specs.declared.pats.Pat.{Pat as AstPat}
 use Rattle.hir_base.specs.declared.op.RangeOp.{RangeOp}
 use Rattle.hir_base.specs.declared.node.PredId.{PredId}
+use Rattle.hir_env.specs.Answering.{asked, site_of}
 use Rattle.hir_env.specs.Layers.{ExprKindLayer}
-use Rattle.hir_env.specs.Whole.{written}
+use Rattle.hir_env.specs.Spot.{Spot}
+use Rattle.hir_env.specs.Whole.{asked_expr, kept_expr, pointer_at, written}
 use Rattle.hir_env.specs.Wrapped.{AstGenericArgList, AstRetType}
 use Rattle.hir_lower_form.specs.Families.{IsControl, IsMatching, IsListing, IsAccess, IsOperator, IsLeaving, IsTyped, IsLeaf}
 
@@ -31,6 +33,11 @@ made k l h = sym (roll-out-ExprKind k) ∙ ap roll-ExprKind h
 
 pub opened : {k : AstExprKind} {l : ExprKindLayer written} → roll-ExprKind l ≡ k → out-ExprKind k ≡ l
 opened {k} {l} h = ap out-ExprKind (sym h) ∙ out-roll-ExprKind l
+
+-- what no condition disables stands for itself
+pub enabled_is : (at : Spot) (e : AstExpr) (u : Unit {0}) → at.answers.cfg (site_of (pointer_at at e.id e.range)) ≡ Ok u
+    → asked_expr at e ≡ kept_expr at e
+enabled_is at e u h = ap (λ r. asked (pointer_at at e.id e.range) r (kept_expr at e)) h
 
 pub only_control : (k : AstExprKind) → IsControl (out-ExprKind k)
     → ((c : Option AstExpr) (t : Option AstBlockExpr) (e : Option AstElseBranch) → k ≡ kind.IfExpr c t e → ⊥)

@@ -73,7 +73,6 @@ fn expr_form<P: LowerParts>(
 }
 
 /// The expression, none where a condition disables it.
-#[tactic(auto, using(hir_lower_form::proofs::Kept::kept_is_some))]
 pub fn expr_node<P: LowerParts>(
     lowerer: &Lowerer<P>,
     state: &mut BodyBuilder,

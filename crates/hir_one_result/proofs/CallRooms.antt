@@ -1,9 +1,8 @@
 -- How much calls of macros take.
-use Rattle.std.proofs.Common.{arith, ◌≡◌, refl, sym, ap, subst, ℕ, suc, ◌-◌, length, List, [], ◌∷◌, Option, None, Ok, Err}
+use Rattle.std.proofs.Common.{arith, ◌≡◌, refl, ap, ℕ, suc, ◌-◌, length, Ok, Err}
 use Rattle.hir_store.specs.Pointers.{Pointer}
 use Rattle.hir_store.specs.Storing as storing
 use Rattle.hir_store.specs.Storing.{pat_id, type_id}
-use Rattle.hir_store.specs.Stored.{Stored}
 use Rattle.hir_store.specs.declared.ids.PatId.{PatId}
 use Rattle.hir_store.specs.declared.ids.TypeRefId.{TypeRefId}
 use Rattle.indexmap.specs.IndexMap.{insert_entry}
@@ -13,11 +12,11 @@ use Rattle.hir_env.specs.Answered.{Called, Entered, Gone}
 use Rattle.hir_lower_form.specs.Builder.{Builder}
 use Rattle.hir_lower_form.specs.Calls.{note, note_gone, told}
 use Rattle.hir_lower_form.specs.Forms.{ExprSteps, called_form, uncalled_form}
-use Rattle.hir_lower_form.specs.Lowering.{Checked, go_on, Lowering, ◌>>=◌, ◌>>◌, pure, point_pat, point_type}
+use Rattle.hir_lower_form.specs.Lowering.{Checked, go_on, Lowering, ◌>>=◌, pure, point_pat, point_type}
 use Rattle.hir_lower_form.specs.Pats.{called_pat_form, uncalled_pat}
-use Rattle.hir_lower_form.specs.Types.{TypeSteps, called_type_form, error_type, uncalled_type}
+use Rattle.hir_lower_form.specs.Types.{TypeSteps, called_type_form, uncalled_type}
 use Rattle.hir_steps.proofs.Calls.{only_gone, only_note, only_told, pointing_pat, pointing_type}
-use Rattle.hir_one_result.specs.Size.{Size, a_pat, a_pat_call, a_type, a_type_call, an_expr, nothing, uncalled_pat_size}
+use Rattle.hir_one_result.specs.Size.{Size, a_pat_call, a_type_call, an_expr, nothing, uncalled_pat_size}
 use Rattle.hir_one_result.specs.Size.{uncalled_type_size, ◌∪◌}
 use Rattle.hir_one_result.proofs.ExprRooms.{paren_takes}
 use Rattle.hir_one_result.proofs.LastStored.{EndsAt, LastPat, LastType, error_last, missing_pat_last, pats_in, types_in}

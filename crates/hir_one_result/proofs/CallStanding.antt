@@ -1,5 +1,5 @@
 -- Calls of macros: what stands for one, and where it leads.
-use Rattle.std.proofs.Common.{◌≡◌, refl, sym, ap, subst, ℕ, List, None}
+use Rattle.std.proofs.Common.{refl, sym, ap, subst, ℕ, List, None}
 use Rattle.hir_store.specs.Pointers.{Pointer}
 use Rattle.hir_store.specs.Stored.{Stored, store_of, map_of}
 use Rattle.hir_store.specs.declared.diagnostics.ExpressionStoreDiagnostics.{ExpressionStoreDiagnostics}
@@ -24,7 +24,7 @@ use Rattle.hir_steps.proofs.Frames.{ribs}
 use Rattle.hir_one_result.specs.Leads.{No, OneWay, Ways, ◌&◌}
 use Rattle.hir_one_result.specs.Stands.{Open, StandsAlone}
 use Rattle.hir_one_result.proofs.Lasting.{Correct, correct_as, correct_bind, correct_pure, keeping, settled_as}
-use Rattle.hir_one_result.proofs.Leading.{Moved, Shown, moved_still, moved_then, moved_to, shown_after, shown_none}
+use Rattle.hir_one_result.proofs.Leading.{Shown, moved_still, moved_then, moved_to, shown_after, shown_none}
 use Rattle.hir_one_result.proofs.Leading.{moved_pointed}
 use Rattle.hir_one_result.proofs.Naming.{PatFine, Within, none_before, pat_alone, pat_as, pat_pure, pat_step, pat_tail, same_notes}
 use Rattle.hir_one_result.proofs.Naming.{same_uses, shows_facts, tail_step}

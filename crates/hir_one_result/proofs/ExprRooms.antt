@@ -28,7 +28,7 @@ use Rattle.hir_lower_form.specs.Types.{TypeSteps}
 use Rattle.hir_one_result.specs.PathRoom.{Seen}
 use Rattle.hir_one_result.specs.Room.{label_size, front_size}
 use Rattle.hir_steps.proofs.Calls.{only_gone}
-use Rattle.hir_one_result.proofs.Rooms.{Takes, takes_then, takes_as, takes_end, takes_begin, takes_pure, takes_report, takes_block}
+use Rattle.hir_one_result.proofs.Rooms.{Takes, takes_then, takes_as, takes_end, takes_begin, takes_pure, takes_block}
 use Rattle.hir_one_result.proofs.Rooms.{takes_close, takes_point, takes_jump, takes_alloc, takes_open, takes_report_await}
 use Rattle.hir_one_result.proofs.Rooms.{takes_only, takes_point_field}
 use Rattle.hir_one_result.proofs.Took.{nothing_first}

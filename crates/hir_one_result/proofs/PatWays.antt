@@ -96,8 +96,12 @@ module _ {I : Type 0} (place : I → ℕ) (number : ℕ → I) (placed : (n : �
       to_entry = λ n p g. ⊎_elim
           (λ o. let b = below ss (Some p) n o in
           still_led s ss (number (length ss)) n p (let k = placed (length ss) in omega (arith, k, b)) (h.to_entry n p o))
-          (λ e. (number (length ss), subst (λ q. found (entered s (number (length ss)) es) q ≡ Some (number (length ss)))
-          (same_Some s p e.1) (found_new s (number (length ss)) es), let k = placed (length ss) in omega (arith, k, e.0)))
+          (λ e. (
+            number (length ss),
+            subst (λ q. found (entered s (number (length ss)) es) q ≡ Some (number (length ss)))
+                (same_Some s p e.1) (found_new s (number (length ss)) es),
+            let k = placed (length ss) in omega (arith, k, e.0),
+          ))
           (push_cases ss (Some s) (Some p) n g);
     }
 

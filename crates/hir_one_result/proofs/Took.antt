@@ -1,6 +1,6 @@
 -- How much more is stored, and that there is no room for it.
 use Rattle.std.proofs.Common.{arith, ◌≡◌, ◌∙◌, refl, sym, ap, subst, ℕ, ◌+◌, ◌<◌, ◌≤◌, ◌^◌, length}
-use Rattle.std.proofs.Common.{length-append, append-nil, append_assoc, List, [], ◌∷◌, ◌++◌, map, Option, Ok, Err, inl, inr, ⊎_elim}
+use Rattle.std.proofs.Common.{length-append, append-nil, append_assoc, List, [], ◌∷◌, ◌++◌, Option, Ok, Err, inl, inr, ⊎_elim}
 use Rattle.hir_store.specs.Pointers.{Pointer}
 use Rattle.hir_store.specs.Arenas.{Sourced}
 use Rattle.hir_store.specs.Storing.{pat_id, type_id}

@@ -2,7 +2,6 @@
 use Rattle.std.proofs.Common.{◌≡◌, ◌∙◌, refl, sym, ap, subst, List, [], append-nil, Bool, Option, Some, None}
 use Rattle.hir_store.specs.Pointers.{Pointer}
 use Rattle.hir_store.specs.Stored.{Stored, store_of, map_of}
-use Rattle.hir_store.specs.declared.diagnostics.ExpressionStoreDiagnostics.TheVariants.{InactiveCode}
 use Rattle.hir_store.specs.declared.hir.Expr.TheVariants as hir
 use Rattle.hir_store.specs.declared.hir.MatchArm.{MatchArm}
 use Rattle.hir_store.specs.declared.hir.RecordLitField.{RecordLitField}
@@ -29,10 +28,10 @@ use Rattle.hir_one_result.specs.StandsWhole.{StandsAssigned}
 use Rattle.hir_steps.proofs.Calls.{only_gone}
 use Rattle.hir_one_result.proofs.CallStanding.{only_facts}
 use Rattle.hir_one_result.proofs.Contents.{has_contents}
-use Rattle.hir_one_result.proofs.Lasting.{Correct, correct_as, correct_bind, correct_both, correct_pure, correct_report}
+use Rattle.hir_one_result.proofs.Lasting.{Correct, correct_as, correct_bind, correct_both, correct_pure}
 use Rattle.hir_one_result.proofs.Leading.{Shown, shown_as, shown_none, shown_before, moved_then}
 use Rattle.hir_one_result.proofs.PatStanding.{Behind}
-use Rattle.hir_one_result.proofs.Standing.{Of, Placed, Shows, moved_pure, moved_fault, present_some, block_form_stands}
+use Rattle.hir_one_result.proofs.Standing.{Of, Placed, Shows, moved_pure, present_some, block_form_stands}
 
 pub kept_stands : (e : Expr) {p : ExprSteps} {S : Of ExprId} → Correct p (Shows S)
     → Correct (kept e p) (Shows (λ final rs o. ThereIf (is_kept e) (λ i. S final rs i) o))

@@ -1,5 +1,5 @@
 -- What lowering a tree does to what is stored.
-use Rattle.std.specs.Prelude.{◌≡◌, ◌+◌, Bool, List, ◌++◌, length, map, Option, Ok, Err, IsPermutation}
+use Rattle.std.specs.Prelude.{◌≡◌, ◌+◌, Bool, List, ◌++◌, length, Option, Ok, Err, IsPermutation}
 use Rattle.hir_store.specs.Arenas.{Prefix}
 use Rattle.hir_store.specs.Stored.{Stored, store_of, map_of}
 use Rattle.hir_store.specs.Storing.{Checked, Extends, pat_id, type_id}

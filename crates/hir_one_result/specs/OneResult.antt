@@ -1,5 +1,5 @@
 -- Store, source map and faults of a lowered body are one result of its tree.
-use Rattle.std.specs.Prelude.{◌≡◌, ℕ, Bool, true, false, List, [], ◌∷◌, ◌++◌, length, map, Option, Some, None, Ok, IsPermutation}
+use Rattle.std.specs.Prelude.{◌≡◌, ℕ, Bool, true, false, List, [], ◌∷◌, ◌++◌, length, Option, Some, None, Ok, IsPermutation}
 use Rattle.std.specs.Prelude.{slice_get}
 use Rattle.hir_store.specs.Stored.{Stored, Store, SourceMap, store_of, map_of}
 use Rattle.hir_store.specs.Storing.{pat_id, record_root, root_at, type_id}

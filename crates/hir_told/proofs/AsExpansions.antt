@@ -3,22 +3,22 @@ use Rattle.std.proofs.Common.{◌≡◌, ◌∙◌, refl, sym, [], ◌++◌, app
 use Rattle.hir_store.specs.Stored.{Stored}
 use Rattle.hir_store.specs.declared.expansions.ExpandedCall.{ExpandedCall}
 use Rattle.hir_store.specs.declared.ids.BlockId.{BlockId}
-use Rattle.hir_scope.specs.Scopes.{Scope}
 use Rattle.hir_lower_form.specs.Builder.{Builder}
 use Rattle.hir_lower_form.specs.Lowering.{Lowering}
 use Rattle.hir_steps.specs.Calls.{Expansions}
 use Rattle.hir_steps.specs.Keeps.{Paired}
 use Rattle.hir_steps.proofs.Steps.{Correct, with_block}
 use Rattle.hir_one_result.proofs.Around.{scopes_around}
+use Rattle.hir_one_result.proofs.CoroutineTelling.{coroutine_body_tells}
 use Rattle.hir_one_result.proofs.Telling.{Listing, Tells}
 use Rattle.hir_told.specs.Expanded.{bodies_expanded, expansions}
 use Rattle.hir_told.specs.Laws.{BodiesExpand, ExprsExpand, PathsExpand, TypesExpand}
-use Rattle.hir_told.proofs.AsTelling.{behind, tells_bodies, tells_graded}
+use Rattle.hir_told.proofs.AsTelling.{behind, tells_graded}
 use Rattle.hir_told.proofs.Bodies.{GradedBodies, body_graded}
 use Rattle.hir_told.proofs.Graded.{Graded}
 use Rattle.hir_told.proofs.Tree.{expr_part_graded, part_graded, path_graded}
 
-none_in_block : (n : Option BlockId) (s : Stored) → (with_block n s).expansions ≡ s.expansions ++ []
+pub none_in_block : (n : Option BlockId) (s : Stored) → (with_block n s).expansions ≡ s.expansions ++ []
 none_in_block None s = sym (append-nil s.expansions)
 none_in_block (Some n) s = sym (append-nil s.expansions)
 
@@ -103,7 +103,7 @@ expansions_graded = let all = tells_graded expanded in record {
 
 abbrev pub expansions_bodies : GradedBodies expansions_graded bodies_expanded
 expansions_bodies = record {
-  coroutine_body_is = λ kind skipped f e hs hf he. (tells_bodies expanded).coroutine_body_is kind skipped f e hs hf he;
+  coroutine_body_is = λ kind skipped f e hs hf he. coroutine_body_tells expanded kind skipped f e hs hf he;
 }
 
 -- ---- laws

@@ -277,8 +277,6 @@ fits {A = A} {n = n} {p = p} h old d = by (p old).0 (p old).1 (h.takes old d)
       type_sources = h.type_sources;
       lifetime_sources = h.lifetime_sources;
       type_ways = h.type_ways;
-      pat_leads = h.pat_leads;
-      type_leads = h.type_leads;
     }
     by (Err f) new h = h
 

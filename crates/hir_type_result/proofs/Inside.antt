@@ -41,6 +41,7 @@ use Rattle.hir_lower_form.specs.Lower.{lower_type_pats, lower_limit, limit_side,
 use Rattle.hir_lower_form.specs.Lower.{lower_target_field, push_some, lower_param, lower_params, no_closure_params}
 use Rattle.hir_meaning.specs.Inner.{Inside, by_itself, of_bound, of_path, of_present}
 use Rattle.hir_steps.specs.Keeps.{Paired}
+use Rattle.hir_steps.proofs.Calls.{correct_note, correct_note_gone, correct_told}
 use Rattle.hir_steps.proofs.Steps.{Correct, correct_in_store, correct_report}
 use Rattle.hir_steps.proofs.PatAny.{settle_any}
 use Rattle.hir_steps.proofs.TypeAny.{lifetime_any, uses_any}
@@ -57,6 +58,7 @@ use Rattle.hir_type_result.proofs.Weighed.{adds_limit, adds_owning, adds_pat, ad
 use Rattle.hir_type_result.proofs.Weighed.{adds_type_pat}
 use Rattle.hir_type_result.proofs.Weights as weights
 use Rattle.hir_type_result.proofs.InsideTypes.{maybe_type, types, a_bound, bounds, arguments, lists, maybe_path, walk, reading}
+use Rattle.hir_type_result.proofs.InsideTypes.{called_type_adds, uncalled_type_adds}
 use Rattle.hir_type_result.proofs.InsideTypes.{error_adds, unit_adds, leaf_adds, over_adds, array_adds, tuple_adds, path_type_adds}
 use Rattle.hir_type_result.proofs.InsideTypes.{ref_adds, fn_adds, impl_adds, dyn_adds, path_bound_adds, proceed_adds, whole_adds}
 use Rattle.hir_type_result.proofs.InsideTypes.{super_adds, self_adds, at_first_adds, bare_adds, with_trait_adds, parens_form_adds}
@@ -77,6 +79,8 @@ mutual
 
   type_adds : (b : Option Binder) (t : Type_) → Correct (lower_type b t) (Adds free a_type)
   type_adds b (tree.paren_type t) = part_adds b t
+  type_adds b (tree.macro_type at c tree.no_type) = uncalled_type_adds at c
+  type_adds b (tree.macro_type at c (tree.some_type t)) = called_type_adds at c (type_adds b t)
   type_adds b (tree.for_type names t) = part_adds (Some names) t
   type_adds b (tree.leaf_type at form) = leaf_adds at form
   type_adds b (tree.over_type at form t) = over_adds at form (part_adds None t)
@@ -203,6 +207,8 @@ mutual
 
   type_pat_adds : (p : TypePat) → Correct (lower_type_pat p) (Adds free a_type_pat)
   type_pat_adds (tree.not_null_type_pat at) = adds_type_pat _ (Some at) (λ v. omega arith)
+  type_pat_adds (tree.macro_type_pat at c tree.no_type_pat) = pats.uncalled_type_pat_adds at c
+  type_pat_adds (tree.macro_type_pat at c (tree.some_type_pat p)) = pats.called_adds at c (λ i. i) (type_pat_adds p)
   type_pat_adds (tree.or_type_pat at ps) = pats.type_alternatives_adds at (type_pats_add [] ps)
   type_pat_adds (tree.range_type_pat at low high) = pats.limits_adds at (limit_adds low) (limit_adds high)
   type_pat_adds (tree.other_type_pat at) = adds_type_pat _ (Some at) (λ v. omega arith)
@@ -226,7 +232,7 @@ mutual
   -- expressions
 
   node_adds : (e : Expr) → Correct (lower e) (Adds free an_expr)
-  node_adds (tree.disabled_expr at by e) = adds_then (adds_any (correct_report _)) (λ u. missing_adds)
+  node_adds (tree.disabled_expr why e) = adds_then (adds_any (correct_note_gone why)) (λ u. missing_adds)
   node_adds (tree.if_expr at c t e) = forms.if_adds at (body_adds c) (block_part_adds t) (present_expr_adds e)
   node_adds (tree.block_expr b) = block_adds b
   node_adds (tree.loop_expr at label _ b) = forms.loop_adds at _ label (block_part_adds b)
@@ -246,6 +252,8 @@ mutual
   node_adds (tree.continue_expr at jump) = forms.continue_adds at jump
   node_adds (tree.break_expr at jump e) = forms.break_adds at jump (present_expr_adds e)
   node_adds (tree.paren_expr at e) = forms.paren_adds at (body_adds e)
+  node_adds (tree.macro_expr at c tree.no_expr) = forms.uncalled_adds at c
+  node_adds (tree.macro_expr at c (tree.some_expr e)) = forms.called_adds at c (node_adds e)
   node_adds (tree.literal_expr at l) = adds_expr _ (Some at) (λ v. omega arith)
   node_adds (tree.leaf_expr at form) = forms.leaf_adds at form
   node_adds (tree.unary_expr at form e) = forms.operand_adds at _ (forms.unary_less form) (body_adds e)
@@ -334,6 +342,7 @@ mutual
   stmt_adds (tree.expr_stmt e semi) = forms.statement_adds semi (kept_part_adds e)
   stmt_adds (tree.disabled_stmt at by s) = adds_then (adds_any (correct_report _)) (λ u. adds_pure None (λ v. omega arith))
   stmt_adds tree.item_stmt = adds_pure _ (λ v. omega arith)
+  stmt_adds (tree.call_stmt c) = adds_then (adds_any (correct_note c)) (λ u. adds_pure None (λ v. omega arith))
   stmt_adds (tree.let_stmt p t e b) = pats.let_stmt_adds (top_adds p) (present_adds t) (present_expr_adds e) (present_block_adds b)
 
   present_block_adds : (b : OptionBlock) → Correct (present_block b) (Adds free (maybe an_expr))
@@ -369,6 +378,8 @@ mutual
   pat_adds (tree.record_pat at p fs dots) t = pats.record_pat_adds at dots (pat_fields_add [] fs) (path_adds p) t
   pat_adds (tree.or_pat at ps) t = alternatives_add at ps t
   pat_adds (tree.paren_pat at p) t = pat_part_adds p t
+  pat_adds (tree.macro_pat at c tree.no_pat) t = pats.alone_adds (pats.uncalled_pat_adds at c) t
+  pat_adds (tree.macro_pat at c (tree.some_pat p)) t = pats.called_adds at c (λ r. r.0) (pat_adds p t)
   pat_adds (tree.slice_pat at before p behind) t =
       pats.slice_pat_adds at (pats_add [] before) (subpat_adds p) (pats_add [] behind) t
   pat_adds (tree.over_pat at form p) t = pats.over_pat_adds at form (pat_part_adds p) t
@@ -425,6 +436,7 @@ mutual
   target_adds : (t : Target) → Correct (lower_target t) (Adds free a_target)
   target_adds tree.absent_target = aims.missing_target_adds
   target_adds (tree.place_target at e) = aims.place_adds at (node_adds e)
+  target_adds (tree.macro_target at c t) = adds_then (adds_any (correct_told c)) (λ u. target_adds t)
   target_adds (tree.wild_target at) = adds_target _ (Some at) (λ v. omega arith)
   target_adds (tree.path_target at p h) = aims.path_target_adds at h (adds_then (reading_adds p start)
       (λ r. adds_pure (path_read r) (λ v. weights.path_read_less v.weight v.held r)))

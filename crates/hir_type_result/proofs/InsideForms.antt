@@ -2,7 +2,6 @@
 use Rattle.std.proofs.Common.{◌≡◌, refl, ℕ, ◌+◌, ◌≤◌, Bool, true, false, List, [], ◌∷◌, ◌++◌, Option, Some, None, option_map, arith}
 use Rattle.hir_store.specs.Pointers.{Pointer}
 use Rattle.hir_store.specs.declared.diagnostics.AwaitLocation.{AwaitLocation}
-use Rattle.hir_store.specs.declared.diagnostics.ExpressionStoreDiagnostics.TheVariants.{InactiveCode}
 use Rattle.hir_store.specs.declared.hir.Array.TheVariants as array
 use Rattle.hir_store.specs.declared.hir.Expr.{Expr as HirExpr}
 use Rattle.hir_store.specs.declared.hir.Expr.TheVariants as hir
@@ -20,19 +19,21 @@ use Rattle.hir_store.specs.declared.path.GenericArgs.{GenericArgs}
 use Rattle.hir_store.specs.declared.path.Path.{Path}
 use Rattle.hir_store.specs.declared.type_ref.ConstRef.{ConstRef}
 use Rattle.hir_env.specs.Answered as tree
-use Rattle.hir_env.specs.Answered.{Leaf, Unary, Binary, Listing, Leaving, Label, Jump, Expr}
+use Rattle.hir_env.specs.Answered.{Called, Leaf, Unary, Binary, Listing, Leaving, Label, Jump, Expr}
 use Rattle.hir_lower_form.specs.Lowering.{Lowering, ◌>>=◌, pure, alloc_expr}
 use Rattle.hir_lower_form.specs.Types.{TypeSteps}
 use Rattle.hir_lower_form.specs.Lower.{ExprSteps, StoredContents, StoredFields, push_some, missing, some, if_form, loop_form, call_form}
 use Rattle.hir_lower_form.specs.Lower.{turn_form, repeat_form, const_form}
 use Rattle.hir_lower_form.specs.Lower.{continue_form, break_form, operand_form, operands_form, value_form, list_form}
-use Rattle.hir_lower_form.specs.Lower.{method_call_form, await_form, paren_form, path_form, path_or_missing, cast_form}
+use Rattle.hir_lower_form.specs.Lower.{called_form, method_call_form, await_form, paren_form, uncalled_form, path_form, path_or_missing}
+use Rattle.hir_lower_form.specs.Lower.{cast_form}
 use Rattle.hir_lower_form.specs.Lower.{offset_of_form, record_contents, record_of, record_form, field_form, block_form, labelled}
 use Rattle.hir_lower_form.specs.Lower.{stored_leaf, stored_unary, stored_binary, stored_leaving, settled, settled_block, kept}
 use Rattle.hir_meaning.specs.Inner as inner
 use Rattle.hir_meaning.specs.Inner.{Inside, all_of, of_constant, of_present, of_list, of_path}
+use Rattle.hir_steps.proofs.Calls.{correct_note_gone, correct_told}
 use Rattle.hir_steps.proofs.Frames.{loop_at, block_at}
-use Rattle.hir_steps.proofs.Steps.{Correct, correct_report, correct_report_await, correct_point, correct_point_field}
+use Rattle.hir_steps.proofs.Steps.{Correct, correct_report_await, correct_point, correct_point_field}
 use Rattle.hir_steps.proofs.Steps.{correct_enter_block, correct_target}
 use Rattle.hir_same_meaning.specs.Reached.{of_some, of_each, of_fields, of_others, of_statement, of_statements}
 use Rattle.hir_type_result.proofs.Counted.{times, times_append}
@@ -129,8 +130,8 @@ pub some_adds : {p : ExprSteps} → Correct p (Adds free an_expr) → Correct (s
 some_adds h = adds_then h (λ i. adds_pure (Some i) (λ v. omega arith))
 
 pub kept_adds : (e : Expr) {p : ExprSteps} → Correct p (Adds free an_expr) → Correct (kept e p) (Adds free (maybe an_expr))
-kept_adds (tree.disabled_expr at by e) h =
-    adds_then (adds_any (correct_report (InactiveCode at by))) (λ u. adds_pure None (λ v. omega arith))
+kept_adds (tree.disabled_expr why e) h =
+    adds_then (adds_any (correct_note_gone why)) (λ u. adds_pure None (λ v. omega arith))
 kept_adds e h = some_adds h
 
 -- ---- forms
@@ -201,6 +202,7 @@ pub settled_less : (ss : List Statement) (o : Option ExprId) (v : View) → cont
 settled_less ss (Some i) v = omega arith
 settled_less [] None v = omega arith
 settled_less (statement.Item ∷ ss) None v = let r = settled_less ss None v in omega arith
+settled_less (statement.MacroDef d ∷ ss) None v = let r = settled_less ss None v in omega arith
 settled_less (statement.Let p t e b ∷ ss) None v = let r = settled_less ss None v in omega arith
 settled_less (statement.Expr i true ∷ ss) None v = let r = settled_less ss None v in omega arith
 settled_less (statement.Expr i false ∷ []) None v = omega arith
@@ -261,6 +263,14 @@ module _ (at : Pointer) where
   pub paren_adds : {e : ExprSteps} → Correct e (Adds free an_expr) → Correct (paren_form at e) (Adds free an_expr)
   unfolding paren_form
   paren_adds h = adds_then h (λ i. adds_then (adds_any (correct_point at i)) (λ u. adds_pure i (λ v. omega arith)))
+
+  pub uncalled_adds : (c : Called) → Correct (uncalled_form at c) (Adds free an_expr)
+  unfolding uncalled_form
+  uncalled_adds c = adds_then (adds_any (correct_told c)) (λ u. adds_expr _ (Some at) (λ v. omega arith))
+
+  pub called_adds : (c : Called) {e : ExprSteps} → Correct e (Adds free an_expr) → Correct (called_form at c e) (Adds free an_expr)
+  unfolding called_form
+  called_adds c h = adds_then (adds_any (correct_told c)) (λ u. paren_adds h)
 
   pub operand_adds : (form : ExprId → HirExpr) {e : ExprSteps} → ((i : ExprId) (v : View) → in_expr (form i) v ≤ an_expr i v)
       → Correct e (Adds free an_expr) → Correct (operand_form at form e) (Adds free an_expr)

@@ -148,29 +148,40 @@ pushed_behind x y done s h = behind x s h
   where
     front : (x : Statement) (r : List Statement) → settled (x ∷ (y ∷ r)) None ≡ (x ∷ (settled (y ∷ r) None).0, (settled (y ∷ r) None).1)
     front statement.Item r = refl
+    front (statement.MacroDef d) r = refl
     front (statement.Let p t e b) r = refl
     front (statement.Expr i true) r = refl
     front (statement.Expr i false) r = refl
 
     behind : (x s : Statement) → Pushed (y ∷ done) s → Pushed (x ∷ (y ∷ done)) s
     behind x statement.Item h = front x (done ++ statement.Item ∷ []) ∙ ap (λ q. (x ∷ q.0, q.1)) h
+    behind x (statement.MacroDef d) h = front x (done ++ statement.MacroDef d ∷ []) ∙ ap (λ q. (x ∷ q.0, q.1)) h
     behind x (statement.Let p t e b) h = front x (done ++ statement.Let p t e b ∷ []) ∙ ap (λ q. (x ∷ q.0, q.1)) h
     behind x (statement.Expr i true) h = front x (done ++ statement.Expr i true ∷ []) ∙ ap (λ q. (x ∷ q.0, q.1)) h
     behind x (statement.Expr i false) h = front x (done ++ statement.Expr i false ∷ []) ∙ ap (λ q. (x ∷ q.0, q.1)) h
 
 pushed_alone : (x s : Statement) → Pushed (x ∷ []) s
+pushed_alone (statement.MacroDef d) statement.Item = refl
+pushed_alone (statement.MacroDef d) (statement.MacroDef f) = refl
+pushed_alone (statement.MacroDef d) (statement.Let p t e b) = refl
+pushed_alone (statement.MacroDef d) (statement.Expr i true) = refl
+pushed_alone (statement.MacroDef d) (statement.Expr i false) = refl
+pushed_alone statement.Item (statement.MacroDef d) = refl
 pushed_alone statement.Item statement.Item = refl
 pushed_alone statement.Item (statement.Let p t e b) = refl
 pushed_alone statement.Item (statement.Expr i true) = refl
 pushed_alone statement.Item (statement.Expr i false) = refl
+pushed_alone (statement.Let p t e b) (statement.MacroDef d) = refl
 pushed_alone (statement.Let p t e b) statement.Item = refl
 pushed_alone (statement.Let p t e b) (statement.Let q u f c) = refl
 pushed_alone (statement.Let p t e b) (statement.Expr i true) = refl
 pushed_alone (statement.Let p t e b) (statement.Expr i false) = refl
+pushed_alone (statement.Expr j true) (statement.MacroDef d) = refl
 pushed_alone (statement.Expr j true) statement.Item = refl
 pushed_alone (statement.Expr j true) (statement.Let p t e b) = refl
 pushed_alone (statement.Expr j true) (statement.Expr i true) = refl
 pushed_alone (statement.Expr j true) (statement.Expr i false) = refl
+pushed_alone (statement.Expr j false) (statement.MacroDef d) = refl
 pushed_alone (statement.Expr j false) statement.Item = refl
 pushed_alone (statement.Expr j false) (statement.Let p t e b) = refl
 pushed_alone (statement.Expr j false) (statement.Expr i true) = refl
@@ -178,6 +189,7 @@ pushed_alone (statement.Expr j false) (statement.Expr i false) = refl
 
 pushed_first : (s : Statement) → Pushed [] s
 pushed_first statement.Item = refl
+pushed_first (statement.MacroDef d) = refl
 pushed_first (statement.Let p t e b) = refl
 pushed_first (statement.Expr i true) = refl
 pushed_first (statement.Expr i false) = refl
@@ -217,6 +229,8 @@ module _ {from : ℕ} {final : Stored} {m m' : Mark} {all number : ℕ} {done : 
       let x = all_listed (statement.Expr i true) came d deep in omega (arith, x))
   front_settles statement.Item came r is h d d' deep deep' = rw (sym is ∙ h) (
       let x = all_listed statement.Item came d deep in omega (arith, x))
+  front_settles (statement.MacroDef q) came r is h d d' deep deep' = rw (sym is ∙ h) (
+      let x = all_listed (statement.MacroDef q) came d deep in omega (arith, x))
   front_settles (statement.Let p t e b) came r is h d d' deep deep' = rw (sym is ∙ h) (
       let x = all_listed (statement.Let p t e b) came d deep in omega (arith, x))
 

@@ -19,7 +19,7 @@ use Rattle.hir_store.specs.declared.pat.RecordFieldPat.{RecordFieldPat}
 use Rattle.hir_store.specs.declared.path.Path.{Path as HirPath}
 use Rattle.hir_store.specs.declared.path.Path.TheVariants.{LangItem}
 use Rattle.hir_env.specs.Answered as tree
-use Rattle.hir_env.specs.Answered.{PatLeaf, PatUnary, RangeForm, Signed, Use}
+use Rattle.hir_env.specs.Answered.{Called, PatLeaf, PatUnary, RangeForm, Signed, Use}
 use Rattle.hir_lower_form.specs.Forms.{ExprSteps, push_some, let_form, match_form, arm_form, let_stmt_form}
 use Rattle.hir_lower_form.specs.Lowering.{Lowering, alloc_expr, alloc_pat}
 use Rattle.hir_lower_form.specs.Pats as forms
@@ -27,6 +27,7 @@ use Rattle.hir_lower_form.specs.Pats.{Table, Elements, PatSteps, missing_pat}
 use Rattle.hir_lower_form.specs.Ranges as ranges
 use Rattle.hir_meaning.specs.Inner as inner
 use Rattle.hir_meaning.specs.Inner.{all_of, of_limit, of_path, of_pat_field, of_present}
+use Rattle.hir_steps.proofs.Calls.{correct_point_pat, correct_told}
 use Rattle.hir_steps.proofs.PatAny.{dots_any, name_any}
 use Rattle.hir_steps.proofs.PatSteps.{correct_define, correct_point_pat_field}
 use Rattle.hir_steps.proofs.Steps.{Correct}
@@ -77,6 +78,13 @@ missing_pat_adds = missing_adds
 
 pub alone_adds : {was : Cost} {p : Lowering PatId} → Correct p (Adds was a_pat) → Each was a_pat (forms.alone p)
 alone_adds h t = adds_then h (λ i. adds_pure (i, t) (λ v. omega arith))
+
+-- what a call stands for
+pub called_adds : (at : Pointer) (c : Called) {A : Type 0} (pat_in : A → PatId) {now : A → Cost} {p : Lowering A}
+    → Correct p (Adds free now) → Correct (forms.called_pat_form at c pat_in p) (Adds free now)
+unfolding forms.called_pat_form
+called_adds at c pat_in h = adds_then (adds_any (correct_told c)) (λ u. adds_then h
+    (λ r. adds_then (adds_any (correct_point_pat at (pat_in r))) (λ v. adds_pure r (λ w. omega arith))))
 
 pub leaf_pat_adds : (at : Pointer) (form : PatLeaf) → Correct (alloc_pat (forms.stored_pat_leaf form) (Some at)) (Adds free a_pat)
 leaf_pat_adds at tree.wild_leaf = adds_pat _ (Some at) (λ v. omega arith)
@@ -310,6 +318,14 @@ module _ (at : Pointer) where
 pub missing_type_pat_adds : Correct missing_pat (Adds free a_type_pat)
 unfolding missing_pat
 missing_type_pat_adds = adds_type_pat pat.Missing None (λ v. omega arith)
+
+pub uncalled_pat_adds : (at : Pointer) (c : Called) → Correct (forms.uncalled_pat at c) (Adds free a_pat)
+uncalled_pat_adds at tree.callless = missing_pat_adds
+uncalled_pat_adds at c = called_adds at c (λ i. i) missing_pat_adds
+
+pub uncalled_type_pat_adds : (at : Pointer) (c : Called) → Correct (forms.uncalled_pat at c) (Adds free a_type_pat)
+uncalled_type_pat_adds at tree.callless = missing_type_pat_adds
+uncalled_type_pat_adds at c = called_adds at c (λ i. i) missing_type_pat_adds
 
 -- ---- items of the language
 

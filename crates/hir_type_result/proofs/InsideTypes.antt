@@ -17,7 +17,7 @@ use Rattle.hir_store.specs.declared.type_ref.TypeBound.{TypeBound}
 use Rattle.hir_env.specs.declared.place.ImplTrait.{ImplTrait}
 use Rattle.hir_env.specs.declared.place.ImplTrait.TheVariants as becomes
 use Rattle.hir_env.specs.Answered as tree
-use Rattle.hir_env.specs.Answered.{Binder, FnHead, Lifetime, TypeLeaf, TypeUnary}
+use Rattle.hir_env.specs.Answered.{Binder, Called, FnHead, Lifetime, TypeLeaf, TypeUnary}
 use Rattle.hir_lower_form.specs.declared.args.ArgLists.{ArgLists}
 use Rattle.hir_lower_form.specs.declared.walk.PathWalk.{PathWalk}
 use Rattle.hir_lower_form.specs.declared.walk.Reading.{Reading}
@@ -26,11 +26,12 @@ use Rattle.hir_lower_form.specs.Lowering.{Lowering, ◌>>=◌, pure, alloc_type}
 use Rattle.hir_lower_form.specs.Walks.{at_first, no_names, self_read, super_read, one_more_super, named}
 use Rattle.hir_lower_form.specs.Paths.{proceed, whole, counted, read_trait, with_trait, parens_form, or_else, segment_args_form}
 use Rattle.hir_lower_form.specs.Types.{TypeSteps, error_type, unit_type, lower_lifetime_option, over_form, array_type_form}
-use Rattle.hir_lower_form.specs.Types.{pattern_type_form}
+use Rattle.hir_lower_form.specs.Types.{called_type_form, pattern_type_form, uncalled_type}
 use Rattle.hir_lower_form.specs.Types.{tuple_type_form, path_type_form, ref_type_form, fn_type_form, impl_type_form, dyn_type_form}
 use Rattle.hir_lower_form.specs.Types.{stored_leaf_type, stored_over_type, path_or_error, stored_impl}
 use Rattle.hir_lower_form.specs.Types.{binding_form, path_bound_of, path_bound_form}
 use Rattle.hir_meaning.specs.Inner.{Inners, Inside, all_of, of_present, of_bound, of_constant, of_type}
+use Rattle.hir_steps.proofs.Calls.{correct_point_type, correct_told}
 use Rattle.hir_steps.proofs.Steps.{Correct, correct_alloc_type, correct_count_out}
 use Rattle.hir_steps.proofs.TypeAny.{lifetime_option_any}
 use Rattle.hir_same_meaning.proofs.HeldArgs.{of_binding}
@@ -100,6 +101,17 @@ error_adds = adds_type ty.Error None (λ v. omega arith)
 pub unit_adds : Correct unit_type (Adds free a_type)
 unfolding unit_type
 unit_adds = adds_type (ty.Tuple []) None (λ v. omega arith)
+
+-- what a call stands for
+pub called_type_adds : (at : Pointer) (c : Called) {t : TypeSteps} → Correct t (Adds free a_type)
+    → Correct (called_type_form at c t) (Adds free a_type)
+unfolding called_type_form
+called_type_adds at c h = adds_then (adds_any (correct_told c)) (λ u. adds_then h
+    (λ i. adds_then (adds_any (correct_point_type at i)) (λ v. adds_pure i (λ w. omega arith))))
+
+pub uncalled_type_adds : (at : Pointer) (c : Called) → Correct (uncalled_type at c) (Adds free a_type)
+uncalled_type_adds at tree.callless = adds_type ty.Error (Some at) (λ v. omega arith)
+uncalled_type_adds at c = called_type_adds at c error_adds
 
 module _ (at : Pointer) where
   pub leaf_adds : (form : TypeLeaf) → Correct (alloc_type (stored_leaf_type form) (Some at)) (Adds free a_type)

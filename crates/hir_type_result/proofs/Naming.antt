@@ -15,9 +15,10 @@ use Rattle.hir_store.specs.declared.ids.BlockId.{BlockId}
 use Rattle.hir_store.specs.declared.ids.ExprId.{ExprId}
 use Rattle.hir_store.specs.declared.ids.LabelId.{LabelId}
 use Rattle.hir_store.specs.declared.ids.PatId.{PatId}
+use Rattle.hir_store.specs.declared.ids.TypeRefId.{TypeRefId}
 use Rattle.hir_store.specs.declared.pat.Binding.{Binding}
 use Rattle.hir_store.specs.declared.type_ref.ConstRef.{ConstRef}
-use Rattle.hir_env.specs.Answered.{Label, Jump, Use}
+use Rattle.hir_env.specs.Answered.{Called, Label, Jump, Use}
 use Rattle.hir_scope.specs.Ribs.{Rib, Target, reachable, unreachable, undeclared, target}
 use Rattle.hir_lower_form.specs.Lowering.{Lowering, ◌>>=◌, pure, alloc_binding, alloc_expr, define, point, point_field, point_pat}
 use Rattle.hir_lower_form.specs.Lowering.{point_pat_field, point_type}
@@ -25,7 +26,8 @@ use Rattle.hir_lower_form.specs.Lowering.{report, report_await, enter_block, ope
 use Rattle.hir_lower_form.specs.Lowering.{open_try, try_target}
 use Rattle.hir_lower_form.specs.Lower.{ExprSteps, constant_form, some}
 use Rattle.hir_lower_form.specs.Pats.{Key, Notes, Table, binding_of, key_of, new_binding, number_of, same_key, settle}
-use Rattle.hir_lower_form.specs.Pats.{settle_from, use_name, use_of_known, with_use}
+use Rattle.hir_lower_form.specs.Pats.{called_pat_form, settle_from, use_name, use_of_known, with_use}
+use Rattle.hir_lower_form.specs.Types.{TypeSteps, called_type_form}
 use Rattle.hir_lower_form.specs.Ranges.{inner_form}
 use Rattle.hir_steps.specs.Calls.{Expansions}
 use Rattle.hir_steps.proofs.Calls.{Only, correct_only, correct_point_pat, correct_point_type, only_told}
@@ -152,7 +154,7 @@ quiet_only h = quiet_writes (correct_only h) (λ x. refl) (λ s final d k x. ref
 
 -- the node of a call leads somewhere
 
-quiet_point_pat : (at : Pointer) (i : PatId) → Correct (point_pat at i) Quiet
+pub quiet_point_pat : (at : Pointer) (i : PatId) → Correct (point_pat at i) Quiet
 quiet_point_pat at i = quiet_writes (correct_point_pat at i) (λ x. refl) (λ s final d k x. refl)
 
 quiet_point_type : (at : Pointer) (i : TypeRefId) → Correct (point_type at i) Quiet

@@ -17,14 +17,16 @@ use Rattle.hir_store.specs.declared.path.Path.{Path}
 use Rattle.hir_store.specs.declared.path.GenericArgs.{GenericArgs}
 use Rattle.hir_store.specs.declared.type_ref.ConstRef.{ConstRef}
 use Rattle.hir_env.specs.Answered as tree
-use Rattle.hir_env.specs.Answered.{Leaf, Unary, Binary, Listing, Leaving, Label, Jump, Expr}
+use Rattle.hir_env.specs.Answered.{Called, Leaf, Unary, Binary, Listing, Leaving, Label, Jump, Expr}
 use Rattle.hir_lower_form.specs.Lowering.{Lowering}
 use Rattle.hir_lower_form.specs.Types.{TypeSteps}
 use Rattle.hir_lower_form.specs.Lower.{ExprSteps, StoredContents, StoredFields, missing, if_form, loop_form, turn_form, call_form}
 use Rattle.hir_lower_form.specs.Lower.{continue_form, break_form, operand_form, operands_form, value_form, list_form}
-use Rattle.hir_lower_form.specs.Lower.{method_call_form, await_form, paren_form, path_form, path_or_missing, cast_form}
+use Rattle.hir_lower_form.specs.Lower.{called_form, method_call_form, await_form, paren_form, uncalled_form, path_form, path_or_missing}
+use Rattle.hir_lower_form.specs.Lower.{cast_form}
 use Rattle.hir_lower_form.specs.Lower.{offset_of_form, record_contents, record_of, record_form, field_form, block_form, labelled}
 use Rattle.hir_lower_form.specs.Lower.{stored_leaf, stored_unary, stored_binary, stored_leaving, settled, kept, repeat_form, const_form}
+use Rattle.hir_steps.proofs.Calls.{only_gone, only_told}
 use Rattle.hir_steps.proofs.Frames.{loop_at, block_at}
 use Rattle.hir_steps.proofs.Steps.{Correct}
 use Rattle.hir_type_result.specs.Reached.{of_path}
@@ -33,7 +35,7 @@ use Rattle.hir_type_result.proofs.Counted.{◌⊑◌, times_append}
 use Rattle.hir_type_result.proofs.Adding.{Numbers, none, Adds, Quiet, adds_then, adds_beside, adds_expr}
 use Rattle.hir_type_result.proofs.Owned.{a_type, arguments, maybe_path}
 use Rattle.hir_type_result.proofs.OwnedPats.{statements}
-use Rattle.hir_type_result.proofs.Naming.{quiet_pure, quiet_then, quiet_some, quiet_alloc, quiet_report, quiet_point}
+use Rattle.hir_type_result.proofs.Naming.{quiet_pure, quiet_then, quiet_some, quiet_alloc, quiet_only, quiet_point}
 use Rattle.hir_type_result.proofs.Naming.{quiet_point_field, quiet_enter_block, quiet_report_await, quiet_target, quiet_opened}
 
 pub missing_quiet : Correct missing Quiet

@@ -2,11 +2,14 @@
 use Rattle.std.proofs.Common.{◌≡◌, ◌∙◌, refl, sym, ap, subst, arith, ℕ, ◌≤◌, length, Bool, true, false, true≢false, List, [], ◌∷◌}
 use Rattle.std.proofs.Common.{◌++◌, append_assoc, append-nil, Option, Ok, Err}
 use Rattle.hir_store.specs.Arenas.{Prefix}
-use Rattle.hir_store.specs.Pointers.{Pointer}
 use Rattle.hir_store.specs.Stored.{Store, SourceMap, Stored, store_of, map_of}
 use Rattle.hir_store.specs.Storing as storing
 use Rattle.hir_store.specs.Storing.{Extends, root_at}
+use Rattle.hir_store.specs.Pointers.{Pointer}
+use Rattle.hir_store.specs.declared.diagnostics.ExpressionStoreDiagnostics.{ExpressionStoreDiagnostics}
 use Rattle.hir_store.specs.declared.ids.BindingId.{BindingId}
+use Rattle.hir_store.specs.declared.ids.PatId.{PatId}
+use Rattle.hir_store.specs.declared.ids.TypeRefId.{TypeRefId}
 use Rattle.hir_store.specs.declared.ids.ExprId.{ExprId}
 use Rattle.hir_store.specs.declared.pat.Pat.{Pat}
 use Rattle.hir_store.specs.declared.roots.ExprRoot.{ExprRoot}
@@ -21,11 +24,13 @@ use Rattle.hir_scope.specs.Ribs.{barrier_rib}
 use Rattle.hir_lower_form.specs.Builder.{Builder}
 use Rattle.hir_lower_form.specs.Lowering.{Checked, go_on, Lowering, ◌>>=◌, ◌>>◌, pure, alloc_pat, alloc_type, alloc_lifetime, open_barrier}
 use Rattle.hir_lower_form.specs.Lowering.{enter_root, close_barrier, leave_root, outside_root, record_root, count_out, bindings_end, own}
-use Rattle.hir_lower_form.specs.Lowering.{owning}
+use Rattle.hir_lower_form.specs.Lowering.{owning, point_pat, point_type}
 use Rattle.hir_lower_form.specs.Lower.{ExprSteps, constant_form, lower_limit, lower_part}
 use Rattle.hir_lower_form.specs.Ranges.{inner_form}
 use Rattle.hir_meaning.specs.Inner.{Bodies, InnerBody, by_itself, constant_body, limit_body}
+use Rattle.hir_steps.specs.Calls.{Expansions}
 use Rattle.hir_steps.specs.Keeps.{Paired, KeepsAll, Keeps}
+use Rattle.hir_steps.proofs.Calls.{Only, correct_only, correct_point_pat, correct_point_type}
 use Rattle.hir_steps.proofs.Frames.{Frame, frames, ribs_frames}
 use Rattle.hir_steps.proofs.Constants.{correct_constant, correct_inner}
 use Rattle.hir_steps.proofs.Keeping.{kept_by, part_any}
@@ -229,6 +234,27 @@ notes_lifetime l source = notes_none (correct_alloc_lifetime l source) (λ final
 
 pub notes_pat : (p : Pat) (source : Option Pointer) → Notes [] (alloc_pat p source)
 notes_pat p source = notes_none (correct_alloc_pat p source) (λ final ps m m' i row. record {
+  roots = ap (λ s. s.roots) row.stored;
+  bindings = ap (λ s. s.bindings.entries) row.stored;
+})
+
+-- what only tells
+pub notes_only : {es : Expansions} {ds : List ExpressionStoreDiagnostics} {p : Lowering (Unit {0})} → Only es ds p → Notes [] p
+notes_only h = notes_none (correct_only h) (λ final ps m m' u row. record {
+  roots = ap (λ s. s.roots) row.stored;
+  bindings = ap (λ s. s.bindings.entries) row.stored;
+})
+
+-- the node of a call leads somewhere
+
+pub notes_point_pat : (at : Pointer) (i : PatId) → Notes [] (point_pat at i)
+notes_point_pat at i = notes_none (correct_point_pat at i) (λ final ps m m' u row. record {
+  roots = ap (λ s. s.roots) row.stored;
+  bindings = ap (λ s. s.bindings.entries) row.stored;
+})
+
+pub notes_point_type : (at : Pointer) (i : TypeRefId) → Notes [] (point_type at i)
+notes_point_type at i = notes_none (correct_point_type at i) (λ final ps m m' u row. record {
   roots = ap (λ s. s.roots) row.stored;
   bindings = ap (λ s. s.bindings.entries) row.stored;
 })

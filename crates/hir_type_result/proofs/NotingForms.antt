@@ -13,27 +13,28 @@ use Rattle.hir_store.specs.declared.type_ref.TypeBound.{TypeBound}
 use Rattle.hir_store.specs.declared.type_ref.UseArgRef.{UseArgRef}
 use Rattle.hir_env.specs.declared.place.ImplTrait.{ImplTrait}
 use Rattle.hir_env.specs.Answered as tree
-use Rattle.hir_env.specs.Answered.{Binder, FnHead, Lifetime, TypeUnary, UseRead}
+use Rattle.hir_env.specs.Answered.{Binder, Called, FnHead, Lifetime, TypeUnary, UseRead}
 use Rattle.hir_lower_form.specs.declared.walk.PathWalk.{PathWalk}
 use Rattle.hir_lower_form.specs.declared.walk.Reading.{Reading}
 use Rattle.hir_lower_form.specs.declared.walk.Reading.TheVariants.{Refused, Ended, Open}
 use Rattle.hir_lower_form.specs.Lowering.{Lowering, ◌>>=◌}
 use Rattle.hir_lower_form.specs.Forms.{ExprSteps}
-use Rattle.hir_lower_form.specs.Pats.{missing_pat}
+use Rattle.hir_lower_form.specs.Pats.{called_pat_form, missing_pat, uncalled_pat}
 use Rattle.hir_lower_form.specs.Ranges.{limits_form, type_alternatives_form}
 use Rattle.hir_lower_form.specs.Walks as walks
 use Rattle.hir_lower_form.specs.Paths.{proceed, whole, counted, read_trait, with_trait, parens_form, or_else, segment_args_form}
 use Rattle.hir_lower_form.specs.Types.{TypeSteps, error_type, unit_type, lower_lifetime, lower_lifetime_option, lower_use, lower_uses}
 use Rattle.hir_lower_form.specs.Types.{over_form, pattern_type_form, array_type_form, tuple_type_form, path_type_form}
-use Rattle.hir_lower_form.specs.Types.{ref_type_form, fn_type_form}
+use Rattle.hir_lower_form.specs.Types.{called_type_form, ref_type_form, fn_type_form, uncalled_type}
 use Rattle.hir_lower_form.specs.Types.{impl_type_form, dyn_type_form, binding_form, path_bound_of, path_bound_form}
 use Rattle.hir_meaning.specs.Inner.{Bodies}
-use Rattle.hir_one_result.specs.Size.{Size, a_type, if_so}
+use Rattle.hir_steps.proofs.Calls.{only_told}
+use Rattle.hir_one_result.specs.Size.{Size, a_pat, a_pat_call, a_type, a_type_call, if_so, uncalled_pat_size, uncalled_type_size, ◌∪◌}
 use Rattle.hir_one_result.specs.PathRoom.{Seen, Read, at_first, before, lifetime_size, use_size, uses_size}
 use Rattle.hir_one_result.proofs.PathRooms.{seen, seen_of, Gives, Yields}
 use Rattle.hir_one_result.proofs.Tellings.{Tells}
 use Rattle.hir_type_result.proofs.Noting.{Notes, notes_then, notes_given, notes_end, notes_pure, notes_type, notes_lifetime}
-use Rattle.hir_type_result.proofs.Noting.{notes_count_out, notes_pat}
+use Rattle.hir_type_result.proofs.Noting.{notes_count_out, notes_only, notes_pat, notes_point_pat, notes_point_type}
 
 -- what becomes so much
 abbrev pub NotesOf : {A : Type 0} → Size → Lowering A → Type 0
@@ -200,3 +201,25 @@ pub binding_notes : (name : Name) (dots : Bool) {es fs gs : Bodies} {a : Lowerin
     → Notes (es ++ (fs ++ gs)) (binding_form name dots a t bs)
 unfolding binding_form
 binding_notes name dots ha ht hb = notes_then ha (λ a. notes_then ht (λ t. notes_end hb (λ bs. notes_pure _)))
+
+-- ---- calls of macros
+
+module _ (at : Pointer) where
+  pub called_type_notes : (c : Called) (n : Size) {t : TypeSteps} → NotesOf n t → NotesOf (n ∪ a_type_call at) (called_type_form at c t)
+  unfolding called_type_form
+  called_type_notes c n h = notes_then (notes_only (only_told c))
+      (λ u. notes_then h (λ i. notes_then (notes_point_type at i) (λ v. notes_pure i)))
+
+  pub uncalled_type_notes : (c : Called) → NotesOf (uncalled_type_size at c) (uncalled_type at c)
+  uncalled_type_notes tree.callless = notes_type _ _
+  uncalled_type_notes c = called_type_notes c (a_type None) error_notes
+
+  pub called_pat_notes : (c : Called) (n : Size) {p : Lowering PatId} → NotesOf n p
+      → NotesOf (n ∪ a_pat_call at) (called_pat_form at c (λ i. i) p)
+  unfolding called_pat_form
+  called_pat_notes c n h = notes_then (notes_only (only_told c))
+      (λ u. notes_then h (λ i. notes_then (notes_point_pat at i) (λ v. notes_pure i)))
+
+  pub uncalled_pat_notes : (c : Called) → NotesOf (uncalled_pat_size at c) (uncalled_pat at c)
+  uncalled_pat_notes tree.callless = missing_pat_notes
+  uncalled_pat_notes c = called_pat_notes c (a_pat None) missing_pat_notes

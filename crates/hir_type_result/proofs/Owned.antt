@@ -18,7 +18,7 @@ use Rattle.hir_store.specs.declared.type_ref.UseArgRef.{UseArgRef}
 use Rattle.hir_env.specs.declared.place.ImplTrait.{ImplTrait}
 use Rattle.hir_env.specs.declared.place.ImplTrait.TheVariants as becomes
 use Rattle.hir_env.specs.Answered as tree
-use Rattle.hir_env.specs.Answered.{Binder, FnHead, Lifetime, TypeLeaf, TypeUnary, UseRead}
+use Rattle.hir_env.specs.Answered.{Binder, Called, FnHead, Lifetime, TypeLeaf, TypeUnary, UseRead}
 use Rattle.hir_lower_form.specs.declared.args.ArgLists.{ArgLists}
 use Rattle.hir_lower_form.specs.declared.walk.PathWalk.{PathWalk}
 use Rattle.hir_lower_form.specs.declared.walk.Reading.{Reading}
@@ -30,11 +30,12 @@ use Rattle.hir_lower_form.specs.Types.{TypeSteps, error_type, unit_type, lower_l
 use Rattle.hir_lower_form.specs.Types.{over_form, array_type_form, pattern_type_form}
 use Rattle.hir_lower_form.specs.Types.{tuple_type_form, path_type_form, ref_type_form, fn_type_form, impl_type_form, dyn_type_form}
 use Rattle.hir_lower_form.specs.Types.{stored_leaf_type, stored_over_type, path_or_error, stored_impl}
-use Rattle.hir_lower_form.specs.Types.{binding_form, path_bound_of, path_bound_form}
+use Rattle.hir_lower_form.specs.Types.{binding_form, path_bound_of, path_bound_form, uncalled_type}
 use Rattle.hir_steps.proofs.Steps.{Correct, correct_count_out}
 use Rattle.hir_type_result.specs.Reached.{of_present, of_each, of_bound, of_args, of_binding, below}
 use Rattle.hir_type_result.specs.Named.{Look}
 use Rattle.hir_type_result.specs.Pats.{of_type}
+use Rattle.hir_type_result.proofs.Naming.{called_type_names}
 use Rattle.hir_type_result.proofs.Counted.{times, times_append, either}
 use Rattle.hir_type_result.proofs.Numbers as numbers
 use Rattle.hir_type_result.proofs.Numbers.{of_arg_lists, of_walk, of_reading, of_read}
@@ -126,6 +127,11 @@ impl_below becomes.Opaque bs l k = omega arith
 pub error_adds : Correct error_type (Adds none a_type)
 unfolding error_type
 error_adds = adds_type ty.Error None (λ f k. omega arith)
+
+-- a call that stands for no type
+pub uncalled_type_names : (at : Pointer) (c : Called) → Correct (uncalled_type at c) (Adds none a_type)
+uncalled_type_names at tree.callless = adds_type ty.Error (Some at) (λ f k. omega arith)
+uncalled_type_names at c = called_type_names at c error_adds
 
 pub unit_adds : Correct unit_type (Adds none a_type)
 unfolding unit_type

@@ -18,13 +18,14 @@ use Rattle.hir_store.specs.declared.pat.Pat.TheVariants as pat
 use Rattle.hir_store.specs.declared.pat.RecordFieldPat.{RecordFieldPat}
 use Rattle.hir_store.specs.declared.path.Path.{Path as HirPath}
 use Rattle.hir_env.specs.Answered as tree
-use Rattle.hir_env.specs.Answered.{PatLeaf, PatUnary, RangeForm, Signed, Use}
+use Rattle.hir_env.specs.Answered.{Called, PatLeaf, PatUnary, RangeForm, Signed, Use}
 use Rattle.hir_lower_form.specs.Forms.{ExprSteps, push_some, let_form, match_form, arm_form, assign_form, let_stmt_form}
 use Rattle.hir_lower_form.specs.Lowering.{Lowering, alloc_pat}
 use Rattle.hir_lower_form.specs.Pats as forms
 use Rattle.hir_lower_form.specs.Pats.{Table, Elements, PatSteps, missing_pat}
 use Rattle.hir_lower_form.specs.Ranges as ranges
 use Rattle.hir_lower_form.specs.Targets as targets
+use Rattle.hir_steps.proofs.Calls.{only_told}
 use Rattle.hir_steps.proofs.Steps.{Correct, correct_count_out}
 use Rattle.hir_type_result.specs.Reached.{of_each, of_present}
 use Rattle.hir_type_result.specs.Named.{Look, of_arm, of_expr, of_pat, of_pat_field, of_statement}
@@ -33,7 +34,7 @@ use Rattle.hir_type_result.proofs.Numbers.{each_push}
 use Rattle.hir_type_result.proofs.Adding.{Numbers, none, Adds, Quiet, adds_pure, adds_then, adds_beside, adds_quiet, adds_from}
 use Rattle.hir_type_result.proofs.Adding.{adds_expr, adds_pat, adds_done, framed, Steps}
 use Rattle.hir_type_result.proofs.Naming.{quiet_pure, quiet_then, quiet_alloc, quiet_report, quiet_point_pat_field, quiet_define}
-use Rattle.hir_type_result.proofs.Naming.{ids, name_adds}
+use Rattle.hir_type_result.proofs.Naming.{called_names, ids, name_adds, quiet_only, quiet_point_pat}
 use Rattle.hir_type_result.proofs.Owned.{a_pat, maybe_path, maybe_type, beside}
 
 -- what each kind of answer names
@@ -82,6 +83,17 @@ missing_named = missing_adds
 
 pub alone_adds : {was : Numbers} {p : Lowering PatId} → Correct p (Adds was a_pat) → Each was a_pat (forms.alone p)
 alone_adds h t = adds_then (framed h) (λ i. adds_done (i, t) (λ l k. omega arith) (λ P x. x))
+
+-- what a call stands for
+pub called_adds : (at : Pointer) (c : Called) {p : PatSteps} → Each none a_pat p
+    → Each none a_pat (λ t. forms.called_pat_form at c (λ r. r.0) (p t))
+unfolding forms.called_pat_form
+called_adds at c h t = adds_then (framed (quiet_only (only_told c))) (λ u. adds_then (h t)
+    (λ r. adds_then (framed (adds_quiet (quiet_point_pat at r.0))) (λ v. adds_done r (λ l k. omega arith) (λ P x. x))))
+
+pub uncalled_pat_names : (at : Pointer) (c : Called) → Correct (forms.uncalled_pat at c) (Adds none a_pat)
+uncalled_pat_names at tree.callless = missing_named
+uncalled_pat_names at c = called_names at c (λ i. i) missing_named
 
 pub leaf_pat_adds : (at : Pointer) (form : PatLeaf) → Correct (alloc_pat (forms.stored_pat_leaf form) (Some at)) (Adds none a_pat)
 leaf_pat_adds at tree.wild_leaf = adds_pat _ (Some at) (λ l k. omega arith)

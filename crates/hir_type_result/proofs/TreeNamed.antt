@@ -39,6 +39,7 @@ use Rattle.hir_lower_form.specs.Lower.{lower_top, lower_pat, pat_part, present_p
 use Rattle.hir_lower_form.specs.Lower.{lower_later, lower_pat_fields, lower_pat_field, lower_side, lower_type_pat_part, lower_type_pat}
 use Rattle.hir_lower_form.specs.Lower.{lower_type_pats, lower_limit, limit_side, lower_target, lower_targets, lower_target_fields}
 use Rattle.hir_lower_form.specs.Lower.{lower_target_field}
+use Rattle.hir_steps.proofs.Calls.{only_gone, only_note, only_told}
 use Rattle.hir_steps.proofs.Steps.{Correct}
 use Rattle.hir_type_result.specs.Reached.{of_bound, of_each, of_present}
 use Rattle.hir_type_result.specs.Named.{Look, of_arm, of_pat_field, of_statement}
@@ -50,10 +51,11 @@ use Rattle.hir_type_result.proofs.Owned.{a_type, maybe_type, types, a_bound, bou
 use Rattle.hir_type_result.proofs.Owned.{uses_add, leaf_below, error_adds, unit_adds, over_adds, array_adds, tuple_adds, path_type_adds}
 use Rattle.hir_type_result.proofs.Owned.{ref_adds, fn_adds, impl_adds, dyn_adds, path_bound_adds, proceed_adds, whole_adds, super_adds}
 use Rattle.hir_type_result.proofs.Owned.{self_adds, at_first_adds, bare_adds, with_trait_adds, parens_form_adds, args_form_adds}
-use Rattle.hir_type_result.proofs.Owned.{binding_adds, none_more, one_more, pattern_adds, lifetime_adds}
+use Rattle.hir_type_result.proofs.Owned.{binding_adds, none_more, one_more, pattern_adds, lifetime_adds, uncalled_type_names}
 use Rattle.hir_type_result.proofs.OwnedPats as pats
+use Rattle.hir_type_result.proofs.OwnedPats.{uncalled_pat_names}
 use Rattle.hir_type_result.proofs.Naming.{quiet_pure, quiet_then, quiet_some, quiet_alloc, quiet_report, quiet_constant, quiet_inner}
-use Rattle.hir_type_result.proofs.Naming.{quiet_settle}
+use Rattle.hir_type_result.proofs.Naming.{called_names, called_type_names, quiet_only, quiet_settle}
 use Rattle.hir_type_result.proofs.NamingForms.{missing_quiet, leaf_quiet, unary_quiet, binary_quiet, leaving_quiet, if_quiet, loop_quiet}
 use Rattle.hir_type_result.proofs.NamingForms.{turn_quiet, repeat_quiet, const_quiet}
 use Rattle.hir_type_result.proofs.NamingMade.{question_quiet, try_block_quiet, typed_try_quiet}
@@ -64,7 +66,7 @@ use Rattle.hir_type_result.proofs.ClosureNaming.{closure_quiet, coroutine_block_
 use Rattle.hir_type_result.proofs.ClosureNaming.{param_adds, params_named, yield_quiet}
 use Rattle.hir_type_result.proofs.NamingForms.{value_quiet, list_quiet, await_quiet, field_quiet, block_form_quiet, path_quiet, cast_quiet}
 use Rattle.hir_type_result.proofs.NamingForms.{offset_of_quiet, method_call_quiet, record_quiet, contents_quiet, labelled_quiet}
-use Rattle.hir_type_result.proofs.NamingForms.{kept_quiet, contents}
+use Rattle.hir_type_result.proofs.NamingForms.{called_quiet, kept_quiet, contents, uncalled_quiet}
 
 -- what is there comes behind others
 pub some_then : {A C : Type 0} {now : C → Numbers} (names : Look → A → List ℕ) {p : Lowering (Option A)} {q : List A → Lowering C}

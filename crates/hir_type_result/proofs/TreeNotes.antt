@@ -25,6 +25,7 @@ use Rattle.hir_type_result.proofs.Noting.{notes_then, notes_end, notes_pure, not
 use Rattle.hir_type_result.proofs.Noting.{notes_owning}
 use Rattle.hir_type_result.proofs.NotingForms.{NotesOf, error_notes, unit_notes, lifetime_notes, lifetime_option_notes, uses_note}
 use Rattle.hir_type_result.proofs.NotingForms.{over_notes, array_notes, tuple_notes, path_type_notes, ref_notes, fn_notes, impl_notes}
+use Rattle.hir_type_result.proofs.NotingForms.{called_pat_notes, called_type_notes, uncalled_pat_notes, uncalled_type_notes}
 use Rattle.hir_type_result.proofs.NotingForms.{dyn_notes, path_bound_notes, reads_note, whole_notes, first_notes, counted_notes}
 use Rattle.hir_type_result.proofs.NotingForms.{with_trait_notes, parens_notes, beside_notes, binding_notes, alternatives_notes}
 use Rattle.hir_type_result.proofs.NotingForms.{limits_notes, missing_pat_notes, pattern_notes}
@@ -43,6 +44,8 @@ limit_notes (tree.before_limit item s) = notes_limit (tree.before_limit item s)
 mutual
   type_pat_notes : (p : TypePat) → NotesOf (type_pat_size p) (lower_type_pat p)
   type_pat_notes (tree.not_null_type_pat at) = notes_pat _ _
+  type_pat_notes (tree.macro_type_pat at c tree.no_type_pat) = uncalled_pat_notes at c
+  type_pat_notes (tree.macro_type_pat at c (tree.some_type_pat p)) = called_pat_notes at c (type_pat_size p) (type_pat_notes p)
   type_pat_notes (tree.or_type_pat at ps) = alternatives_notes at (type_pats_note [] ps)
   type_pat_notes (tree.range_type_pat at low high) = limits_notes at (limit_notes low) (limit_notes high)
   type_pat_notes (tree.other_type_pat at) = notes_pat _ _
@@ -58,6 +61,8 @@ type_pat_part_notes (tree.some_type_pat p) = type_pat_notes p
 mutual
   one_type_notes : (b : Option Binder) (t : Type_) → NotesOf (type_size t) (lower_type b t)
   one_type_notes b (tree.paren_type t) = type_notes b t
+  one_type_notes b (tree.macro_type at c tree.no_type) = uncalled_type_notes at c
+  one_type_notes b (tree.macro_type at c (tree.some_type t)) = called_type_notes at c (type_size t) (one_type_notes b t)
   one_type_notes b (tree.for_type names t) = type_notes (Some names) t
   one_type_notes b (tree.leaf_type at form) = notes_type _ _
   one_type_notes b (tree.over_type at form t) = over_notes at form (type_notes None t)

@@ -1,5 +1,6 @@
 -- Store and source map of a type that is lowered by itself are one result of its tree.
-use Rattle.std.specs.Prelude.{◌≡◌, ℕ, ◌≤◌, List, [], ◌++◌, length, map, None, Ok, Err, IsPermutation}
+use Rattle.std.specs.Prelude.{◌≡◌, ℕ, ◌≤◌, List, [], ◌++◌, length, None, Ok, Err, IsPermutation}
+use Rattle.hir_store.specs.Storing.{pat_id, type_id}
 use Rattle.hir_store.specs.Stored.{Store, SourceMap, store_of, map_of}
 use Rattle.hir_store.specs.declared.fault.StoreFault.{StoreFault}
 use Rattle.hir_store.specs.declared.ids.TypeRefId.{TypeRefId}
@@ -16,7 +17,7 @@ use Rattle.hir_meaning.specs.Same.{SameBodies}
 use Rattle.hir_one_result.specs.Blocks.{blocks_of_type_part}
 use Rattle.hir_one_result.specs.Diagnostics.{type_part_faults}
 use Rattle.hir_one_result.specs.Room.{Short, type_part_size}
-use Rattle.hir_one_result.specs.Size.{led_source, pat_source_of, placed}
+use Rattle.hir_one_result.specs.Size.{calls_led, led_by, placed, sources_led}
 use Rattle.hir_one_result.specs.Stands.{TypePartWays}
 use Rattle.hir_type_result.specs.Named.{of_exprs, of_pats, of_pats_alone, of_types_alone}
 use Rattle.hir_type_result.specs.Pats.{of_types, pats_reached}

@@ -1,28 +1,28 @@
 use Rattle.hir_lower_kinds.proofs.exprs.expr_form.Goals as goal
 
 pub leaf_kind-requires-clause-parts : goal.leaf_kind-requires-clause-parts
-leaf_kind-requires-clause-parts g c = c.requires
+leaf_kind-requires-clause-parts g c = c.requires.parts
 
 pub matching_kind-requires-clause-parts : goal.matching_kind-requires-clause-parts
-matching_kind-requires-clause-parts g c = c.requires
+matching_kind-requires-clause-parts g c = c.requires.parts
 
 pub typed_kind-requires-clause-parts : goal.typed_kind-requires-clause-parts
-typed_kind-requires-clause-parts g c = c.requires
+typed_kind-requires-clause-parts g c = c.requires.parts
 
 pub leaving_kind-requires-clause-parts : goal.leaving_kind-requires-clause-parts
-leaving_kind-requires-clause-parts g c = c.requires
+leaving_kind-requires-clause-parts g c = c.requires.parts
 
 pub operator_kind-requires-clause-parts : goal.operator_kind-requires-clause-parts
-operator_kind-requires-clause-parts g c = c.requires
+operator_kind-requires-clause-parts g c = c.requires.parts
 
 pub access_kind-requires-clause-parts : goal.access_kind-requires-clause-parts
-access_kind-requires-clause-parts g c = c.requires
+access_kind-requires-clause-parts g c = c.requires.parts
 
 pub listing_kind-requires-clause-parts : goal.listing_kind-requires-clause-parts
-listing_kind-requires-clause-parts g c = c.requires
+listing_kind-requires-clause-parts g c = c.requires.parts
 
 pub control_kind-requires-clause-parts : goal.control_kind-requires-clause-parts
-control_kind-requires-clause-parts g c = c.requires
+control_kind-requires-clause-parts g c = c.requires.parts
 
 pub returns-in-Literal : goal.returns-in-Literal
 returns-in-Literal g c = rw c.pointer-at.ensures at c.leaf_kind.ensures
