@@ -1,5 +1,5 @@
 -- Small bodies with calls of macros, and what they do.
-use Rattle.std.specs.Prelude.{◌≡◌, ℕ, Bool, true, false, List, [], ◌∷◌, Option, Some, None}
+use Rattle.std.specs.Prelude.{◌≡◌, ℕ, ◌+◌, Bool, true, false, List, [], ◌∷◌, Option, Some, None}
 use Rattle.hir_store.specs.Pointers.{Pointer}
 use Rattle.hir_store.specs.declared.hir.Expr.TheVariants as hir
 use Rattle.hir_store.specs.declared.hir.Statement.{Statement}
@@ -134,25 +134,24 @@ defining_inside ss =
     tree.more_stmts (tree.expr_stmt (tree.some_expr (tree.block_expr
     (tree.block (at 12) false None tt None (defining tree.no_stmts) tree.no_expr))) false) ss
 
--- The jump is for this label, or for none; the loop that it stands in is 4, and the block that has a definition is 0.
-abbrev pub stored_looping : Option LabelId → List Statement → StoredExprs
-stored_looping label ss =
-    (hir.Block false None None (statement.MacroDef nine ∷ []) None, Some 12)
-    ∷ (stored_one, Some 11)
-    ∷ (hir.Break label (Some (id 1)), Some 10)
-    ∷ (stored_block None [] 2, Some 5)
-    ∷ (stored_loop None 3, Some 4)
+-- The loop with the jump, which is for this label or for none, has the number k + 3; ss stand in front of the break.
+abbrev pub stored_looping : ℕ → Option LabelId → List Statement → StoredExprs
+stored_looping k label ss =
+    (stored_one, Some 11)
+    ∷ (hir.Break label (Some (id k)), Some 10)
+    ∷ (stored_block None [] (k + 1), Some 5)
+    ∷ (stored_loop None (k + 2), Some 4)
     ∷ (stored_two, Some 7)
-    ∷ (hir.Break None (Some (id 5)), Some 6)
-    ∷ (stored_block None ss 6, Some 3)
-    ∷ (stored_loop (Some (number 0)) 7, Some 2)
+    ∷ (hir.Break None (Some (id (k + 4))), Some 6)
+    ∷ (stored_block None ss (k + 5), Some 3)
+    ∷ (stored_loop (Some (number 0)) (k + 6), Some 2)
     ∷ []
 
 abbrev pub behind_definition : ℕ → Option LabelId → Example
 behind_definition outer label = record {
   written = looping (defining (jumping outer tree.no_stmts));
-  nodes = stored_looping label (statement.MacroDef nine ∷ statement.Expr (id 4) true ∷ []);
-  root = 8;
+  nodes = stored_looping 0 label (statement.MacroDef nine ∷ statement.Expr (id 3) true ∷ []);
+  root = 7;
 }
 
 -- Behind the definition of its macro the jump reaches the label that was open there.
@@ -168,7 +167,8 @@ MissesTheLabel = BothDo (behind_definition 8 None) 1 (no 11 ∷ no 12 ∷ []) (l
 abbrev pub behind_its_block : Example
 behind_its_block = record {
   written = looping (defining_inside (jumping 9 tree.no_stmts));
-  nodes = stored_looping None (statement.Expr (id 0) false ∷ statement.Expr (id 4) true ∷ []);
+  nodes = (hir.Block false None None (statement.MacroDef nine ∷ []) None, Some 12)
+      ∷ stored_looping 1 None (statement.Expr (id 0) false ∷ statement.Expr (id 4) true ∷ []);
   root = 8;
 }
 
@@ -179,8 +179,8 @@ EndsWithItsBlock = BothDo behind_its_block 1 (no 11 ∷ no 12 ∷ []) (literal_e
 abbrev pub before_definition : Example
 before_definition = record {
   written = looping (jumping 9 (defining tree.no_stmts));
-  nodes = stored_looping None (statement.Expr (id 4) true ∷ statement.MacroDef nine ∷ []);
-  root = 8;
+  nodes = stored_looping 0 None (statement.Expr (id 3) true ∷ statement.MacroDef nine ∷ []);
+  root = 7;
 }
 
 abbrev pub BeginsWhereItStands : Type 0
