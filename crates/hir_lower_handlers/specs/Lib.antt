@@ -1,2 +1,3 @@
 pub mod Spots
 pub mod Nests
+pub mod CallKids

@@ -1,7 +1,7 @@
 //! What lowers the parts of a form, of functions that are handed in.
 
 ghost use Rattle.hir_lower_pat.proofs.Nested.{pat_nests, target_is_place, target_nests};
-ghost use Rattle.hir_lower_handlers.proofs.CallKids.{call_nests, type_call_nests};
+ghost use Rattle.hir_lower_handlers.specs.CallKids.{call_nests, type_call_nests};
 ghost use Rattle.hir_lower_handlers.specs.Nests.{Handled, HandlesExpr, HandlesPath};
 ghost use Rattle.hir_lower_handlers.specs.Spots.{complete, spot_at};
 

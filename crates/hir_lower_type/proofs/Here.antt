@@ -1,5 +1,5 @@
 -- What is read at a place that is the one here.
-use Rattle.std.proofs.Common.{◌≡◌, ◌∙◌, ap, subst, sym, [], false, if◌then◌else◌, Option, Some, None, Ok, Err}
+use Rattle.std.proofs.Common.{◌≡◌, ◌∙◌, ap, subst, sym, [], false, if◌then◌else◌, Option, Some, None, Err}
 use Rattle.hir_syntax.specs.declared.pats.Pat.{Pat as AstPat}
 use Rattle.hir_syntax.specs.declared.types.Param.{Param as AstParam, out-Param}
 use Rattle.hir_syntax.specs.declared.types.Type_.{Type_ as AstType_}

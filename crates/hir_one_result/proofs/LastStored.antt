@@ -1,5 +1,6 @@
 -- Steps whose answer is the last pattern, or the last type, that is stored.
-use Rattle.std.proofs.Common.{arith, ◌≡◌, ◌∙◌, refl, sym, ap, subst, ℕ, suc, Bool, true, false, nat_lt, if◌then◌else◌, length, length-append}
+use Rattle.std.proofs.Common.{arith, ◌≡◌, ◌∙◌, refl, sym, ap, subst, ℕ, suc, Bool, true, false, nat_lt, if◌then◌else◌}
+use Rattle.std.proofs.Common.{length, length-append}
 use Rattle.std.proofs.Common.{List, [], ◌∷◌, ◌++◌, append-nil, append_assoc, Option, Some, None, Ok, Err}
 use Rattle.hir_store.specs.Arenas.{Sourced, with_entry}
 use Rattle.hir_store.specs.Pointers.{Pointer}
@@ -22,7 +23,8 @@ use Rattle.hir_store.specs.declared.type_ref.TypeBound.{TypeBound}
 use Rattle.hir_store.specs.declared.type_ref.TypeRef.{TypeRef}
 use Rattle.hir_env.specs.declared.place.ImplTrait.{ImplTrait}
 use Rattle.hir_env.specs.Answered as tree
-use Rattle.hir_env.specs.Answered.{Binder, Called, FnHead, TypeUnary, OptionPat, OptionType, Pat, Pats, PatUnary, Signed, Type_, TypePat, Use}
+use Rattle.hir_env.specs.Answered.{Binder, Called, FnHead, TypeUnary, OptionPat, OptionType, Pat, Pats, PatUnary, Signed, Type_}
+use Rattle.hir_env.specs.Answered.{TypePat, Use}
 use Rattle.hir_lower_form.specs.Builder.{Builder}
 use Rattle.hir_lower_form.specs.Calls.{told}
 use Rattle.hir_lower_form.specs.Lower as lower

@@ -1,5 +1,6 @@
 -- Where the nodes of patterns and types lead once those are stored.
-use Rattle.std.proofs.Common.{arith, ◌≡◌, ◌∙◌, ◌⊎◌, inl, inr, ⊎_elim, refl, sym, ap, subst, ℕ, zero, suc, ◌+◌, ◌-◌, ◌<◌, ◌≤◌, List, [], ◌∷◌, ◌++◌}
+use Rattle.std.proofs.Common.{arith, ◌≡◌, ◌∙◌, ◌⊎◌, inl, inr, ⊎_elim, refl, sym, ap, subst, ℕ, zero, suc, ◌+◌, ◌-◌, ◌<◌, ◌≤◌}
+use Rattle.std.proofs.Common.{List, [], ◌∷◌, ◌++◌}
 use Rattle.std.proofs.Common.{append-nil, append_assoc, length, length-append, Bool, true, false, true≢false, Option, Some, None, is_some}
 use Rattle.std.proofs.Common.{slice_get, Contains}
 use Rattle.std.proofs.lemmas.List.Elements.{Contains-append_left, Contains-push}
@@ -73,7 +74,8 @@ module _ {I : Type 0} (place : I → ℕ) (number : ℕ → I) (placed : (n : �
     back_stored_none : Back (ss ++ None ∷ []) cs es
     back_stored_none = record {
       to_source = λ p i f. ⊎_elim (λ o. inl (push_old ss None (Some p) (place i) o)) (λ c. inr c) (h.to_source p i f);
-      to_entry = λ n p g. ⊎_elim (λ o. h.to_entry n p o) (λ e. absurd (true≢false (ap is_some (sym e.1)))) (push_cases ss None (Some p) n g);
+      to_entry = λ n p g.
+          ⊎_elim (λ o. h.to_entry n p o) (λ e. absurd (true≢false (ap is_some (sym e.1)))) (push_cases ss None (Some p) n g);
     }
 
     -- a node leads to what is the last by then

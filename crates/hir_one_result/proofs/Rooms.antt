@@ -1,5 +1,6 @@
 -- Steps by how much they store.
-use Rattle.std.proofs.Common.{arith, ◌≡◌, refl, sym, subst, List, Bool, true, false, nat_lt, if◌then◌else◌, length, Option, Some, None, Ok, Err, inl, inr}
+use Rattle.std.proofs.Common.{arith, ◌≡◌, refl, sym, subst, List, Bool, true, false, nat_lt, if◌then◌else◌, length}
+use Rattle.std.proofs.Common.{Option, Some, None, Ok, Err, inl, inr}
 use Rattle.std.proofs.lemmas.Bool.{ltb-false}
 use Rattle.hir_store.specs.Pointers.{Pointer}
 use Rattle.hir_store.specs.Arenas.{Sourced, with_entry, with_made}

@@ -67,8 +67,8 @@ StandsBody store source_map rs (Some kind) skipped f e given i = λ ws. (body : 
 -- are as many; each binding is that of a name of a top pattern, or of `self`, or of a name that is made up or that a parameter is handed
 -- in by, has the patterns that make it, and is owned by the innermost closure, coroutine, `const` block, length or argument around it, or
 -- by nothing, as its way says and as it is counted. The source map leads from each written expression and label to what it became, and
--- from nowhere else; the nodes of patterns, types and lifetimes lead to them, but for patterns that are made up, and of other nodes those of
--- calls do, each to the last pattern or type that is stored by then, for which the call stands.
+-- from nowhere else; the nodes of patterns, types and lifetimes lead to them, but for patterns that are made up, and of other nodes those
+-- of calls do, each to the last pattern or type that is stored by then, for which the call stands.
 -- Behind the faults that the body owes as a whole come those of what is read of the tree, in some order. The blocks with numbers are those
 -- of the tree, in the order of entering.
 pub record OneResult (store : Store) (source_map : SourceMap) (owed : Faults) (kind : Option CoroutineKind) (skipped : Bool) (f : Formals)

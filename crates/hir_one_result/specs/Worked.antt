@@ -93,7 +93,8 @@ disabled_at n by = record { entered = []; condition = Some (at n, by) }
 abbrev pub disabled_block : CfgId → Expr
 disabled_block by =
     let number : BlockId = record { 0 = 7 } in
-    tree.disabled_expr (disabled_at 2 by) (tree.block_expr (tree.block (at 2) false None tt (Some number) tree.no_stmts (tree.some_expr break_a)))
+    tree.disabled_expr (disabled_at 2 by)
+    (tree.block_expr (tree.block (at 2) false None tt (Some number) tree.no_stmts (tree.some_expr break_a)))
 
 -- a literal, with or without a semicolon, and then what is disabled
 abbrev pub literal_first : CfgId → Bool → Stmts

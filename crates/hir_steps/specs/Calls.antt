@@ -17,10 +17,12 @@ Expansions = List ExpandedCall
 abbrev pub eager_expansion : Eager → ExpandedCall
 eager_expansion e = record { call = e.0; range = None; file = e.1 }
 
+abbrev pub own_expansion : Entered → ExpandedCall
+own_expansion c = record { call = site_of c.call; range = Some c.call.value.range; file = c.file }
+
 -- what was expanded for a call, and then the call
 abbrev pub expansions_of_entered : Entered → Expansions
-expansions_of_entered c = map eager_expansion c.eager
-    ++ record { call = site_of c.call; range = Some c.call.value.range; file = c.file } ∷ []
+expansions_of_entered c = map eager_expansion c.eager ++ own_expansion c ∷ []
 
 abbrev pub expansions_of_each : List Entered → Expansions
 expansions_of_each [] = []

@@ -37,7 +37,8 @@ use Rattle.hir_one_result.proofs.LastTree.{closure_last, coroutine_block_last, c
 use Rattle.hir_one_result.proofs.MadeRooms.{made_bind_takes, takes_made, takes_number, takes_target, takes_try}
 use Rattle.hir_one_result.proofs.PatRooms.{settle_takes}
 use Rattle.hir_one_result.proofs.PathRooms.{counted_tells, counts_out}
-use Rattle.hir_one_result.proofs.Rooms.{Takes, takes_alloc, takes_as, takes_begin, takes_binding, takes_block, takes_close, takes_constant, takes_only}
+use Rattle.hir_one_result.proofs.Rooms.{Takes, takes_alloc, takes_as, takes_begin, takes_binding, takes_block, takes_close, takes_constant}
+use Rattle.hir_one_result.proofs.Rooms.{takes_only}
 use Rattle.hir_one_result.proofs.Rooms.{takes_define, takes_end, takes_inner, takes_jump, takes_lifetime, takes_note, takes_open, takes_pat}
 use Rattle.hir_one_result.proofs.Rooms.{takes_point, takes_point_field, takes_point_pat_field, takes_pure, takes_report}
 use Rattle.hir_one_result.proofs.Rooms.{takes_then, takes_type}

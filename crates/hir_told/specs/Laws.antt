@@ -84,11 +84,13 @@ WhereBodyLowered R = (kind : Option CoroutineKind) (skipped : Bool) (f : Formals
 
 abbrev pub BodiesReport : Type 0
 BodiesReport = WhereBodyLowered (λ kind skipped f e old new. (ss : List Scope) → Around ss old.scopes
-    → new.stored.diagnostics ≡ old.stored.diagnostics ++ grade_body faults (bodies_listed (λ ds. ds) (λ n. []) (λ es ds. ds)) kind skipped f e ss)
+    → new.stored.diagnostics ≡ old.stored.diagnostics
+    ++ grade_body faults (bodies_listed (λ ds. ds) (λ n. []) (λ es ds. ds)) kind skipped f e ss)
 
 abbrev pub BodiesEnter : Type 0
 BodiesEnter = WhereBodyLowered (λ kind skipped f e old new. (ss : List Scope) → Around ss old.scopes
-    → new.stored.block_scopes ≡ old.stored.block_scopes ++ grade_body blocks (bodies_listed (λ ds. []) option_to_list (λ es ds. [])) kind skipped f e ss)
+    → new.stored.block_scopes ≡ old.stored.block_scopes
+    ++ grade_body blocks (bodies_listed (λ ds. []) option_to_list (λ es ds. [])) kind skipped f e ss)
 
 abbrev pub BodiesExpand : Type 0
 BodiesExpand = WhereBodyLowered (λ kind skipped f e old new.

@@ -8,7 +8,7 @@ use Rattle.hir_store.specs.declared.ids.DefWithBodyId.{DefWithBodyId}
 use Rattle.hir_store.specs.declared.ids.DefWithBodyId.TheVariants as owner
 use Rattle.hir_store.specs.declared.ids.ItemContainerId.{ItemContainerId}
 use Rattle.hir_store.specs.declared.ids.ItemContainerId.TheVariants as holder
-use Rattle.hir_env.specs.Tables.{Tables}
+use Rattle.hir_tables.specs.Tables.{Tables}
 use Rattle.hir_env.specs.declared.place.LoweringMode.{LoweringMode}
 use Rattle.hir_env.specs.declared.place.LoweringMode.TheVariants as mode
 use Rattle.json_kinds.specs.declared.group.Group.{Group}

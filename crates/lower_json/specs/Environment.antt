@@ -2,8 +2,7 @@
 use Rattle.std.specs.Prelude.{codes, List, Option, Some, None}
 use Rattle.serde_json.specs.Data.{Data, Items}
 use Rattle.serde_json.specs.Find.{get}
-use Rattle.hir_env.specs.NodeMap.{with_first, with_first_pred, with_first_context}
-use Rattle.hir_env.specs.Tables.{Tables, empty}
+use Rattle.hir_tables.specs.Tables.{Tables, empty, with_context, with_first, with_pred}
 use Rattle.hir_store.specs.declared.ids.ItemContainerId.{ItemContainerId}
 use Rattle.json_kinds.specs.declared.kind.Kind.{Kind}
 use Rattle.json_nodes.specs.Fields.{flag_of, number_or}
@@ -15,9 +14,9 @@ use Rattle.lower_json.specs.Tables.{context_of, decided_of, disabled_of, lang_of
 abbrev pub with_tables : List (Option Kind) → Items → Data → Tables → Tables
 with_tables kinds ns env ts = record ts {
   disabled = with_all with_first disabled_of (rows (codes "disabled") env) ts.disabled;
-  preds = with_all with_first_pred decided_of (rows (codes "preds") env) ts.preds;
+  preds = with_all with_pred decided_of (rows (codes "preds") env) ts.preds;
   hygiene = with_all with_first named_of (rows (codes "hygiene") env) ts.hygiene;
-  contexts = with_all with_first_context context_of (rows (codes "contexts") env) ts.contexts;
+  contexts = with_all with_context context_of (rows (codes "contexts") env) ts.contexts;
   blocks = with_all with_first numbered_of (rows (codes "blocks") env) ts.blocks;
   paths = with_paths (rows (codes "resolve") env) ts.paths;
   macros = with_expansions kinds ns (rows (codes "macros") env) ts.macros;

@@ -1,14 +1,12 @@
 -- What calls of macros are expanded to, and the definitions of macros. What is no entry of a table says nothing.
-use Rattle.std.specs.Prelude.{ℕ, List, [], ◌∷◌, ◌++◌, Option, Some, None, option_map, option_and_then}
+use Rattle.std.specs.Prelude.{ℕ, List, [], Option, Some, None, option_map, option_and_then}
 use Rattle.serde_json.specs.Data.{Data, Items, no_items, item}
 use Rattle.serde_json.specs.Find.{as_array, as_str}
 use Rattle.hir_env.specs.NodeMap.{Site}
-use Rattle.hir_env.specs.Tables.{macro_entry, def_entry, legacy_entry}
-use Rattle.hir_env.specs.declared.table.DefEntry.{DefEntry}
-use Rattle.hir_env.specs.declared.table.LegacyEntry.{LegacyEntry}
-use Rattle.hir_env.specs.declared.table.MacroAnswer.{MacroAnswer}
-use Rattle.hir_env.specs.declared.table.MacroAnswer.TheVariants as answer
-use Rattle.hir_env.specs.declared.table.MacroEntry.{MacroEntry}
+use Rattle.hir_tables.specs.Tables as answered
+use Rattle.hir_tables.specs.Tables.{with_first}
+use Rattle.hir_tables.specs.declared.table.MacroAnswer.{MacroAnswer}
+use Rattle.hir_tables.specs.declared.table.MacroAnswer.TheVariants as answer
 use Rattle.hir_store.specs.declared.ids.MacroDefId.{MacroDefId}
 use Rattle.hir_store.specs.declared.ids.ModuleId.{ModuleId}
 use Rattle.hir_store.specs.declared.name.Name.{Name}
@@ -41,15 +39,19 @@ answer_in kinds ns (Some (item f (item n (item w (item p no_items))))) = option_
 answer_in kinds ns (Some (item f (item n (item w (item g (item r no_items)))))) = expanded_in (small_of g) (tree_in kinds ns r)
 answer_in kinds ns _ = None
 
-abbrev pub with_answer : Option Site → Option MacroAnswer → List MacroEntry → List MacroEntry
-with_answer (Some s) (Some a) es = es ++ macro_entry s a ∷ []
-with_answer _ _ es = es
+abbrev pub Said : Type 0
+Said = List ((ℕ × ℕ) × MacroAnswer)
 
-abbrev pub with_expansion : List (Option Kind) → Items → Option Items → List MacroEntry → List MacroEntry
+abbrev pub with_answer : Option Site → Option MacroAnswer → Said → Said
+with_answer (Some s) (Some a) es = with_first es s a
+with_answer (Some s) None es = es
+with_answer None a es = es
+
+abbrev pub with_expansion : List (Option Kind) → Items → Option Items → Said → Said
 with_expansion kinds ns ds es = with_answer (call_in ds) (answer_in kinds ns ds) es
 
 -- what is said of calls, with the entries of a list behind
-abbrev pub with_expansions : List (Option Kind) → Items → Items → List MacroEntry → List MacroEntry
+abbrev pub with_expansions : List (Option Kind) → Items → Items → Said → Said
 with_expansions kinds ns no_items es = es
 with_expansions kinds ns (item d ds) es = with_expansions kinds ns ds (with_expansion kinds ns (as_array d) es)
 
@@ -68,12 +70,15 @@ abbrev pub defined_of : Option Items → Option (Name × (ModuleId × MacroDefId
 defined_of (Some (item m (item t (item d no_items)))) = both (name_in t) (definition_in (small_of m) (small_of d))
 defined_of _ = None
 
-abbrev with_definition : Option (Name × (ModuleId × MacroDefId)) → List DefEntry → List DefEntry
+abbrev pub Defined : Type 0
+Defined = List (Name × List (ℕ × MacroDefId))
+
+abbrev with_definition : Option (Name × (ModuleId × MacroDefId)) → Defined → Defined
 with_definition None es = es
-with_definition (Some e) es = es ++ def_entry e.1.0 e.0 e.1.1 ∷ []
+with_definition (Some e) es = answered.with_definition es e.1.0 e.0 e.1.1
 
 -- macros of modules, with those of a list behind
-abbrev pub with_definitions : Items → List DefEntry → List DefEntry
+abbrev pub with_definitions : Items → Defined → Defined
 with_definitions no_items es = es
 with_definitions (item d ds) es = with_definitions ds (with_definition (defined_of (as_array d)) es)
 
@@ -83,11 +88,14 @@ legacy_of (Some (item m (item t (item k (item d no_items))))) =
     both (name_in t) (both (small_of k) (definition_in (small_of m) (small_of d)))
 legacy_of _ = None
 
-abbrev with_rules : Option (Name × (ℕ × (ModuleId × MacroDefId))) → List LegacyEntry → List LegacyEntry
+abbrev pub DefinedByRules : Type 0
+DefinedByRules = List (Name × List ((ℕ × ℕ) × MacroDefId))
+
+abbrev with_rules : Option (Name × (ℕ × (ModuleId × MacroDefId))) → DefinedByRules → DefinedByRules
 with_rules None es = es
-with_rules (Some e) es = es ++ legacy_entry e.1.1.0 e.0 e.1.0 e.1.1.1 ∷ []
+with_rules (Some e) es = answered.with_legacy es e.1.1.0 e.0 e.1.0 e.1.1.1
 
 -- macros that `macro_rules` has defined, with those of a list behind
-abbrev pub with_legacy : Items → List LegacyEntry → List LegacyEntry
+abbrev pub with_legacy : Items → DefinedByRules → DefinedByRules
 with_legacy no_items es = es
 with_legacy (item d ds) es = with_legacy ds (with_rules (legacy_of (as_array d)) es)

@@ -1,16 +1,15 @@
 -- The tables of a document. What is no entry of a table says nothing.
-use Rattle.std.specs.Prelude.{ℕ, codes, Bool, true, List, [], ◌∷◌, ◌++◌, Option, Some, None, option_map, option_and_then}
+use Rattle.std.specs.Prelude.{ℕ, codes, Bool, true, List, [], ◌∷◌, Option, Some, None, option_map, option_and_then}
 use Rattle.serde_json.specs.Data.{Data, null, boolean, number, string, array, object, Items, no_items, item}
 use Rattle.serde_json.specs.Find.{get, as_array, as_str}
 use Rattle.hir_env.specs.NodeMap.{Site}
-use Rattle.hir_env.specs.Tables as answered
+use Rattle.hir_tables.specs.Tables as answered
 use Rattle.hir_env.specs.Tables.{numbered_items}
 use Rattle.hir_env.specs.declared.lang.LangItems.{LangItems}
 use Rattle.hir_env.specs.declared.resolved.Resolution.{Resolution}
 use Rattle.hir_env.specs.declared.resolved.Resolution.TheVariants as resolution
 use Rattle.hir_env.specs.declared.resolved.Resolved.{Resolved}
-use Rattle.hir_env.specs.declared.table.PathEntry.{PathEntry}
-use Rattle.hir_env.specs.declared.table.Context.{Context}
+use Rattle.hir_tables.specs.declared.table.Context.{Context}
 use Rattle.hir_store.specs.declared.ids.CfgId.{CfgId}
 use Rattle.hir_store.specs.declared.ids.HygieneId.{HygieneId}
 use Rattle.hir_store.specs.declared.ids.CtxId.{CtxId}
@@ -102,14 +101,12 @@ context_of (Some (item c (item p (item o (item m (item l (item r no_items)))))))
     (frame_of (small_of p) (small_of o) (outer_macro_of (number_or_null m)) (crate_root_of (number_or_null r)))
 context_of _ = None
 
-abbrev pub with_entry : {K T : Type 0}
-    → (List (K × T) → K → T → List (K × T)) → Option (K × T) → List (K × T) → List (K × T)
+abbrev pub with_entry : {K T E : Type 0} → (List E → K → T → List E) → Option (K × T) → List E → List E
 with_entry put None es = es
 with_entry put (Some e) es = put es e.0 e.1
 
--- a table with the entries of a list behind its own
-abbrev pub with_all : {K T : Type 0} → (List (K × T) → K → T → List (K × T)) → (Option Items → Option (K × T)) → Items
-    → List (K × T) → List (K × T)
+-- a table with the entries of a list put into it
+abbrev pub with_all : {K T E : Type 0} → (List E → K → T → List E) → (Option Items → Option (K × T)) → Items → List E → List E
 with_all put entry no_items es = es
 with_all put entry (item d ds) es = with_all put entry ds (with_entry put (entry (as_array d)) es)
 
@@ -174,12 +171,15 @@ said_of (Some (item m (item p (item t (item v (item r no_items)))))) = both (pat
     (both (module_of (small_of m)) (resolved_of (resolution_of t) (resolution_of v) (number_or_null r)))
 said_of _ = None
 
-abbrev with_path : Option (ModPath × (ModuleId × Resolved)) → List PathEntry → List PathEntry
-with_path None es = es
-with_path (Some e) es = es ++ answered.entry e.1.0 e.0 e.1.1 ∷ []
+abbrev pub Paths : Type 0
+Paths = List (ModPath × List (ℕ × Resolved))
 
--- paths with those of a list behind
-abbrev pub with_paths : Items → List PathEntry → List PathEntry
+abbrev with_path : Option (ModPath × (ModuleId × Resolved)) → Paths → Paths
+with_path None es = es
+with_path (Some e) es = answered.with_path es e.1.0 e.0 e.1.1
+
+-- paths with those of a list
+abbrev pub with_paths : Items → Paths → Paths
 with_paths no_items es = es
 with_paths (item d ds) es = with_paths ds (with_path (said_of (as_array d)) es)
 

@@ -1,7 +1,7 @@
 //! What a document says.
 
 use hir_env::place::LoweringMode;
-use hir_env::table::TableEnv;
+use hir_tables::table::TableEnv;
 use hir_store::ids::DefWithBodyId;
 use hir_syntax::ast::{Fn, ParamList, Path, Type_};
 

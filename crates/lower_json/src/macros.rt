@@ -4,7 +4,7 @@ ghost use Rattle.std.specs.Prelude.{◌≡◌, IfOk, OnOk, Some, option_map};
 ghost use Rattle.serde_json.specs.View.{view, items_view};
 ghost use Rattle.serde_json.specs.Find.{as_array};
 ghost use Rattle.json_faults.specs.Values.{small_of};
-ghost use Rattle.hir_env.specs.declared.table.MacroAnswer.TheVariants as answer;
+ghost use Rattle.hir_tables.specs.declared.table.MacroAnswer.TheVariants as answer;
 ghost use Rattle.lower_json.specs.Macros as spec;
 ghost use Rattle.lower_json.specs.Macros.{answer_in, call_in, name_in, with_definitions, with_expansions, with_legacy};
 ghost use Rattle.lower_json.specs.Tables.{both, path_in};
@@ -14,7 +14,7 @@ use crate::tables::site;
 use crate::tree::fragment_at;
 use hir_base::node::{HirFileId, InFile, NodeId};
 use hir_base::{Seq, Text};
-use hir_env::table::{MacroAnswer, TableEnv};
+use hir_tables::table::{MacroAnswer, TableEnv};
 use hir_store::ids::{MacroDefId, ModuleId};
 use hir_store::name::Name;
 use hir_syntax::ast::Fragment;
@@ -94,7 +94,8 @@ fn answer_in(
     }
 }
 
-/// Says of a call what the entry says.
+/// Says of a call what the entry says. Where something is said of it already no tree is read.
+#[tactic(auto, using(crate::proofs::Said::said_before))]
 fn expand(
     alloc: Global,
     tables: &mut TableEnv,
@@ -109,6 +110,9 @@ fn expand(
     let Some(call) = call_in(entry) else {
         return Ok(());
     };
+    if tables.has_macro(call) {
+        return Ok(());
+    }
     match answer_in(alloc, kinds, nodes, entry)? {
         Some(answer) => tables.set_macro(call, answer),
         None => Ok(()),

@@ -12,7 +12,7 @@ ghost use Rattle.lower_json.specs.Tables.{resolved_of, with_paths};
 use crate::path_text::mod_path;
 use crate::tables::number_or_null;
 use hir_env::resolved::{Resolution, Resolved, TypeAliasId};
-use hir_env::table::TableEnv;
+use hir_tables::table::TableEnv;
 use hir_store::ids::ModuleId;
 use hir_store::path::ModPath;
 use json_faults::value::{is_alias_word, small};

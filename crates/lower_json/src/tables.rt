@@ -5,7 +5,7 @@ ghost use Rattle.serde_json.specs.View.{view, items_view};
 ghost use Rattle.serde_json.specs.Find.{as_array, get};
 ghost use Rattle.json_faults.specs.Documents.{nodes};
 ghost use Rattle.json_faults.specs.Values.{small_of};
-ghost use Rattle.hir_env.specs.NodeMap.{with_first, with_first_pred, with_first_context};
+ghost use Rattle.hir_tables.specs.Tables.{with_context, with_first, with_pred};
 ghost use Rattle.lower_json.specs.Tables.{site_of, triple_of, quadruple_of, both, disabled_of, named_of, numbered_of};
 ghost use Rattle.lower_json.specs.Environment.{with_tables, tables_of};
 ghost use Rattle.lower_json.specs.Tables.{decision_of, decided_of, number_or_null, with_all, rows};
@@ -15,7 +15,7 @@ use crate::lang::lang_items;
 use crate::macros::{define_all, define_legacy, expand_all};
 use crate::resolve::resolve_all;
 use hir_base::node::{HirFileId, InFile, NodeId, PredId};
-use hir_env::table::{Context, TableEnv};
+use hir_tables::table::{Context, TableEnv};
 use hir_store::ids::{
     BlockId, CfgId, CrateId, CtxId, HygieneId, ItemContainerId, MacroDefId, ModuleId,
 };
@@ -188,7 +188,7 @@ fn disable_all(tables: &mut TableEnv, entries: &[Value]) -> Result<(), AllocErro
 }
 
 fn decide_all(tables: &mut TableEnv, entries: &[Value]) -> Result<(), AllocError>
-    ensures entries { OnOk result (tables.new.preds ≡ with_all with_first_pred decided_of (items_view entries.now) tables.old.preds) }
+    ensures entries { OnOk result (tables.new.preds ≡ with_all with_pred decided_of (items_view entries.now) tables.old.preds) }
     ensures others { OnOk result (tables.new ≡ record tables.old { preds = tables.new.preds }) }
 {
     for entry in entries {
@@ -213,7 +213,7 @@ fn name_all(tables: &mut TableEnv, entries: &[Value]) -> Result<(), AllocError>
 
 fn frame_all(tables: &mut TableEnv, entries: &[Value]) -> Result<(), AllocError>
     ensures entries { let es = items_view entries.now in
-        OnOk result (tables.new.contexts ≡ with_all with_first_context context_of es tables.old.contexts) }
+        OnOk result (tables.new.contexts ≡ with_all with_context context_of es tables.old.contexts) }
     ensures others { OnOk result (tables.new ≡ record tables.old { contexts = tables.new.contexts }) }
 {
     for entry in entries {

@@ -2,7 +2,7 @@
 
 use hir_base::node::HirFileId;
 use hir_env::place::LoweringMode;
-use hir_env::table::TableEnv;
+use hir_tables::table::TableEnv;
 use hir_lower::{ErrorImplTrait, ExprCollector, LowerError};
 use hir_store::ids::{ItemContainerId, ModuleId};
 use hir_store::source_map::ExpressionStoreSourceMap;

@@ -3,7 +3,7 @@
 use crate::collectors::{collector, table, with_store};
 use crate::documents::{path_in, with_document};
 use crate::lowered::with_lowered;
-use hir_env::table::TableEnv;
+use hir_tables::table::TableEnv;
 use hir_lower::{Body, BodySourceMap, ErrorImplTrait, ExprCollector};
 use hir_store::ids::{BindingId, ExprId};
 use hir_store::source_map::ExpressionStoreSourceMap;

@@ -5,7 +5,7 @@ use crate::documents::{path_in, with_document};
 use hir_base::Seq;
 use hir_base::node::{AstPtr, HirFileId, InFile, NodeId, TextRange};
 use hir_env::lang::LangItems;
-use hir_env::table::TableEnv;
+use hir_tables::table::TableEnv;
 use hir_lower::{
     ErrorImplTrait, ExprCollector, ImplTraitLower, LowerError, OpaqueImplTrait,
     impl_trait_error_allocator, lower_type_ref,

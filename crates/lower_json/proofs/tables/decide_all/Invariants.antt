@@ -1,12 +1,12 @@
 use Rattle.std.proofs.Common.{◌≡◌, drop}
 use Rattle.serde_json.specs.View.{items_view}
-use Rattle.hir_env.specs.NodeMap.{with_first_pred}
+use Rattle.hir_tables.specs.Tables.{with_pred}
 use Rattle.lower_json.specs.Tables.{with_all, decided_of}
 use Rattle.lower_json.proofs.tables.decide_all.Given as goal
 
 abbrev pub invariant-loop-entry : goal.invariant-loop-entry
 invariant-loop-entry l = record {
-  so_far : with_all with_first_pred decided_of (items_view l.entries) l.initial.tables.preds
-      ≡ with_all with_first_pred decided_of (items_view (drop l.entry-index l.entries)) l.tables.preds;
+  so_far : with_all with_pred decided_of (items_view l.entries) l.initial.tables.preds
+      ≡ with_all with_pred decided_of (items_view (drop l.entry-index l.entries)) l.tables.preds;
   others : l.tables ≡ record l.initial.tables { preds = l.tables.preds };
 }

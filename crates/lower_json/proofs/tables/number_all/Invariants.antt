@@ -1,6 +1,6 @@
 use Rattle.std.proofs.Common.{◌≡◌, drop}
 use Rattle.serde_json.specs.View.{items_view}
-use Rattle.hir_env.specs.NodeMap.{with_first}
+use Rattle.hir_tables.specs.Tables.{with_first}
 use Rattle.lower_json.specs.Tables.{with_all, numbered_of}
 use Rattle.lower_json.proofs.tables.number_all.Given as goal
 

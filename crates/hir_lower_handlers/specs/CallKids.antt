@@ -1,5 +1,7 @@
 -- What a call stands for counts no more than itself.
-use Rattle.std.proofs.Common.{arith, ◌≡◌, ◌∙◌, ap, ℕ, suc, ◌≤◌, List, Option, Some}
+use Rattle.std.proofs.Common.{◌∙◌, ap, subst, sym}
+use Rattle.std.proofs.Math.Nat.{le_refl}
+use Rattle.std.specs.Prelude.{◌≡◌, ◌≤◌, ℕ, suc, List, Option, Some}
 use Rattle.hir_base.specs.declared.node.HirFileId.{HirFileId}
 use Rattle.hir_syntax.specs.declared.ast.Expr.{Expr as AstExpr}
 use Rattle.hir_syntax.specs.declared.types.Type_.{Type_ as AstType_}
@@ -50,7 +52,9 @@ pub call_nests : {E : Type 0} (answers : E → Answers) (pre : Pre E) (post : Po
     → asked_call (answers env) kind.Expr c p ≡ expanded f (Some (fragment.Expr e)) es
     → HandlesExpr answers pre post env (inside_file f n p) e
 call_nests answers pre post env p c n f e es can left asked =
-    let same = counts_inside (complete (answers env)) p c n f e es left asked in can (inside_file f n p) e (omega (arith, same))
+    let spot = spot_at (complete (answers env)) (inside_file f n p) in
+    can (inside_file f n p) e (subst (λ m. count_expr (answered spot e) ≤ m)
+    (sym (counts_inside (complete (answers env)) p c n f e es left asked)) (le_refl (count_expr (answered spot e))))
 
 pub type_call_nests : {E : Type 0} (answers : E → Answers) (pre : TypePre E) (post : TypePost E) (env : E) (p : Place)
     (c : AstMacroCall) (n : ℕ) (f : HirFileId) (t : AstType_) (es : List Eager)
@@ -58,4 +62,6 @@ pub type_call_nests : {E : Type 0} (answers : E → Answers) (pre : TypePre E) (
     → asked_call (answers env) kind.Type_ c p ≡ expanded f (Some (fragment.Type_ t)) es
     → HandlesType answers pre post env (inside_file f n p) t
 type_call_nests answers pre post env p c n f t es can left asked =
-    let same = types_inside (complete (answers env)) p c n f t es left asked in can (inside_file f n p) t (omega (arith, same))
+    let spot = spot_at (complete (answers env)) (inside_file f n p) in
+    can (inside_file f n p) t (subst (λ m. count_type (answered_type spot t) ≤ m)
+    (sym (types_inside (complete (answers env)) p c n f t es left asked)) (le_refl (count_type (answered_type spot t))))

@@ -1,0 +1,410 @@
+//! An environment of tables.
+
+ghost use Rattle.std.specs.Prelude.{◌≡◌, OnOk, OnErr, is_some};
+ghost use Rattle.hir_tables.specs.Tables as spec;
+ghost use Rattle.hir_tables.specs.Tables.{found, with_first, with_pred, with_context, with_path, with_definition, with_legacy};
+
+use crate::first_below::FirstBelow;
+use crate::first_of::FirstOf;
+use hir_base::Seq;
+use hir_base::node::{HirFileId, InFile, NodeId, PredId};
+use hir_env::env::LowerEnv;
+use hir_env::expand::{Expansion, FragmentKind};
+use hir_env::lang::LangItems;
+use hir_env::resolved::{Resolved, Shadow};
+use hir_store::ids::{
+    BlockId, CfgId, CrateId, CtxId, DefWithBodyId, HygieneId, ItemContainerId, MacroDefId, ModuleId,
+};
+use hir_store::name::Name;
+use hir_store::path::ModPath;
+use hir_syntax::ast::{self, Fragment};
+use std::alloc::{AllocError, Global};
+use std::marker::Model;
+
+/// What is said of a context: the one that it was made in, the hygiene of a name of it, the definition of the macro that
+/// it came from, and the root of its crate.
+#[derive(Clone, Copy, PartialEq, Eq)]
+pub struct Context {
+    pub parent: CtxId,
+    pub opaque: HygieneId,
+    pub outer_macro: Option<MacroDefId>,
+    pub crate_root: Option<CrateId>,
+}
+
+/// What is said of a call of a macro.
+#[derive(Drop)]
+pub enum MacroAnswer {
+    Unresolved(ModPath),
+    NoExpansion,
+    Expanded {
+        file: HirFileId,
+        root: Option<Fragment>,
+        eager: Seq<(InFile<NodeId>, HirFileId)>,
+    },
+}
+
+/// An environment that answers all from tables. A node that stands in none is enabled, has root hygiene and no
+/// block, and a call that stands in none has no expansion. A name's context has the number of its hygiene. A context that
+/// stands in no table was made in the root, has the hygiene of its own number, came from no macro, and its crate has no root. A
+/// path that stands in none stands for nothing, and one that does stands for the same in every way that it is looked up. Of two
+/// entries for one node, one context, one call, one path or one name the first counts.
+///
+/// A node is known by the numbers of its file and its own, all else by number, path or name.
+pub struct TableEnv {
+    disabled: FirstOf<(u32, u32), CfgId>,
+    preds: FirstOf<u32, Option<bool>>,
+    hygiene: FirstOf<(u32, u32), HygieneId>,
+    contexts: FirstOf<u32, Context>,
+    blocks: FirstOf<(u32, u32), (BlockId, ModuleId)>,
+    skip: bool,
+    container: ItemContainerId,
+    paths: FirstBelow<ModPath, u32, Resolved>,
+    lang_items: LangItems,
+    new_range: bool,
+    macros: FirstOf<(u32, u32), MacroAnswer>,
+    macro_defs: FirstBelow<Name, u32, MacroDefId>,
+    legacy: FirstBelow<Name, (u32, u32), MacroDefId>,
+    limit: u32,
+}
+
+/// The numbers that a node is known by.
+fn place(node: InFile<NodeId>) -> (u32, u32)
+    ensures { result ≡ spec.place node }
+{
+    (node.file_id.0, node.value.0)
+}
+
+impl Drop for TableEnv {
+    fn drop(self) {
+        let TableEnv {
+            disabled: _,
+            preds: _,
+            hygiene: _,
+            contexts: _,
+            blocks: _,
+            skip: _,
+            container: _,
+            paths: _,
+            lang_items: _,
+            new_range: _,
+            macros: _,
+            macro_defs: _,
+            legacy: _,
+            limit: _,
+        } = self;
+    }
+}
+
+impl Model for TableEnv {
+    ghost use Rattle.hir_tables.specs.Tables.{Tables};
+
+    ghost use Rattle.std.specs.Coded.{codes};
+    ghost use Rattle.hir_syntax.specs.contracts.ast.Expr as expr_tree;
+    ghost use Rattle.hir_syntax.specs.contracts.ast.Stmt as stmt_tree;
+    ghost use Rattle.hir_syntax.specs.contracts.pats.Pat as pat_tree;
+    ghost use Rattle.hir_syntax.specs.contracts.types.Type_ as type_tree;
+
+    ghost Value = { Tables };
+
+    ghost coded = { Prim.hlevel (codes, expr_tree.the_row.coded, stmt_tree.the_row.coded, pat_tree.the_row.coded,
+        type_tree.the_row.coded) };
+
+    ghost view = { λ t. record {
+      disabled = t.disabled;
+      preds = t.preds;
+      hygiene = t.hygiene;
+      contexts = t.contexts;
+      blocks = t.blocks;
+      skip = t.skip;
+      container = t.container;
+      paths = t.paths;
+      lang_items = t.lang_items;
+      new_range = t.new_range;
+      macros = t.macros;
+      macro_defs = t.macro_defs;
+      legacy = t.legacy;
+      limit = t.limit;
+    } };
+}
+
+impl TableEnv {
+    /// Tables without entries, of a body that is not skipped and stands in the container. All items of the language are
+    /// there, numbered in their order, and ranges are made as the older ones.
+    pub fn new(alloc: Global, container: ItemContainerId) -> TableEnv
+        ensures { result ≡ spec.empty container }
+    {
+        TableEnv {
+            disabled: FirstOf::new(alloc),
+            preds: FirstOf::new(alloc),
+            hygiene: FirstOf::new(alloc),
+            contexts: FirstOf::new(alloc),
+            blocks: FirstOf::new(alloc),
+            skip: false,
+            container,
+            paths: FirstBelow::new(alloc),
+            lang_items: LangItems::numbered(),
+            new_range: false,
+            macros: FirstOf::new(alloc),
+            macro_defs: FirstBelow::new(alloc),
+            legacy: FirstBelow::new(alloc),
+            limit: 16,
+        }
+    }
+
+    /// Disables a node. Where memory is refused the tables are unchanged, here and below.
+    pub fn disable(&mut self, node: InFile<NodeId>, by: CfgId) -> Result<(), AllocError>
+        ensures ok { OnOk result (self.new ≡ record self.old { disabled = with_first self.old.disabled node by }) }
+        ensures err { OnErr result (self.new ≡ self.old) }
+    {
+        self.disabled.insert(place(node), by)
+    }
+
+    /// Says whether a predicate holds, or that it is undecided.
+    pub fn decide(&mut self, pred: PredId, holds: Option<bool>) -> Result<(), AllocError>
+        ensures ok { OnOk result (self.new ≡ record self.old { preds = with_pred self.old.preds pred holds }) }
+        ensures err { OnErr result (self.new ≡ self.old) }
+    {
+        self.preds.insert(pred.0, holds)
+    }
+
+    /// Gives the name at a node a hygiene.
+    pub fn set_hygiene(
+        &mut self,
+        node: InFile<NodeId>,
+        hygiene: HygieneId,
+    ) -> Result<(), AllocError>
+        ensures ok { OnOk result (self.new ≡ record self.old { hygiene = with_first self.old.hygiene node hygiene }) }
+        ensures err { OnErr result (self.new ≡ self.old) }
+    {
+        self.hygiene.insert(place(node), hygiene)
+    }
+
+    /// Says all that is answered of a context.
+    pub fn set_context(&mut self, context: CtxId, of: Context) -> Result<(), AllocError>
+        ensures ok { OnOk result (self.new ≡ record self.old { contexts = with_context self.old.contexts context of }) }
+        ensures err { OnErr result (self.new ≡ self.old) }
+    {
+        self.contexts.insert(context.0, of)
+    }
+
+    /// What is answered of a context.
+    fn context_of(&self, context: CtxId) -> Context
+        ensures { result ≡ spec.context_in self.now.contexts context }
+    {
+        let unsaid = Context {
+            parent: CtxId(0),
+            opaque: HygieneId(context.0),
+            outer_macro: None,
+            crate_root: None,
+        };
+        self.contexts.get(context.0).copied().unwrap_or(unsaid)
+    }
+
+    /// Makes the block at a node a scope of items.
+    pub fn number_block(
+        &mut self,
+        node: InFile<NodeId>,
+        block: BlockId,
+        inside: ModuleId,
+    ) -> Result<(), AllocError>
+        ensures ok { OnOk result (self.new ≡ record self.old { blocks = with_first self.old.blocks node (block, inside) }) }
+        ensures err { OnErr result (self.new ≡ self.old) }
+    {
+        self.blocks.insert(place(node), (block, inside))
+    }
+
+    /// Marks the body to be skipped, or not.
+    pub fn set_skip(&mut self, skip: bool)
+        ensures { self.new ≡ record self.old { skip = skip } }
+    {
+        self.skip = skip;
+    }
+
+    /// Says what a path stands for in a module.
+    pub fn set_resolved(
+        &mut self,
+        inside: ModuleId,
+        path: ModPath,
+        resolved: Resolved,
+    ) -> Result<(), AllocError>
+        ensures ok { OnOk result (self.new ≡ record self.old { paths = with_path self.old.paths inside path resolved }) }
+        ensures err { OnErr result (self.new ≡ self.old) }
+    {
+        self.paths.insert(path, inside.0, resolved)
+    }
+
+    /// Says which items of the language are there.
+    pub fn set_lang_items(&mut self, items: LangItems)
+        ensures { self.new ≡ record self.old { lang_items = items } }
+    {
+        self.lang_items = items;
+    }
+
+    /// Whether something is said of the call at a node.
+    pub fn has_macro(&self, call: InFile<NodeId>) -> bool
+        ensures { result ≡ is_some (found self.now.macros call) }
+    {
+        self.macros.has(place(call))
+    }
+
+    /// Says what the call at a node is expanded to.
+    pub fn set_macro(&mut self, call: InFile<NodeId>, answer: MacroAnswer) -> Result<(), AllocError>
+        ensures ok { OnOk result (self.new ≡ record self.old { macros = with_first self.old.macros call answer }) }
+        ensures err { OnErr result (self.new ≡ self.old) }
+    {
+        self.macros.insert(place(call), answer)
+    }
+
+    /// Gives a macro of a module its number.
+    pub fn set_macro_def(
+        &mut self,
+        inside: ModuleId,
+        name: Name,
+        def: MacroDefId,
+    ) -> Result<(), AllocError>
+        ensures ok { OnOk result (self.new ≡ record self.old { macro_defs = with_definition self.old.macro_defs inside name def }) }
+        ensures err { OnErr result (self.new ≡ self.old) }
+    {
+        self.macro_defs.insert(name, inside.0, def)
+    }
+
+    /// Gives a macro that `macro_rules` has defined its number.
+    pub fn set_legacy(
+        &mut self,
+        inside: ModuleId,
+        name: Name,
+        place: u32,
+        def: MacroDefId,
+    ) -> Result<(), AllocError>
+        ensures ok { OnOk result (self.new ≡ record self.old { legacy = with_legacy self.old.legacy inside name place def }) }
+        ensures err { OnErr result (self.new ≡ self.old) }
+    {
+        self.legacy.insert(name, (inside.0, place), def)
+    }
+
+    /// Says how many calls may be entered one in the other.
+    pub fn set_limit(&mut self, limit: u32)
+        ensures { self.new ≡ record self.old { limit = limit } }
+    {
+        self.limit = limit;
+    }
+
+    /// Says whether ranges are made as the newer items.
+    pub fn set_new_range(&mut self, new_range: bool)
+        ensures { self.new ≡ record self.old { new_range = new_range } }
+    {
+        self.new_range = new_range;
+    }
+}
+
+impl LowerEnv for TableEnv {
+    ghost use Rattle.hir_tables.specs.Tables.{answers_of};
+
+    ghost answers = { answers_of };
+
+    fn cfg(&self, node: InFile<NodeId>) -> Result<(), CfgId> {
+        match self.disabled.get(place(node)) {
+            Some(by) => Err(*by),
+            None => Ok(()),
+        }
+    }
+
+    fn cfg_pred(&self, pred: Option<PredId>) -> Option<bool> {
+        match pred {
+            Some(pred) => match self.preds.get(pred.0) {
+                Some(holds) => *holds,
+                None => None,
+            },
+            None => None,
+        }
+    }
+
+    fn hygiene(&self, node: InFile<NodeId>) -> HygieneId {
+        self.hygiene.get(place(node)).copied().unwrap_or(HygieneId::ROOT)
+    }
+
+    fn context(&self, node: InFile<NodeId>) -> CtxId {
+        CtxId(self.hygiene(node).0)
+    }
+
+    fn crate_root(&self, context: CtxId) -> Option<CrateId> {
+        self.context_of(context).crate_root
+    }
+
+    fn context_parent(&self, context: CtxId) -> CtxId {
+        self.context_of(context).parent
+    }
+
+    fn opaque(&self, context: CtxId) -> HygieneId {
+        self.context_of(context).opaque
+    }
+
+    fn outer_macro(&self, context: CtxId) -> Option<MacroDefId> {
+        self.context_of(context).outer_macro
+    }
+
+    fn block(&self, node: InFile<NodeId>, _inside: ModuleId) -> Option<(BlockId, ModuleId)> {
+        self.blocks.get(place(node)).copied()
+    }
+
+    fn skip(&self, _owner: DefWithBodyId) -> bool {
+        self.skip
+    }
+
+    fn container(&self, _owner: DefWithBodyId) -> ItemContainerId {
+        self.container
+    }
+
+    fn module_of(&self, container: ItemContainerId) -> ModuleId {
+        match container {
+            ItemContainerId::ModuleId(inside) => inside,
+            _ => ModuleId(0),
+        }
+    }
+
+    fn resolve(&self, inside: ModuleId, path: &ModPath, _shadow: Shadow) -> Resolved {
+        let unsaid = Resolved {
+            types: None,
+            values: None,
+            rest: None,
+        };
+        self.paths.get(path, inside.0).unwrap_or(unsaid)
+    }
+
+    fn lang_items(&self) -> &LangItems {
+        &self.lang_items
+    }
+
+    fn new_range(&self, _inside: ModuleId) -> bool {
+        self.new_range
+    }
+
+    fn expand(
+        &self,
+        node: InFile<NodeId>,
+        _call: &ast::MacroCall,
+        _inside: ModuleId,
+        _kind: FragmentKind,
+    ) -> Expansion<'_> {
+        match self.macros.get(place(node)) {
+            None => Expansion::NoExpansion,
+            Some(MacroAnswer::NoExpansion) => Expansion::NoExpansion,
+            Some(MacroAnswer::Unresolved(path)) => Expansion::Unresolved(path),
+            Some(MacroAnswer::Expanded { file, root, eager }) => {
+                Expansion::Expanded(*file, root.as_ref(), eager.as_slice())
+            }
+        }
+    }
+
+    fn macro_def(&self, inside: ModuleId, name: &Name) -> Option<MacroDefId> {
+        self.macro_defs.get(name, inside.0)
+    }
+
+    fn legacy_macro(&self, inside: ModuleId, name: &Name, place: u32) -> Option<MacroDefId> {
+        self.legacy.get(name, (inside.0, place))
+    }
+
+    fn expansion_limit(&self) -> u32 {
+        self.limit
+    }
+}
