@@ -24,7 +24,7 @@ use hir_env::resolved::{Resolved, Shadow};
 use hir_lower_scope::labels::{LabelScopes, NoTarget};
 use hir_store::fault::StoreFault;
 use hir_store::hir::CoroutineKind;
-use hir_store::ids::{CfgId, CrateId, ExprId, HygieneId, LabelId, LangItemId, TypeRefId};
+use hir_store::ids::{CfgId, CrateId, ExprId, HygieneId, LabelId, LangItemId, MacroDefId, TypeRefId};
 use hir_store::name::Name;
 use hir_store::path::{GenericArgs, ModPath};
 use hir_store::type_ref::ConstRef;
@@ -89,6 +89,14 @@ pub trait LowerParts {
         kind: FragmentKind,
     ) -> Expansion<'_>
         ensures { let at = spot self.now in shown result ≡ at.answers.expand node call.now at.place.module_id kind };
+
+    /// The definition of the macro of this name, which isn't by `macro_rules`.
+    fn macro_def(&self, name: &Name) -> Option<MacroDefId>
+        ensures { let at = spot self.now in result ≡ at.answers.macro_def at.place.module_id name.now };
+
+    /// The definition by `macro_rules` that so many of its name stand before in a block.
+    fn legacy_macro(&self, name: &Name, before: u32) -> Option<MacroDefId>
+        ensures { let at = spot self.now in result ≡ at.answers.legacy_macro at.place.module_id name.now before };
 
     /// The items that the language itself names.
     fn lang_items(&self) -> &LangItems

@@ -121,6 +121,14 @@ impl<
         self.env.expand(node, call, self.place.module_id, kind)
     }
 
+    fn macro_def(&self, name: &Name) -> Option<MacroDefId> {
+        self.env.macro_def(self.place.module_id, name)
+    }
+
+    fn legacy_macro(&self, name: &Name, before: u32) -> Option<MacroDefId> {
+        self.env.legacy_macro(self.place.module_id, name, before)
+    }
+
     fn lang_items(&self) -> &LangItems {
         self.env.lang_items()
     }
