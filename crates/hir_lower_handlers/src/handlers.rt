@@ -18,7 +18,7 @@ use hir_lower_form::walk::{PathWalk, Reading};
 use hir_lower_scope::labels::{LabelScopes, NoTarget};
 use hir_lower_type::places::inside_constant;
 use hir_store::fault::StoreFault;
-use hir_store::ids::{CfgId, CrateId, ExprId, HygieneId, LabelId, TypeRefId};
+use hir_store::ids::{CfgId, CrateId, ExprId, HygieneId, LabelId, MacroDefId, TypeRefId};
 use hir_store::name::Name;
 use hir_store::path::{GenericArgs, ModPath};
 use hir_store::type_ref::ConstRef;
