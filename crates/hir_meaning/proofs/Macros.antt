@@ -5,7 +5,8 @@ use Rattle.hir_meaning.specs.Run.{ends, event, ◌>>=◌}
 use Rattle.hir_meaning.specs.Catching.{loop, block}
 use Rattle.hir_meaning.specs.Store.{run_store, run_to}
 use Rattle.hir_meaning.specs.Macros.{RunsWhatItStandsFor, CallsAreSilent, LeavesNoArgument, UnenteredIsMissing}
-use Rattle.hir_meaning.specs.Macros.{SplicesItsTail, KeepsItsSemicolon, ReachesTheLabel, MissesTheLabel, EndsWithItsBlock, BeginsWhereItStands}
+use Rattle.hir_meaning.specs.Macros.{SplicesItsTail, KeepsItsSemicolon, ReachesTheLabel, MissesTheLabel, EndsWithItsBlock}
+use Rattle.hir_meaning.specs.Macros.{BeginsWhereItStands}
 
 pub runs_what_it_stands_for : RunsWhatItStandsFor
 unfolding ends event ◌>>=◌ loop block run_store run_to stored_path

@@ -2,6 +2,8 @@
 //! function whose contract is the law. Those of small bodies are computed, as they are written and as they are stored.
 #![tactic(auto)]
 
+pub mod definitions;
+
 ghost use Rattle.hir_meaning.specs.Worked.{RunsAsWorked};
 ghost use Rattle.hir_meaning.specs.Rows.{LeavesTheLoop, LeavesTheBlock, HasNoTurn, StraysFromBlock, HasTwoSites, EntersItsNumber};
 ghost use Rattle.hir_meaning.specs.Rows.{MissingIsNoLiteral, ParenthesesAreSilent, DisabledIsNothing, RunsAlone};
@@ -10,8 +12,6 @@ ghost use Rattle.hir_meaning.specs.Forms.{OperatesInOrder, DecidesByLeft, Decide
 ghost use Rattle.hir_meaning.specs.Forms.{MissesItsFront, LeavesOutTheSecond, ElementIsNothing, EntersTheUnsafe};
 ghost use Rattle.hir_meaning.specs.Forms.{MakesAPair, MakesARecord, MakesOfDefaults, CallsTheMethod, YieldsUnit, YeetsItsValue};
 ghost use Rattle.hir_meaning.specs.Macros.{RunsWhatItStandsFor, CallsAreSilent, LeavesNoArgument, UnenteredIsMissing, CallIsNothing};
-ghost use Rattle.hir_meaning.specs.Macros.{SplicesItsTail, KeepsItsSemicolon, ReachesTheLabel, MissesTheLabel, EndsWithItsBlock};
-ghost use Rattle.hir_meaning.specs.Macros.{BeginsWhereItStands};
 ghost use Rattle.hir_meaning.specs.Typed.{CastsToItsType, NamesAnOffset, CallsWithArguments};
 ghost use Rattle.hir_meaning.specs.Endings.{MissingEndsTheLoop, StraysWithItsValue, StrayIsNoValue, InnerLabelHides};
 ghost use Rattle.hir_meaning.specs.Endings.{ContinuesPastTheBlock, AnswersNoPastTheEnd, ValueEndsTheLoop, ForeignIsNotEnclosed};
@@ -227,36 +227,6 @@ pub fn unentered_is_missing()
 /// A call that stands for the statements behind it changes nothing, wherever it stands.
 pub fn call_is_nothing()
     ensures { CallIsNothing }
-{}
-
-/// `{ m!() }` where m stands for `1; 2` reads 1, and has the value of 2.
-pub fn splices_its_tail()
-    ensures { SplicesItsTail }
-{}
-
-/// `{ m!() }` where m stands for `1;` reads 1, and is unit.
-pub fn keeps_its_semicolon()
-    ensures { KeepsItsSemicolon }
-{}
-
-/// `'a: loop { macro_rules! m {..} loop { m!() }; break 2 }` where m stands for `break 'a 1` is 1.
-pub fn reaches_the_label()
-    ensures { ReachesTheLabel }
-{}
-
-/// The same where another macro wrote the jump is 2: the jump is for the loop around it.
-pub fn misses_the_label()
-    ensures { MissesTheLabel }
-{}
-
-/// `'a: loop { { macro_rules! m {..} } loop { m!() }; break 2 }` is 2: behind its block a definition is no more.
-pub fn ends_with_its_block()
-    ensures { EndsWithItsBlock }
-{}
-
-/// `'a: loop { loop { m!() }; macro_rules! m {..} break 2 }` is 2: in front of it a definition isn't yet.
-pub fn begins_where_it_stands()
-    ensures { BeginsWhereItStands }
 {}
 
 /// A body behind a barrier runs as if nothing were outside.
