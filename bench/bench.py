@@ -32,10 +32,11 @@ NAMES = 100
 
 
 class Nodes:
-    """A list of nodes in which each child stands after its parent."""
+    """A list of nodes in which each child stands after its parent, and tables."""
 
     def __init__(self):
         self.all = []
+        self.env = {}
 
     def add(self, kind, **fields):
         self.all.append({"k": kind, **fields})
@@ -353,9 +354,39 @@ def owned(size):
     return nodes
 
 
+def expansions(size):
+    """One array of very many calls of macros, each expanded to a literal, 33,000 of them at 100,000 nodes."""
+    nodes = Nodes()
+    nodes.add("Fn", body=1)
+    elements = nodes.add("ArrayExpr", elems=[])
+    nodes.env["macros"] = []
+    while len(nodes.all) + 3 <= size:
+        here = nodes.add("MacroExpr")
+        call = nodes.add("MacroCall")
+        nodes.all[here]["call"] = call
+        nodes.all[elements]["elems"].append(here)
+        nodes.env["macros"].append([0, call, "file", 1, nodes.add("Literal", lit="int", t="1")])
+    return nodes
+
+
+def resolved(size):
+    """One block of very many paths in patterns, each with an entry of its own that says what it stands for."""
+    nodes, block = body()
+    nodes.env["resolve"] = []
+    while len(nodes.all) + 2 <= size:
+        statement = nodes.add("LetStmt")
+        nodes.all[block]["stmts"].append(statement)
+        name = "X%d" % statement
+        nodes.all[statement]["pat"] = nodes.add("IdentPat", name=name)
+        nodes.env["resolve"].append([0, name, None, "const", None])
+    return nodes
+
+
 SHAPES = {
     "wide": wide,
     "calls": calls,
+    "expansions": expansions,
+    "resolved": resolved,
     "deep": deep,
     "labels": labels,
     "turns": turns,
@@ -403,14 +434,17 @@ def make(name, size, path):
 
 def write(name, size, path):
     """Writes a document, and beside it the text that is only parsed."""
-    nodes = SHAPES[name](size).all
-    text = json.dumps(nodes)
+    shape = SHAPES[name](size)
+    text = json.dumps(shape.all)
+    tables = json.dumps(shape.env)
     for begin, to in [('{"nodes": ', path), ('{"fraction": 0.5, "parsed": ', path + ".parsed")]:
         with open(to, "w") as document:
             document.write(begin)
             document.write(text)
+            document.write(', "env": ')
+            document.write(tables)
             document.write("}")
-    print(len(nodes))
+    print(len(shape.all))
 
 
 def measure(program, mode, path):

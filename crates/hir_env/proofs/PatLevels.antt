@@ -25,7 +25,6 @@ use Rattle.hir_env.specs.Layers.{Defined, Entering, ExprReading, KindReading, Sp
 use Rattle.hir_env.specs.Whole.{into}
 use Rattle.hir_env.specs.Folds.{fold_pat, fold_pat_field, fold_path}
 
-
 pats_is : {A : Type 0} (h : A → Place → Pat) (xs : List A) (p : Place) → of.pats_of (λ y. y.1) (listed (beside h) xs) p ≡ of.pats_of h xs p
 pats_is h [] p = refl
 pats_is h (x ∷ xs) p = λ j. tree.more_pats (h x p) (pats_is h xs p j)

@@ -206,7 +206,6 @@ mutual
     dyn_type : Pointer → Bounds → Type_
     -- what the pattern is as such, and what it is in a type
     pattern_type : Pointer → OptionType → OptionPat → OptionTypePat → Type_
-
     -- what it stands for, where it is entered and that is a type
     macro_type : Pointer → Called → OptionType → Type_
 

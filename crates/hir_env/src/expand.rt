@@ -18,9 +18,5 @@ pub enum FragmentKind {
 pub enum Expansion<'a> {
     Unresolved(&'a ModPath),
     NoExpansion,
-    Expanded(
-        HirFileId,
-        Option<&'a Fragment>,
-        &'a [(InFile<NodeId>, HirFileId)],
-    ),
+    Expanded(HirFileId, Option<&'a Fragment>, &'a [(InFile<NodeId>, HirFileId)]),
 }

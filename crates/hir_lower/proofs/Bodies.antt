@@ -26,9 +26,10 @@ use Rattle.hir_one_result.specs.OneResult.{OneResult, fresh_owing}
 use Rattle.hir_one_result.specs.Room.{BodyTooLarge, body_size}
 use Rattle.hir_one_result.proofs.Fits.{bodies_fit}
 use Rattle.hir_one_result.proofs.Whole.{one_results}
+use Rattle.hir_told.proofs.AsExpansions.{bodies_expand}
 use Rattle.hir_type_result.proofs.InsideBody.{body_inside}
 use Rattle.hir_lower.specs.Formals.{Given}
-use Rattle.hir_lower.specs.Means.{DoesBody, HasBody, kind_unless_skipped, owed_faults, unless_skipped}
+use Rattle.hir_lower.specs.Means.{DoesBody, HasBody, expanded_in_body, kind_unless_skipped, owed_faults, unless_skipped}
 use Rattle.hir_lower.specs.Roots.{GivenFromNothing, RefusedAtEnd, StoresFromNothing, behind, body_of, formals_of, given_of}
 use Rattle.hir_lower.specs.declared.body.Body.{Body}
 use Rattle.hir_lower.proofs.BodyTypes.{body_types_once}
@@ -96,6 +97,12 @@ module _ (kind : Option CoroutineKind) (skipped : Bool) (f : Formals) (e : Optio
               (record { exprs = refl; pats = refl; types = refl }) s.lowered end ext depth le;
         })
 
+    expanded : b'.stored.expansions ≡ expanded_in_body kind skipped f e
+    unfolding storing.record_root
+    expanded =
+        let P : Builder → Type 0 = λ x. x.stored.expansions ≡ expanded_in_body kind skipped f e in
+        subst P s.left (bodies_expand kind skipped f e (closed start) s.inner (given, i) paired s.lowered)
+
   too_large : (b' : Builder) → behind lowered start ≡ (Err Full, b') → BodyTooLarge (fresh limit) kind skipped f e
   too_large b' h =
       let own = lowered (closed start) in
@@ -145,6 +152,12 @@ module _ (kind : Option CoroutineKind) (skipped : Bool) (node : Pointer) (k : Op
       subst P (sym (s.store_is ∙ ap store_of same)) (subst Q (sym (s.source_map_is ∙ ap map_of same))
       (subst R (sym (given_is_of kind skipped node k f e limit b g)) w))
 
+  body_expanded : (store : Store) (source_map : SourceMap) → StoresFromNothing item limit store source_map
+      → source_map.expansions ≡ expanded_in_body read_kind skipped f read
+  body_expanded store source_map s =
+      ap (λ (m : SourceMap). m.expansions) s.source_map_is
+      ∙ expanded read_kind skipped f read limit owed s.builder s.answer.0 s.answer.1 (sym (item_is kind skipped node k f e limit) ∙ s.done)
+
   pub body_too_large : RefusedAtEnd item limit → BodyTooLarge (fresh limit) read_kind skipped f read
   body_too_large r = too_large read_kind skipped f read limit owed r.builder (sym (item_is kind skipped node k f e limit) ∙ r.refused)
 
@@ -160,3 +173,8 @@ module _ (kind : Option CoroutineKind) (skipped : Bool) (node : Pointer) (k : Op
         → IfOk r (λ a. OneResult (store a) (source_map a) owed read_kind skipped f (given_of (b a)) read)
     one_result_if b (Ok a) s g = one_result (b a) (store a) (source_map a) s g
     one_result_if b (Err x) s g = tt
+
+    pub body_expanded_if : (r : Result A E) → IfOk r (λ a. StoresFromNothing item limit (store a) (source_map a))
+        → IfOk r (λ a. (source_map a).expansions ≡ expanded_in_body read_kind skipped f read)
+    body_expanded_if (Ok a) s = body_expanded (store a) (source_map a) s
+    body_expanded_if (Err x) s = tt

@@ -41,6 +41,7 @@ use Rattle.hir_one_result.proofs.OwnedWays.{shown_owned}
 use Rattle.hir_one_result.proofs.TreeFaults.{diagnostics_are}
 use Rattle.hir_one_result.proofs.TreeBlocks.{blocks_are}
 use Rattle.hir_one_result.proofs.Fits.{all_fit}
+use Rattle.hir_told.proofs.AsExpansions.{exprs_expand}
 use Rattle.hir_type_result.proofs.Inside.{expr_inside}
 use Rattle.hir_type_result.proofs.Named.{expr_bindings_came, expr_pats_once, expr_types_once}
 use Rattle.hir_lower.specs.Calls.{Outside}
@@ -230,6 +231,7 @@ module _ (e : OptionExpr) (b inner : Builder) (i : ExprId) (none_open : b.scopes
         pat_ways = fits.pat_ways;
         type_sources = fits.type_sources;
         lifetime_sources = fits.lifetime_sources;
+        type_ways = fits.type_ways;
       }
 
   -- it is recorded, and owns its bindings
@@ -273,6 +275,7 @@ module _ (e : OptionExpr) (b inner : Builder) (i : ExprId) (none_open : b.scopes
           pat_ways = fits.pat_ways;
           type_sources = fits.type_sources;
           lifetime_sources = fits.lifetime_sources;
+          type_ways = fits.type_ways;
         };
         owners = fits.owners may;
         roots = ap (λ rs. rs ++ root_at (store_of inner.stored) i ∷ []) (roots_inside in_root);
@@ -281,6 +284,7 @@ module _ (e : OptionExpr) (b inner : Builder) (i : ExprId) (none_open : b.scopes
         faults = faults.is;
         permuted = faults.permuted;
         blocks = blocks_are e b i inner paired is;
+        expansions = exprs_expand e b i inner paired is;
         paired = record {
           exprs = after.exprs;
           labels = after.labels;

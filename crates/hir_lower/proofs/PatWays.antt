@@ -258,8 +258,10 @@ abbrev pub alternatives_in : List PatId → Table → Low (List PatId × Table)
 alternatives_in done t s r = Behind done r.0 × names t s r
 
 pub no_alternative : (done : List PatId) (t : Table) → Leading (alternatives_in done t) (pure (done, t))
-no_alternative done t = record { goes = λ b.
-    (((leading_pure {A = List PatId × Table} (done, t)).goes b).0, (none_behind done, none_new t.bindings b.stored)) }
+no_alternative done t = record {
+  goes = λ b.
+      (((leading_pure {A = List PatId × Table} (done, t)).goes b).0, (none_behind done, none_new t.bindings b.stored));
+}
 
 pub one_alternative : {p : Lowering (PatId × Table)} {f : PatId × Table → Lowering (List PatId × Table)} (done : List PatId) (t : Table)
     → Leading (names t) p → ((r : PatId × Table) → Leading (alternatives_in (done ++ r.0 ∷ []) r.1) (f r))
@@ -333,8 +335,11 @@ module _ (at : Pointer) where
       (⊎_elim (λ e. omega (arith, first, e)) (λ new. omega (arith, grown, new)) m.0, new_later _ _ _ s u w l.1 m.1))
       (h (forms.enter_or t))
       (λ r. in_turn (λ rs. all_of rs) (one_of r.0 r.1)
-      (λ s u rs x w l m. (⊎_elim (λ e. inl e) (λ new. let grown = w.pats.grown in inr (omega (arith, grown, new)))
-      (of_all u r.0 x.0 rs.0 l.0 m.0), new_later _ _ _ s u w l.1 m.1))
+      (λ s u rs x w l m. (
+        ⊎_elim (λ e. inl e) (λ new. let grown = w.pats.grown in inr (omega (arith, grown, new)))
+            (of_all u r.0 x.0 rs.0 l.0 m.0),
+        new_later _ _ _ s u w l.1 m.1,
+      ))
       (hs (r.0 ∷ []) r.1)
       (λ rs. in_turn (λ i. just i (forms.leave_or rs.1)) (all_of rs)
       (λ s u i x w l m. (same_all s i x.0 rs.0 m.0 l, new_later _ _ _ s u w (none_new rs.1.bindings s) m.1))

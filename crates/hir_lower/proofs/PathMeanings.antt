@@ -28,6 +28,7 @@ use Rattle.hir_one_result.proofs.Leading.{Shown}
 use Rattle.hir_one_result.proofs.TreeBlocks.{whole_enters}
 use Rattle.hir_one_result.proofs.TreeFaults.{whole_reports}
 use Rattle.hir_one_result.proofs.TreeStands.{whole_left}
+use Rattle.hir_told.proofs.AsExpansions.{paths_expand}
 use Rattle.hir_type_result.specs.Roots.{RootsOf, recorded}
 use Rattle.hir_type_result.proofs.Behind.{blocks_behind, faults_behind, path_roots, ways_behind}
 use Rattle.hir_type_result.proofs.Inside.{path_inside}
@@ -133,6 +134,7 @@ module _ (at : Spot) (x : AstPath) (b b' : Builder) where
         faults = faults.is;
         permuted = faults.like;
         blocks = blocks_behind b b' y d l.0 (whole_enters p);
+        expansions = paths_expand p b b' y d l.0;
         types_reached_once = λ later ext. path_types_once (whole_path at x) b b' y d l.0 later ext;
         pats_reached_once = λ later ext. path_pats_once (whole_path at x) b b' y d l.0 later ext;
         inside_reached_once = λ later ext depth le. path_inside p b b' y d l.0 later ext depth le;

@@ -14,17 +14,18 @@ use Rattle.hir_store.specs.declared.fault.StoreFault.TheVariants.{Memory, Full}
 use Rattle.hir_store.specs.declared.ids.TypeRefId.{TypeRefId}
 use Rattle.hir_store.specs.declared.type_ref.TypeRef.{TypeRef}
 use Rattle.hir_env.specs.Spot.{Spot}
-use Rattle.hir_lower_form.specs.Builder.{Builder}
+use Rattle.hir_lower_form.specs.Builder.{Builder, fresh}
 use Rattle.hir_lower_form.specs.Lower.{type_part}
 use Rattle.hir_lower_form.specs.Lowering.{Checked, Lowers, SomeEnd, alloc_type}
 use Rattle.hir_steps.specs.Keeps.{MadeApart, Paired}
 use Rattle.hir_steps.proofs.Apart.{stored_type_apart}
 use Rattle.hir_steps.proofs.Keeping.{apart_by}
 use Rattle.hir_one_result.specs.Laws.{MayBeOwned}
+use Rattle.hir_told.proofs.AsExpansions.{types_expand}
 use Rattle.hir_type_result.specs.TypeResult.{TypeResult, TypeTooLarge}
 use Rattle.hir_type_result.proofs.Whole.{refused_types, type_results}
 use Rattle.hir_lower.specs.Calls.{Outside}
-use Rattle.hir_lower.specs.Means.{AddsType, NoRoomForType, whole_type}
+use Rattle.hir_lower.specs.Means.{AddsType, NoRoomForType, expanded_in_type, whole_type}
 use Rattle.hir_lower.specs.Roots.{AnswersFromNothing, RefusedAtEnd}
 use Rattle.hir_lower.proofs.Ways.{made}
 
@@ -132,6 +133,15 @@ module _ (at : Spot) (x : Option AstType_) (limit : ℕ) where
       → IfOk r (λ a. TypeResult (store a) (source_map a) (id a) (whole_type at x))
   type_result_if store source_map id (Ok a) h = type_result (id a) (store a) (source_map a) h
   type_result_if store source_map id (Err e) h = tt
+
+  pub type_expanded_if : {A E : Type 0} (store : A → Store) (source_map : A → SourceMap) (id : A → TypeRefId) (r : Result A E)
+      → IfOk r (λ a. AnswersFromNothing (type_part None (whole_type at x)) limit (id a) (store a) (source_map a))
+      → IfOk r (λ a. (source_map a).expansions ≡ expanded_in_type (whole_type at x))
+  type_expanded_if store source_map id (Ok a) h =
+      let none : Paired (fresh limit).stored = record { exprs = refl; labels = refl; pats = refl; types = refl; lifetimes = refl } in
+      ap (λ (m : SourceMap). m.expansions) h.source_map_is
+      ∙ types_expand None (whole_type at x) (fresh limit) h.builder (id a) none h.done
+  type_expanded_if store source_map id (Err e) h = tt
 
   pub type_too_large : RefusedAtEnd (type_part None (whole_type at x)) limit → TypeTooLarge limit (whole_type at x)
   type_too_large r = refused_types limit (whole_type at x) Full r.builder r.refused

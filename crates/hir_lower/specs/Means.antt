@@ -46,6 +46,7 @@ use Rattle.hir_meaning.specs.Inner.{of_present as of_some}
 use Rattle.hir_meaning.specs.Same.{SameBodies, SameCoroutine, SameMeaning}
 use Rattle.hir_same_meaning.specs.Reached.{Spread, of_each, reached_to}
 use Rattle.hir_steps.specs.Keeps.{IsHanded, IsOfTwo, IsOneOf, Mapped, Paired, times_bound, times_labelled}
+use Rattle.hir_steps.specs.Calls.{Expansions}
 use Rattle.hir_one_result.specs.Blocks.{blocks_of_part, blocks_of_whole}
 use Rattle.hir_one_result.specs.Diagnostics.{Faults, part_diagnostics, whole_faults}
 use Rattle.hir_one_result.specs.Laws.{Grown, Reaches, Settled}
@@ -53,6 +54,9 @@ use Rattle.hir_one_result.specs.Room.{size_part, whole_size}
 use Rattle.hir_one_result.specs.Size.{owned, placed}
 use Rattle.hir_one_result.specs.Leads.{OwnedBy, OwnersAre, Way}
 use Rattle.hir_one_result.specs.Stands.{StandsPart, WholeWays}
+use Rattle.hir_told.specs.Bodies.{grade_body}
+use Rattle.hir_told.specs.Expanded as told
+use Rattle.hir_told.specs.Grades.{grade_expr_part, grade_part, grade_whole}
 use Rattle.hir_lower.specs.declared.body.Param.{Param}
 use Rattle.hir_lower.specs.Formals.{formals_read}
 use Rattle.hir_type_result.specs.Unrun.{unrun_in, unrun_in_path, unrun_in_pats}
@@ -82,11 +86,24 @@ pub record Lives (old new later : Stored) (i : ExprId) (e : OptionExpr) : Type 0
   pub types_reached_once : TypesSpread old new later (λ f. [])
   pub pats_reached_once : PatsSpread old new later []
 
+-- the calls of macros that are entered, each behind what else was expanded for it, in the order of lowering
+abbrev pub expanded_in : OptionExpr → Expansions
+expanded_in e = grade_expr_part told.expansions e
+
+abbrev pub expanded_in_path : OptionPath → Expansions
+expanded_in_path p = grade_whole told.expansions p
+
+abbrev pub expanded_in_type : OptionType → Expansions
+expanded_in_type t = grade_part told.expansions t
+
+abbrev pub expanded_in_body : Option CoroutineKind → Bool → Formals → OptionExpr → Expansions
+expanded_in_body kind skipped f e = grade_body told.expansions told.bodies_expanded kind skipped f e
+
 -- What lowering a root leaves. It is the last of the recorded roots, to which all belongs that was stored since the one before:
 -- as many expressions, labels and bindings as the tree becomes, and patterns, types and lifetimes from just those of its nodes that
 -- become one. The patterns that came make bindings that came, each owned by the innermost closure, coroutine, `const` block, length or
--- argument around it, or, in none of these, by the root, as `lives` says, and by its number, as `owners` does. Behind the faults and the
--- blocks that were noted before come those of the tree.
+-- argument around it, or, in none of these, by the root, as `lives` says, and by its number, as `owners` does. Behind the faults,
+-- the blocks and the calls of macros that were noted before come those of the tree.
 pub record Rooted (old new : Stored) (i : ExprId) (e : OptionExpr) : Type 0 where
   pub lives : (later : Stored) → Extends new later → Settled new later → Lives old new later i e
   pub grown : Grown (owned (size_part e)) old new
@@ -97,6 +114,7 @@ pub record Rooted (old new : Stored) (i : ExprId) (e : OptionExpr) : Type 0 wher
   pub faults : new.diagnostics ≡ old.diagnostics ++ more
   pub permuted : IsPermutation (part_diagnostics [] e) more
   pub blocks : new.block_scopes ≡ old.block_scopes ++ blocks_of_part e
+  pub expansions : new.expansions ≡ old.expansions ++ expanded_in e
   pub paired : Paired new
   pub mapped : Mapped old → Mapped new
 
@@ -171,11 +189,11 @@ pub record ConstantsLive (old new later : Stored) (p : OptionPath) : Type 0 wher
   pub owner_ways : OwnersAre new.bindings.owners ways
 
 -- What lowering a path to r leaves: types and lifetimes from just those of its nodes that become one, and its constants. Those are
--- roots, also where r is none; behind the faults and the blocks that were noted before come theirs. In each later store each body
--- inside r does what the written one does; r and the expressions and patterns that came reach each type in one way only, and none that
--- was stored before; so do the expressions and types that came reach each pattern. The patterns that came make bindings that came,
--- each owned by the innermost closure, coroutine, `const` block, length or argument around it, as `lives` says, and by its number, as
--- `owners` does.
+-- roots, also where r is none; behind the faults, the blocks and the calls of macros that were noted before come theirs. In each later
+-- store each body inside r does what the written one does; r and the expressions and patterns that came reach each type in one way only,
+-- and none that was stored before; so do the expressions and types that came reach each pattern. The patterns that came make bindings
+-- that came, each owned by the innermost closure, coroutine, `const` block, length or argument around it, as `lives` says, and by its
+-- number, as `owners` does.
 pub record PathRooted (old new : Stored) (r : Option Path) (p : OptionPath) : Type 0 where
   pub inner : (later : Stored) → Extends new later
       → SameBodies (store_of later) (map_of later) (of_some (path_inner_bodies (store_of later)) r) (path_bodies p)
@@ -185,6 +203,7 @@ pub record PathRooted (old new : Stored) (r : Option Path) (p : OptionPath) : Ty
   pub faults : new.diagnostics ≡ old.diagnostics ++ more
   pub permuted : IsPermutation (whole_faults [] p) more
   pub blocks : new.block_scopes ≡ old.block_scopes ++ blocks_of_whole p
+  pub expansions : new.expansions ≡ old.expansions ++ expanded_in_path p
   pub types_reached_once : (later : Stored) → Extends new later → TypesSpread old new later (λ f. of_present (of_path f) r)
   pub pats_reached_once : (later : Stored) → Extends new later → PatsSpread old new later []
   pub inside_reached_once : (later : Stored) → Extends new later → (depth : ℕ) → length later.exprs.entries ≤ depth

@@ -232,9 +232,9 @@ impl<'db, E: LowerEnv> ExprCollector<'db, E> {
     /// Lowers a constant as a root of its own.
     ///
     /// In each later store that keeps the problems of its bindings its expression does what the constant does, for every
-    /// answerer and every number of turns that a loop may take; what is stored stands for the tree, and faults, blocks and
-    /// ways of the source map come behind those of before. Each expression, type and pattern that it reaches came with it, and
-    /// is reached in one way only. Each binding that came is owned by the innermost closure, coroutine, `const` block, length or
+    /// answerer and every number of turns that a loop may take; what is stored stands for the tree, and faults, blocks,
+    /// calls of macros and ways of the source map come behind those of before. Each expression, type and pattern that it reaches
+    /// came with it, and is reached in one way only. Each binding that came is owned by the innermost closure, coroutine, `const` block, length or
     /// argument around it, and where it stands in none of these, by the constant. `Memory` where a growth was refused, `Full`
     /// where an arena has no room for the tree, or a path in the tree has more `super`s, a pattern more parts in front of its
     /// two dots, or more names are made up, than 32 bits count, `Failed` after an error, and then nothing changes. All that was

@@ -6,7 +6,7 @@ ghost use Rattle.hir_lower_form.specs.Lower.{type_part};
 ghost use Rattle.hir_lower_form.specs.Lowering.{Lowers};
 ghost use Rattle.hir_type_result.specs.TypeResult.{TypeResult, TypeTooLarge};
 ghost use Rattle.hir_lower_handlers.specs.Spots.{spot_at};
-ghost use Rattle.hir_lower.specs.Means.{MadeOnce, whole_type};
+ghost use Rattle.hir_lower.specs.Means.{MadeOnce, expanded_in_type, whole_type};
 ghost use Rattle.hir_lower.specs.Roots.{AnswersFromNothing, RefusedAtEnd, type_spot};
 
 use crate::error::LowerError;
@@ -82,11 +82,12 @@ fn type_steps<E: LowerEnv>(
 ///
 /// The stored type is what is written, with the node that each part came from. As many types and lifetimes are stored as the
 /// tree becomes, as many expressions, labels, patterns and bindings as its constants and the patterns of its types become, and
-/// nothing besides; the source map leads from the nodes of these to them, and from nowhere else; each type, pattern and expression
+/// nothing besides; the source map leads from the nodes of these to them, from calls of macros to the type or pattern that they stand
+/// for, and from nowhere else; each type, pattern and expression
 /// that the answered one reaches, or that a constant does, is reached in one way only. Each constant runs as it is written and is a
 /// root, in the order in which they are done, also one that the type doesn't reach; each binding is owned by the innermost closure,
-/// coroutine, `const` block, length or argument around it; the faults and the entered blocks are those of the constants. Each number
-/// in store and source map is in range. An `impl` stays one. `Memory` where a growth was refused; `Full` only where the tree becomes
+/// coroutine, `const` block, length or argument around it; the faults and the entered blocks are those of the constants; the calls of
+/// macros that are entered come in the order of entering, each behind what else was expanded for it. Each number in store and source map is in range. An `impl` stays one. `Memory` where a growth was refused; `Full` only where the tree becomes
 /// more types, lifetimes, expressions, labels, patterns or bindings than the arenas have room for, or a path in it has more `super`s,
 /// a pattern more parts in front of its two dots, or it more names that are made up, than 32 bits count; never `Failed`.
 pub fn lower_type_ref<E: LowerEnv>(
@@ -97,6 +98,8 @@ pub fn lower_type_ref<E: LowerEnv>(
 ) -> Result<(ExpressionStore, ExpressionStoreSourceMap, TypeRefId), LowerError>
     ensures type_result { let at = type_spot (E.answers db.now) type_ref.entry.file_id inside in
         IfOk result (λ r. TypeResult r.0 r.1 r.2 (whole_type at (option_copied type_ref.entry.value))) }
+    ensures expanded { let at = type_spot (E.answers db.now) type_ref.entry.file_id inside in
+        IfOk result (λ r. r.1.expansions ≡ expanded_in_type (whole_type at (option_copied type_ref.entry.value))) }
     ensures made_once { IfOk result (λ r. MadeOnce r.0 []) }
     ensures in_range { IfOk result (λ r. InRange r.0 r.1) }
     ensures too_large { let at = type_spot (E.answers db.now) type_ref.entry.file_id inside in

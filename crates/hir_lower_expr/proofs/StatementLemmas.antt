@@ -1,6 +1,6 @@
 -- What is in a block, one statement behind the other.
 use Rattle.std.proofs.Common.{arith, ◌≡◌, ◌∙◌, ap, refl, subst, sym, slice_index_or}
-use Rattle.std.proofs.Common.{Bool, true, false, List, [], ◌∷◌, Option, Some, None}
+use Rattle.std.proofs.Common.{Bool, false, List, [], ◌∷◌, Option, Some, None}
 use Rattle.std.specs.Prelude.{◌≤◌, ◌-◌, ◌≢◌, IsErrAnd, Result, Ok, Err, drop, length, take}
 use Rattle.hir_base.specs.declared.node.AstPtr.{AstPtr}
 use Rattle.hir_syntax.specs.declared.ast.BlockExpr.{BlockExpr as AstBlockExpr, out-BlockExpr}
@@ -27,7 +27,7 @@ use Rattle.hir_env.specs.Answering.{asked_splice, ended, expr_kind, stmt_at, val
 use Rattle.hir_env.specs.Calls.{append, nothing, stmts_of, value_or_none}
 use Rattle.hir_env.specs.Layers.{Defined, ExprKindLayer, Spliced, StmtKindLayer, StmtReading}
 use Rattle.hir_env.specs.Spot.{Spot, ptr, site_of}
-use Rattle.hir_env.specs.Whole.{answered, answered_value, into, pointer_at, read_stmt, read_value, reader, stmt_level, value_level, written}
+use Rattle.hir_env.specs.Whole.{answered, answered_value, into, pointer_at, read_stmt, read_value, reader, stmt_level, written}
 use Rattle.hir_env.proofs.Levels.{expr_is_level, stmt_is_level, value_is_level}
 use Rattle.hir_lower_form.specs.Builder.{Builder}
 use Rattle.hir_lower_form.specs.Lower.{StoredContents, kept_part, lower_stmt, push_some}
@@ -155,7 +155,8 @@ pub contents_on : (at : Spot) (b : AstBlockExpr) (c : Builder)
 contents_on at b c =
     let node = out-BlockExpr b in
     let run = run_part at node.stmts in
-    let tail : Defined → Spliced = λ d. value_or_none (read_stmt at.answers (into at)) (read_value at.answers (into at)) node.tail at.place d in
+    let tail : Defined → Spliced =
+    λ d. value_or_none (read_stmt at.answers (into at)) (read_value at.answers (into at)) node.tail at.place d in
     (λ i. flat_is [] (append run.stmts (tail run.defined).stmts) (kept_part (tail run.defined).last) i c)
     ∙ (ap (λ d. flat [] (append run.stmts (tail d).stmts) (kept_part (tail d).last) c) (run_defines at node.stmts)
     ∙ flat_append run.stmts (value_part at node.tail) c)
@@ -228,9 +229,11 @@ nothing_on s (Err by) done c = let t = report (InactiveCode s by) c in told_noth
 pub nothing_behind : (s : Pointer) (r : Result (Unit {0}) CfgId) (done : List Statement) (old : Builder) (b : Bool) (new : Builder)
     → HasStatements old.stored done → Lowers HasFlag (enabled s r) old (Ok b) new
     → ValueBehind (gone_value s r) done old (Ok None) done new
-nothing_behind s r done old b new has h =
-    (nothing_on s r done old ∙ ap (λ z. go_on z.0 z.1 (left done)) h.0, h.1,
-    (still_has old.stored new.stored done h.1 has, omega arith))
+nothing_behind s r done old b new has h = (
+  nothing_on s r done old ∙ ap (λ z. go_on z.0 z.1 (left done)) h.0,
+  h.1,
+  (still_has old.stored new.stored done h.1 has, omega arith),
+)
 
 pub nothing_refused : (s : Pointer) (r : Result (Unit {0}) CfgId) (done : List Statement) (old : Builder) (e : StoreFault) (new : Builder)
     → (enabled s r old ≡ (Err e, new)) × SomeEnd new

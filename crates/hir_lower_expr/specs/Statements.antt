@@ -1,10 +1,9 @@
 -- Statements behind those that are done, and what stands behind them.
-use Rattle.std.specs.Prelude.{◌≡◌, ◌≢◌, Bool, true, false, List, [], Option, Some, None, option_map, Result, Ok, Err}
+use Rattle.std.specs.Prelude.{◌≡◌, ◌≢◌, Bool, true, false, List, [], Option, option_map, Result, Ok, Err}
 use Rattle.hir_syntax.specs.declared.ast.Expr.{Expr as AstExpr}
 use Rattle.hir_syntax.specs.declared.ast.Stmt.{Stmt as AstStmt}
 use Rattle.hir_store.specs.Pointers.{Pointer}
-use Rattle.hir_store.specs.Range.{Grows, HasExprOption, HasStatements}
-use Rattle.hir_store.specs.Stored.{Stored}
+use Rattle.hir_store.specs.Range.{Grows, HasStatements}
 use Rattle.hir_store.specs.declared.diagnostics.ExpressionStoreDiagnostics.TheVariants.{InactiveCode}
 use Rattle.hir_store.specs.declared.fault.StoreFault.TheVariants.{Memory}
 use Rattle.hir_store.specs.declared.hir.Statement.{Statement}
@@ -18,7 +17,7 @@ use Rattle.hir_env.specs.Spot.{Spot}
 use Rattle.hir_env.specs.Whole.{into, read_stmt, read_value}
 use Rattle.hir_lower_form.specs.Builder.{Builder}
 use Rattle.hir_lower_form.specs.Lower.{kept_part}
-use Rattle.hir_lower_form.specs.Lowering.{Checked, Lowering, Lowers, SomeEnd, ◌>>◌, pure, report}
+use Rattle.hir_lower_form.specs.Lowering.{Checked, Lowering, SomeEnd, ◌>>◌, pure, report}
 use Rattle.hir_lower_form.specs.Methods.{HasContents, flat, stmts_alone}
 
 -- the statements that are read here, and what stands behind them, where no macro is defined yet

@@ -61,6 +61,7 @@ fn for_items(items: &LangItems) -> Option<ForItems>
 }
 
 /// A block as an expression, missing where a condition disables it.
+#[tactic(auto, unfolding(hir_lower_form::specs::Calls::note_gone))]
 fn asked_body<P: LowerParts>(
     lowerer: &Lowerer<P>,
     state: &mut BodyBuilder,

@@ -72,9 +72,7 @@ fn call_form<P: LowerParts>(
     match expr_of(entered) {
         None => Ok(Some(state.alloc_expr(Expr::Missing, Some(at))?)),
         Some((place, node)) => {
-            let inner = lowerer
-                .parts
-                .maybe_collect_expr_inside(state, place, node)?;
+            let inner = lowerer.parts.maybe_collect_expr_inside(state, place, node)?;
             pointed(state, at, inner)
         }
     }

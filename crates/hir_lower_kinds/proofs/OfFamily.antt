@@ -1,5 +1,5 @@
 -- What a kind is made of, and that no kind of a family is left where each was taken.
-use Rattle.std.proofs.Common.{◌≡◌, ◌∙◌, ap, sym, refl, Bool, List, Ok, Option}
+use Rattle.std.proofs.Common.{◌≡◌, ◌∙◌, ap, sym, refl, Bool, List, Ok, Err, Option, None}
 use Rattle.hir_syntax.specs.declared.ast.ElseBranch.TheOpen.{ExprKind-F}
 use Rattle.hir_syntax.specs.declared.ast.ExprKind.{ExprKind as AstExprKind, out-ExprKind, roll-ExprKind}
 use Rattle.hir_syntax.specs.declared.ast.ExprKind.{out-roll-ExprKind, roll-out-ExprKind}
@@ -21,11 +21,18 @@ use Rattle.hir_syntax.specs.declared.branches.MatchArm.{MatchArm as AstMatchArm}
 use Rattle.hir_syntax.specs.declared.pats.Pat.{Pat as AstPat}
 use Rattle.hir_base.specs.declared.op.RangeOp.{RangeOp}
 use Rattle.hir_base.specs.declared.node.PredId.{PredId}
+use Rattle.hir_store.specs.declared.diagnostics.ExpressionStoreDiagnostics.TheVariants.{InactiveCode}
+use Rattle.hir_store.specs.declared.ids.CfgId.{CfgId}
+use Rattle.hir_store.specs.declared.ids.ExprId.{ExprId}
 use Rattle.hir_env.specs.Answering.{asked, site_of}
 use Rattle.hir_env.specs.Layers.{ExprKindLayer}
 use Rattle.hir_env.specs.Spot.{Spot}
 use Rattle.hir_env.specs.Whole.{asked_expr, kept_expr, pointer_at, written}
 use Rattle.hir_env.specs.Wrapped.{AstGenericArgList, AstRetType}
+use Rattle.hir_lower_form.specs.Builder.{Builder}
+use Rattle.hir_lower_form.specs.Calls.{note_gone}
+use Rattle.hir_lower_form.specs.Lower.{lower_kept}
+use Rattle.hir_lower_form.specs.Lowering.{Lowering, go_on, pure, report}
 use Rattle.hir_lower_form.specs.Families.{IsControl, IsMatching, IsListing, IsAccess, IsOperator, IsLeaving, IsTyped, IsLeaf}
 
 made : (k : AstExprKind) (l : ExprKindLayer written) → out-ExprKind k ≡ l → k ≡ roll-ExprKind l
@@ -38,6 +45,18 @@ opened {k} {l} h = ap out-ExprKind (sym h) ∙ out-roll-ExprKind l
 pub enabled_is : (at : Spot) (e : AstExpr) (u : Unit {0}) → at.answers.cfg (site_of (pointer_at at e.id e.range)) ≡ Ok u
     → asked_expr at e ≡ kept_expr at e
 enabled_is at e u h = ap (λ r. asked (pointer_at at e.id e.range) r (kept_expr at e)) h
+
+abbrev pub nothing_kept : Unit {0} → Lowering (Option ExprId)
+nothing_kept _ = pure None
+
+-- and of what one disables it is told that it does
+pub disabled_on : (at : Spot) (e : AstExpr) (by : CfgId) (b : Builder)
+    → at.answers.cfg (site_of (pointer_at at e.id e.range)) ≡ Err by
+    → lower_kept (asked_expr at e) b
+    ≡ go_on (report (InactiveCode (pointer_at at e.id e.range) by) b).0 (report (InactiveCode (pointer_at at e.id e.range) by) b).1
+    nothing_kept
+unfolding note_gone
+disabled_on at e by b h = ap (λ r. lower_kept (asked (pointer_at at e.id e.range) r (kept_expr at e)) b) h
 
 pub only_control : (k : AstExprKind) → IsControl (out-ExprKind k)
     → ((c : Option AstExpr) (t : Option AstBlockExpr) (e : Option AstElseBranch) → k ≡ kind.IfExpr c t e → ⊥)

@@ -125,7 +125,8 @@ module _ (env : Answers) (C : Claims) (n : ℕ) (below : Below env C n) where
   params : (p : Place) (xs : List AstParam) → count_parts (of.params_of (read_param env (entering env p.left)) xs p) < n
       → Each (λ x. KidsParam C p (out-Param x)) xs
   params p [] h = tt
-  params p (x ∷ xs) h = split (out-Param x) (of.params_of (read_param env (entering env p.left)) xs p) (params p xs) (out-Param x).variadic refl
+  params p (x ∷ xs) h =
+      split (out-Param x) (of.params_of (read_param env (entering env p.left)) xs p) (params p xs) (out-Param x).variadic refl
       (rw (param_is_level (spot_at env p) x) at h)
     where
       split : (y : ParamLayer written) (behind : Parts) → (count_parts behind < n → Each (λ x. KidsParam C p (out-Param x)) xs)
@@ -144,7 +145,8 @@ module _ (env : Answers) (C : Claims) (n : ℕ) (below : Below env C n) where
   trait_ p t h = let s = ap (λ r. count_option_path r.path) (path_type_is_level (spot_at env p) t) in
       path_below p (out-PathType t).path (omega (arith, h, s))
 
-  bound : (p : Place) (x : TypeBoundLayer written) → count_bound (of.type_bound_step env (reader env (entering env p.left)) x p) < n → KidsBound C p x
+  bound : (p : Place) (x : TypeBoundLayer written)
+      → count_bound (of.type_bound_step env (reader env (entering env p.left)) x p) < n → KidsBound C p x
   bound p x h = by x.b refl x.ty refl h
     where
       by : (k : Option BoundKind) → x.b ≡ k → (t : Option AstPathType) → x.ty ≡ t
@@ -210,7 +212,8 @@ module _ (env : Answers) (C : Claims) (n : ℕ) (below : Below env C n) where
         bounds = bounds (outside_impl p) a.bounds (omega (arith, h));
       }
 
-  arg : (p : Place) (k : GenericArgLayer written) → count_arg (of.generic_arg_step env (reader env (entering env p.left)) k p) < n → KidsArg C p k
+  arg : (p : Place) (k : GenericArgLayer written)
+      → count_arg (of.generic_arg_step env (reader env (entering env p.left)) k p) < n → KidsArg C p k
   arg p (GenericArg-F.TypeArg x) h = type_arg p x h
   arg p (GenericArg-F.AssocTypeArg x) h =
       let s = ap count_arg (assoc_arg_is_level (spot_at env p) x) in assoc p (out-AssocTypeArg x) (omega (arith, h, s))
@@ -285,7 +288,8 @@ module _ (env : Answers) (C : Claims) (n : ℕ) (below : Below env C n) where
   all_segments p [] h = tt
   all_segments p (s ∷ ss) h = (one_segment p s (omega (arith, h)), segments p ss (omega (arith, h)))
 
-  pub kids_path : (p : Place) (x : PathLayer written) → count_path (of.path_step env (reader env (entering env p.left)) x p) ≤ n → KidsPath C p x
+  pub kids_path : (p : Place) (x : PathLayer written)
+      → count_path (of.path_step env (reader env (entering env p.left)) x p) ≤ n → KidsPath C p x
   kids_path p x h = (all_segments p x.segs (omega (arith, h)), path_below p x.use_ (omega (arith, h)))
 
 -- of the same list in the same environment the same is so

@@ -1,12 +1,13 @@
 -- What comes of targets: what their answered trees say of their kinds.
 use Rattle.std.proofs.Common.{◌≡◌, ◌∙◌, ap, refl, subst, sym, Bool, true, false, List, [], Option, Some, None, Result, Ok, Err}
 use Rattle.std.proofs.Common.{◌∷◌, ◌++◌, arith, ◌≤◌}
-use Rattle.std.specs.Prelude.{if◌then◌else◌, is_some, option_map}
+use Rattle.std.specs.Prelude.{if◌then◌else◌, option_map}
 use Rattle.hir_base.specs.declared.op.BinaryOp.TheVariants as op
 use Rattle.hir_syntax.specs.declared.ast.BlockExpr.{out-BlockExpr}
 use Rattle.hir_syntax.specs.declared.ast.ElseBranch.TheOpen.{ExprKind-F}
 use Rattle.hir_syntax.specs.declared.ast.Expr.{Expr as AstExpr}
-use Rattle.hir_syntax.specs.declared.ast.ExprKind.{ExprKind as AstExprKind, out-ExprKind, roll-ExprKind, roll-out-ExprKind}
+use Rattle.hir_syntax.specs.declared.ast.ExprKind.{ExprKind as AstExprKind, out-ExprKind, out-roll-ExprKind, roll-ExprKind}
+use Rattle.hir_syntax.specs.declared.ast.ExprKind.{roll-out-ExprKind}
 use Rattle.hir_syntax.specs.declared.ast.ExprKind.TheVariants as kind
 use Rattle.hir_syntax.specs.declared.ast.Path.{Path as AstPath}
 use Rattle.hir_syntax.specs.declared.ast.RecordExprFieldList.{RecordExprFieldList as AstFieldList}
@@ -15,7 +16,6 @@ use Rattle.hir_store.specs.declared.ids.CfgId.{CfgId}
 use Rattle.hir_store.specs.declared.ids.ExprId.{ExprId}
 use Rattle.hir_store.specs.declared.ids.HygieneId.{HygieneId}
 use Rattle.hir_store.specs.declared.ids.PatId.{PatId}
-use Rattle.hir_store.specs.declared.pat.Pat.TheVariants as pat
 use Rattle.hir_store.specs.declared.path.Path.{Path as HirPath}
 use Rattle.hir_env.specs.Spot.{Spot, site_of}
 use Rattle.hir_env.specs.Answered as tree
@@ -34,8 +34,8 @@ use Rattle.hir_lower_form.specs.Lowering.{Checked, Lowering, ◌>>=◌, ◌>>◌
 use Rattle.hir_lower_form.specs.Lower.{lower, lower_path, lower_target, lower_targets}
 use Rattle.hir_lower_form.specs.Pats.{Elements, no_elements}
 use Rattle.hir_lower_form.specs.Targets.{add_target, add_target_dots, array_target_form, path_target_form, path_target_of, place_form}
-use Rattle.hir_lower_form.specs.Targets.{rest_target}
-use Rattle.hir_lower_pat.specs.Aims.{ArrayParts, IsPlace, aim_of, aimed, array_rest, found_at, landed, names_read, path_aim, path_aimed}
+use Rattle.hir_lower_pat.specs.Aims.{Aims, ArrayParts, IsPlace, aim_of, aimed, array_rest, found_at, landed, names_read, path_aim}
+use Rattle.hir_lower_pat.specs.Aims.{path_aimed}
 use Rattle.hir_lower_pat.specs.Aims.{array_of, dots_kind, path_of_callee, placed, through}
 use Rattle.hir_lower_pat.specs.declared.aims.Aim.{Aim}
 use Rattle.hir_lower_pat.specs.declared.aims.Aim.TheVariants as aim
@@ -49,6 +49,18 @@ level at k s = expr_at at.answers (reader at.answers (into at)) k at.place s
 
 pub enabled_is : (at : Spot) (e : AstExpr) → at.answers.cfg (site_of (pointer_at at e.id e.range)) ≡ Ok tt → answered at e ≡ kept_expr at e
 enabled_is at e h = expr_is_level at e ∙ ap (λ r. asked (pointer_at at e.id e.range) r (kept_expr at e)) h
+
+pub opened : {k : AstExprKind} {l : ExprKindLayer written} → roll-ExprKind l ≡ k → out-ExprKind k ≡ l
+opened {k} {l} h = ap out-ExprKind (sym h) ∙ out-roll-ExprKind l
+
+-- one of this kind, at this node
+pub aims_as : (at : Spot) (e : AstExpr) (k : ExprKindLayer written) (s : Pointer) (old : Builder) (r : Checked Aim) (new : Builder)
+    → s ≡ pointer_at at e.id e.range → answered at e ≡ kept_expr at e → out-ExprKind e.kind ≡ k → Aims at (level at k s) old r new
+    → Aims at (answered at e) old r new
+aims_as at e k s old r new here is h =
+    let same : level at k s ≡ answered at e =
+    ap (λ t. level at k t) here ∙ (ap (λ l. level at l (pointer_at at e.id e.range)) (sym h) ∙ sym is) in
+    subst (λ x. Aims at x old r new) same
 
 -- one that a condition disables is a place
 pub disabled_is : (at : Spot) (e : AstExpr) (by : CfgId) → at.answers.cfg (site_of (pointer_at at e.id e.range)) ≡ Err by

@@ -19,8 +19,8 @@ use Rattle.hir_env.specs.Answered.{Expr, Exprs, OptionExpr, OptionPath, Path, Ta
 use Rattle.hir_env.specs.Answering.{field_of}
 use Rattle.hir_env.specs.Targets.{before_dots, behind_dots, dots_pointer}
 use Rattle.hir_env.specs.Targets.{call_or, callee_path, called, elements, is_dots, pointer_of}
-use Rattle.hir_env.specs.Targets.{target_field_of, target_of, target_or}
-use Rattle.hir_env.specs.Whole.{answered, args_part, expr_part, exprs_part, own_pointer, path_part, record_part, target_part}
+use Rattle.hir_env.specs.Targets.{spread_pointer, target_field_of, target_of, target_or}
+use Rattle.hir_env.specs.Whole.{answered, args_part, expr_part, exprs_part, own_pointer, path_part, record_part, spread_part, target_part}
 use Rattle.hir_env.proofs.Levels.{record_is_level}
 use Rattle.hir_env.proofs.Pointers.{pointer_is_own}
 use Rattle.hir_lower_form.specs.Builder.{Builder}
@@ -29,7 +29,7 @@ use Rattle.hir_lower_form.specs.Lower.{lower_target, lower_target_field, lower_t
 use Rattle.hir_lower_form.specs.Methods.{LowersTarget}
 use Rattle.hir_lower_form.specs.Pats.{Elements, no_elements}
 use Rattle.hir_lower_pat.specs.Aims.{array_made, array_of}
-use Rattle.hir_lower_pat.specs.Aims.{Aims, ArrayParts, HasAim, HasArrayParts, aim_of, aimed, array_read, array_rest, array_steps}
+use Rattle.hir_lower_pat.specs.Aims.{Aims, ArrayParts, HasAim, aim_of, aimed, array_read, array_rest, array_steps}
 use Rattle.hir_lower_pat.specs.Aims.{dots_tuple}
 use Rattle.hir_lower_pat.specs.Aims.{element_steps, elements_read, found_at}
 use Rattle.hir_lower_pat.specs.Aims.{is_first, landed, landing, path_of_callee, path_steps, patterned, placed}
@@ -203,6 +203,13 @@ target_lowers spot part e x old r new is same h =
     subst (λ o. LowersTarget (target_part spot o) old r new) (sym is)
     (target_lands (found_at spot) (answered spot e) (own_pointer spot x) old r new own
     (subst (λ y. Lowers HasPat (landing (found_at spot) (own_pointer spot x) (answered spot y)) old r new) same h))
+
+-- what is written behind two dots has its own node
+pub spread_is : (spot : Spot) (part : Option AstExpr) (dots : Bool) (e x : AstExpr) (node : Pointer)
+    → part ≡ Some e → x ≡ e → node ≡ own_pointer spot x → spread_pointer (spread_part spot part dots) ≡ Some node
+spread_is spot part dots e x node is same at =
+    ap (λ o. spread_pointer (spread_part spot o dots)) is
+    ∙ ap Some (pointer_is_own spot e ∙ (ap (own_pointer spot) (sym same) ∙ sym at))
 
 module _ (spot : Spot) (at : Pointer) where
   pub path_lowers : (h k : HygieneId) (p : OptionPath) (old : Builder) (r : Checked Aim) (new : Builder) → h ≡ k

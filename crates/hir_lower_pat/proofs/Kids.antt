@@ -1,5 +1,5 @@
 -- The parts of a level are smaller than the whole, as they are answered.
-use Rattle.std.proofs.Common.{arith, ◌≡◌, ◌∙◌, ap, refl, ℕ, ◌+◌, ◌<◌, ◌≤◌, Bool, ◌&&◌}
+use Rattle.std.proofs.Common.{arith, ◌≡◌, ◌∙◌, ap, refl, ℕ, ◌<◌, ◌≤◌, Bool, ◌&&◌}
 use Rattle.std.proofs.Common.{List, [], ◌∷◌, Option, Some, None}
 use Rattle.std.specs.Prelude.{Result, Ok, Err}
 use Rattle.hir_syntax.specs.declared.ast.ElseBranch.TheOpen.{PatKind-F}

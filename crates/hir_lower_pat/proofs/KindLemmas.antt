@@ -130,7 +130,8 @@ pub only_plain : (k : AstPatKind) → IsPlain (out-PatKind k)
     → (k ≡ kind.RestPat → ⊥)
     → (k ≡ kind.NotNullPat → ⊥)
     → (k ≡ kind.ConstBlockPat → ⊥) → ⊥
-only_plain k is no_path no_literal no_range no_cfgpred no_call no_macro no_wildcard no_rest no_notnull no_constblock = by (out-PatKind k) refl is
+only_plain k is no_path no_literal no_range no_cfgpred no_call no_macro no_wildcard no_rest no_notnull no_constblock =
+    by (out-PatKind k) refl is
   where
     by : (l : PatKindLayer written) → out-PatKind k ≡ l → IsPlain l → ⊥
     by (PatKind-F.PathPat x) h is = no_path x (made k _ h ∙ kind.rolls-PathPat x)

@@ -1,7 +1,7 @@
 -- What the bindings of a top pattern know of its names.
 use Rattle.std.proofs.Common.{arith, ◌≡◌, ◌∙◌, ◌≤◌, ◌<◌, ◌+◌, ℕ, zero, suc, Bool, true, false, cond, refl}
 use Rattle.std.proofs.Common.{sym, ap, subst}
-use Rattle.std.proofs.Common.{List, [], ◌∷◌, ◌++◌, length, length-append, Option, None, Some}
+use Rattle.std.proofs.Common.{List, [], ◌∷◌, ◌++◌, length, length-append, None, Some}
 use Rattle.std.specs.Prelude.{◌&&◌, drop, nat_eq, slice_get, if◌then◌else◌, Result, Ok, Err, OnOk}
 use Rattle.std.specs.Map.{lookup}
 use Rattle.std.proofs.lemmas.Bool.{eq-eqb}

@@ -81,6 +81,7 @@ module _ {A : Type 0} (f : Expr → A) (a : A) (h : (s : Pointer) (c : Called) (
   of_around s c tree.no_expr = h s c tree.no_expr
   of_around s c (tree.some_expr e) = of_around_if (gone_in e) s c (tree.some_expr e)
 
-  pub of_called : (env : Answers) (into : Option Entering) (c : AstMacroCall) (p : Place) (s : Pointer) → f (entered_expr env into c p s) ≡ a
+  pub of_called : (env : Answers) (into : Option Entering) (c : AstMacroCall) (p : Place) (s : Pointer)
+      → f (entered_expr env into c p s) ≡ a
   of_called env None c p s = h s tree.unentered tree.no_expr
   of_called env (Some into) c p s = let x = asked_call env fragment.Expr c p in of_around s (called (call_pointer p c) x) (expr_in into p x)

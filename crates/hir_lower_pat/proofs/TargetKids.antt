@@ -6,7 +6,6 @@ use Rattle.hir_syntax.specs.declared.ast.ElseBranch.TheOpen.{ExprKind-F}
 use Rattle.hir_syntax.specs.declared.ast.Expr.{Expr as AstExpr}
 use Rattle.hir_syntax.specs.declared.ast.ExprKind.{out-ExprKind}
 use Rattle.hir_syntax.specs.declared.ast.Name.{Name as AstName}
-use Rattle.hir_syntax.specs.declared.ast.Path.{Path as AstPath}
 use Rattle.hir_syntax.specs.declared.ast.RecordExprField.{RecordExprField as AstField, out-RecordExprField}
 use Rattle.hir_syntax.specs.declared.ast.RecordExprFieldList.{RecordExprFieldList as AstFieldList, out-RecordExprFieldList}
 use Rattle.hir_store.specs.Pointers.{Pointer}
@@ -16,7 +15,8 @@ use Rattle.hir_env.specs.Answering.{asked_field, expr_at, field_of}
 use Rattle.hir_env.specs.Count.{count_expr, count_exprs, count_field, count_fields, count_option_expr, count_spread}
 use Rattle.hir_env.specs.Layers.{ExprKindLayer}
 use Rattle.hir_env.specs.Spot.{Spot, site_of}
-use Rattle.hir_env.specs.Whole.{answered, answered_field, expr_part, exprs_part, fields_part, into, pointer_at, reader, record_part, written}
+use Rattle.hir_env.specs.Whole.{answered, answered_field, expr_part, exprs_part, fields_part, into, pointer_at, reader, record_part}
+use Rattle.hir_env.specs.Whole.{written}
 use Rattle.hir_env.proofs.Levels.{field_is_level, record_is_level}
 use Rattle.hir_lower_form.specs.Nests.{Claims, Each, IfPresent, KidsCallee, KidsTarget, KidsTargetFields}
 use Rattle.hir_lower_pat.specs.Aims.{KidsOfCallee, KidsOfFields, KidsOfTarget}

@@ -1,7 +1,7 @@
 -- What patterns are in types.
 use Rattle.std.proofs.Common.{◌≡◌, ◌∙◌, ap, refl, sym, suc, ◌+◌, slice_index_or}
 use Rattle.std.proofs.Common.{Bool, true, false, List, [], ◌∷◌, ◌++◌, Option, Some, None, Ok, Err}
-use Rattle.std.specs.Prelude.{◌≤◌, ◌-◌, ◌≢◌, drop, length, take, IsErrAnd}
+use Rattle.std.specs.Prelude.{◌≤◌, ◌-◌, ◌≢◌, drop, is_some, length, take, IsErrAnd}
 use Rattle.hir_syntax.specs.declared.ast.ElseBranch.TheOpen.{PatKind-F}
 use Rattle.hir_syntax.specs.declared.ast.Name.{Name as AstName}
 use Rattle.hir_syntax.specs.declared.ast.Path.{Path as AstPath}
@@ -33,6 +33,7 @@ use Rattle.hir_store.specs.declared.name.Name.{Name}
 use Rattle.hir_lower_form.specs.Builder.{Builder}
 use Rattle.hir_lower_form.specs.Lower.{limit_side, lower_type_pat, lower_type_pats, missing}
 use Rattle.hir_lower_form.specs.Lowering.{Checked, Lowering, Lowers, SomeEnd, go_on}
+use Rattle.hir_lower_pat.specs.Methods.{uncalled}
 use Rattle.hir_lower_pat.specs.TypePats.{IsOther}
 use Rattle.hir_lower_pat.proofs.KindLemmas.{first_of, named_side, of_either}
 
@@ -185,18 +186,32 @@ pub other_is : (items : LangItems) (at : Spot) (p : AstPat) → IsOther (out-Pat
     → type_pat_of items (pat_level at p) ≡ tree.other_type_pat (pointer_at at p.id p.range)
 other_is items at p h = other_at items at (out-PatKind p.kind) (pointer_at at p.id p.range) h
 
+-- ---- calls
+
+call_at : (items : LangItems) (at : Spot) (call : Option AstMacroCall) (s : Pointer)
+    → type_pat_of items (level at (PatKind-F.MacroPat call) s) ≡ tree.macro_type_pat s (uncalled (is_some call)) tree.no_type_pat
+call_at items at None s = refl
+call_at items at (Some c) s = refl
+
+pub call_is : (items : LangItems) (at : Spot) (p : AstPat) (call : Option AstMacroCall) (written : Bool)
+    → out-PatKind p.kind ≡ PatKind-F.MacroPat call → written ≡ is_some call
+    → type_pat_of items (answered_pat at p) ≡ tree.macro_type_pat (pointer_at at p.id p.range) (uncalled written) tree.no_type_pat
+call_is items at p call written h same =
+    let s = pointer_at at p.id p.range in
+    ap (type_pat_of items) (pat_is_level at p) ∙ (ap (λ k. type_pat_of items (level at k s)) h
+    ∙ (call_at items at call s ∙ ap (λ b. tree.macro_type_pat s (uncalled b) tree.no_type_pat) (sym same)))
+
 -- none of those is left where each was taken
 pub others_left : (k : AstPatKind) → (k ≡ kind.NotNullPat → ⊥) → ((ps : List AstPat) → k ≡ kind.OrPat ps → ⊥)
     → ((o : Option RangeOp) (low high : Option AstPat) → k ≡ kind.RangePat o low high → ⊥)
-    → (k ≡ kind.MacroPat None → ⊥) → ((c : AstMacroCall) → k ≡ kind.MacroPat (Some c) → ⊥) → IsOther (out-PatKind k)
-others_left k no_null no_or no_range no_call no_macro = by (out-PatKind k) refl
+    → ((c : Option AstMacroCall) → k ≡ kind.MacroPat c → ⊥) → IsOther (out-PatKind k)
+others_left k no_null no_or no_range no_call = by (out-PatKind k) refl
   where
     by : (l : PatKindLayer written) → out-PatKind k ≡ l → IsOther l
     by PatKind-F.NotNullPat h = absurd (no_null (made k _ h ∙ kind.rolls-NotNullPat))
     by (PatKind-F.OrPat ps) h = absurd (no_or ps (made k _ h ∙ kind.rolls-OrPat ps))
     by (PatKind-F.RangePat o low high) h = absurd (no_range o low high (made k _ h ∙ kind.rolls-RangePat o low high))
-    by (PatKind-F.MacroPat None) h = absurd (no_call (made k _ h ∙ kind.rolls-MacroPat None))
-    by (PatKind-F.MacroPat (Some c)) h = absurd (no_macro c (made k _ h ∙ kind.rolls-MacroPat (Some c)))
+    by (PatKind-F.MacroPat c) h = absurd (no_call c (made k _ h ∙ kind.rolls-MacroPat c))
     by _ h = tt
 
 -- ---- sizes

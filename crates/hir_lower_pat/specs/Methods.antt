@@ -16,7 +16,7 @@ use Rattle.hir_env.specs.Spot.{Spot}
 use Rattle.hir_env.specs.Answering.{name_or_missing, truth}
 use Rattle.hir_env.specs.Pats.{name_hygiene, pat_at}
 use Rattle.hir_env.specs.Answered as tree
-use Rattle.hir_env.specs.Answered.{Pat, OptionPat, Pats, PatFields, PatField, Signed, Use}
+use Rattle.hir_env.specs.Answered.{Called, Pat, OptionPat, Pats, PatFields, PatField, Signed, Use}
 use Rattle.hir_env.specs.PatLayers.{PatKindLayer}
 use Rattle.hir_env.specs.Whole.{into, reader, written}
 use Rattle.hir_lower_form.specs.Builder.{Builder}
@@ -104,6 +104,11 @@ lower_plain (tree.literal_pat at node l) = literal_pat_form at node l
 lower_plain (tree.range_pat at op low high) = range_pat_form at op (spec.lower_side low) (spec.lower_side high)
 lower_plain (tree.macro_pat at called tree.no_pat) = uncalled_pat at called
 lower_plain _ = missing_pat
+
+-- what is known of a call that isn't entered, which the text has or lacks
+abbrev pub uncalled : Bool → Called
+uncalled true = tree.unentered
+uncalled false = tree.callless
 
 -- the literal of a predicate
 abbrev pub plain_truth : Option Bool → Signed

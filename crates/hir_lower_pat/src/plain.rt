@@ -7,7 +7,7 @@ ghost use Rattle.hir_lower_form.specs.Lower.{lower_path};
 ghost use Rattle.hir_lower_form.specs.Lowering.{Lowers};
 ghost use Rattle.hir_lower_form.specs.Nests.{KidsOfPat};
 ghost use Rattle.hir_lower_form.specs.Pats as spec;
-ghost use Rattle.hir_lower_pat.specs.Methods.{IsPlain, kind_at, lower_plain};
+ghost use Rattle.hir_lower_pat.specs.Methods.{IsPlain, kind_at, lower_plain, uncalled};
 
 use crate::parts::{Here, PatParts};
 use crate::paths::PathPart;
@@ -50,6 +50,21 @@ pub(crate) fn unentered_form(
     let id = state.missing_pat()?;
     state.point_pat(at, id)?;
     Ok(id)
+}
+
+/// A call that isn't entered, or that the text lacks.
+pub(crate) fn call_form(
+    state: &mut BodyBuilder,
+    at: InFile<AstPtr>,
+    is_written: bool,
+) -> Result<PatId, StoreFault>
+    ensures { Lowers HasPat (spec.uncalled_pat at (uncalled is_written)) state.old result state.new }
+{
+    if is_written {
+        unentered_form(state, at)
+    } else {
+        state.missing_pat()
+    }
 }
 
 /// A pattern that knows of no name. A call isn't entered yet, and one that the text lacks is missing without a way to it.

@@ -150,7 +150,6 @@ fn fields<T: TargetParts>(
 }
 
 /// An expression behind the two dots of a record is a fault.
-#[tactic(auto, using(hir_env::proofs::Pointers::pointer_is_own))]
 fn report_spread<H: Here>(
     parts: &H,
     state: &mut BodyBuilder,

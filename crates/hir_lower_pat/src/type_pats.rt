@@ -14,7 +14,7 @@ ghost use Rattle.hir_lower_form.specs.Nests.{Each, IfPresent};
 ghost use Rattle.hir_lower_pat.specs.TypePats.{IsOther};
 
 use crate::limits::LimitPart;
-use crate::plain::unentered_form;
+use crate::plain::call_form;
 use hir_base::node::{AstPtr, InFile};
 use hir_env::place::Place;
 use hir_lower_form::builder::BodyBuilder;
@@ -136,8 +136,7 @@ fn type_pat<P: LowerParts>(
         ast::PatKind::RangePat { op, start, end } => {
             range_form(lowerer, state, place, at, *op, start, end)
         }
-        ast::PatKind::MacroPat { call: None } => state.missing_pat(),
-        ast::PatKind::MacroPat { call: Some(_) } => unentered_form(state, at),
+        ast::PatKind::MacroPat { call } => call_form(state, at, call.is_some()),
         _ => other_form(lowerer, state, place, node),
     }
 }

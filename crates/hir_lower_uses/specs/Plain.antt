@@ -1,6 +1,6 @@
 -- What the plain environment answers.
 use Rattle.std.specs.Prelude.{None, Ok, false}
-use Rattle.hir_env.specs.Answers.{Answers}
+use Rattle.hir_env.specs.Answers.{Answers, no_expansion}
 use Rattle.hir_env.specs.declared.lang.LangItems.{LangItems}
 use Rattle.hir_store.specs.declared.ids.ItemContainerId.TheVariants as holder
 
@@ -20,4 +20,8 @@ plain_answers items = record {
   resolve = λ inside path shadow. record { types = None; values = None; rest = None };
   lang_items = items;
   new_range = λ inside. false;
+  expand = λ node call inside kind. no_expansion;
+  macro_def = λ inside name. None;
+  legacy_macro = λ inside name place. None;
+  expansion_limit = 0;
 }

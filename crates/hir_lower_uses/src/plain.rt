@@ -2,12 +2,15 @@
 
 use hir_base::node::{InFile, NodeId, PredId};
 use hir_env::env::LowerEnv;
+use hir_env::expand::{Expansion, FragmentKind};
 use hir_env::lang::LangItems;
 use hir_env::resolved::{Resolved, Shadow};
 use hir_store::ids::{
     BlockId, CfgId, CrateId, CtxId, DefWithBodyId, HygieneId, ItemContainerId, MacroDefId, ModuleId,
 };
+use hir_store::name::Name;
 use hir_store::path::ModPath;
+use hir_syntax::ast;
 
 /// All is enabled and nothing is decided; there is one module, one hygiene and no macro; no name stands for anything.
 #[derive(Clone, Copy)]
@@ -82,5 +85,27 @@ impl LowerEnv for Plain {
 
     fn new_range(&self, _inside: ModuleId) -> bool {
         false
+    }
+
+    fn expand(
+        &self,
+        _node: InFile<NodeId>,
+        _call: &ast::MacroCall,
+        _inside: ModuleId,
+        _kind: FragmentKind,
+    ) -> Expansion<'_> {
+        Expansion::NoExpansion
+    }
+
+    fn macro_def(&self, _inside: ModuleId, _name: &Name) -> Option<MacroDefId> {
+        None
+    }
+
+    fn legacy_macro(&self, _inside: ModuleId, _name: &Name, _place: u32) -> Option<MacroDefId> {
+        None
+    }
+
+    fn expansion_limit(&self) -> u32 {
+        0
     }
 }

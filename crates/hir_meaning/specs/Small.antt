@@ -18,7 +18,7 @@ use Rattle.hir_store.specs.declared.ids.ExprId.{ExprId}
 use Rattle.hir_store.specs.declared.ids.LabelId.{LabelId}
 use Rattle.hir_store.specs.declared.ids.HygieneId.{HygieneId}
 use Rattle.hir_env.specs.Answering.{site_of}
-use Rattle.hir_env.specs.Tables.{contexts_of}
+use Rattle.hir_env.specs.Tables.{no_contexts}
 use Rattle.hir_env.specs.Answered as tree
 use Rattle.hir_env.specs.Answered.{OptionPath, SegmentArgs, Label, IsWrittenLabel, Jump, Expr, OptionExpr, Block, Stmts}
 use Rattle.hir_data.specs.Data.{PathData, path_data, no_type, more_names, no_names, no_args}
@@ -66,7 +66,7 @@ abbrev pub label_with : HygieneId → Label
 label_with h = record { pointer = at 1; name = name.Text (97 ∷ []); hygiene = h }
 
 abbrev pub jump_with : HygieneId → Jump
-jump_with h = record { pointer = at 9; name = name.Text (97 ∷ []); hygiene = h; contexts = contexts_of [] }
+jump_with h = record { pointer = at 9; name = name.Text (97 ∷ []); hygiene = h; contexts = no_contexts }
 
 abbrev pub label_a : Label
 label_a = label_with root

@@ -1,5 +1,5 @@
 -- Small trees with calls of macros: what whatever stands for one has stored, where nodes lead, and what is wrong.
-use Rattle.std.specs.Prelude.{◌≡◌, List, [], ◌∷◌, Option, Some, None, slice_get}
+use Rattle.std.specs.Prelude.{◌≡◌, List, [], ◌∷◌, Some, None, slice_get}
 use Rattle.hir_store.specs.Pointers.{Pointer}
 use Rattle.hir_store.specs.Storing.{pat_id, type_id}
 use Rattle.hir_store.specs.Stored.{Store, SourceMap}
@@ -11,9 +11,8 @@ use Rattle.hir_store.specs.declared.ids.TypeRefId.{TypeRefId}
 use Rattle.hir_store.specs.declared.path.ModPath.{ModPath}
 use Rattle.hir_env.specs.Answered as tree
 use Rattle.hir_env.specs.Answered.{Called, Entered, Expr, OptionExpr, Pat, Type_}
-use Rattle.hir_meaning.specs.Small.{at, one}
-use Rattle.hir_one_result.specs.Blocks.{blocks_of}
-use Rattle.hir_one_result.specs.Diagnostics.{Faults, diagnostics, pat_faults}
+use Rattle.hir_meaning.specs.Small.{at}
+use Rattle.hir_one_result.specs.Diagnostics.{diagnostics}
 use Rattle.hir_one_result.specs.Leads.{Way, expr_way}
 use Rattle.hir_one_result.specs.Room.{pat_size, type_size}
 use Rattle.hir_one_result.specs.Size.{led_by}
@@ -37,7 +36,7 @@ abbrev pub nested_pat : Entered → Pat
 nested_pat c = tree.macro_pat (at 0) (tree.entered c)
     (tree.some_pat (tree.macro_pat (at 1) (tree.entered c) (tree.some_pat (tree.leaf_pat (at 2) tree.wild_leaf))))
 
--- one that stands for `_`, and one that stands for no type
+-- a type that stands for `_`
 abbrev pub called_type : Entered → Type_
 called_type c = tree.macro_type (at 0) (tree.entered c) (tree.some_type (tree.leaf_type (at 1) tree.infer_leaf))
 

@@ -17,7 +17,7 @@ module _ {K L T : Type 0} (cmp : K → K → Ordering) (order : L → L → Orde
   abbrev pub found_below : List (K × List (L × T)) → K → L → Option T
   found_below es k l = option_and_then (λ below. found_by order below l) (found_by cmp es k)
 
-  abbrev with_below : List (K × List (L × T)) → K → L → T → Option (List (L × T)) → List (K × List (L × T))
+  abbrev pub with_below : List (K × List (L × T)) → K → L → T → Option (List (L × T)) → List (K × List (L × T))
   with_below es k l t None = insert_entry cmp es k ((l, t) ∷ [])
   with_below es k l t (Some below) = set_value (is_at (cmp k)) es (with_first_by order below l t)
 

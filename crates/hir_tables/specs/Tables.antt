@@ -58,10 +58,16 @@ abbrev pub with_path : List (ModPath × List (ℕ × Resolved)) → ModuleId →
 with_path es inside p r = with_first_below path_cmp nat_cmp es p inside.0 r
 
 -- and of the macro of that name in the module
+abbrev pub definition_found : List (Name × List (ℕ × MacroDefId)) → ModuleId → Name → Option MacroDefId
+definition_found es inside n = found_below name_cmp nat_cmp es n inside.0
+
 abbrev pub with_definition : List (Name × List (ℕ × MacroDefId)) → ModuleId → Name → MacroDefId → List (Name × List (ℕ × MacroDefId))
 with_definition es inside n d = with_first_below name_cmp nat_cmp es n inside.0 d
 
 -- and of the one that `macro_rules` has defined, behind so many others of its name
+abbrev pub legacy_found : List (Name × List ((ℕ × ℕ) × MacroDefId)) → ModuleId → Name → ℕ → Option MacroDefId
+legacy_found es inside n k = found_below name_cmp place_cmp es n (inside.0, k)
+
 abbrev pub with_legacy : List (Name × List ((ℕ × ℕ) × MacroDefId)) → ModuleId → Name → ℕ → MacroDefId
     → List (Name × List ((ℕ × ℕ) × MacroDefId))
 with_legacy es inside n k d = with_first_below name_cmp place_cmp es n (inside.0, k) d
@@ -157,7 +163,7 @@ answers_of t = record {
   lang_items = t.lang_items;
   new_range = λ _. t.new_range;
   expand = λ s c inside k. expanded_by (found t.macros s);
-  macro_def = λ inside n. found_below name_cmp nat_cmp t.macro_defs n inside.0;
-  legacy_macro = λ inside n k. found_below name_cmp place_cmp t.legacy n (inside.0, k);
+  macro_def = λ inside n. definition_found t.macro_defs inside n;
+  legacy_macro = λ inside n k. legacy_found t.legacy inside n k;
   expansion_limit = t.limit;
 }

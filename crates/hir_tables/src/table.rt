@@ -97,7 +97,6 @@ impl Drop for TableEnv {
 
 impl Model for TableEnv {
     ghost use Rattle.hir_tables.specs.Tables.{Tables};
-
     ghost use Rattle.std.specs.Coded.{codes};
     ghost use Rattle.hir_syntax.specs.contracts.ast.Expr as expr_tree;
     ghost use Rattle.hir_syntax.specs.contracts.ast.Stmt as stmt_tree;
@@ -106,8 +105,13 @@ impl Model for TableEnv {
 
     ghost Value = { Tables };
 
-    ghost coded = { Prim.hlevel (codes, expr_tree.the_row.coded, stmt_tree.the_row.coded, pat_tree.the_row.coded,
-        type_tree.the_row.coded) };
+    ghost coded = { Prim.hlevel (
+      codes,
+      expr_tree.the_row.coded,
+      stmt_tree.the_row.coded,
+      pat_tree.the_row.coded,
+      type_tree.the_row.coded,
+    ) };
 
     ghost view = { λ t. record {
       disabled = t.disabled;
@@ -320,7 +324,10 @@ impl LowerEnv for TableEnv {
     }
 
     fn hygiene(&self, node: InFile<NodeId>) -> HygieneId {
-        self.hygiene.get(place(node)).copied().unwrap_or(HygieneId::ROOT)
+        self.hygiene
+            .get(place(node))
+            .copied()
+            .unwrap_or(HygieneId::ROOT)
     }
 
     fn context(&self, node: InFile<NodeId>) -> CtxId {

@@ -17,4 +17,5 @@ pub mod AsApart
 pub mod AsYields
 pub mod AsTelling
 pub mod AsExpansions
+pub mod CallRows
 pub mod AsRooms

@@ -7,3 +7,4 @@ pub mod Lists
 pub mod Expanded
 pub mod Sizes
 pub mod Laws
+pub mod Worked

@@ -5,6 +5,7 @@ ghost use Rattle.hir_one_result.specs.Laws.{BlocksAre, DiagnosticsAre};
 ghost use Rattle.hir_told.specs.Laws.{BodiesEnter, BodiesExpand, BodiesFit, BodiesReport};
 ghost use Rattle.hir_told.specs.Laws.{ExprsEnter, ExprsExpand, ExprsFit, ExprsNote, ExprsReport};
 ghost use Rattle.hir_told.specs.Laws.{PathsExpand, PatsNote, TargetsNote, TypesExpand, TypesNote};
+ghost use Rattle.hir_told.specs.Worked.{SmallCalls};
 
 /// A `yield` is noted where one is told of an expression, and nowhere else.
 pub fn exprs_note()
@@ -82,4 +83,10 @@ pub fn blocks_follow()
 /// And what is claimed of the faults.
 pub fn faults_follow()
     ensures { DiagnosticsAre }
+{}
+
+/// Small trees with calls of macros: what was expanded for one stands before it, a call before those in what it stands for, and of what is
+/// gone those are told that were entered to find that out.
+pub fn small_calls()
+    ensures { SmallCalls }
 {}

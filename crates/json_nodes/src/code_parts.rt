@@ -187,7 +187,9 @@ impl<S, L, A, D, R, F, C, M> SortGroup<CodeOf<S, L, A, D, R, F, C, M>> for Stmts
 
     ghost of_sort = { stmt_of };
 
-    fn from_sort(part: CodeOf<S, L, A, D, R, F, C, M>) -> Result<S, CodeOf<S, L, A, D, R, F, C, M>> {
+    fn from_sort(
+        part: CodeOf<S, L, A, D, R, F, C, M>,
+    ) -> Result<S, CodeOf<S, L, A, D, R, F, C, M>> {
         match part {
             CodeOf::Stmt(stmt) => Ok(stmt),
             other => Err(other),
@@ -204,7 +206,9 @@ impl<S, L, A, D, R, F, C, M> SortGroup<CodeOf<S, L, A, D, R, F, C, M>> for LetEl
 
     ghost of_sort = { let_else_of };
 
-    fn from_sort(part: CodeOf<S, L, A, D, R, F, C, M>) -> Result<L, CodeOf<S, L, A, D, R, F, C, M>> {
+    fn from_sort(
+        part: CodeOf<S, L, A, D, R, F, C, M>,
+    ) -> Result<L, CodeOf<S, L, A, D, R, F, C, M>> {
         match part {
             CodeOf::LetElse(let_else) => Ok(let_else),
             other => Err(other),
@@ -221,7 +225,9 @@ impl<S, L, A, D, R, F, C, M> SortGroup<CodeOf<S, L, A, D, R, F, C, M>> for Arms 
 
     ghost of_sort = { arm_of };
 
-    fn from_sort(part: CodeOf<S, L, A, D, R, F, C, M>) -> Result<A, CodeOf<S, L, A, D, R, F, C, M>> {
+    fn from_sort(
+        part: CodeOf<S, L, A, D, R, F, C, M>,
+    ) -> Result<A, CodeOf<S, L, A, D, R, F, C, M>> {
         match part {
             CodeOf::Arm(arm) => Ok(arm),
             other => Err(other),
@@ -238,7 +244,9 @@ impl<S, L, A, D, R, F, C, M> SortGroup<CodeOf<S, L, A, D, R, F, C, M>> for Guard
 
     ghost of_sort = { guard_of };
 
-    fn from_sort(part: CodeOf<S, L, A, D, R, F, C, M>) -> Result<D, CodeOf<S, L, A, D, R, F, C, M>> {
+    fn from_sort(
+        part: CodeOf<S, L, A, D, R, F, C, M>,
+    ) -> Result<D, CodeOf<S, L, A, D, R, F, C, M>> {
         match part {
             CodeOf::Guard(guard) => Ok(guard),
             other => Err(other),
@@ -255,7 +263,9 @@ impl<S, L, A, D, R, F, C, M> SortGroup<CodeOf<S, L, A, D, R, F, C, M>> for Recor
 
     ghost of_sort = { record_list_of };
 
-    fn from_sort(part: CodeOf<S, L, A, D, R, F, C, M>) -> Result<R, CodeOf<S, L, A, D, R, F, C, M>> {
+    fn from_sort(
+        part: CodeOf<S, L, A, D, R, F, C, M>,
+    ) -> Result<R, CodeOf<S, L, A, D, R, F, C, M>> {
         match part {
             CodeOf::RecordList(list) => Ok(list),
             other => Err(other),
@@ -272,7 +282,9 @@ impl<S, L, A, D, R, F, C, M> SortGroup<CodeOf<S, L, A, D, R, F, C, M>> for Recor
 
     ghost of_sort = { record_field_of };
 
-    fn from_sort(part: CodeOf<S, L, A, D, R, F, C, M>) -> Result<F, CodeOf<S, L, A, D, R, F, C, M>> {
+    fn from_sort(
+        part: CodeOf<S, L, A, D, R, F, C, M>,
+    ) -> Result<F, CodeOf<S, L, A, D, R, F, C, M>> {
         match part {
             CodeOf::RecordField(field) => Ok(field),
             other => Err(other),
@@ -289,7 +301,9 @@ impl<S, L, A, D, R, F, C, M> SortGroup<CodeOf<S, L, A, D, R, F, C, M>> for Macro
 
     ghost of_sort = { macro_call_of };
 
-    fn from_sort(part: CodeOf<S, L, A, D, R, F, C, M>) -> Result<C, CodeOf<S, L, A, D, R, F, C, M>> {
+    fn from_sort(
+        part: CodeOf<S, L, A, D, R, F, C, M>,
+    ) -> Result<C, CodeOf<S, L, A, D, R, F, C, M>> {
         match part {
             CodeOf::MacroCall(call) => Ok(call),
             other => Err(other),
@@ -306,7 +320,9 @@ impl<S, L, A, D, R, F, C, M> SortGroup<CodeOf<S, L, A, D, R, F, C, M>> for Macro
 
     ghost of_sort = { macro_stmts_of };
 
-    fn from_sort(part: CodeOf<S, L, A, D, R, F, C, M>) -> Result<M, CodeOf<S, L, A, D, R, F, C, M>> {
+    fn from_sort(
+        part: CodeOf<S, L, A, D, R, F, C, M>,
+    ) -> Result<M, CodeOf<S, L, A, D, R, F, C, M>> {
         match part {
             CodeOf::MacroStmts(stmts) => Ok(stmts),
             other => Err(other),

@@ -1,7 +1,11 @@
 -- Lists that have not the length that is wanted.
-use Rattle.std.proofs.Common.{◌≡◌, ◌≢◌, ◌<◌, ◌≤◌, List, [], ◌∷◌, length, refl, arith, Some, None}
+use Rattle.std.proofs.Common.{◌≡◌, ◌≢◌, ◌<◌, ◌≤◌, List, [], ◌∷◌, length, refl, arith, Option, Some, None}
 use Rattle.serde_json.specs.View.{items_view}
 use Rattle.serde_json.specs.declared.value.Value.{Value}
+use Rattle.json_kinds.specs.declared.kind.Kind.{Kind}
+use Rattle.serde_json.specs.Data.{Items}
+use Rattle.hir_tables.specs.declared.table.MacroAnswer.TheVariants as answer
+use Rattle.lower_json.specs.Macros.{answer_in, call_in, defined_of, legacy_of}
 use Rattle.lower_json.specs.Tables.{alias_of, decided_of, triple_of, quadruple_of, said_of, context_of}
 
 pub under_two : (vs : List Value) → length vs < 2 → None ≡ decided_of (Some (items_view vs))
@@ -81,3 +85,59 @@ not_five (v ∷ w ∷ x ∷ []) h = refl
 not_five (v ∷ w ∷ x ∷ y ∷ []) h = refl
 not_five (v ∷ w ∷ x ∷ y ∷ z ∷ []) h = absurd (omega (arith, h))
 not_five (v ∷ w ∷ x ∷ y ∷ z ∷ u ∷ vs) h = refl
+
+pub call_under_two : (vs : List Value) → length vs < 2 → None ≡ call_in (Some (items_view vs))
+call_under_two [] h = refl
+call_under_two (a ∷ []) h = refl
+call_under_two (a ∷ b ∷ vs) h = absurd (omega arith)
+
+pub answer_under_three : (ks : List (Option Kind)) (ns : Items) (vs : List Value) → length vs < 3 → None ≡ answer_in ks ns (Some (items_view vs))
+answer_under_three ks ns [] h = refl
+answer_under_three ks ns (a ∷ []) h = refl
+answer_under_three ks ns (a ∷ b ∷ []) h = refl
+answer_under_three ks ns (a ∷ b ∷ c ∷ vs) h = absurd (omega arith)
+
+pub answer_three : (ks : List (Option Kind)) (ns : Items) (vs : List Value) → 3 ≤ length vs → length vs < 4
+    → Some answer.NoExpansion ≡ answer_in ks ns (Some (items_view vs))
+answer_three ks ns [] h l = absurd (omega arith)
+answer_three ks ns (a ∷ []) h l = absurd (omega arith)
+answer_three ks ns (a ∷ b ∷ []) h l = absurd (omega arith)
+answer_three ks ns (a ∷ b ∷ c ∷ []) h l = refl
+answer_three ks ns (a ∷ b ∷ c ∷ d ∷ vs) h l = absurd (omega arith)
+
+pub answer_over_five : (ks : List (Option Kind)) (ns : Items) (vs : List Value) → 6 ≤ length vs → None ≡ answer_in ks ns (Some (items_view vs))
+answer_over_five ks ns [] h = absurd (omega arith)
+answer_over_five ks ns (a ∷ []) h = absurd (omega arith)
+answer_over_five ks ns (a ∷ b ∷ []) h = absurd (omega arith)
+answer_over_five ks ns (a ∷ b ∷ c ∷ []) h = absurd (omega arith)
+answer_over_five ks ns (a ∷ b ∷ c ∷ d ∷ []) h = absurd (omega arith)
+answer_over_five ks ns (a ∷ b ∷ c ∷ d ∷ e ∷ []) h = absurd (omega arith)
+answer_over_five ks ns (a ∷ b ∷ c ∷ d ∷ e ∷ f ∷ vs) h = refl
+
+pub defined_under_three : (vs : List Value) → length vs < 3 → None ≡ defined_of (Some (items_view vs))
+defined_under_three [] h = refl
+defined_under_three (a ∷ []) h = refl
+defined_under_three (a ∷ b ∷ []) h = refl
+defined_under_three (a ∷ b ∷ c ∷ vs) h = absurd (omega arith)
+
+pub defined_over_three : (vs : List Value) → 4 ≤ length vs → None ≡ defined_of (Some (items_view vs))
+defined_over_three [] h = absurd (omega arith)
+defined_over_three (a ∷ []) h = absurd (omega arith)
+defined_over_three (a ∷ b ∷ []) h = absurd (omega arith)
+defined_over_three (a ∷ b ∷ c ∷ []) h = absurd (omega arith)
+defined_over_three (a ∷ b ∷ c ∷ d ∷ vs) h = refl
+
+pub legacy_under_four : (vs : List Value) → length vs < 4 → None ≡ legacy_of (Some (items_view vs))
+legacy_under_four [] h = refl
+legacy_under_four (a ∷ []) h = refl
+legacy_under_four (a ∷ b ∷ []) h = refl
+legacy_under_four (a ∷ b ∷ c ∷ []) h = refl
+legacy_under_four (a ∷ b ∷ c ∷ d ∷ vs) h = absurd (omega arith)
+
+pub legacy_over_four : (vs : List Value) → 5 ≤ length vs → None ≡ legacy_of (Some (items_view vs))
+legacy_over_four [] h = absurd (omega arith)
+legacy_over_four (a ∷ []) h = absurd (omega arith)
+legacy_over_four (a ∷ b ∷ []) h = absurd (omega arith)
+legacy_over_four (a ∷ b ∷ c ∷ []) h = absurd (omega arith)
+legacy_over_four (a ∷ b ∷ c ∷ d ∷ []) h = absurd (omega arith)
+legacy_over_four (a ∷ b ∷ c ∷ d ∷ e ∷ vs) h = refl

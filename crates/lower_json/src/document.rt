@@ -1,9 +1,9 @@
 //! What a document says.
 
 use hir_env::place::LoweringMode;
-use hir_tables::table::TableEnv;
 use hir_store::ids::DefWithBodyId;
 use hir_syntax::ast::{Fn, ParamList, Path, Type_};
+use hir_tables::table::TableEnv;
 
 /// What the root of a document has to be.
 #[derive(Clone, Copy, PartialEq, Eq)]

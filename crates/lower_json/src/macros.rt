@@ -14,16 +14,17 @@ use crate::tables::site;
 use crate::tree::fragment_at;
 use hir_base::node::{HirFileId, InFile, NodeId};
 use hir_base::{Seq, Text};
-use hir_tables::table::{MacroAnswer, TableEnv};
 use hir_store::ids::{MacroDefId, ModuleId};
 use hir_store::name::Name;
 use hir_syntax::ast::Fragment;
+use hir_tables::table::{MacroAnswer, TableEnv};
 use json_faults::value::small;
 use json_kinds::kind::Kind;
 use serde_json::Value;
 use std::alloc::{AllocError, Global};
 
 /// The call that an entry is for.
+#[tactic(auto, using(crate::proofs::Tuples::call_under_two))]
 fn call_in(entry: &[Value]) -> Option<InFile<NodeId>>
     ensures { result ≡ call_in (Some (items_view entry.now)) }
 {
@@ -87,9 +88,9 @@ fn answer_in(
     ensures { IfOk result (λ a. a ≡ answer_in kinds.now (items_view nodes.now) (Some (items_view entry.now))) }
 {
     match entry {
-        [_, _, _] => Ok(Some(MacroAnswer::NoExpansion)),
-        [_, _, _, path] => unresolved(alloc, path),
-        [_, _, _, file, root] => expanded(alloc, kinds, nodes, file, root),
+        [_file, _node, _word] => Ok(Some(MacroAnswer::NoExpansion)),
+        [_file, _node, _word, path] => unresolved(alloc, path),
+        [_file, _node, _word, new, root] => expanded(alloc, kinds, nodes, new, root),
         _ => Ok(None),
     }
 }
@@ -184,6 +185,7 @@ fn legacy_definition(
 }
 
 /// What an entry says of a macro in a module.
+#[tactic(auto, using(crate::proofs::Tuples::defined_under_three, crate::proofs::Tuples::defined_over_three))]
 fn defined(
     alloc: Global,
     entry: &[Value],
@@ -197,6 +199,7 @@ fn defined(
 }
 
 /// What an entry says of a macro that `macro_rules` has defined.
+#[tactic(auto, using(crate::proofs::Tuples::legacy_under_four, crate::proofs::Tuples::legacy_over_four))]
 fn legacy(
     alloc: Global,
     entry: &[Value],
@@ -212,11 +215,7 @@ fn legacy(
 }
 
 /// Gives each macro of a module the number that the entries say.
-pub fn define_all(
-    alloc: Global,
-    tables: &mut TableEnv,
-    entries: &[Value],
-) -> Result<(), AllocError>
+pub fn define_all(alloc: Global, tables: &mut TableEnv, entries: &[Value]) -> Result<(), AllocError>
     ensures entries { OnOk result (tables.new.macro_defs ≡ with_definitions (items_view entries.now) tables.old.macro_defs) }
     ensures others { OnOk result (tables.new ≡ record tables.old { macro_defs = tables.new.macro_defs }) }
 {

@@ -15,10 +15,10 @@ use crate::lang::lang_items;
 use crate::macros::{define_all, define_legacy, expand_all};
 use crate::resolve::resolve_all;
 use hir_base::node::{HirFileId, InFile, NodeId, PredId};
-use hir_tables::table::{Context, TableEnv};
 use hir_store::ids::{
     BlockId, CfgId, CrateId, CtxId, HygieneId, ItemContainerId, MacroDefId, ModuleId,
 };
+use hir_tables::table::{Context, TableEnv};
 use json_faults::document::nodes;
 use json_faults::value::small;
 use json_kinds::kind::Kind;

@@ -2,12 +2,12 @@
 
 use hir_base::node::HirFileId;
 use hir_env::place::LoweringMode;
-use hir_tables::table::TableEnv;
 use hir_lower::{ErrorImplTrait, ExprCollector, LowerError};
 use hir_store::ids::{ItemContainerId, ModuleId};
 use hir_store::source_map::ExpressionStoreSourceMap;
 use hir_store::store::ExpressionStore;
 use hir_syntax::ast::Path;
+use hir_tables::table::TableEnv;
 use std::alloc::Global;
 
 pub fn table(alloc: Global) -> TableEnv {

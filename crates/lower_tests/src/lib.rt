@@ -2,7 +2,11 @@
 #![tactic(auto)]
 
 #[cfg(test)]
+mod arenas;
+#[cfg(test)]
 mod bindings;
+#[cfg(test)]
+mod calls;
 #[cfg(test)]
 mod collectors;
 #[cfg(test)]

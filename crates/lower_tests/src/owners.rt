@@ -3,12 +3,12 @@
 use crate::collectors::{collector, table, with_store};
 use crate::documents::{path_in, with_document};
 use crate::lowered::with_lowered;
-use hir_tables::table::TableEnv;
 use hir_lower::{Body, BodySourceMap, ErrorImplTrait, ExprCollector};
 use hir_store::ids::{BindingId, ExprId};
 use hir_store::source_map::ExpressionStoreSourceMap;
 use hir_store::store::ExpressionStore;
 use hir_syntax::ast::{GenericArg, Path};
+use hir_tables::table::TableEnv;
 use lower_json::document::{Document, Root};
 use std::alloc::Global;
 

@@ -5,7 +5,6 @@ use crate::documents::{path_in, with_document};
 use hir_base::Seq;
 use hir_base::node::{AstPtr, HirFileId, InFile, NodeId, TextRange};
 use hir_env::lang::LangItems;
-use hir_tables::table::TableEnv;
 use hir_lower::{
     ErrorImplTrait, ExprCollector, ImplTraitLower, LowerError, OpaqueImplTrait,
     impl_trait_error_allocator, lower_type_ref,
@@ -15,6 +14,7 @@ use hir_store::path::Path as LoweredPath;
 use hir_store::source_map::ExpressionStoreSourceMap;
 use hir_store::store::ExpressionStore;
 use hir_syntax::ast::Path;
+use hir_tables::table::TableEnv;
 use lower_json::document::{Document, Root};
 use lower_json::fault::ReadError;
 use lower_run::listing::{Listed, path_listing, type_listing};

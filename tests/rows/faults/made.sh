@@ -65,3 +65,56 @@ if refused; then
 else
     echo "FAILED not_utf8: $(head -c 200 "$work/err")"
 fi
+
+# A constant that is a call, whose expansion is this many nodes inside one another, and this behind it.
+expansion() {
+    awk -v "levels=$1" -v "behind=$2" 'BEGIN {
+        printf "{\"owner\":\"const\",\"nodes\":[{\"k\":\"Fn\",\"body\":1},{\"k\":\"MacroExpr\",\"call\":2},{\"k\":\"MacroCall\"}"
+        for (i = 1; i < levels; i++) printf ",{\"k\":\"ParenExpr\",\"expr\":%d}", i + 3
+        printf ",{\"k\":\"Literal\",\"lit\":\"int\",\"t\":\"1\"}%s],", behind
+        printf "\"env\":{\"macros\":[[0,2,\"file\",1,3]]}}"
+    }' >"$work/document"
+}
+
+# The tree of an expansion begins at level 1, wherever its call stands.
+expansion 256 ""
+printf 'body r0=(Literal 1)\nexpansion @2 1\n' >"$work/listing"
+"$tool" body <"$work/document" >"$work/out" 2>"$work/err"
+if [ $? -eq 0 ] && [ ! -s "$work/err" ] && cmp -s "$work/listing" "$work/out"; then
+    echo "passed expansion_as_deep_as_allowed"
+else
+    echo "FAILED expansion_as_deep_as_allowed: $(head -c 200 "$work/err")"
+fi
+
+expansion 257 ""
+echo "fault: node 259: too deep" >"$work/fault"
+if refused; then
+    echo "passed expansion_too_deep"
+else
+    echo "FAILED expansion_too_deep: $(head -c 200 "$work/err")"
+fi
+
+expansion 257 ",{\"k\":\"Item\"}"
+echo "fault: node 260: unused" >"$work/fault"
+if refused; then
+    echo "passed unused_before_expansion_too_deep"
+else
+    echo "FAILED unused_before_expansion_too_deep: $(head -c 200 "$work/err")"
+fi
+
+# A call at the last level of the tree, whose expansion is as deep again.
+awk 'BEGIN {
+    printf "{\"owner\":\"const\",\"nodes\":[{\"k\":\"Fn\",\"body\":1}"
+    for (i = 1; i <= 253; i++) printf ",{\"k\":\"ParenExpr\",\"expr\":%d}", i + 1
+    printf ",{\"k\":\"MacroExpr\",\"call\":255},{\"k\":\"MacroCall\"}"
+    for (i = 256; i <= 510; i++) printf ",{\"k\":\"ParenExpr\",\"expr\":%d}", i + 1
+    printf ",{\"k\":\"Literal\",\"lit\":\"int\",\"t\":\"1\"}],"
+    printf "\"env\":{\"macros\":[[0,255,\"file\",1,256]]}}"
+}' >"$work/document"
+printf 'body r0=(Literal 1)\nexpansion @255 1\n' >"$work/listing"
+"$tool" body <"$work/document" >"$work/out" 2>"$work/err"
+if [ $? -eq 0 ] && [ ! -s "$work/err" ] && cmp -s "$work/listing" "$work/out"; then
+    echo "passed expansion_of_a_call_as_deep_as_allowed"
+else
+    echo "FAILED expansion_of_a_call_as_deep_as_allowed: $(head -c 200 "$work/err")"
+fi

@@ -1,4 +1,4 @@
-use Rattle.hir_lower.proofs.Bodies.{has_body_if, one_result_if, body_too_large}
+use Rattle.hir_lower.proofs.Bodies.{body_expanded_if, body_too_large, has_body_if, one_result_if}
 use Rattle.hir_lower.proofs.MadeNames.{made_once_if}
 use Rattle.hir_lower.proofs.Params.{params_if}
 use Rattle.hir_lower.proofs.body.lower_body.Goals as goal
@@ -12,6 +12,10 @@ pub returns-clause-one_result : goal.returns-clause-one_result
 returns-clause-one_result g c =
     one_result_if _ _ _ _ _ _ 4294967295 (λ r. r.0.store) (λ r. r.1.store) (λ r. r.0) c.body_steps.result c.body_steps.ensures.stores
     c.body_steps.ensures.given
+
+pub returns-clause-expanded : goal.returns-clause-expanded
+returns-clause-expanded g c =
+    body_expanded_if _ _ _ _ _ _ 4294967295 (λ r. r.0.store) (λ r. r.1.store) c.body_steps.result c.body_steps.ensures.stores
 
 pub returns-clause-params : goal.returns-clause-params
 returns-clause-params g c =

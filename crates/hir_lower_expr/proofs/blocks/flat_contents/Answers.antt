@@ -1,4 +1,4 @@
-use Rattle.std.proofs.Common.{◌∙◌, arith, []}
+use Rattle.std.proofs.Common.{◌∙◌}
 use Rattle.hir_lower_form.specs.Methods.{HasContents, contents_at}
 use Rattle.hir_lower_expr.proofs.StatementLemmas.{contents_go_on, contents_refused, grows_on, refused}
 use Rattle.hir_lower_expr.proofs.blocks.flat_contents.Goals as goal
@@ -24,6 +24,8 @@ pub returns : goal.returns
 returns g c =
     let at = g.P.LowerParts.spot c.args.lowerer.now.parts in
     let run = rw (c.new-statements.ensures, c.as_slice.ensures) at c.in_ok-collect_run.ensures in
-    let h = c.in_ok-tail.ensures in
-    (contents_go_on at c.args.node.now c.collect_run.new.done c.args.state.now c.collect_run.new.state run.0 ∙ h.0,
-    grows_on c.args.state.now.stored c.collect_run.new.state.stored c.collect_value_opt.new.state.stored run.1 h.1, h.2)
+    let h = c.in_ok-tail.ensures in (
+      contents_go_on at c.args.node.now c.collect_run.new.done c.args.state.now c.collect_run.new.state run.0 ∙ h.0,
+      grows_on c.args.state.now.stored c.collect_run.new.state.stored c.collect_value_opt.new.state.stored run.1 h.1,
+      h.2,
+    )

@@ -1,4 +1,4 @@
-use Rattle.std.proofs.Common.{◌∙◌, ap, subst, sym, Some}
+use Rattle.std.proofs.Common.{arith, ◌∙◌, ap, subst, sym, Some}
 use Rattle.std.specs.Option.{option_copied}
 use Rattle.hir_syntax.specs.declared.ast.ExprKind.{out-ExprKind}
 use Rattle.hir_store.specs.Range.{HasExprOption}
@@ -9,7 +9,7 @@ use Rattle.hir_lower_form.specs.Methods.{MaybeLowersExpr}
 use Rattle.hir_lower_form.proofs.Kept.{kept_is_some}
 use Rattle.hir_lower_expr.proofs.CallLemmas.{at_call, kids_call, no_call}
 use Rattle.hir_lower_expr.proofs.StatementLemmas.{refused}
-use Rattle.hir_lower_kinds.proofs.OfFamily.{enabled_is}
+use Rattle.hir_lower_kinds.proofs.OfFamily.{disabled_on, enabled_is, nothing_kept}
 use Rattle.hir_lower_kinds.proofs.exprs.expr_node.Goals as goal
 
 pub macro_form-requires : goal.macro_form-requires
@@ -55,3 +55,20 @@ returns-in_err-expr_form-in-None g c =
     c.expr_form.new.state c.from_residual-in_err-expr_form-in-None.ensures.1
     (λ other. let h = c.in_err-expr_form-in-None.ensures other in
     ((λ i. kept i c.args.state.now) ∙ ap (λ z. go_on z.0 z.1 (λ id. pure (Some id))) h.0, h.1))
+
+pub returns-in_ok-report-in-Err : goal.returns-in_ok-report-in-Err
+returns-in_ok-report-in-Err g c =
+    let at = g.P.LowerParts.spot c.args.lowerer.now.parts in
+    let err = rw (c.site.ensures, c.pointer-at.ensures) at (sym c.cfg.ensures ∙ c.in-Err.is) in
+    let h = rw c.pointer-at.ensures at c.in_ok-report-in-Err.ensures in
+    (disabled_on at c.args.node.now _ c.args.state.now err ∙ ap (λ z. go_on z.0 z.1 nothing_kept) h.0, h.1, omega arith)
+
+pub returns-in_err-report-in-Err : goal.returns-in_err-report-in-Err
+returns-in_err-report-in-Err g c =
+    let at = g.P.LowerParts.spot c.args.lowerer.now.parts in
+    let err = rw (c.site.ensures, c.pointer-at.ensures) at (sym c.cfg.ensures ∙ c.in-Err.is) in
+    let told = rw c.pointer-at.ensures at c.in_err-report-in-Err.ensures in
+    refused HasExprOption (lower_kept (asked_expr at c.args.node.now)) c.args.state.now _ c.from_residual.result c.report.new.self
+    c.from_residual.ensures.1
+    (λ other. let h = told other in
+    (disabled_on at c.args.node.now _ c.args.state.now err ∙ ap (λ z. go_on z.0 z.1 nothing_kept) h.0, h.1))

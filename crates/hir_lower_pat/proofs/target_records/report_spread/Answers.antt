@@ -1,10 +1,12 @@
 use Rattle.std.proofs.Common.{arith}
 use Rattle.std.proofs.lemmas.Grind.{common_steps}
-use Rattle.hir_env.proofs.Pointers.{pointer_is_own}
+use Rattle.hir_lower_pat.proofs.AimSteps.{spread_is}
 use Rattle.hir_lower_pat.proofs.target_records.report_spread.Goals as goal
 
 pub returns-in-None : goal.returns-in-None
-returns-in-None g c = grind (arith, common_steps, pointer_is_own)
+returns-in-None g c = grind (arith, common_steps)
 
 pub returns-in-Some : goal.returns-in-Some
-returns-in-Some g c = grind (arith, common_steps, pointer_is_own)
+returns-in-Some g c =
+    rw (spread_is (g.H.Here.spot c.args.parts.now) c.args.spread.now c.args.dots _ _ _ c.in-Some.is c.get.ensures c.pointer_of-node.ensures)
+    c.report.ensures

@@ -1,4 +1,4 @@
-use Rattle.std.proofs.Common.{arith, ap}
+use Rattle.std.proofs.Common.{arith}
 use Rattle.hir_syntax.specs.declared.ast.ExprKind.{out-ExprKind}
 use Rattle.hir_env.specs.Whole.{pointer_at}
 use Rattle.hir_lower_pat.specs.Aims.{HandlesTarget}

@@ -1,6 +1,7 @@
-use Rattle.std.proofs.Common.{arith}
+use Rattle.std.proofs.Common.{arith, ◌∙◌, sym}
 use Rattle.std.proofs.lemmas.Grind.{common_steps}
-use Rattle.hir_lower_pat.proofs.AimLemmas.{only_places}
+use Rattle.hir_syntax.specs.declared.ast.ExprKind.TheVariants as kind
+use Rattle.hir_lower_pat.proofs.AimLemmas.{aims_as, only_places, opened}
 use Rattle.hir_lower_pat.proofs.targets.kept_aim.Goals as goal
 
 pub returns-in-CallExpr : goal.returns-in-CallExpr
@@ -23,3 +24,13 @@ record_aim-requires-clause-place g c = grind (arith, common_steps, only_places)
 
 pub returns-in-RecordExpr : goal.returns-in-RecordExpr
 returns-in-RecordExpr g c = grind (arith, common_steps, only_places)
+
+pub returns-in-ParenExpr : goal.returns-in-ParenExpr
+returns-in-ParenExpr g c =
+    let is = opened (kind.rolls-ParenExpr _ ∙ sym c.in-ParenExpr.is) in
+    aims_as (g.T.Here.spot c.args.parts.now) c.args.node.now _ c.args.at _ _ _ c.requires.at c.requires.enabled is c.paren_aim.ensures
+
+pub returns-in-TupleExpr : goal.returns-in-TupleExpr
+returns-in-TupleExpr g c =
+    let is = opened (kind.rolls-TupleExpr _ _ ∙ sym c.in-TupleExpr.is) in
+    aims_as (g.T.Here.spot c.args.parts.now) c.args.node.now _ c.args.at _ _ _ c.requires.at c.requires.enabled is c.tuple_aim.ensures

@@ -8,7 +8,7 @@ use Rattle.hir_env.proofs.PatLevels.{pat_is_level}
 use Rattle.hir_lower_form.specs.Lower.{lower_type_pats}
 use Rattle.hir_lower_form.specs.Methods.{at_place}
 use Rattle.hir_lower_pat.proofs.KindLemmas.{first_of}
-use Rattle.hir_lower_pat.proofs.TypePats.{first_size, handed_on, one_more, opened, or_size, refused}
+use Rattle.hir_lower_pat.proofs.TypePats.{call_is, first_size, handed_on, one_more, opened, or_size, refused}
 use Rattle.hir_lower_pat.proofs.type_pats.+type_pat.Goals as goal
 
 pub each_type_pat-type_pat-requires : goal.each_type_pat-type_pat-requires
@@ -89,15 +89,9 @@ type_pat-returns-in_default g t c =
     let here = at_place (g.P.LowerParts.spot c.args.lowerer.now.parts) c.args.place in
     rw (pat_is_level here c.args.node.now) c.other_form.ensures
 
-pub type_pat-returns-in-MacroPat-None : goal.type_pat-returns-in-MacroPat-None
-type_pat-returns-in-MacroPat-None g t c =
+pub type_pat-returns-in-MacroPat : goal.type_pat-returns-in-MacroPat
+type_pat-returns-in-MacroPat g t c =
     let here = at_place (g.P.LowerParts.spot c.args.lowerer.now.parts) c.args.place in
-    let m = c.in-MacroPat-None in
-    rw (pat_is_level here c.args.node.now, opened (kind.rolls-MacroPat _ ∙ sym m.is), m.call-is) c.missing_pat.ensures
-
-pub type_pat-returns-in-MacroPat-Some : goal.type_pat-returns-in-MacroPat-Some
-type_pat-returns-in-MacroPat-Some g t c =
-    let here = at_place (g.P.LowerParts.spot c.args.lowerer.now.parts) c.args.place in
-    let m = c.in-MacroPat-Some in
-    rw (pat_is_level here c.args.node.now, opened (kind.rolls-MacroPat _ ∙ sym m.is), m.call-is)
-    (rw c.pointer_in-at.ensures at c.unentered_form.ensures)
+    let is = opened (kind.rolls-MacroPat _ ∙ sym c.in-MacroPat.is) in
+    rw (call_is here.answers.lang_items here c.args.node.now _ _ is c.is_some.ensures)
+    (rw c.pointer_in-at.ensures at c.call_form.ensures)

@@ -1,0 +1,122 @@
+//! What arenas tell of their room, recorded expansions by call, and the entries and children that a store lends.
+
+use hir_base::node::{HirFileId, InFile, NodeId, TextRange};
+use hir_store::arena::Arena;
+use hir_store::builder::ExpressionStoreBuilder;
+use hir_store::expansions::ExpandedCall;
+use hir_store::fault::StoreFault;
+use hir_store::hir::Expr;
+use hir_store::ids::{ExprId, LifetimeRefId};
+use hir_store::type_ref::LifetimeRef;
+use std::alloc::Global;
+use std::test::Fail;
+
+/// What `spare` answers after so many calls of `alloc` in an arena with this limit, how many entries there are then, and what one
+/// more call answers.
+fn after(alloc: Global, limit: u32, calls: u32) -> (u32, u32, Result<LifetimeRefId, StoreFault>) {
+    let mut arena = Arena::with_limit(alloc, limit);
+    for _ in 0..calls {
+        let _ = arena.alloc(LifetimeRef::Error);
+    }
+    let spare = arena.spare();
+    let len = arena.len();
+    let more = arena.alloc(LifetimeRef::Error);
+    drop(arena);
+    (spare, len, more)
+}
+
+#[test]
+fn a_page_has_1024_entries(rt: HostRuntime) {
+    let alloc = rt.alloc();
+    assert!(rt; after(alloc, u32::MAX, 0) == (0, 0, Ok(LifetimeRefId(0))));
+    assert!(rt; after(alloc, u32::MAX, 1) == (1023, 1, Ok(LifetimeRefId(1))));
+    assert!(rt; after(alloc, u32::MAX, 1023) == (1, 1023, Ok(LifetimeRefId(1023))));
+    assert!(rt; after(alloc, u32::MAX, 1024) == (0, 1024, Ok(LifetimeRefId(1024))));
+    assert!(rt; after(alloc, u32::MAX, 1025) == (1023, 1025, Ok(LifetimeRefId(1025))));
+    assert!(rt; after(alloc, u32::MAX, 2048) == (0, 2048, Ok(LifetimeRefId(2048))));
+}
+
+#[test]
+fn a_limit_cuts_what_is_spare(rt: HostRuntime) {
+    let alloc = rt.alloc();
+    assert!(rt; after(alloc, 3, 1) == (2, 1, Ok(LifetimeRefId(1))));
+    assert!(rt; after(alloc, 3, 3) == (0, 3, Err(StoreFault::Full)));
+    assert!(rt; after(alloc, 1030, 1025) == (5, 1025, Ok(LifetimeRefId(1025))));
+    assert!(rt; after(alloc, 1030, 1030) == (0, 1030, Err(StoreFault::Full)));
+}
+
+const CALL: InFile<NodeId> = InFile {
+    file_id: HirFileId(0),
+    value: NodeId(5),
+};
+
+const RANGE: TextRange = TextRange { start: 5, end: 6 };
+
+fn expanded(range: Option<TextRange>, file: u32) -> ExpandedCall {
+    ExpandedCall {
+        call: CALL,
+        range,
+        file: HirFileId(file),
+    }
+}
+
+#[test]
+fn of_equal_calls_the_last_counts(rt: HostRuntime) -> Result<(), Fail> {
+    let mut builder = ExpressionStoreBuilder::new(rt.alloc(), 1);
+    let recorded = [
+        builder.record_expansion(expanded(None, 1)),
+        builder.record_expansion(expanded(Some(RANGE), 2)),
+        builder.record_expansion(expanded(Some(RANGE), 3)),
+        builder.record_expansion(expanded(None, 4)),
+    ];
+    let (store, source_map) = builder.finish();
+    let with_range = source_map.expansion(CALL, Some(RANGE));
+    let without = source_map.expansion(CALL, None);
+    let other = source_map.expansion(CALL, Some(TextRange { start: 5, end: 7 }));
+    let all = source_map.expansions().len();
+    drop(source_map);
+    drop(store);
+    assert!(rt; recorded == [Ok(()); 4]);
+    assert!(rt; with_range == Some(HirFileId(3)));
+    assert!(rt; without == Some(HirFileId(4)));
+    assert!(rt; other.is_none());
+    assert!(rt; all == 4);
+    Ok(())
+}
+
+/// Stores two expressions, and an `if` of both.
+fn store_if(builder: &mut ExpressionStoreBuilder) -> Result<(), StoreFault> {
+    let condition = builder.alloc_expr(Expr::Missing, None)?;
+    let then_branch = builder.alloc_expr(Expr::Underscore, None)?;
+    let whole = Expr::If {
+        condition,
+        then_branch,
+        else_branch: None,
+    };
+    builder.alloc_expr(whole, None)?;
+    Ok(())
+}
+
+#[test]
+fn a_store_lends_entries_and_children(rt: HostRuntime) -> Result<(), Fail> {
+    let mut builder = ExpressionStoreBuilder::new(rt.alloc(), 3);
+    let stored = store_if(&mut builder);
+    let (store, source_map) = builder.finish();
+    let mut children = store.children(ExprId(2));
+    let named = [children.next(), children.next(), children.next()];
+    let of_none = store.children(ExprId(3)).next();
+    let mut underscores = None;
+    for (id, expr) in store.exprs() {
+        if matches!(expr, Expr::Underscore) {
+            underscores = Some(id);
+        }
+    }
+    drop(children);
+    drop(source_map);
+    drop(store);
+    assert!(rt; stored == Ok(()));
+    assert!(rt; named == [Some(ExprId(0)), Some(ExprId(1)), None]);
+    assert!(rt; of_none.is_none());
+    assert!(rt; underscores == Some(ExprId(1)));
+    Ok(())
+}
