@@ -36,25 +36,25 @@ fn a_page_has_1024_entries(rt: HostRuntime) {
     assert!(rt; after(alloc, u32::MAX, 2048) == (0, 2048, Ok(LifetimeRefId(2048))));
 }
 
-/// How many of the calls behind the first, as many as fill its page, are answered with a number.
-fn filled(alloc: Global) -> u32 {
+/// Whether each of the calls behind the first, as many as fill its page, is answered with a number.
+fn fills_its_page(alloc: Global) -> bool {
     let mut arena = Arena::with_limit(alloc, u32::MAX);
     let _ = arena.alloc(LifetimeRef::Error);
-    let mut answered = 0;
+    let mut fills = true;
     for _ in 0..1023 {
-        if arena.alloc(LifetimeRef::Error).is_ok() {
-            answered += 1;
+        if arena.alloc(LifetimeRef::Error).is_err() {
+            fills = false;
         }
     }
     drop(arena);
-    answered
+    fills
 }
 
 /// The first call makes two requests for memory, and those behind it none: it passes where the third one is refused, too
 /// (`rt try --test --fail-alloc 3`).
 #[test]
 fn the_rest_of_a_page_takes_no_memory(rt: HostRuntime) {
-    assert!(rt; filled(rt.alloc()) == 1023);
+    assert!(rt; fills_its_page(rt.alloc()));
 }
 
 #[test]
