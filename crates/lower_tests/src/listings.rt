@@ -1,5 +1,5 @@
-//! Listings that no document leads to yet, as paths of several generated names, nodes of other files, and faults behind a
-//! border or outside of a body; and a minus in front of an integer.
+//! Listings of stores made by hand: paths of several generated names, nodes of other files, and faults behind a border or
+//! outside of a body; and a minus in front of an integer.
 
 use crate::collectors::{collector, of_both, table, with_store};
 use crate::documents::{length_in, with_document};

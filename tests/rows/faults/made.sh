@@ -76,11 +76,16 @@ expansion() {
     }' >"$work/document"
 }
 
+# Whether the body in the document has the listing.
+listed() {
+    "$tool" body <"$work/document" >"$work/out" 2>"$work/err" &&
+        [ ! -s "$work/err" ] && cmp -s "$work/listing" "$work/out"
+}
+
 # The tree of an expansion begins at level 1, wherever its call stands.
 expansion 256 ""
 printf 'body r0=(Literal 1)\nexpansion @2 1\n' >"$work/listing"
-"$tool" body <"$work/document" >"$work/out" 2>"$work/err"
-if [ $? -eq 0 ] && [ ! -s "$work/err" ] && cmp -s "$work/listing" "$work/out"; then
+if listed; then
     echo "passed expansion_as_deep_as_allowed"
 else
     echo "FAILED expansion_as_deep_as_allowed: $(head -c 200 "$work/err")"
@@ -112,8 +117,7 @@ awk 'BEGIN {
     printf "\"env\":{\"macros\":[[0,255,\"file\",1,256]]}}"
 }' >"$work/document"
 printf 'body r0=(Literal 1)\nexpansion @255 1\n' >"$work/listing"
-"$tool" body <"$work/document" >"$work/out" 2>"$work/err"
-if [ $? -eq 0 ] && [ ! -s "$work/err" ] && cmp -s "$work/listing" "$work/out"; then
+if listed; then
     echo "passed expansion_of_a_call_as_deep_as_allowed"
 else
     echo "FAILED expansion_of_a_call_as_deep_as_allowed: $(head -c 200 "$work/err")"
