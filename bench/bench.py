@@ -29,6 +29,8 @@ CHAIN = 252
 TYPE_CHAIN = 254
 # So many names are bound by each alternative of an or-pattern.
 NAMES = 100
+# So many calls of macros are entered in one another, and no more may be.
+ENTERED = 64
 
 
 class Nodes:
@@ -354,18 +356,91 @@ def owned(size):
     return nodes
 
 
+def expanded(nodes, place, root, file=0, **fields):
+    """Adds a call of a macro, as a node of that kind in a file, and behind it the node of the other kind that it stands for in file 1."""
+    here = nodes.add(place)
+    call = nodes.add("MacroCall")
+    nodes.all[here]["call"] = call
+    nodes.env.setdefault("macros", []).append([file, call, "file", 1, nodes.add(root, **fields)])
+    return here
+
+
 def expansions(size):
     """One array of very many calls of macros, each expanded to a literal, 33,000 of them at 100,000 nodes."""
     nodes = Nodes()
     nodes.add("Fn", body=1)
     elements = nodes.add("ArrayExpr", elems=[])
-    nodes.env["macros"] = []
     while len(nodes.all) + 3 <= size:
-        here = nodes.add("MacroExpr")
-        call = nodes.add("MacroCall")
-        nodes.all[here]["call"] = call
-        nodes.all[elements]["elems"].append(here)
-        nodes.env["macros"].append([0, call, "file", 1, nodes.add("Literal", lit="int", t="1")])
+        nodes.all[elements]["elems"].append(expanded(nodes, "MacroExpr", "Literal", lit="int", t="1"))
+    return nodes
+
+
+def splices(size):
+    """One block of very many calls of macros, each expanded to two statements, 12,000 of them at 100,000 nodes."""
+    nodes, block = body()
+    while len(nodes.all) + 8 <= size:
+        nodes.statement(block)
+        stands_for = expanded(nodes, "MacroExpr", "MacroStmts", stmts=[]) + 2
+        for _ in range(2):
+            nodes.statement(stands_for)
+            nodes.add("Literal", lit="int", t="1")
+    return nodes
+
+
+def spliced(size):
+    """Many chains of calls of macros in statement place, each expanded to a call, as many in one another as may be entered."""
+    nodes, block = body()
+    nodes.env["limit"] = ENTERED
+    while len(nodes.all) + 4 * ENTERED + 4 <= size:
+        nodes.statement(block)
+        for depth in range(ENTERED):
+            nodes.statement(expanded(nodes, "MacroExpr", "MacroStmts", min(depth, 1), stmts=[]) + 2)
+        nodes.add("Literal", lit="int", t="1")
+    return nodes
+
+
+def calls_in_tuple(size, tuple_kind, call_kind, part_kind):
+    """One tuple of very many calls of macros, each expanded to a part of this kind."""
+    nodes = Nodes()
+    fields = nodes.add(tuple_kind, fields=[])
+    while len(nodes.all) + 3 <= size:
+        nodes.all[fields]["fields"].append(expanded(nodes, call_kind, part_kind))
+    return nodes
+
+
+def macro_pats(size):
+    """One tuple of very many calls of macros, each expanded to a pattern, 33,000 of them at 100,000 nodes."""
+    return calls_in_tuple(size, "TuplePat", "MacroPat", "WildcardPat")
+
+
+def macro_types(size):
+    """One tuple of very many calls of macros, each expanded to a type, 33,000 of them at 100,000 nodes."""
+    return calls_in_tuple(size, "TupleType", "MacroType", "NeverType")
+
+
+def definitions(size):
+    """One block of very many definitions of macros of few names, and then a jump out of an expansion of each, 10,000 at 60,000 nodes.
+
+    The last jump is for the first definition, behind which all others stand, so that this isn't linear.
+    """
+    nodes, block = body()
+    loop = nodes.add("LoopExpr")
+    nodes.all[block]["tail"] = loop
+    nodes.all[loop]["label"] = nodes.add("Label", lifetime="'a")
+    inner = nodes.add("BlockExpr", stmts=[])
+    nodes.all[loop]["body"] = inner
+    macros = (size - len(nodes.all)) // 6
+    nodes.env.update(hygiene=[], contexts=[], legacy=[])
+    for number in range(macros):
+        name = "m%d" % (number % NAMES)
+        nodes.all[inner]["stmts"].append(nodes.add("MacroRules", name=name))
+        nodes.env["legacy"].append([0, name, number // NAMES, number])
+        nodes.env["contexts"].append([number + 1, 0, number + 1, number, False, None])
+    for number in reversed(range(macros)):
+        nodes.statement(inner)
+        stands_for = expanded(nodes, "MacroExpr", "MacroStmts") + 2
+        nodes.all[stands_for]["expr"] = nodes.add("BreakExpr", lifetime="'a")
+        nodes.env["hygiene"].append([1, stands_for + 1, number + 1])
     return nodes
 
 
@@ -386,6 +461,11 @@ SHAPES = {
     "wide": wide,
     "calls": calls,
     "expansions": expansions,
+    "splices": splices,
+    "spliced": spliced,
+    "macro_pats": macro_pats,
+    "macro_types": macro_types,
+    "definitions": definitions,
     "resolved": resolved,
     "deep": deep,
     "labels": labels,
@@ -409,8 +489,13 @@ SHAPES = {
     "arms": arms,
 }
 
+# The shapes that aren't linear, and up to which size they are run.
+MOST = {"definitions": 100_000}
+
 # The shapes whose root is no function.
 MODES = {
+    "macro_pats": "pat",
+    "macro_types": "type",
     "segments": "path",
     "arguments": "type",
     "constants": "type",
@@ -473,7 +558,7 @@ def main():
     print("%-12s %9s %9s %8s %9s %9s %9s %9s %9s" % HEADS)
     failed = False
     for name in [given.shape] if given.shape else list(SHAPES):
-        for size in [size for size in SIZES if size <= given.most]:
+        for size in [size for size in SIZES if size <= min(given.most, MOST.get(name, given.most))]:
             failed = line(given.program, name, size) or failed
     return 1 if failed else 0
 

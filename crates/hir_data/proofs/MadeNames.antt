@@ -16,7 +16,7 @@ use Rattle.hir_data.specs.Data.{PathData, path_data, NamesData, OptionArgsData, 
 use Rattle.hir_data.specs.Data.{PatData, pat_at, absent_pattern, PatsData, OptionSideData}
 use Rattle.hir_data.specs.MadeNames.{made_name, is_made}
 use Rattle.hir_data.specs.Patterns.{leaf_pattern, unary_pattern, path_pattern_of, range_shape, if_path, is_dots, behind_comma}
-use Rattle.hir_data.specs.Patterns.{uses_after, pattern_data, pattern_part_data, tuple_parts_data, written_pat}
+use Rattle.hir_data.specs.Patterns.{alternatives_data, patterns_data, uses_after, pattern_data, pattern_part_data, tuple_parts_data, written_pat}
 use Rattle.hir_data.specs.Rule as rule
 use Rattle.hir_data.specs.Rule.{Named, PathRead, Item, What, names_of, ended, read, refused, read_of, path_read, data_of, names_data}
 use Rattle.hir_data.specs.Rule.{anchor_data, first_without_self, first_behind_self}
@@ -79,6 +79,11 @@ one_of_both : (b : Bool) (ps qs : PatsData) → NoneMade ps → NoneMade qs → 
 one_of_both true ps qs h k = h
 one_of_both false ps qs h k = k
 
+-- an alternative alone is itself
+one_unmade : (at : Pointer) (d : PatData) (ds : PatsData) → Unmade d → Unmade (alternatives_data at (datum.more_patterns d ds))
+one_unmade at d datum.no_patterns h = h
+one_unmade at d (datum.more_patterns e ds) h = plain refl refl
+
 mutual
   pub pattern_unmade : (p : Pat) (us : FirstUses) → Unmade (pattern_data p us)
   pattern_unmade (tree.leaf_pat at form) us = leaf_unmade at form
@@ -89,15 +94,19 @@ mutual
       (λ d. only_part at d _ _ (comma_unmade comma (tuple_parts_data ps us) (parts_unmade ps us)))
   pattern_unmade (tree.tuple_pat at comma ps) us = plain refl refl
   pattern_unmade (tree.record_pat at p fs dots) us = behind_path (path_of p) _ (λ d. plain refl refl)
-  pattern_unmade (tree.or_pat at tree.no_pats) us = plain refl refl
-  pattern_unmade (tree.or_pat at (tree.more_pats p tree.no_pats)) us = pattern_unmade p us
-  pattern_unmade (tree.or_pat at (tree.more_pats p (tree.more_pats q ps))) us = plain refl refl
+  pattern_unmade (tree.or_pat at ps) us = alternatives_unmade at ps us
   pattern_unmade (tree.paren_pat at p) us = part_unmade p us
   pattern_unmade (tree.macro_pat at called p) us = part_unmade p us
+  pattern_unmade (tree.barred_pat at) us = plain refl refl
   pattern_unmade (tree.slice_pat at before middle behind) us = plain refl refl
   pattern_unmade (tree.over_pat at form p) us = unary_unmade at form (pattern_part_data p us)
   pattern_unmade (tree.literal_pat at own l) us = plain refl refl
   pattern_unmade (tree.range_pat at op start end) us = range_unmade at op _ _
+
+  alternatives_unmade : (at : Pointer) (ps : Pats) (us : FirstUses) → Unmade (alternatives_data at (patterns_data ps us))
+  alternatives_unmade at tree.no_pats us = plain refl refl
+  alternatives_unmade at (tree.more_pats p ps) us = one_unmade at _ (patterns_data ps (uses_after p us)) (pattern_unmade p us)
+  alternatives_unmade at (tree.noted_pats called ps) us = alternatives_unmade at ps us
 
   part_unmade : (p : OptionPat) (us : FirstUses) → Unmade (pattern_part_data p us)
   part_unmade tree.no_pat us = plain refl refl
@@ -107,6 +116,7 @@ mutual
   parts_unmade tree.no_pats us = tt
   parts_unmade (tree.more_pats p ps) us = one_of_both (is_dots p) _ _
       (parts_unmade ps us) ((pattern_unmade p us).whole, parts_unmade ps (uses_after p us))
+  parts_unmade (tree.noted_pats called ps) us = parts_unmade ps us
 
 pub written_unmade : (p : OptionPat) → is_made (written_pat p) ≡ false
 written_unmade p = (part_unmade p []).whole

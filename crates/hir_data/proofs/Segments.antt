@@ -9,15 +9,18 @@ use Rattle.hir_syntax.specs.declared.ast.PathSegment.{PathSegment as AstSegment,
 use Rattle.hir_syntax.specs.declared.types.PathType.{PathType as AstPathType, out-PathType}
 use Rattle.hir_syntax.specs.declared.ast.SegmentKind.{SegmentKind}
 use Rattle.hir_syntax.specs.declared.ast.SegmentKind.TheVariants as word
+use Rattle.hir_store.specs.declared.ids.CrateId.{CrateId}
 use Rattle.hir_store.specs.declared.name.Name.{Name}
 use Rattle.hir_store.specs.declared.name.Name.TheVariants as name
 use Rattle.hir_env.specs.Spot.{Spot}
 use Rattle.hir_env.specs.Answered as tree
 use Rattle.hir_env.specs.Answered.{OptionType, SegmentArgs, Path, OptionPath, Segments, Segment}
 use Rattle.hir_env.specs.TypeLayers.{PathTypeReading}
-use Rattle.hir_env.specs.Paths.{crate_root_at, kinded_segment, qualified_segment}
+use Rattle.hir_env.specs.LocalPaths.{at_local_root, behind_root, is_bare, local_root}
+use Rattle.hir_env.specs.PathNames.{mod_path_of}
+use Rattle.hir_env.specs.Paths.{called_path, context_at, crate_root_at, kinded_segment, qualified_segment}
 use Rattle.hir_env.specs.Whole.{answered_path, answered_segment, answered_path_type, path_part, segments_part, first_part}
-use Rattle.hir_env.specs.Whole.{rest_part, path_type_part}
+use Rattle.hir_env.specs.Whole.{rest_part, path_type_part, into, reader}
 use Rattle.hir_env.proofs.PathLevels.{path_is_level, segment_is_level, path_type_is_level}
 use Rattle.hir_data.specs.Data.{TypeData, PathData, path_names, names_in}
 use Rattle.hir_data.specs.Rule as rule
@@ -186,6 +189,10 @@ abbrev names_read : Option PathRead → List Name
 names_read None = []
 names_read (Some x) = map name_at x.names
 
+abbrev names_found : Option PathRead → List Named
+names_found None = []
+names_found (Some x) = x.names
+
 read_named : (is : List Item) (x : PathRead) → path_read is ≡ Some x → map name_at x.names ≡ all_names is
 read_named is x h = by (refused is) h
   where
@@ -204,12 +211,67 @@ level_read leading first rest use_ x u e =
 no_use : (at : Spot) (x : Option AstPath) → x ≡ None → path_part at x ≡ tree.no_path
 no_use at x h = ap (path_part at) h
 
-answered_read : (at : Spot) (p : AstPath) (x : PathRead) → (out-Path p).use_ ≡ None → path_of (tree.some_path (answered_path at p)) ≡ Some x
-    → path_read (front (out-Path p).leading (first_part at (out-Path p).segs) ∷ items (rest_part at (out-Path p).segs) []) ≡ Some x
-answered_read at p x u e =
+-- behind the root of the crate it has the same names
+rooted_read : (root : Option CrateId) (leading : Bool) (first : Segment) (x : PathRead)
+    → path_of (tree.some_path (behind_root root (tree.path leading first tree.no_segments tree.no_path))) ≡ Some x
+    → (Q : List Name → Type 0) → ((y : PathRead) → path_read (front leading first ∷ []) ≡ Some y → Q (map name_at y.names))
+    → Q (map name_at x.names)
+rooted_read root leading first x e Q k = by (ended (front leading first ∷ [])) e
+  where
+    all : List Item
+    all = front false (tree.dollar_crate_segment root) ∷ front leading first ∷ []
+
+    whole : (b : Bool) → (if b then None else Some (read_of all)) ≡ Some x
+        → ((y : PathRead) → (if b then None else Some (read_of (front leading first ∷ []))) ≡ Some y → Q (map name_at y.names))
+        → Q (map name_at x.names)
+    whole true h l = absurd (no_some h)
+    whole false h l = subst Q (ap (λ y. map name_at (names_found y)) h) (l (read_of (front leading first ∷ [])) refl)
+
+    by : (b : Bool) → path_read (if b then front leading first ∷ [] else all) ≡ Some x → Q (map name_at x.names)
+    by true h = k x h
+    by false h = whole (refused (front leading first ∷ [])) h k
+
+local_read : (root : Option (Option CrateId)) (leading : Bool) (first : Segment) (x : PathRead)
+    → path_of (tree.some_path (at_local_root root (tree.path leading first tree.no_segments tree.no_path))) ≡ Some x
+    → (Q : List Name → Type 0) → ((y : PathRead) → path_read (front leading first ∷ []) ≡ Some y → Q (map name_at y.names))
+    → Q (map name_at x.names)
+local_read None leading first x e Q k = k x e
+local_read (Some root) leading first x e Q k = by (is_bare (mod_path_of (tree.some_path plain))) e
+  where
+    plain : Path
+    plain = tree.path leading first tree.no_segments tree.no_path
+
+    by : (b : Bool) → path_of (tree.some_path (if b then behind_root root plain else plain)) ≡ Some x → Q (map name_at x.names)
+    by true h = rooted_read root leading first x h Q k
+    by false h = k x h
+
+called_read : (at : Spot) (in_macro leading : Bool) (ss : List (Option AstSegment)) (u : Option AstPath) (x : PathRead) → u ≡ None
+    → none_missing ss ≡ true
+    → path_of (tree.some_path (called_path at.answers (reader at.answers (into at)) in_macro leading ss u at.place
+    (tree.path leading (first_part at ss) (rest_part at ss) (path_part at u)))) ≡ Some x
+    → (Q : List Name → Type 0)
+    → ((y : PathRead) → path_read (front leading (first_part at ss) ∷ items (rest_part at ss) []) ≡ Some y → Q (map name_at y.names))
+    → Q (map name_at x.names)
+called_read at false leading ss u x h m e Q k =
+    k x (level_read leading (first_part at ss) (rest_part at ss) (path_part at u) x (no_use at u h) e)
+called_read at true leading [] u x h m e Q k = absurd (clash (sym m))
+called_read at true leading (None ∷ ss) u x h m e Q k = absurd (clash (sym m))
+called_read at true leading (Some s ∷ []) None x h m e Q k =
+    local_read (local_root at.answers (context_at at.answers at.place (out-PathSegment s).id)) leading (answered_segment at s) x e Q k
+called_read at true leading (Some s ∷ []) (Some u) x h m e Q k = absurd (no_some (sym h))
+called_read at true leading (Some s ∷ t ∷ ss) u x h m e Q k =
+    let all = Some s ∷ t ∷ ss in
+    k x (level_read leading (first_part at all) (rest_part at all) (path_part at u) x (no_use at u h) e)
+
+-- the names that are read are those of the path where it stands in no call
+answered_read : (at : Spot) (p : AstPath) (x : PathRead) → Whole p → path_of (tree.some_path (answered_path at p)) ≡ Some x
+    → (Q : List Name → Type 0)
+    → ((y : PathRead) → path_read (front (out-Path p).leading (first_part at (out-Path p).segs) ∷ items (rest_part at (out-Path p).segs) [])
+    ≡ Some y → Q (map name_at y.names))
+    → Q (map name_at x.names)
+answered_read at p x w e =
     let o = out-Path p in
-    level_read o.leading (first_part at o.segs) (rest_part at o.segs) (path_part at o.use_) x (no_use at o.use_ u)
-    (ap (λ y. path_of (tree.some_path y)) (sym (path_is_level at p)) ∙ e)
+    called_read at o.in_macro o.leading o.segs o.use_ x w.0 w.1 (ap (λ y. path_of (tree.some_path y)) (sym (path_is_level at p)) ∙ e)
 
 -- without a trait
 plain_named : (at : Spot) (p : AstPath) (x : PathRead) → Whole p → first_trait (out-Path p).segs ≡ None
@@ -217,8 +279,9 @@ plain_named : (at : Spot) (p : AstPath) (x : PathRead) → Whole p → first_tra
     → map Some (map name_at x.names) ≡ map segment_name (named_among (out-Path p).segs)
 plain_named at p x w t e =
     let o = out-Path p in
-    ap (map Some) (read_named (front o.leading (first_part at o.segs) ∷ items (rest_part at o.segs) []) x (answered_read at p x w.0 e))
-    ∙ names_first at o.leading o.segs w.1 t
+    answered_read at p x w e (λ l. map Some l ≡ map segment_name (named_among o.segs)) (λ y h.
+    ap (map Some) (read_named (front o.leading (first_part at o.segs) ∷ items (rest_part at o.segs) []) y h)
+    ∙ names_first at o.leading o.segs w.1 t)
 
 -- ---- a path with a trait
 
@@ -327,7 +390,8 @@ replaced_named : (at : Spot) (p : AstPath) (x : PathRead) (tr : Option AstPathTy
     → map Some (map name_at x.names) ≡ map segment_name (replaced tr (out-Path p).segs)
 replaced_named at p x None h w t e = plain_named at p x w h e
 replaced_named at p x (Some tr) h w t e =
-    trait_named at (out-Path p).leading (out-Path p).segs tr x w.1 h t (answered_read at p x w.0 e)
+    answered_read at p x w e (λ l. map Some l ≡ map segment_name (replaced (Some tr) (out-Path p).segs)) (λ y f.
+    trait_named at (out-Path p).leading (out-Path p).segs tr y w.1 h t f)
 
 listed : (ns : List Named) → names_in (names_data ns) ≡ map name_at ns
 listed [] = refl

@@ -68,6 +68,7 @@ is_dots p = false
 abbrev pub dots_among : Pats → Option ℕ
 dots_among tree.no_pats = None
 dots_among (tree.more_pats p ps) = if is_dots p then Some 0 else option_map suc (dots_among ps)
+dots_among (tree.noted_pats called ps) = dots_among ps
 
 -- a comma in front of all parts stands behind one that is missing
 abbrev pub moved_by : Bool → Option ℕ → Option ℕ
@@ -112,6 +113,7 @@ abbrev mutual
   uses_after (tree.or_pat at ps) us = uses_after_each ps us
   uses_after (tree.paren_pat at p) us = uses_after_part p us
   uses_after (tree.macro_pat at called p) us = uses_after_part p us
+  uses_after (tree.barred_pat at) us = us
   uses_after (tree.slice_pat at before middle behind) us =
       uses_after_each behind (uses_after_part middle (uses_after_each before us))
   uses_after (tree.over_pat at form p) us = uses_after_part p us
@@ -125,6 +127,7 @@ abbrev mutual
   pub uses_after_each : Pats → FirstUses → FirstUses
   uses_after_each tree.no_pats us = us
   uses_after_each (tree.more_pats p ps) us = uses_after_each ps (uses_after p us)
+  uses_after_each (tree.noted_pats called ps) us = uses_after_each ps us
 
   pub uses_after_fields : PatFields → FirstUses → FirstUses
   uses_after_fields tree.no_pat_fields us = us
@@ -154,6 +157,7 @@ abbrev mutual
   pattern_data (tree.or_pat at ps) us = alternatives_data at (patterns_data ps us)
   pattern_data (tree.paren_pat at p) us = pattern_part_data p us
   pattern_data (tree.macro_pat at called p) us = pattern_part_data p us
+  pattern_data (tree.barred_pat at) us = absent_pattern
   pattern_data (tree.slice_pat at before middle behind) us =
       let between = uses_after_each before us in
       let past = uses_after_part middle between in
@@ -176,12 +180,14 @@ abbrev mutual
   pub patterns_data : Pats → FirstUses → PatsData
   patterns_data tree.no_pats us = datum.no_patterns
   patterns_data (tree.more_pats p ps) us = datum.more_patterns (pattern_data p us) (patterns_data ps (uses_after p us))
+  patterns_data (tree.noted_pats called ps) us = patterns_data ps us
 
   -- those of a tuple, without two dots
   pub tuple_parts_data : Pats → FirstUses → PatsData
   tuple_parts_data tree.no_pats us = datum.no_patterns
   tuple_parts_data (tree.more_pats p ps) us =
       if is_dots p then tuple_parts_data ps us else datum.more_patterns (pattern_data p us) (tuple_parts_data ps (uses_after p us))
+  tuple_parts_data (tree.noted_pats called ps) us = tuple_parts_data ps us
 
   pub fields_data : PatFields → FirstUses → PatFieldsData
   fields_data tree.no_pat_fields us = datum.no_pattern_fields
@@ -204,6 +210,7 @@ abbrev mutual
   uses_of (tree.or_pat at ps) us = alternatives (each_uses ps us)
   uses_of (tree.paren_pat at p) us = part_uses p us
   uses_of (tree.macro_pat at called p) us = part_uses p us
+  uses_of (tree.barred_pat at) us = product no_parts
   uses_of (tree.slice_pat at before middle behind) us =
       let between = uses_after_each before us in
       let past = uses_after_part middle between in
@@ -220,6 +227,7 @@ abbrev mutual
   pub each_uses : Pats → FirstUses → Parts
   each_uses tree.no_pats us = no_parts
   each_uses (tree.more_pats p ps) us = more_parts (uses_of p us) (each_uses ps (uses_after p us))
+  each_uses (tree.noted_pats called ps) us = each_uses ps us
 
   -- a field without a name counts
   pub field_uses : PatFields → FirstUses → Parts

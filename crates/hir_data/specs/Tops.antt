@@ -105,6 +105,7 @@ abbrev mutual
   stmts_tops (tree.more_stmts (tree.expr_stmt e semi) ss) = tops_of e ++ stmts_tops ss
   stmts_tops (tree.more_stmts tree.item_stmt ss) = stmts_tops ss
   stmts_tops (tree.more_stmts (tree.call_stmt c) ss) = stmts_tops ss
+  stmts_tops (tree.more_stmts (tree.macro_stmt k d) ss) = stmts_tops ss
   stmts_tops (tree.more_stmts (tree.let_stmt p t e b) ss) = (p ∷ (tops_of e ++ block_part_tops b)) ++ stmts_tops ss
 
   pub target_tops : Target → Tops

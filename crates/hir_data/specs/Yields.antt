@@ -96,6 +96,7 @@ abbrev mutual
   stmts_yields (tree.more_stmts (tree.expr_stmt e semi) ss) = yields_in e || stmts_yields ss
   stmts_yields (tree.more_stmts tree.item_stmt ss) = stmts_yields ss
   stmts_yields (tree.more_stmts (tree.call_stmt c) ss) = stmts_yields ss
+  stmts_yields (tree.more_stmts (tree.macro_stmt k d) ss) = stmts_yields ss
   stmts_yields (tree.more_stmts (tree.let_stmt p t e b) ss) = (yields_in e || block_part_yields b) || stmts_yields ss
 
   pub target_yields : Target → Bool

@@ -1,10 +1,10 @@
 -- An answered tree is one level of it around its answered parts.
-use Rattle.std.proofs.Common.{◌≡◌, ◌∙◌, refl, ap, Bool, true, false, Option, Some, None, List, [], ◌∷◌}
+use Rattle.std.proofs.Common.{◌≡◌, ◌∙◌, refl, Bool, true, false, Option, Some, None, List, [], ◌∷◌}
 use Rattle.std.specs.Prelude.{option_map}
 use Rattle.hir_base.specs.declared.node.AstPtr.{AstPtr}
 use Rattle.hir_syntax.specs.declared.ast.ElseBranch.{ElseBranch as AstElseBranch, out-ElseBranch}
 use Rattle.hir_syntax.specs.declared.ast.ExprKind.{ExprKind as AstExprKind, out-ExprKind}
-use Rattle.hir_syntax.specs.declared.ast.StmtKind.{StmtKind as AstStmtKind, out-StmtKind}
+use Rattle.hir_syntax.specs.declared.ast.StmtKind.{out-StmtKind}
 use Rattle.hir_syntax.specs.declared.ast.BlockModifier.{BlockModifier}
 use Rattle.hir_syntax.specs.declared.ast.BlockModifier.TheVariants as modifier
 use Rattle.hir_syntax.specs.declared.ast.BlockExpr.{BlockExpr as AstBlockExpr, out-BlockExpr}
@@ -28,15 +28,15 @@ use Rattle.hir_env.specs.Answering as of
 use Rattle.hir_env.specs.Calls as of_calls
 use Rattle.hir_env.specs.Calls.{append}
 use Rattle.hir_env.specs.Answering.{BlockHead}
-use Rattle.hir_env.specs.Folds.{written, reader, read_else_branch, read_expr_kind, read_stmt_kind, read_block}
+use Rattle.hir_env.specs.Folds.{written, reader, read_else_branch, read_expr_kind, read_block}
 use Rattle.hir_env.specs.Folds.{read_expr, read_field, read_record, read_stmt, read_arm}
 use Rattle.hir_env.specs.Answered as tree
 use Rattle.hir_env.specs.Answered.{Expr, OptionExpr, Field, OptionBlock, Arm}
 use Rattle.hir_env.specs.Paths.{inside_closure, inside_const_block, inside_constant, inside_coroutine}
 use Rattle.hir_env.specs.Targets.{resolves}
 use Rattle.hir_env.specs.Whole.{answered, answered_plain, answered_block, answered_else, answered_constant, answered_field}
-use Rattle.hir_env.specs.Whole.{answered_record, block_head, in_block, block_number, pointer_at, asked_expr}
-use Rattle.hir_env.specs.Whole.{answered_body, body_level, coroutine_level, in_const_block, in_coroutine, own_level, try_level, type_part}
+use Rattle.hir_env.specs.Whole.{answered_record, pointer_at, asked_expr}
+use Rattle.hir_env.specs.Whole.{answered_body, body_level, own_level}
 use Rattle.hir_env.specs.Whole.{block_level, stmt_level, else_level, constant_level, field_level, record_level, guard_level}
 use Rattle.hir_env.specs.Whole.{let_else_level, arm_level, answered_guard, answered_let_else, answered_arm}
 use Rattle.hir_env.proofs.Mapped.{beside, optional, listed, mapped_else, mapped_kind, mapped_stmt_kind, mapped_block}
@@ -44,10 +44,11 @@ use Rattle.hir_env.proofs.Mapped.{mapped_field, mapped_record, mapped_arm}
 use Rattle.hir_env.proofs.Opened.{opened_else_branch, opened_expr_kind, opened_stmt_kind, opened_block}
 use Rattle.hir_env.proofs.Opened.{opened_expr, opened_field, opened_record, opened_stmt, opened_arm}
 use Rattle.hir_env.proofs.PathLevels.{answer_is, closure_params_are, type_is, path_is, pat_is, arg_list_is}
-use Rattle.hir_env.specs.Layers.{Defined, Entering, ExprReading, KindReading, Spliced}
+use Rattle.hir_env.specs.Layers.{Defined, Entering, ExprReading}
 use Rattle.hir_env.specs.Whole.{into, answered_value, value_level}
 use Rattle.hir_env.specs.Folds.{read_value}
-use Rattle.hir_env.specs.Folds.{fold_arm, fold_block, fold_else_branch, fold_expr, fold_field, fold_generic_arg, fold_param, fold_pat, fold_path, fold_record, fold_stmt, fold_type}
+use Rattle.hir_env.specs.Folds.{fold_arm, fold_block, fold_else_branch, fold_expr, fold_field, fold_generic_arg, fold_param, fold_pat}
+use Rattle.hir_env.specs.Folds.{fold_path, fold_record, fold_stmt, fold_type}
 
 -- parts that may be absent, and lists
 
@@ -76,7 +77,8 @@ exprs_is : {A : Type 0} (h : A → ExprReading) (xs : List A) (p : Place)
 exprs_is h [] p = refl
 exprs_is h (x ∷ xs) p = λ i. tree.more_exprs ((h x).expr p) (exprs_is h xs p i)
 
-fields_is : {A : Type 0} (h : A → Place → Field) (xs : List A) (p : Place) → of.fields_of (λ y. y.1) (listed (beside h) xs) p ≡ of.fields_of h xs p
+fields_is : {A : Type 0} (h : A → Place → Field) (xs : List A) (p : Place) → of.fields_of (λ y. y.1) (listed (beside h) xs) p
+    ≡ of.fields_of h xs p
 fields_is h [] p = refl
 fields_is h (x ∷ xs) p = λ j. tree.more_fields (h x p) (fields_is h xs p j)
 
@@ -109,7 +111,8 @@ let_else_is h (Some None) p = refl
 let_else_is h (Some (Some x)) p = refl
 
 stmts_is : {A B : Type 0} (h : A → Place → Defined → StmtReading) (v : B → ExprReading) (xs : List A) (p : Place) (d : Defined)
-    → of_calls.stmts_of {A = A × (Place → Defined → StmtReading)} {B = B × ExprReading} (λ y. y.1) (λ y. y.1.value) (listed (beside h) xs) p d
+    → of_calls.stmts_of {A = A × (Place → Defined → StmtReading)} {B = B × ExprReading} (λ y. y.1) (λ y. y.1.value) (listed (beside h) xs)
+    p d
     ≡ of_calls.stmts_of h (λ y. (v y).value) xs p d
 stmts_is h v [] p d = refl
 stmts_is h v (x ∷ xs) p d = λ j.
@@ -118,7 +121,8 @@ stmts_is h v (x ∷ xs) p d = λ j.
     record { stmts = append r.stmts rest.stmts; defined = rest.defined }
 
 value_is : {A B : Type 0} (h : A → Place → Defined → StmtReading) (v : B → ExprReading) (x : Option B) (p : Place) (d : Defined)
-    → of_calls.value_or_none {A = A × (Place → Defined → StmtReading)} {B = B × ExprReading} (λ y. y.1) (λ y. y.1.value) (optional (beside v) x) p d
+    → of_calls.value_or_none {A = A × (Place → Defined → StmtReading)} {B = B × ExprReading} (λ y. y.1) (λ y. y.1.value)
+    (optional (beside v) x) p d
     ≡ of_calls.value_or_none h (λ y. (v y).value) x p d
 value_is h v None p d = refl
 value_is h v (Some x) p d = refl
@@ -138,7 +142,8 @@ module _ (env : Answers) (into : Option Entering) where
   expr_at_is : (k : ExprKindLayer written) (p : Place) (s : Pointer)
       → of.expr_at env (itself into) (mapped_kind env into k) p s ≡ of.expr_at env rd k p s
   expr_at_is (ExprKind-F.IfExpr c t e) p s = λ j.
-      tree.if_expr s (expr_is (fold_expr env into) c p j) (plain_is (fold_block env into) t p j) (else_part_is (fold_else_branch env into) e p j)
+      tree.if_expr s (expr_is (fold_expr env into) c p j) (plain_is (fold_block env into) t p j)
+      (else_part_is (fold_else_branch env into) e p j)
   expr_at_is (ExprKind-F.BlockExpr b) p s = refl
   expr_at_is (ExprKind-F.LoopExpr l b) p s = λ j.
       tree.loop_expr s (option_map (of.label_of env p) l) (of.label_written env p l) (plain_is (fold_block env into) b p j)
@@ -146,11 +151,13 @@ module _ (env : Answers) (into : Option Entering) where
       tree.while_expr s (option_map (of.label_of env p) l) (of.label_written env p l) (expr_is (fold_expr env into) c p j)
       (plain_is (fold_block env into) b p j)
   expr_at_is (ExprKind-F.ForExpr l x e b) p s = λ j.
-      of.for_of (of.for_items env.lang_items) s (option_map (of.label_of env p) l) (of.label_written env p l) (pat_is (fold_pat env into) x p j)
+      of.for_of (of.for_items env.lang_items) s (option_map (of.label_of env p) l) (of.label_written env p l)
+      (pat_is (fold_pat env into) x p j)
       (expr_is (fold_expr env into) e p j) (asked_is (fold_block env into) b p j)
   expr_at_is (ExprKind-F.TryExpr e) p s = λ j. of.question_of (of.question_items env.lang_items) s (expr_is (fold_expr env into) e p j)
   expr_at_is (ExprKind-F.CallExpr f None) p s = λ j. tree.call_expr s (expr_is (fold_expr env into) f p j) false tree.no_exprs
-  expr_at_is (ExprKind-F.CallExpr f (Some es)) p s = λ j. tree.call_expr s (expr_is (fold_expr env into) f p j) true (exprs_is (fold_expr env into) es p j)
+  expr_at_is (ExprKind-F.CallExpr f (Some es)) p s = λ j. tree.call_expr s (expr_is (fold_expr env into) f p j) true
+      (exprs_is (fold_expr env into) es p j)
   expr_at_is (ExprKind-F.PathExpr x) p s = λ j. tree.path_expr s (path_is (fold_path env into) x p j) (env.hygiene (of.site_of s))
   expr_at_is (ExprKind-F.ContinueExpr l) p s = refl
   expr_at_is (ExprKind-F.BreakExpr l e) p s = λ j. tree.break_expr s (option_map (of.jump_of env p) l) (expr_is (fold_expr env into) e p j)
@@ -162,11 +169,13 @@ module _ (env : Answers) (into : Option Entering) where
   expr_at_is (ExprKind-F.MethodCallExpr e n as' (Some es)) p s = λ j.
       tree.method_call_expr s (expr_is (fold_expr env into) e p j) (of.name_or_missing n) (exprs_is (fold_expr env into) es p j)
       (arg_list_is (fold_generic_arg env into) as' p j)
-  expr_at_is (ExprKind-F.FieldExpr e n) p s = λ j. tree.unary_expr s (tree.field_of (of.name_or_missing n)) (expr_is (fold_expr env into) e p j)
+  expr_at_is (ExprKind-F.FieldExpr e n) p s = λ j. tree.unary_expr s (tree.field_of (of.name_or_missing n))
+      (expr_is (fold_expr env into) e p j)
   expr_at_is (ExprKind-F.PrefixExpr o e) p s = λ j. of.prefix_expr s o (expr_is (fold_expr env into) e p j)
   expr_at_is (ExprKind-F.BinExpr o a b) p s = λ j.
       of.bin_expr (resolves env p) s o (expr_is (fold_expr env into) a p j) (expr_is (fold_expr env into) b p j)
-  expr_at_is (ExprKind-F.IndexExpr a b) p s = λ j. tree.binary_expr s tree.index_of (expr_is (fold_expr env into) a p j) (expr_is (fold_expr env into) b p j)
+  expr_at_is (ExprKind-F.IndexExpr a b) p s = λ j. tree.binary_expr s tree.index_of (expr_is (fold_expr env into) a p j)
+      (expr_is (fold_expr env into) b p j)
   expr_at_is (ExprKind-F.RefExpr r m e) p s = λ j.
       tree.unary_expr s (tree.reference_to (of.rawness r) (of.mutability m)) (expr_is (fold_expr env into) e p j)
   expr_at_is (ExprKind-F.TupleExpr comma es) p s = λ j. tree.list_expr s (tree.tuple_of comma) (exprs_is (fold_expr env into) es p j)
@@ -188,7 +197,8 @@ module _ (env : Answers) (into : Option Entering) where
   expr_at_is (ExprKind-F.CfgPredExpr pred) p s = refl
   expr_at_is (ExprKind-F.LetExpr x e) p s = λ j. tree.let_expr s (pat_is (fold_pat env into) x p j) (expr_is (fold_expr env into) e p j)
   expr_at_is (ExprKind-F.MatchExpr e None) p s = λ j. tree.match_expr s (expr_is (fold_expr env into) e p j) tree.no_arms
-  expr_at_is (ExprKind-F.MatchExpr e (Some xs)) p s = λ j. tree.match_expr s (expr_is (fold_expr env into) e p j) (arms_is (fold_arm env into) xs p j)
+  expr_at_is (ExprKind-F.MatchExpr e (Some xs)) p s = λ j. tree.match_expr s (expr_is (fold_expr env into) e p j)
+      (arms_is (fold_arm env into) xs p j)
   expr_at_is (ExprKind-F.RangeExpr o None None) p s = refl
   expr_at_is (ExprKind-F.RangeExpr o None (Some b)) p s = refl
   expr_at_is (ExprKind-F.RangeExpr o (Some a) None) p s = refl
@@ -229,7 +239,8 @@ module _ (env : Answers) (into : Option Entering) where
   value_kind_is (ExprKind-F.TupleExpr a b) n p d = λ j. of.whole_value (expr_kind_is (ExprKind-F.TupleExpr a b) n p j) d
   value_kind_is (ExprKind-F.ArrayExpr a) n p d = λ j. of.whole_value (expr_kind_is (ExprKind-F.ArrayExpr a) n p j) d
   value_kind_is (ExprKind-F.RepeatExpr a b) n p d = λ j. of.whole_value (expr_kind_is (ExprKind-F.RepeatExpr a b) n p j) d
-  value_kind_is (ExprKind-F.ClosureExpr a b c e f g h) n p d = λ j. of.whole_value (expr_kind_is (ExprKind-F.ClosureExpr a b c e f g h) n p j) d
+  value_kind_is (ExprKind-F.ClosureExpr a b c e f g h) n p d = λ j. of.whole_value
+      (expr_kind_is (ExprKind-F.ClosureExpr a b c e f g h) n p j) d
   value_kind_is (ExprKind-F.ReturnExpr a) n p d = λ j. of.whole_value (expr_kind_is (ExprKind-F.ReturnExpr a) n p j) d
   value_kind_is (ExprKind-F.BecomeExpr a) n p d = λ j. of.whole_value (expr_kind_is (ExprKind-F.BecomeExpr a) n p j) d
   value_kind_is (ExprKind-F.YieldExpr a) n p d = λ j. of.whole_value (expr_kind_is (ExprKind-F.YieldExpr a) n p j) d
@@ -262,7 +273,8 @@ module _ (env : Answers) (into : Option Entering) where
 
   arm_step_is : (x : MatchArmLayer written) (p : Place) → of.arm_step env (itself into) (mapped_arm env into x) p ≡ of.arm_step env rd x p
   arm_step_is x p = λ j. let s = of.in_file p (of.ptr x.id x.range) in of.asked_arm s (env.cfg (of.site_of s))
-      (tree.arm (pat_is (fold_pat env into) x.pat p j) (expr_is (fold_expr env into) x.expr p j) (guard_is (fold_expr env into) x.guard p j))
+      (tree.arm (pat_is (fold_pat env into) x.pat p j) (expr_is (fold_expr env into) x.expr p j)
+      (guard_is (fold_expr env into) x.guard p j))
 
   block_at_is : (b : BlockExprLayer written) (head : BlockHead) (p : Place)
       → of.block_at env (itself into) (mapped_block env into b) head p ≡ of.block_at env rd b head p
@@ -311,7 +323,8 @@ module _ (env : Answers) (into : Option Entering) where
       → of.stmt_kind env (itself into) (mapped_stmt_kind env into k) n p d ≡ of.stmt_kind env rd k n p d
   stmt_kind_is k n p d = stmt_at_is k p (of.in_file p n) d
 
-  else_is : (k : ElseBranchLayer written) (p : Place) → of.else_branch env (itself into) (mapped_else env into k) p ≡ of.else_branch env rd k p
+  else_is : (k : ElseBranchLayer written) (p : Place) → of.else_branch env (itself into) (mapped_else env into k) p
+      ≡ of.else_branch env rd k p
   else_is (ElseBranch-F.ElseBlock b) p = refl
   else_is (ElseBranch-F.ElseIf e) p = refl
 

@@ -5,14 +5,16 @@ use Rattle.hir_base.specs.formers.seq.Seq as seq
 use mathlib.Core.Former.{this}
 use Rattle.hir_env.specs.Answers.{Answers}
 use Rattle.hir_env.specs.Layers.{ElseBranchLayer, ExprKindLayer, StmtKindLayer, BlockExprLayer}
-use Rattle.hir_env.specs.Layers.{RecordExprFieldLayer, RecordExprFieldListLayer, MacroCallLayer, MatchArmLayer, paired}
+use Rattle.hir_env.specs.Layers.{RecordExprFieldLayer, RecordExprFieldListLayer, MatchArmLayer, paired}
 use Rattle.hir_env.specs.TypeLayers.{GenericArgLayer, TypeKindLayer, PathLayer, PathSegmentLayer, AssocTypeArgLayer}
 use Rattle.hir_env.specs.TypeLayers.{ParamLayer, PathTypeLayer}
 use Rattle.hir_env.specs.TypeLayers.{TypeBoundLayer}
 use Rattle.hir_env.specs.PatLayers.{PatKindLayer, RecordPatFieldLayer}
-use Rattle.hir_env.specs.Layers.{Entering, ExprReading, KindReading, Reader, written}
-use Rattle.hir_env.specs.Folds.{fold_else_branch, fold_expr_kind, fold_stmt_kind, fold_pat_kind, fold_generic_arg, fold_type_kind, fold_block, fold_expr, fold_path, fold_segment, fold_field}
-use Rattle.hir_env.specs.Folds.{fold_record, fold_stmt, fold_arm, fold_call, fold_pat, fold_pat_field, fold_assoc_type_arg, fold_param, fold_path_type, fold_type_bound, fold_type}
+use Rattle.hir_env.specs.Layers.{Entering, written}
+use Rattle.hir_env.specs.Folds.{fold_else_branch, fold_expr_kind, fold_stmt_kind, fold_pat_kind, fold_generic_arg, fold_type_kind}
+use Rattle.hir_env.specs.Folds.{fold_block, fold_expr, fold_path, fold_segment, fold_field}
+use Rattle.hir_env.specs.Folds.{fold_record, fold_stmt, fold_arm, fold_call, fold_pat, fold_pat_field, fold_assoc_type_arg, fold_param}
+use Rattle.hir_env.specs.Folds.{fold_path_type, fold_type_bound, fold_type}
 
 abbrev pub optional : {A B : Type 0} → (A → B) → Option A → Option B
 optional {A} {B} h x = (folds.map-Param
@@ -35,7 +37,14 @@ listed_options {A} {B} h xs = (folds.map-Path
     (Unit {0}) (Unit {0}) (Unit {0}) (Unit {0}) (Unit {0}) (Unit {0}) (Unit {0}) (Unit {0}) (Unit {0}) (Unit {0})
     (λ x. x) (λ x. x) (λ x. x) (λ x. x) (λ x. x) (λ x. x) (λ x. x) (λ x. x) (λ x. x) h (λ x. x) (λ x. x) (λ x. x) (λ x. x) (λ x. x)
     (λ x. x) (λ x. x) (λ x. x) (λ x. x) (λ x. x) (λ x. x) (λ x. x)
-    (record { id = record { 0 = 0 }; range = record { start = 0; end = 0 }; leading = false; in_macro = false; use_ = None; segs = xs })).segs
+    (record {
+      id = record { 0 = 0 };
+      range = record { start = 0; end = 0 };
+      leading = false;
+      in_macro = false;
+      use_ = None;
+      segs = xs;
+    })).segs
 
 -- with its reading
 abbrev pub beside : {A B : Type 0} → (A → B) → A → A × B

@@ -1,8 +1,6 @@
 -- What is read of an expression or a pattern is one step over what is read of its parts.
 use Rattle.std.proofs.Common.{◌≡◌, ◌∙◌, ap, sym, Option}
-use Rattle.hir_base.specs.declared.node.AstPtr.{AstPtr}
 use Rattle.hir_syntax.specs.declared.ast.ElseBranch.TheFolds as folds
-use Rattle.hir_env.specs.declared.place.Place.{Place}
 use Rattle.hir_env.specs.Answers.{Answers}
 use Rattle.hir_env.specs.Spot.{ptr}
 use Rattle.hir_env.specs.Layers.{readings, itself}
@@ -12,16 +10,20 @@ use Rattle.hir_env.specs.Pats as of_pats
 use Rattle.hir_env.proofs.Mapped.{mapped_else, mapped_kind, mapped_stmt_kind, mapped_pat_kind, mapped_block}
 use Rattle.hir_env.proofs.Mapped.{mapped_field, mapped_record, mapped_arm, mapped_pat_field}
 use Rattle.hir_env.specs.Layers.{Entering}
-use Rattle.hir_env.specs.Folds.{fold_else_branch, fold_expr_kind, fold_stmt_kind, fold_pat_kind, fold_generic_arg, fold_type_kind, fold_block, fold_expr, fold_path, fold_segment, fold_field}
-use Rattle.hir_env.specs.Folds.{fold_record, fold_stmt, fold_arm, fold_call, fold_pat, fold_pat_field, fold_assoc_type_arg, fold_param, fold_path_type, fold_type_bound, fold_type}
+use Rattle.hir_env.specs.Folds.{fold_else_branch, fold_expr_kind, fold_stmt_kind, fold_pat_kind, fold_generic_arg, fold_type_kind}
+use Rattle.hir_env.specs.Folds.{fold_block, fold_expr, fold_path, fold_segment, fold_field}
+use Rattle.hir_env.specs.Folds.{fold_record, fold_stmt, fold_arm, fold_call, fold_pat, fold_pat_field, fold_assoc_type_arg, fold_param}
+use Rattle.hir_env.specs.Folds.{fold_path_type, fold_type_bound, fold_type}
 use Rattle.hir_syntax.specs.declared.ast.ElseBranch.{ElseBranch as AstElseBranch, out-ElseBranch, roll-out-ElseBranch}
 use Rattle.hir_syntax.specs.declared.ast.ExprKind.{ExprKind as AstExprKind, out-ExprKind, roll-out-ExprKind}
 use Rattle.hir_syntax.specs.declared.ast.StmtKind.{StmtKind as AstStmtKind, out-StmtKind, roll-out-StmtKind}
 use Rattle.hir_syntax.specs.declared.pats.PatKind.{PatKind as AstPatKind, out-PatKind, roll-out-PatKind}
 use Rattle.hir_syntax.specs.declared.ast.BlockExpr.{BlockExpr as AstBlockExpr, out-BlockExpr, roll-out-BlockExpr}
 use Rattle.hir_syntax.specs.declared.ast.Expr.{Expr as AstExpr, out-Expr, roll-out-Expr}
-use Rattle.hir_syntax.specs.declared.ast.RecordExprField.{RecordExprField as AstRecordExprField, out-RecordExprField, roll-out-RecordExprField}
-use Rattle.hir_syntax.specs.declared.ast.RecordExprFieldList.{RecordExprFieldList as AstRecordExprFieldList, out-RecordExprFieldList, roll-out-RecordExprFieldList}
+use Rattle.hir_syntax.specs.declared.ast.RecordExprField.{RecordExprField as AstRecordExprField, out-RecordExprField}
+use Rattle.hir_syntax.specs.declared.ast.RecordExprField.{roll-out-RecordExprField}
+use Rattle.hir_syntax.specs.declared.ast.RecordExprFieldList.{RecordExprFieldList as AstRecordExprFieldList, out-RecordExprFieldList}
+use Rattle.hir_syntax.specs.declared.ast.RecordExprFieldList.{roll-out-RecordExprFieldList}
 use Rattle.hir_syntax.specs.declared.ast.Stmt.{Stmt as AstStmt, out-Stmt, roll-out-Stmt}
 use Rattle.hir_syntax.specs.declared.branches.MatchArm.{MatchArm as AstMatchArm, out-MatchArm, roll-out-MatchArm}
 use Rattle.hir_syntax.specs.declared.pats.Pat.{Pat as AstPat, out-Pat, roll-out-Pat}
@@ -134,7 +136,10 @@ module _ (env : Answers) (into : Option Entering) where
       (out-BlockExpr x)
 
   pub opened_expr : (x : AstExpr) → fold_expr env into x
-      ≡ record { expr = (fold_expr_kind env into x.kind).expr (ptr x.id x.range); value = (fold_expr_kind env into x.kind).value (ptr x.id x.range) }
+      ≡ record {
+        expr = (fold_expr_kind env into x.kind).expr (ptr x.id x.range);
+        value = (fold_expr_kind env into x.kind).value (ptr x.id x.range);
+      }
   unfolding fold_else_branch fold_expr_kind fold_stmt_kind fold_pat_kind fold_generic_arg fold_type_kind fold_block fold_expr
       fold_path fold_segment fold_field fold_record fold_stmt fold_arm fold_call fold_pat fold_pat_field fold_assoc_type_arg
       fold_param fold_path_type fold_type_bound fold_type

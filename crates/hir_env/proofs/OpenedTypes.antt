@@ -1,8 +1,6 @@
 -- What is read of a type or a path is one step over what is read of its parts.
 use Rattle.std.proofs.Common.{◌≡◌, ◌∙◌, ap, sym, Option}
-use Rattle.hir_base.specs.declared.node.AstPtr.{AstPtr}
 use Rattle.hir_syntax.specs.declared.ast.ElseBranch.TheFolds as folds
-use Rattle.hir_env.specs.declared.place.Place.{Place}
 use Rattle.hir_env.specs.Answers.{Answers}
 use Rattle.hir_env.specs.Spot.{ptr}
 use Rattle.hir_env.specs.Layers.{readings, itself}
@@ -13,8 +11,10 @@ use Rattle.hir_env.proofs.Mapped.{mapped_generic_arg, mapped_type_kind, mapped_p
 use Rattle.hir_env.proofs.Mapped.{mapped_param, mapped_path_type}
 use Rattle.hir_env.proofs.Mapped.{mapped_type_bound}
 use Rattle.hir_env.specs.Layers.{Entering}
-use Rattle.hir_env.specs.Folds.{fold_else_branch, fold_expr_kind, fold_stmt_kind, fold_pat_kind, fold_generic_arg, fold_type_kind, fold_block, fold_expr, fold_path, fold_segment, fold_field}
-use Rattle.hir_env.specs.Folds.{fold_record, fold_stmt, fold_arm, fold_call, fold_pat, fold_pat_field, fold_assoc_type_arg, fold_param, fold_path_type, fold_type_bound, fold_type}
+use Rattle.hir_env.specs.Folds.{fold_else_branch, fold_expr_kind, fold_stmt_kind, fold_pat_kind, fold_generic_arg, fold_type_kind}
+use Rattle.hir_env.specs.Folds.{fold_block, fold_expr, fold_path, fold_segment, fold_field}
+use Rattle.hir_env.specs.Folds.{fold_record, fold_stmt, fold_arm, fold_call, fold_pat, fold_pat_field, fold_assoc_type_arg, fold_param}
+use Rattle.hir_env.specs.Folds.{fold_path_type, fold_type_bound, fold_type}
 use Rattle.hir_syntax.specs.declared.types.GenericArg.{GenericArg as AstGenericArg, out-GenericArg, roll-out-GenericArg}
 use Rattle.hir_syntax.specs.declared.types.TypeKind.{TypeKind as AstTypeKind, out-TypeKind, roll-out-TypeKind}
 use Rattle.hir_syntax.specs.declared.ast.Path.{Path as AstPath, out-Path, roll-out-Path}

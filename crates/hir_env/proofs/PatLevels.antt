@@ -21,13 +21,18 @@ use Rattle.hir_env.specs.Whole.{answered_pat, answered_pat_field, pat_level, pat
 use Rattle.hir_env.proofs.Mapped.{beside, listed, mapped_pat_kind, mapped_pat_field}
 use Rattle.hir_env.proofs.Opened.{opened_pat_kind, opened_pat, opened_pat_field}
 use Rattle.hir_env.proofs.PathLevels.{path_is, pat_is}
-use Rattle.hir_env.specs.Layers.{Defined, Entering, ExprReading, KindReading, Spliced}
+use Rattle.hir_env.specs.Layers.{Entering}
 use Rattle.hir_env.specs.Whole.{into}
 use Rattle.hir_env.specs.Folds.{fold_pat, fold_pat_field, fold_path}
 
 pats_is : {A : Type 0} (h : A → Place → Pat) (xs : List A) (p : Place) → of.pats_of (λ y. y.1) (listed (beside h) xs) p ≡ of.pats_of h xs p
 pats_is h [] p = refl
 pats_is h (x ∷ xs) p = λ j. tree.more_pats (h x p) (pats_is h xs p j)
+
+elements_is : {A : Type 0} (h : A → Place → Pat) (xs : List A) (p : Place)
+    → of.elements_of (λ y. y.1) (listed (beside h) xs) p ≡ of.elements_of h xs p
+elements_is h [] p = refl
+elements_is h (x ∷ xs) p = λ j. of.element_in (h x p) (elements_is h xs p j)
 
 pat_fields_is : {A : Type 0} (h : A → Place → PatField) (xs : List A) (p : Place)
     → of.pat_fields_of (λ y. y.1) (listed (beside h) xs) p ≡ of.pat_fields_of h xs p
@@ -43,8 +48,8 @@ module _ (env : Answers) (into : Option Entering) where
   pat_at_is (PatKind-F.IdentPat n is_ref is_mut x) p s = λ j.
       of.ident_pat env p s (of.use_at env p n is_ref is_mut) (name_written n) (pat_is (fold_pat env into) x p j)
   pat_at_is (PatKind-F.TupleStructPat x comma xs) p s = λ j.
-      tree.tuple_struct_pat s (path_is (fold_path env into) x p j) comma (pats_is (fold_pat env into) xs p j)
-  pat_at_is (PatKind-F.TuplePat comma xs) p s = λ j. tree.tuple_pat s comma (pats_is (fold_pat env into) xs p j)
+      tree.tuple_struct_pat s (path_is (fold_path env into) x p j) comma (elements_is (fold_pat env into) xs p j)
+  pat_at_is (PatKind-F.TuplePat comma xs) p s = λ j. tree.tuple_pat s comma (elements_is (fold_pat env into) xs p j)
   pat_at_is (PatKind-F.RefPat is_mut x) p s = λ j. tree.over_pat s (tree.ref_to (mutability is_mut)) (pat_is (fold_pat env into) x p j)
   pat_at_is (PatKind-F.PathPat x) p s = λ j. tree.path_pat s (path_is (fold_path env into) x p j)
   pat_at_is (PatKind-F.OrPat xs) p s = λ j. tree.or_pat s (pats_is (fold_pat env into) xs p j)

@@ -1,5 +1,5 @@
 -- An answered type, path, argument or bound is one level of it around its answered parts.
-use Rattle.std.proofs.Common.{◌≡◌, ◌∙◌, refl, Bool, false, Option, Some, None, List, [], ◌∷◌}
+use Rattle.std.proofs.Common.{◌≡◌, ◌∙◌, refl, Bool, true, false, Option, Some, None, List, [], ◌∷◌}
 use Rattle.std.specs.Prelude.{option_map, map, if◌then◌else◌}
 use Rattle.hir_base.specs.declared.node.AstPtr.{AstPtr}
 use Rattle.hir_syntax.specs.declared.types.GenericArg.{GenericArg as AstGenericArg, out-GenericArg}
@@ -38,9 +38,10 @@ use Rattle.hir_env.specs.Whole.{answered_type, answered_param, answered_ret, ans
 use Rattle.hir_env.specs.Whole.{answered_paren_args, answered_arg_list, answered_arg, answered_type_arg, answered_assoc_arg}
 use Rattle.hir_env.specs.Whole.{answered_bound, type_level, param_level, ret_level, path_level, segment_level, path_type_level}
 use Rattle.hir_env.specs.Whole.{paren_args_level, arg_list_level, arg_level, type_arg_level, assoc_arg_level, bound_level}
-use Rattle.hir_env.specs.Layers.{Defined, Entering, ExprReading, KindReading, Spliced}
+use Rattle.hir_env.specs.Layers.{Entering, ExprReading}
 use Rattle.hir_env.specs.Whole.{into}
-use Rattle.hir_env.specs.Folds.{fold_expr, fold_generic_arg, fold_param, fold_pat, fold_path, fold_path_type, fold_segment, fold_type, fold_type_bound}
+use Rattle.hir_env.specs.Folds.{fold_expr, fold_generic_arg, fold_param, fold_pat, fold_path, fold_path_type, fold_segment, fold_type}
+use Rattle.hir_env.specs.Folds.{fold_type_bound}
 
 -- parts that may be absent, and lists
 
@@ -77,13 +78,15 @@ ret_is h (Some None) p = refl
 ret_is h (Some (Some x)) p = refl
 
 constant_is : {A : Type 0} (h : A → ExprReading) (x : Option (Option A)) (p : Place)
-    → of.constant_or_absent (λ y q. tree.constant (of.expr_or_none (λ z. z.1.expr) y (of.inside_constant q))) (optional (optional (beside h)) x) p
+    → of.constant_or_absent (λ y q. tree.constant (of.expr_or_none (λ z. z.1.expr) y (of.inside_constant q)))
+    (optional (optional (beside h)) x) p
     ≡ of.constant_or_absent (λ y q. tree.constant (of.expr_or_none (λ z. (h z).expr) y (of.inside_constant q))) x p
 constant_is h None p = refl
 constant_is h (Some None) p = refl
 constant_is h (Some (Some x)) p = refl
 
-types_is : {A : Type 0} (h : A → Place → Type_) (xs : List A) (p : Place) → of.types_of (λ y. y.1) (listed (beside h) xs) p ≡ of.types_of h xs p
+types_is : {A : Type 0} (h : A → Place → Type_) (xs : List A) (p : Place) → of.types_of (λ y. y.1) (listed (beside h) xs) p
+    ≡ of.types_of h xs p
 types_is h [] p = refl
 types_is h (x ∷ xs) p = λ j. tree.more_parts (tree.some_type (h x p)) (types_is h xs p j)
 
@@ -105,7 +108,8 @@ generic_args_is h [] p = refl
 generic_args_is h (x ∷ xs) p = λ j. tree.more_args (h x p) (generic_args_is h xs p j)
 
 pub arg_list_is : {A : Type 0} (h : A → Place → Arg) (x : Option (List A)) (p : Place)
-    → of.arg_list_or_none (of.generic_args_of (λ y. y.1)) (optional (listed (beside h)) x) p ≡ of.arg_list_or_none (of.generic_args_of h) x p
+    → of.arg_list_or_none (of.generic_args_of (λ y. y.1)) (optional (listed (beside h)) x) p
+    ≡ of.arg_list_or_none (of.generic_args_of h) x p
 arg_list_is h None p = refl
 arg_list_is h (Some xs) p = λ j. tree.some_arg_list (generic_args_is h xs p j)
 
@@ -165,7 +169,8 @@ module _ (env : Answers) (into : Option Entering) where
       → of.type_at env (itself into) (mapped_type_kind env into k) p s ≡ of.type_at env rd k p s
   type_at_is (TypeKind-F.ParenType t) p s = λ j. tree.paren_type (type_is (fold_type env into) t p j)
   type_at_is (TypeKind-F.SliceType t) p s = λ j. tree.over_type s tree.slice_of (type_is (fold_type env into) t p j)
-  type_at_is (TypeKind-F.ArrayType t c) p s = λ j. tree.array_type s (constant_is (fold_expr env into) c p j) (type_is (fold_type env into) t p j)
+  type_at_is (TypeKind-F.ArrayType t c) p s = λ j. tree.array_type s (constant_is (fold_expr env into) c p j)
+      (type_is (fold_type env into) t p j)
   type_at_is (TypeKind-F.TupleType ts) p s = λ j. tree.tuple_type s (types_is (fold_type env into) ts p j)
   type_at_is (TypeKind-F.PathType x) p s = λ j. tree.path_type s (path_is (fold_path env into) x p j)
   type_at_is (TypeKind-F.PtrType m t) p s = λ j. tree.over_type s (tree.pointer_to (of.mutability m)) (type_is (fold_type env into) t p j)
@@ -197,17 +202,39 @@ module _ (env : Answers) (into : Option Entering) where
     variadic = x.variadic;
     name = name_given (pat_is (fold_pat env into) x.pat p j);
     ty = type_is (fold_type env into) x.ty p j;
-    own = of.asked_param s (env.cfg (site_of s)) (tree.param (pat_is (fold_pat env into) x.pat p j) (type_is (fold_type env into) x.ty p j));
+    own = of.asked_param s (env.cfg (site_of s)) (tree.param (pat_is (fold_pat env into) x.pat p j)
+        (type_is (fold_type env into) x.ty p j));
   }
 
+  plain_path_is : (x : PathLayer written) (p : Place)
+      → of.plain_path env (itself into) (mapped_path env into x) p ≡ of.plain_path env rd x p
+  plain_path_is x p = λ j. tree.path x.leading (first_is (fold_segment env into) x.segs p j)
+      (rest_is (fold_segment env into) x.segs p j) (path_is (fold_path env into) x.use_ p j)
+
+  called_path_is : (in_macro leading : Bool) (ss : List (Option AstPathSegment)) (u : Option AstPath) (p : Place) (y : Path)
+      → of.called_path env (itself into) in_macro leading (listed_options (beside (fold_segment env into)) ss)
+      (optional (beside (fold_path env into)) u) p y
+      ≡ of.called_path env rd in_macro leading ss u p y
+  called_path_is false leading ss u p y = refl
+  called_path_is true leading [] None p y = refl
+  called_path_is true leading [] (Some u) p y = refl
+  called_path_is true leading (None ∷ []) None p y = refl
+  called_path_is true leading (None ∷ []) (Some u) p y = refl
+  called_path_is true leading (Some s ∷ []) None p y = refl
+  called_path_is true leading (Some s ∷ []) (Some u) p y = refl
+  called_path_is true leading (None ∷ x ∷ ss) u p y = refl
+  called_path_is true leading (Some s ∷ x ∷ ss) u p y = refl
+
   path_step_is : (x : PathLayer written) (p : Place) → of.path_step env (itself into) (mapped_path env into x) p ≡ of.path_step env rd x p
-  path_step_is x p = λ j. tree.path x.leading (first_is (fold_segment env into) x.segs p j) (rest_is (fold_segment env into) x.segs p j) (path_is (fold_path env into) x.use_ p j)
+  path_step_is x p = called_path_is x.in_macro x.leading x.segs x.use_ p (of.plain_path env (itself into) (mapped_path env into x) p)
+      ∙ (λ j. of.called_path env rd x.in_macro x.leading x.segs x.use_ p (plain_path_is x p j))
 
   parens_then : (x : Option AstParenArgs) (r : Option AstRetType) (p : Place)
       → of.parens_or_none (of.paren_args_step env (itself into)) (optional (listed_options (beside (fold_type env into))) x)
       (of.ret_or_none (of.ret_type_step env (itself into)) (optional (optional (beside (fold_type env into))) r) p) p
       ≡ of.parens_or_none (of.paren_args_step env rd) x (of.ret_or_none (of.ret_type_step env rd) r p) p
-  parens_then x r p = parens_is (fold_type env into) x (of.ret_or_none (of.ret_type_step env (itself into)) (optional (optional (beside (fold_type env into))) r) p) p
+  parens_then x r p = parens_is (fold_type env into) x
+      (of.ret_or_none (of.ret_type_step env (itself into)) (optional (optional (beside (fold_type env into))) r) p) p
       ∙ (λ j. of.parens_or_none (of.paren_args_step env rd) x (ret_is (fold_type env into) r p j) p)
 
   segment_step_is : (x : PathSegmentLayer written) (p : Place)
@@ -241,7 +268,8 @@ module _ (env : Answers) (into : Option Entering) where
   type_bound_step_is x p = λ j. of.bound_of x.b (path_type_is (fold_path_type env into) x.ty p j) x.maybe (of.binder_of x.binder)
       (option_map (of.lifetime_of p) x.lifetime) (map (of.use_of p) x.uses)
 
-  read_type_kind_is : (k : AstTypeKind) (n : AstPtr) (p : Place) → read_type_kind env into k n p ≡ of.type_kind_step env rd (out-TypeKind k) n p
+  read_type_kind_is : (k : AstTypeKind) (n : AstPtr) (p : Place) → read_type_kind env into k n p
+      ≡ of.type_kind_step env rd (out-TypeKind k) n p
   read_type_kind_is k n p = (λ j. opened_type_kind env into k j n p) ∙ type_kind_step_is (out-TypeKind k) n p
 
   read_type_is : (x : AstType_) (p : Place) → read_type env into x p ≡ of.type_kind_step env rd (out-TypeKind x.kind) (ptr x.id x.range) p

@@ -3,6 +3,7 @@
 use Rattle.std.specs.Prelude.{List, ℕ, Option, Some, None, Bool}
 use Rattle.hir_base.specs.declared.node.HirFileId.{HirFileId}
 use Rattle.hir_store.specs.declared.path.ModPath.{ModPath}
+use Rattle.hir_store.specs.declared.ids.MacroDefId.{MacroDefId}
 use Rattle.hir_base.specs.declared.op.UnaryOp.{UnaryOp}
 use Rattle.hir_base.specs.declared.op.LogicOp.{LogicOp}
 use Rattle.hir_base.specs.declared.op.BinaryOp.{BinaryOp}
@@ -421,6 +422,8 @@ mutual
     item_stmt : Stmt
     -- a call that stood here for the statements behind it
     call_stmt : Entered → Stmt
+    -- the definition of a macro: how many of its name were counted before it in the block, and its number, without which it is an item
+    macro_stmt : ℕ → Option MacroDefId → Stmt
     let_stmt : OptionPat → OptionType → OptionExpr → OptionBlock → Stmt
 
   pub data Pat : Type 0 where
@@ -446,6 +449,8 @@ mutual
     range_pat : Pointer → Option RangeOp → Side → Side → Pat
     -- what it stands for, where it is entered and that is a pattern
     macro_pat : Pointer → Called → OptionPat → Pat
+    -- one where only a plain name or `_` may stand
+    barred_pat : Pointer → Pat
 
   pub data OptionPat : Type 0 where
     no_pat : OptionPat
@@ -454,6 +459,8 @@ mutual
   pub data Pats : Type 0 where
     no_pats : Pats
     more_pats : Pat → Pats → Pats
+    -- a call in front of the two dots that it stands for
+    noted_pats : Called → Pats → Pats
 
   pub data PatFields : Type 0 where
     no_pat_fields : PatFields
@@ -546,8 +553,6 @@ pub data SelfFormal : Type 0 where
 pub data Formal : Type 0 where
   disabled_formal : Pointer → CfgId → Formal
   formal : OptionPat → Formal
-  -- a pattern where only a plain name or `_` may stand
-  fault_formal : Pointer → Formal
 
 pub record Formals : Type 0 where
   pub receiver : SelfFormal

@@ -40,7 +40,8 @@ use Rattle.hir_env.specs.Ranges.{range_form}
 use Rattle.hir_env.specs.Targets.{resolves, target_of}
 use Rattle.hir_env.specs.Layers.{BlockReading, StmtReading, RecordReading, Sorts, Reader, ElseBranchLayer, ExprKindLayer}
 use Rattle.hir_env.specs.Layers.{Defined, ExprReading, KindReading, MacroCallLayer, Spliced}
-use Rattle.hir_env.specs.Calls.{lacking_call, append, entered_expr, entered_splice, nothing, splice_of, value_or_none}
+use Rattle.hir_env.specs.Calls.{lacking_call, append, entered_expr, entered_splice, nothing, splice_of, times, value_or_none}
+use Rattle.hir_store.specs.declared.ids.MacroDefId.{MacroDefId}
 use Rattle.hir_env.specs.Layers.{StmtKindLayer, BlockExprLayer, ExprLayer, RecordExprFieldLayer}
 use Rattle.hir_env.specs.Layers.{RecordExprFieldListLayer, StmtLayer, MatchArmLayer}
 use Rattle.hir_env.specs.Answered as tree
@@ -272,6 +273,21 @@ asked_splice s (Ok _) r d = r
 asked_splice s (Err by) r d =
     record { stmts = tree.more_stmts (tree.disabled_stmt s by tree.item_stmt) tree.no_stmts; last = tree.no_expr; defined = d }
 
+abbrev pub def_named : Answers → Place → Option AstName → Option MacroDefId
+def_named env p None = None
+def_named env p (Some n) = env.macro_def p.module_id (name.Text n.t)
+
+-- one without a name isn't counted
+abbrev pub rules_named : Answers → Place → Option AstName → Defined → StmtReading
+rules_named env p None d = alone (tree.macro_stmt 0 None) d
+rules_named env p (Some n) d =
+    let k = times (name.Text n.t) d in
+    alone (tree.macro_stmt k (env.legacy_macro p.module_id (name.Text n.t) k)) (name.Text n.t ∷ d)
+
+abbrev pub asked_rules : Pointer → Result (Unit {0}) CfgId → StmtReading → Defined → StmtReading
+asked_rules s (Ok _) r d = r
+asked_rules s (Err by) r d = alone (tree.disabled_stmt s by tree.item_stmt) d
+
 -- one level
 
 -- the expression, with the condition that disables it
@@ -446,9 +462,8 @@ module _ (env : Answers) {S : Sorts} (part : Reader S) where
       (tree.let_stmt (pat_or_none part.pat x p) (type_or_none part.type_ t p) (expr_or_none part.expr e p)
       (let_else_or_none let_else_step b p))) d
   stmt_at (StmtKind-F.ExprStmt e semi) p s d = ended semi (value_or_none part.stmt part.value e p d)
-  -- a definition of a macro is an item, which a condition may disable
-  stmt_at (StmtKind-F.MacroRules x) p s d = alone (asked_stmt s (env.cfg (site_of s)) tree.item_stmt) d
-  stmt_at (StmtKind-F.MacroDef x) p s d = alone (asked_stmt s (env.cfg (site_of s)) tree.item_stmt) d
+  stmt_at (StmtKind-F.MacroRules x) p s d = asked_rules s (env.cfg (site_of s)) (rules_named env p x d) d
+  stmt_at (StmtKind-F.MacroDef x) p s d = alone (asked_stmt s (env.cfg (site_of s)) (tree.macro_stmt 0 (def_named env p x))) d
   stmt_at StmtKind-F.Item p s d = alone tree.item_stmt d
 
   abbrev pub stmt_kind : StmtKindLayer S → AstPtr → Place → Defined → StmtReading

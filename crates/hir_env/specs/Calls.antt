@@ -1,8 +1,7 @@
 -- What a call of a macro stands for. Where no call may be entered nothing is asked.
-use Rattle.std.specs.Prelude.{ℕ, zero, suc, Bool, true, false, if◌then◌else◌, List, [], ◌∷◌, Option, Some, None}
+use Rattle.std.specs.Prelude.{ℕ, suc, if◌then◌else◌, List, [], ◌∷◌, Option, Some, None}
 use Rattle.hir_base.specs.declared.node.HirFileId.{HirFileId}
 use Rattle.hir_syntax.specs.declared.macros.MacroCall.{MacroCall as AstMacroCall, out-MacroCall}
-use Rattle.hir_syntax.specs.declared.macros.MacroStmts.{MacroStmts as AstMacroStmts}
 use Rattle.hir_syntax.specs.declared.macros.Fragment.TheVariants as fragment
 use Rattle.hir_store.specs.Pointers.{Pointer}
 use Rattle.hir_store.specs.Names.{same_name}
@@ -65,12 +64,23 @@ entered_expr env None c p s = tree.macro_expr s tree.unentered tree.no_expr
 entered_expr env (Some into) c p s = let x = asked_call env kind.Expr c p in
     around s (called (call_pointer p c) x) (expr_in into p x)
 
--- patterns and types aren't entered yet
+abbrev pub pat_in : Entering → Place → Expanding → OptionPat
+pat_in into p (expanded f (Some (fragment.Pat x)) es) = tree.some_pat (into.pat x (inside_file f into.left p))
+pat_in into p _ = tree.no_pat
+
 abbrev pub entered_pat : Answers → Option Entering → AstMacroCall → Place → Pointer → Pat
-entered_pat env into c p s = tree.macro_pat s tree.unentered tree.no_pat
+entered_pat env None c p s = tree.macro_pat s tree.unentered tree.no_pat
+entered_pat env (Some into) c p s = let x = asked_call env kind.Pat c p in
+    tree.macro_pat s (called (call_pointer p c) x) (pat_in into p x)
+
+abbrev pub type_in : Entering → Place → Expanding → OptionType
+type_in into p (expanded f (Some (fragment.Type_ t)) es) = tree.some_type (into.type_ t (inside_file f into.left p))
+type_in into p _ = tree.no_type
 
 abbrev pub entered_type : Answers → Option Entering → AstMacroCall → Place → Pointer → Type_
-entered_type env into c p s = tree.macro_type s tree.unentered tree.no_type
+entered_type env None c p s = tree.macro_type s tree.unentered tree.no_type
+entered_type env (Some into) c p s = let x = asked_call env kind.Type_ c p in
+    tree.macro_type s (called (call_pointer p c) x) (type_in into p x)
 
 -- ---- statements
 
@@ -100,6 +110,30 @@ module _ {A B : Type 0} (stmt : A → Place → Defined → StmtReading) (value 
       let t = value_or_none e p r.defined in
       record { stmts = append r.stmts t.stmts; last = t.last; defined = t.defined }
 
--- nor are statements
+-- what stands behind the statements is found at the call, too
+abbrev pub spliced_last : Pointer → OptionExpr → OptionExpr
+spliced_last s tree.no_expr = tree.no_expr
+spliced_last s (tree.some_expr e) = tree.some_expr (around s tree.spliced (tree.some_expr e))
+
+abbrev pub spliced_in : Pointer → Entered → Spliced → Spliced
+spliced_in s c r = record {
+  stmts = tree.more_stmts (tree.call_stmt c) r.stmts;
+  last = spliced_last s r.last;
+  defined = r.defined;
+}
+
+abbrev pub splice_in : Entering → Place → Pointer → Pointer → Expanding → Defined → Spliced
+splice_in into p s c (expanded f (Some (fragment.Stmts ms)) es) d =
+    spliced_in s (record { call = c; file = f; eager = es })
+    (splice_of into.stmt into.value ms.stmts ms.expr (inside_file f into.left p) d)
+splice_in into p s c (expanded f _ es) d = spliced_in s (record { call = c; file = f; eager = es }) (nothing d)
+splice_in into p s c _ d = nothing d
+
 abbrev pub entered_splice : Answers → Option Entering → AstMacroCall → Place → Pointer → Defined → Spliced
-entered_splice env into c p s d = nothing d
+entered_splice env None c p s d = nothing d
+entered_splice env (Some into) c p s d = splice_in into p s (call_pointer p c) (asked_call env kind.Stmts c p) d
+
+-- how many of the name are defined
+abbrev pub times : Name → Defined → ℕ
+times n [] = 0
+times n (m ∷ ms) = if same_name m n then suc (times n ms) else times n ms

@@ -193,6 +193,7 @@ abbrev mutual
   count_stmt (tree.expr_stmt e semi) = count_option_expr e
   count_stmt tree.item_stmt = 0
   count_stmt (tree.call_stmt c) = 1
+  count_stmt (tree.macro_stmt k d) = 0
   count_stmt (tree.let_stmt p t e b) = count_option_pat p + (count_option_type t + (count_option_expr e + count_option_block b))
 
   pub count_pat : Pat → ℕ
@@ -209,6 +210,7 @@ abbrev mutual
   count_pat (tree.over_pat at form p) = suc (count_option_pat p)
   count_pat (tree.literal_pat at from l) = 1
   count_pat (tree.macro_pat at called p) = suc (count_option_pat p)
+  count_pat (tree.barred_pat at) = 1
   count_pat (tree.range_pat at o a b) = suc (count_side a + count_side b)
 
   pub count_option_pat : OptionPat → ℕ
@@ -218,6 +220,7 @@ abbrev mutual
   pub count_pats : Pats → ℕ
   count_pats tree.no_pats = 0
   count_pats (tree.more_pats p ps) = count_pat p + count_pats ps
+  count_pats (tree.noted_pats called ps) = suc (count_pats ps)
 
   pub count_pat_fields : PatFields → ℕ
   count_pat_fields tree.no_pat_fields = 0

@@ -9,7 +9,7 @@ use Rattle.hir_syntax.specs.declared.types.TypeKind.{TypeKind as AstTypeKind}
 use Rattle.hir_syntax.specs.declared.ast.BlockExpr.{BlockExpr as AstBlockExpr}
 use Rattle.hir_syntax.specs.declared.ast.Expr.{Expr as AstExpr}
 use Rattle.hir_syntax.specs.declared.ast.Path.{Path as AstPath}
-use Rattle.hir_syntax.specs.declared.ast.PathSegment.{PathSegment as AstPathSegment}
+use Rattle.hir_syntax.specs.declared.ast.PathSegment.{PathSegment as AstPathSegment, out-PathSegment}
 use Rattle.hir_syntax.specs.declared.ast.RecordExprField.{RecordExprField as AstRecordExprField}
 use Rattle.hir_syntax.specs.declared.ast.RecordExprFieldList.{RecordExprFieldList as AstRecordExprFieldList}
 use Rattle.hir_syntax.specs.declared.ast.Stmt.{Stmt as AstStmt}
@@ -27,7 +27,7 @@ use Rattle.hir_base.specs.declared.node.AstPtr.{AstPtr}
 use Rattle.hir_env.specs.declared.place.Place.{Place}
 use Rattle.hir_env.specs.Wrapped.{AstConstArg, AstGuard, AstLetElse, AstRetType, AstTypeArg, AstParenArgs, AstGenericArgList}
 use Rattle.hir_env.specs.Answers.{Answers}
-use Rattle.hir_env.specs.Layers.{BlockReading, StmtReading, RecordReading, ParamReading, PathTypeReading, Sorts, Reader, readings}
+use Rattle.hir_env.specs.Layers.{BlockReading, StmtReading, RecordReading, ParamReading, PathTypeReading, Reader, readings}
 use Rattle.hir_env.specs.Layers.{itself, Defined, Entering, ExprReading, KindReading, Spliced}
 pub use Rattle.hir_env.specs.Layers.{written}
 use Rattle.hir_env.specs.Answering.{constant_step, guard_step, let_else_step}
@@ -433,6 +433,7 @@ module _ (env : Answers) (into : Option Entering) where
     expr = read_expr;
     path = read_path;
     segment = read_segment;
+    segment_node = λ s. (out-PathSegment s).id;
     field = read_field;
     field_list = read_record;
     stmt = read_stmt;

@@ -12,7 +12,7 @@ use Rattle.hir_store.specs.declared.ids.ItemContainerId.TheVariants as holder
 use Rattle.hir_store.specs.Names.{IsWritten}
 use Rattle.hir_store.specs.declared.name.Name.TheVariants as name
 use Rattle.hir_env.specs.Spot.{Spot, site_of}
-use Rattle.hir_env.specs.TypePats.{bare_formal}
+use Rattle.hir_env.specs.TypePats.{bare_part}
 use Rattle.hir_env.specs.Pats.{name_hygiene}
 use Rattle.hir_env.specs.Whole.{pointer_at, pat_part}
 use Rattle.hir_env.specs.Answered as tree
@@ -48,14 +48,15 @@ abbrev pub asked_formal : Pointer → Result (Unit {0}) CfgId → Formal → For
 asked_formal s (Ok _) f = f
 asked_formal s (Err by) f = tree.disabled_formal s by
 
-abbrev pub formal_of : Bool → OptionPat → Formal
-formal_of bare q = if bare then bare_formal q else tree.formal q
+-- what is read of a pattern that may only be a plain name or `_`, or may be any
+abbrev pub formal_part : Bool → OptionPat → OptionPat
+formal_part bare q = if bare then bare_part q else q
 
 -- of a function whose parameters may only be plain names, or may not
 abbrev pub answered_formal : Spot → Bool → AstParam → Formal
 answered_formal at bare x = let level = out-Param x in
     let s = pointer_at at level.id level.range in
-    asked_formal s (at.answers.cfg (site_of s)) (formal_of bare (pat_part at level.pat))
+    asked_formal s (at.answers.cfg (site_of s)) (tree.formal (formal_part bare (pat_part at level.pat)))
 
 abbrev pub formals_part : Spot → Bool → List AstParam → List Formal
 formals_part at bare xs = map (answered_formal at bare) xs

@@ -1,5 +1,5 @@
 -- What is lent of a call, by value.
-use Rattle.std.specs.Prelude.{List, Option, Some, None}
+use Rattle.std.specs.Prelude.{Option, Some, None}
 use denote.Ref.{Bor}
 use Rattle.hir_syntax.specs.declared.macros.Fragment.{Fragment as AstFragment}
 use Rattle.hir_env.specs.declared.expand.Expansion.{Expansion}

@@ -16,6 +16,7 @@ use Rattle.hir_syntax.specs.declared.ast.ElseBranch.TheOpen.{GenericArg-F, TypeK
 use Rattle.hir_store.specs.Pointers.{Pointer}
 use Rattle.hir_store.specs.declared.ids.CfgId.{CfgId}
 use Rattle.hir_store.specs.declared.ids.CrateId.{CrateId}
+use Rattle.hir_store.specs.declared.ids.CtxId.{CtxId}
 use Rattle.hir_store.specs.declared.name.Name.{Name}
 use Rattle.hir_store.specs.declared.name.Name.TheVariants as name
 use Rattle.hir_store.specs.declared.hir.CoroutineKind.{CoroutineKind}
@@ -36,6 +37,7 @@ use Rattle.hir_env.specs.Spot.{in_file, ptr, site_of}
 use Rattle.hir_env.specs.Layers.{Sorts, Reader}
 use Rattle.hir_env.specs.TypePats.{type_pat_or_none, name_given}
 use Rattle.hir_env.specs.Calls.{entered_type}
+use Rattle.hir_env.specs.LocalPaths.{at_local_root, lacking, local_root}
 use Rattle.hir_env.specs.TypeLayers.{ParamReading, PathTypeReading, GenericArgLayer, TypeKindLayer, PathLayer, PathSegmentLayer}
 use Rattle.hir_env.specs.TypeLayers.{AssocTypeArgLayer, ParamLayer, PathTypeLayer}
 use Rattle.hir_env.specs.TypeLayers.{TypeBoundLayer, Type_Layer}
@@ -132,9 +134,12 @@ inside_closure is_async p = record p { await_location = if is_async then None el
 
 -- segments
 
+abbrev pub context_at : Answers → Place → NodeId → CtxId
+context_at env p id = env.context (record { file_id = p.file_id; value = id })
+
 -- the root of the crate that `$crate` at the node stands for
 abbrev pub crate_root_at : Answers → Place → NodeId → Option CrateId
-crate_root_at env p id = env.crate_root (env.context (record { file_id = p.file_id; value = id }))
+crate_root_at env p id = env.crate_root (context_at env p id)
 
 -- a name, or `$crate`
 abbrev pub named_segment : Answers → Place → Option AstName → SegmentArgs → Segment
@@ -359,8 +364,19 @@ module _ (env : Answers) {S : Sorts} (part : Reader S) where
     own = asked_param s (env.cfg (site_of s)) (tree.param (pat_or_none part.pat x.pat p) (type_or_none part.type_ x.ty p));
   }
 
+  -- a path wherever it stands
+  abbrev pub plain_path : PathLayer S → Place → Path
+  plain_path x p = tree.path x.leading (first_of part.segment x.segs p) (rest_of part.segment x.segs p) (path_or_none part.path x.use_ p)
+
+  -- and where it may stand directly in a call of a macro
+  abbrev pub called_path : Bool → Bool → List (Option S.PathSegment) → Option S.Path → Place → Path → Path
+  called_path true leading [] None p x = lacking leading x
+  called_path true leading (None ∷ []) None p x = lacking leading x
+  called_path true leading (Some s ∷ []) None p x = at_local_root (local_root env (context_at env p (part.segment_node s))) x
+  called_path in_macro leading ss u p x = x
+
   abbrev pub path_step : PathLayer S → Place → Path
-  path_step x p = tree.path x.leading (first_of part.segment x.segs p) (rest_of part.segment x.segs p) (path_or_none part.path x.use_ p)
+  path_step x p = called_path x.in_macro x.leading x.segs x.use_ p (plain_path x p)
 
   abbrev pub segment_step : PathSegmentLayer S → Place → Segment
   segment_step s p = kinded_segment env p s.seg s.name

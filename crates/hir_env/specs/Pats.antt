@@ -120,6 +120,30 @@ abbrev pub pat_fields_of : {A : Type 0} → (A → Place → PatField) → List 
 pat_fields_of read [] p = tree.no_pat_fields
 pat_fields_of read (x ∷ xs) p = tree.more_pat_fields (read x p) (pat_fields_of read xs p)
 
+-- whether it is two dots, itself or what a call stands for
+abbrev pub is_rest : Pat → Bool
+is_rest (tree.leaf_pat s tree.rest_leaf) = true
+is_rest (tree.macro_pat s called (tree.some_pat p)) = is_rest p
+is_rest p = false
+
+-- two dots, behind the calls that they come out of
+abbrev pub rest_in : Pat → Pats → Pats
+rest_in (tree.macro_pat s called (tree.some_pat p)) ps = tree.noted_pats called (rest_in p ps)
+rest_in p ps = tree.more_pats p ps
+
+-- An element of a tuple or a call is missing at its own node where it is a call that the text lacks, also one that a call stands for.
+abbrev pub element_of : Pat → Pat
+element_of (tree.macro_pat s tree.callless tree.no_pat) = tree.leaf_pat s tree.broken_leaf
+element_of (tree.macro_pat s called (tree.some_pat p)) = tree.macro_pat s called (tree.some_pat (element_of p))
+element_of p = p
+
+abbrev pub element_in : Pat → Pats → Pats
+element_in p ps = if is_rest p then rest_in p ps else tree.more_pats (element_of p) ps
+
+abbrev pub elements_of : {A : Type 0} → (A → Place → Pat) → List A → Place → Pats
+elements_of read [] p = tree.no_pats
+elements_of read (x ∷ xs) p = element_in (read x p) (elements_of read xs p)
+
 -- one level
 
 abbrev pub macro_pat_at : Answers → {S : Sorts} → Reader S → Option S.MacroCall → Place → Pointer → Pat
@@ -131,8 +155,8 @@ module _ (env : Answers) {S : Sorts} (part : Reader S) where
   pat_at (PatKind-F.IdentPat n is_ref is_mut x) p s =
       ident_pat env p s (use_at env p n is_ref is_mut) (name_written n) (pat_or_none part.pat x p)
   pat_at (PatKind-F.TupleStructPat x comma xs) p s =
-      tree.tuple_struct_pat s (path_or_none part.path x p) comma (pats_of part.pat xs p)
-  pat_at (PatKind-F.TuplePat comma xs) p s = tree.tuple_pat s comma (pats_of part.pat xs p)
+      tree.tuple_struct_pat s (path_or_none part.path x p) comma (elements_of part.pat xs p)
+  pat_at (PatKind-F.TuplePat comma xs) p s = tree.tuple_pat s comma (elements_of part.pat xs p)
   pat_at (PatKind-F.RefPat is_mut x) p s = tree.over_pat s (tree.ref_to (mutability is_mut)) (pat_or_none part.pat x p)
   pat_at (PatKind-F.PathPat x) p s = tree.path_pat s (path_or_none part.path x p)
   pat_at (PatKind-F.OrPat xs) p s = tree.or_pat s (pats_of part.pat xs p)

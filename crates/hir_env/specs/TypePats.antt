@@ -9,7 +9,7 @@ use Rattle.hir_store.specs.Names.{IsWritten}
 use Rattle.hir_store.specs.declared.name.Name.{Name}
 use Rattle.hir_env.specs.declared.lang.LangItems.{LangItems}
 use Rattle.hir_env.specs.Answered as tree
-use Rattle.hir_env.specs.Answered.{Use, Pat, OptionPat, Pats, Side, TypePat, OptionTypePat, TypePats, Limit, Formal}
+use Rattle.hir_env.specs.Answered.{Use, Pat, OptionPat, Pats, Side, TypePat, OptionTypePat, TypePats, Limit}
 
 -- the node of a pattern
 abbrev pub pat_pointer : Pat → Pointer
@@ -27,6 +27,7 @@ pat_pointer (tree.over_pat at form p) = at
 pat_pointer (tree.literal_pat at from l) = at
 pat_pointer (tree.range_pat at o a b) = at
 pat_pointer (tree.macro_pat at called p) = at
+pat_pointer (tree.barred_pat at) = at
 
 -- a plain name: without `ref`, `mut` and `@`
 abbrev pub is_unannotated : BindingAnnotation → Bool
@@ -64,6 +65,7 @@ module _ (items : LangItems) where
     pub type_pats_of : Pats → TypePats
     type_pats_of tree.no_pats = tree.no_type_pats
     type_pats_of (tree.more_pats p ps) = tree.more_type_pats (type_pat_of p) (type_pats_of ps)
+    type_pats_of (tree.noted_pats called ps) = type_pats_of ps
 
   abbrev pub type_pat_or_none : OptionPat → OptionTypePat
   type_pat_or_none tree.no_pat = tree.no_type_pat
@@ -78,13 +80,19 @@ name_given (tree.some_pat (tree.name_pat at u _)) = Some u.name
 name_given _ = None
 
 -- a plain name binds, whatever it stands for elsewhere
-abbrev pub named_formal : Bool → Pointer → (u : Use) → IsWritten u.name → Formal
-named_formal true at u w = tree.formal (tree.some_pat (tree.bind_pat at u w tree.no_pat))
-named_formal false at u w = tree.fault_formal at
+abbrev pub plain_or_barred : Bool → Pointer → (u : Use) → IsWritten u.name → Pat
+plain_or_barred true at u w = tree.bind_pat at u w tree.no_pat
+plain_or_barred false at u w = tree.barred_pat at
 
-abbrev pub bare_formal : OptionPat → Formal
-bare_formal tree.no_pat = tree.formal tree.no_pat
-bare_formal (tree.some_pat (tree.leaf_pat at tree.wild_leaf)) = tree.formal (tree.some_pat (tree.leaf_pat at tree.wild_leaf))
-bare_formal (tree.some_pat (tree.bind_pat at u w p)) = named_formal (is_plain u p) at u w
-bare_formal (tree.some_pat (tree.name_pat at u w)) = tree.formal (tree.some_pat (tree.bind_pat at u w tree.no_pat))
-bare_formal (tree.some_pat p) = tree.fault_formal (pat_pointer p)
+-- where only a plain name or `_` may stand, also as what a call stands for
+abbrev mutual
+  pub bare_pat : Pat → Pat
+  bare_pat (tree.leaf_pat at tree.wild_leaf) = tree.leaf_pat at tree.wild_leaf
+  bare_pat (tree.bind_pat at u w p) = plain_or_barred (is_plain u p) at u w
+  bare_pat (tree.name_pat at u w) = tree.bind_pat at u w tree.no_pat
+  bare_pat (tree.macro_pat at called p) = tree.macro_pat at called (bare_part p)
+  bare_pat p = tree.barred_pat (pat_pointer p)
+
+  pub bare_part : OptionPat → OptionPat
+  bare_part tree.no_pat = tree.no_pat
+  bare_part (tree.some_pat p) = tree.some_pat (bare_pat p)

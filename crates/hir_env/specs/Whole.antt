@@ -1,5 +1,5 @@
 -- A tree with the answers written into it at a spot, and the equations of its levels.
-use Rattle.std.specs.Prelude.{Bool, List, [], ◌∷◌, Option, Some, None, option_map}
+use Rattle.std.specs.Prelude.{Bool, List, Option, Some, None, option_map}
 use Rattle.hir_syntax.specs.declared.ast.ElseBranch.{ElseBranch as AstElseBranch, out-ElseBranch}
 use Rattle.hir_syntax.specs.declared.ast.ExprKind.{out-ExprKind}
 use Rattle.hir_syntax.specs.declared.ast.ElseBranch.TheOpen.{ExprKind-F}
@@ -42,7 +42,7 @@ use Rattle.hir_env.specs.Answering.{BlockHead, labelled_head, plain_head, unsafe
 use Rattle.hir_env.specs.Answering.{exprs_or_none, numbered, inside, asked, else_branch, expr_at, constant_step, stmt_at}
 use Rattle.hir_env.specs.Answering.{field_step, record_step, fields_of, spread_or_none, record_or_empty, arms_of, arms_or_none}
 use Rattle.hir_env.specs.Answering.{guard_or_none, let_else_or_none, guard_step, let_else_step, arm_step}
-use Rattle.hir_env.specs.Pats.{pats_of, pat_fields_of, pat_at, pat_field_step}
+use Rattle.hir_env.specs.Pats.{elements_of, pats_of, pat_fields_of, pat_at, pat_field_step}
 use Rattle.hir_env.specs.Targets.{resolves, target_of}
 use Rattle.hir_env.specs.TypePats.{type_pat_or_none}
 use Rattle.hir_env.specs.Paths.{inside_closure, inside_coroutine, inside_impl, outside_impl, inside_constant, inside_const_block}
@@ -200,6 +200,9 @@ let_else_part at x = let_else_or_none (read_let_else at.answers (into at)) x at.
 
 abbrev pub pat_part : Spot → Option AstPat → OptionPat
 pat_part at x = pat_or_none (read_pat at.answers (into at)) x at.place
+
+abbrev pub elements_part : Spot → List AstPat → Pats
+elements_part at xs = elements_of (read_pat at.answers (into at)) xs at.place
 
 abbrev pub pats_part : Spot → List AstPat → Pats
 pats_part at xs = pats_of (read_pat at.answers (into at)) xs at.place

@@ -49,9 +49,7 @@ self_apart (tree.self_formal at u w) = some_apart (binding_apart (new_binding u)
 formal_apart : (skipped : Bool) (f : Formal) → Correct (lower_formal skipped f) Apart
 formal_apart skipped (tree.disabled_formal at by) = then_apart (report_apart _) (λ u. pure_apart None)
 formal_apart true (tree.formal p) = some_apart missing_pat_apart
-formal_apart true (tree.fault_formal at) = some_apart missing_pat_apart
 formal_apart false (tree.formal p) = some_apart (top_apart p)
-formal_apart false (tree.fault_formal at) = then_apart (report_apart _) (λ u. some_apart missing_pat_apart)
 
 each_apart : (skipped : Bool) (done : List PatId) (fs : List Formal) → Correct (each_formal skipped done fs) Apart
 each_apart skipped done [] = pure_apart done

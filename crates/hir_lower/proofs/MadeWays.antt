@@ -13,9 +13,9 @@ use Rattle.hir_lower_form.specs.Made.{flow_arm_form, item_call_form, made_bind_f
 use Rattle.hir_lower_form.specs.Made.{try_block_form, typed_try_form, value_or_unit, wrapped_form, made_reference_form, next_form}
 use Rattle.hir_lower_form.specs.Made.{done_arm_form, gives_arm_form, for_turn_form, made_loop_form, for_form}
 use Rattle.hir_lower_form.specs.Types.{TypeSteps}
-use Rattle.hir_lower.proofs.Ways.{Leading, any, since, then', makes, anyway, leading_pure, leading_alloc, leading_alloc_binding}
-use Rattle.hir_lower.proofs.Ways.{leading_alloc_pat, leading_block, leading_close, leading_define, leading_made, leading_number}
-use Rattle.hir_lower.proofs.Ways.{leading_open, leading_open_try, leading_try_target}
+use Rattle.hir_lower.proofs.Onward.{Leading, any, since, then', makes, anyway, leading_pure}
+use Rattle.hir_lower.proofs.Ways.{leading_alloc, leading_alloc_binding, leading_alloc_pat, leading_block, leading_close, leading_define}
+use Rattle.hir_lower.proofs.Ways.{leading_made, leading_number, leading_open, leading_open_try, leading_try_target}
 
 bind_leads : (mode : BindingAnnotation) (n : ℕ) → Leading any (made_bind_form mode n)
 unfolding made_bind_form

@@ -49,7 +49,7 @@ use Rattle.hir_lower.specs.Roots.{root_of}
 use Rattle.hir_lower.specs.Stays.{Stays}
 use Rattle.hir_lower.proofs.Behind.{closed, rooted}
 use Rattle.hir_lower.proofs.OwnedWays.{went_owned}
-use Rattle.hir_lower.proofs.Ways.{Went, went}
+use Rattle.hir_lower.proofs.Onward.{Went, went}
 use Rattle.hir_lower.proofs.TreeWays.{part_leads}
 use Rattle.hir_lower.specs.Means.{Lives, Rooted}
 

@@ -29,9 +29,7 @@ read_bodies skipped fs = tops_bodies (formals_read skipped fs)
 abbrev formal_bodies : Bool → Formal → Bodies
 formal_bodies skipped (tree.disabled_formal at by) = []
 formal_bodies true (tree.formal p) = []
-formal_bodies true (tree.fault_formal at) = []
 formal_bodies false (tree.formal p) = pat_part_bodies p
-formal_bodies false (tree.fault_formal at) = []
 
 some_holds : {p : Lowering PatId} {es : Bodies} → Correct p (Holds a_pat es) → Correct (some p) (Holds (maybe a_pat) es)
 some_holds h = holds_one Some (λ r i. refl) h
@@ -39,17 +37,13 @@ some_holds h = holds_one Some (λ r i. refl) h
 formal_holds : (skipped : Bool) (f : Formal) → Correct (lower_formal skipped f) (Holds (maybe a_pat) (formal_bodies skipped f))
 formal_holds skipped (tree.disabled_formal at by) = holds_behind (correct_report _) (λ u. holds_none None (λ r. refl))
 formal_holds true (tree.formal p) = some_holds (top_holds tree.no_pat)
-formal_holds true (tree.fault_formal at) = some_holds (top_holds tree.no_pat)
 formal_holds false (tree.formal p) = some_holds (top_holds p)
-formal_holds false (tree.fault_formal at) = holds_behind (correct_report _) (λ u. some_holds (top_holds tree.no_pat))
 
 bodies_apart : (skipped : Bool) (f : Formal) (fs : List Formal)
     → formal_bodies skipped f ++ read_bodies skipped fs ≡ read_bodies skipped (f ∷ fs)
 bodies_apart skipped (tree.disabled_formal at by) fs = refl
 bodies_apart true (tree.formal p) fs = refl
-bodies_apart true (tree.fault_formal at) fs = refl
 bodies_apart false (tree.formal p) fs = refl
-bodies_apart false (tree.fault_formal at) fs = refl
 
 pub each_hold : (skipped : Bool) (fs : List Formal) (done : List PatId)
     → Correct (each_formal skipped done fs) (Pushed done (Holds (each a_pat) (read_bodies skipped fs)))

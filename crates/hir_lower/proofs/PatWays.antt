@@ -33,12 +33,11 @@ use Rattle.hir_lower_form.specs.Ranges as ranges
 use Rattle.hir_lower_form.specs.Targets as targets
 use Rattle.hir_scope.specs.Each.{Each}
 use Rattle.hir_steps.proofs.Logic.{longer}
-use Rattle.hir_lower.proofs.Ways.{Leading, Low, Goes, Went, any, since, then', makes, anyway, in_turn, leading_pure, leading_alloc}
-use Rattle.hir_lower.proofs.Ways.{leading_point_pat, leading_told, makes_pat, new_pat, weaker}
-use Rattle.hir_lower.proofs.Ways.{leading_alloc_binding}
-use Rattle.hir_lower.proofs.Ways.{leading_alloc_pat, leading_barrier, leading_close_barrier, leading_count_out, leading_define}
-use Rattle.hir_lower.proofs.Ways.{leading_enter}
-use Rattle.hir_lower.proofs.Ways.{leading_leave, leading_point_pat_field, leading_report}
+use Rattle.hir_lower.proofs.Onward.{Leading, Low, Goes, Went, any, since, then', makes, anyway, in_turn, leading_pure, makes_pat, new_pat}
+use Rattle.hir_lower.proofs.Onward.{weaker}
+use Rattle.hir_lower.proofs.Ways.{leading_alloc, leading_point_pat, leading_told, leading_alloc_binding, leading_alloc_pat}
+use Rattle.hir_lower.proofs.Ways.{leading_barrier, leading_close_barrier, leading_count_out, leading_define, leading_enter, leading_leave}
+use Rattle.hir_lower.proofs.Ways.{leading_point_pat_field, leading_report}
 
 node_leads : (e : HirExpr) (source : Option Pointer) → Leading any (alloc_expr e source)
 node_leads e source = anyway (leading_alloc e source)
@@ -130,7 +129,7 @@ then_pat : {A : Type 0} {p : Lowering (A × Table)} {f : A × Table → Lowering
 then_pat t h k = in_turn (λ r. named_pat r.1) (named_pat t)
     (λ s u r x w l m. let grown = w.pats.grown in let new = m.0 in (omega (arith, grown, new), new_later _ _ _ s u w l m.1)) h k
 
-beside_pat : {A : Type 0} {L : Low A} {p : Lowering A} {f : A → Lowering (PatId × Table)} (t : Table) → Leading L p
+pub beside_pat : {A : Type 0} {L : Low A} {p : Lowering A} {f : A → Lowering (PatId × Table)} (t : Table) → Leading L p
     → ((a : A) → Leading (named_pat t) (f a)) → Leading (named_pat t) (p >>= f)
 beside_pat t h k = in_turn (λ a. named_pat t) (named_pat t)
     (λ s u a x w l m. let grown = w.pats.grown in let new = m.0 in
@@ -269,6 +268,12 @@ pub one_alternative : {p : Lowering (PatId × Table)} {f : PatId × Table → Lo
 one_alternative done t h k = in_turn (λ r. alternatives_in (done ++ r.0 ∷ []) r.1) (alternatives_in done t)
     (λ s u r x w l m. (one_behind done r.0 x.0 m.0, new_later _ _ _ s u w l m.1)) h k
 
+-- what uses none, and then alternatives
+pub beside_later : {A : Type 0} {L : Low A} {p : Lowering A} {f : A → Lowering (List PatId × Table)} (done : List PatId) (t : Table)
+    → Leading L p → ((a : A) → Leading (alternatives_in done t) (f a)) → Leading (alternatives_in done t) (p >>= f)
+beside_later done t h k = in_turn (λ a. alternatives_in done t) (alternatives_in done t)
+    (λ s u a x w l m. (m.0, new_later _ _ _ s u w (none_new t.bindings s) m.1)) h k
+
 -- the first alternative, or one that came since
 abbrev one_of : PatId → Table → Low (PatId × Table)
 one_of i t s x = ((x.0.0 ≡ i.0) ⊎ new_pat s x.0) × names t s x
@@ -390,6 +395,9 @@ module _ (at : Pointer) where
   uncalled_pat_leads (tree.unresolved s path) = called_pat_leads _ missing_pat_leads
   uncalled_pat_leads (tree.entered c) = called_pat_leads _ missing_pat_leads
   uncalled_pat_leads tree.spliced = called_pat_leads _ missing_pat_leads
+
+  pub barred_pat_leads : Leading new_pat (forms.barred_pat_form at)
+  barred_pat_leads = makes_pat (leading_report _) (λ u. missing_pat_leads)
 
   -- ranges, and patterns of types
 

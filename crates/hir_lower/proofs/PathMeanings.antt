@@ -38,7 +38,7 @@ use Rattle.hir_lower.specs.declared.error.LowerError.TheVariants as refused
 use Rattle.hir_lower.specs.Calls.{Outside, refusal}
 use Rattle.hir_lower.specs.Means.{BearsNames, ConstantsLive, PathRooted, ReadsBack, whole_path}
 use Rattle.hir_lower.specs.Stays.{Stays}
-use Rattle.hir_lower.proofs.Ways.{Went, went}
+use Rattle.hir_lower.proofs.Onward.{Went, went}
 use Rattle.hir_lower.proofs.TreeWays.{option_path_leads}
 
 extends_of : (b : Builder) (o : Checked (Option Path)) (c : Builder) → Keeps b o c → Extends b.stored c.stored

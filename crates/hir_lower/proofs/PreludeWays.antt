@@ -28,9 +28,10 @@ use Rattle.hir_lower_form.specs.declared.preludes.Handed.{Handed}
 use Rattle.hir_lower_form.specs.declared.preludes.OwnName.{OwnName}
 use Rattle.hir_lower_form.specs.declared.preludes.Prelude.{Prelude}
 use Rattle.hir_lower.proofs.OwnedWays.{leading_owning}
-use Rattle.hir_lower.proofs.Ways.{Goes, Leading, any, expr_place, label_place, leading_alloc, leading_alloc_binding, leading_barrier}
-use Rattle.hir_lower.proofs.Ways.{leading_close_barrier, leading_define, leading_number, leading_pure, lifetime_place, made_up, makes}
-use Rattle.hir_lower.proofs.Ways.{onward_made, onward_refl, pat_place, since, then', type_place, went_refl}
+use Rattle.hir_lower.proofs.Onward.{Goes, Leading, any, expr_place, label_place, leading_pure, lifetime_place, made_up, makes}
+use Rattle.hir_lower.proofs.Onward.{onward_made, onward_refl, pat_place, since, then', type_place, went_refl}
+use Rattle.hir_lower.proofs.Ways.{leading_alloc, leading_alloc_binding, leading_barrier, leading_close_barrier, leading_define}
+use Rattle.hir_lower.proofs.Ways.{leading_number}
 
 -- its node doesn't lead to it
 pub leading_made_pat : (p : HirPat) (from : Option Pointer) → Leading any (alloc_made_pat p from)

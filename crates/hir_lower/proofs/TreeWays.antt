@@ -53,11 +53,11 @@ use Rattle.hir_lower.proofs.TypeWays.{error_leads, unit_leads, lifetime_leads, l
 use Rattle.hir_lower.proofs.TypeWays.{tuple_leads, path_type_leads, ref_leads, fn_leads, impl_leads, dyn_leads, path_bound_leads}
 use Rattle.hir_lower.proofs.TypeWays.{binding_leads, counted_leads, proceed_leads, whole_leads, trait_leads, parens_leads}
 use Rattle.hir_lower.proofs.TypeWays.{called_type_leads, segment_args_leads, pattern_type_leads, uncalled_type_leads}
-use Rattle.hir_lower.proofs.Ways.{Leading, any, since, then', makes, leading_pure, leading_report, leading_block, leading_close}
-use Rattle.hir_lower.proofs.Ways.{leading_jump, leading_alloc, leading_open, leading_point, leading_closed, leading_report_await}
-use Rattle.hir_lower.proofs.Ways.{leading_point_field, leading_alloc_type, leading_alloc_pat, leading_barrier, leading_enter}
-use Rattle.hir_lower.proofs.Ways.{leading_call, leading_close_barrier, leading_gone, leading_note, leading_told, new_pat, new_type}
-use Rattle.hir_lower.proofs.Ways.{leading_leave, anyway}
+use Rattle.hir_lower.proofs.Onward.{Leading, any, since, then', makes, leading_pure, new_pat, new_type, anyway}
+use Rattle.hir_lower.proofs.Ways.{leading_report, leading_block, leading_close, leading_jump, leading_alloc, leading_open, leading_point}
+use Rattle.hir_lower.proofs.Ways.{leading_closed, leading_report_await, leading_point_field, leading_alloc_type, leading_alloc_pat}
+use Rattle.hir_lower.proofs.Ways.{leading_barrier, leading_enter, leading_call, leading_close_barrier, leading_gone, leading_note}
+use Rattle.hir_lower.proofs.Ways.{leading_behind, leading_define_macro, leading_told, leading_leave}
 use Rattle.hir_lower.proofs.OwnedWays.{coroutine_block_leads, coroutine_leads, leading_owning}
 use Rattle.hir_lower.proofs.PreludeWays.{coroutine_closure_leads}
 use Rattle.hir_lower.proofs.PatWays.{alone_leads, arm_leads, array_target_leads, assign_leads, before_leads, bind_leads, call_target_leads}
@@ -67,6 +67,7 @@ use Rattle.hir_lower.proofs.PatWays.{name_side_leads, or_leads, over_pat_leads, 
 use Rattle.hir_lower.proofs.PatWays.{path_side_leads, path_target_leads, place_target_leads, range_leads, range_pat_leads, record_pat_leads}
 use Rattle.hir_lower.proofs.PatWays.{record_target_leads, slice_pat_leads, target_field_leads, tuple_pat_leads}
 use Rattle.hir_lower.proofs.PatWays.{tuple_struct_leads, tuple_target_leads, type_alternatives_leads, names, unnamed, beside}
+use Rattle.hir_lower.proofs.PatWays.{barred_pat_leads, beside_later, beside_pat}
 use Rattle.hir_lower.proofs.PatWays.{alternatives_in, called_names_lead, called_pat_leads, named_pat, no_alternative, one_alternative}
 use Rattle.hir_lower.proofs.PatWays.{only_names, then_names, top_form_leads, uncalled_pat_leads}
 use Rattle.hir_lower.proofs.MadeWays.{for_leads, question_leads, try_block_leads, typed_try_leads}
@@ -437,13 +438,14 @@ mutual
   stmts_leads : (done : List Statement) (ss : Stmts) {tail : Lowering (Option ExprId)} → Leading any tail
       → Leading any (lower_stmts done ss tail)
   stmts_leads done tree.no_stmts h = then' h (λ t. leading_pure (done, t))
-  stmts_leads done (tree.more_stmts s ss) h = then' (stmt_leads s) (λ x. stmts_leads _ ss h)
+  stmts_leads done (tree.more_stmts s ss) h = then' (stmt_leads s) (λ x. leading_behind s (stmts_leads _ ss h))
 
   stmt_leads : (s : Stmt) → Leading any (lower_stmt s)
   stmt_leads (tree.expr_stmt e semi) = then' (kept_part_leads e) (λ x. leading_pure _)
   stmt_leads (tree.disabled_stmt at by s) = then' (leading_report _) (λ u. leading_pure None)
   stmt_leads tree.item_stmt = leading_pure _
   stmt_leads (tree.call_stmt c) = then' (leading_call c) (λ u. leading_pure None)
+  stmt_leads (tree.macro_stmt k d) = leading_define_macro k d
   stmt_leads (tree.let_stmt p t e b) = let_stmt_leads (top_leads p) (present_type_leads t) (present_leads e) (present_block_leads b)
 
   present_block_leads : (b : OptionBlock) → Leading any (present_block b)
@@ -481,6 +483,7 @@ mutual
   pat_leads (tree.paren_pat at p) t = pat_part_leads p t
   pat_leads (tree.macro_pat at called tree.no_pat) t = alone_leads (uncalled_pat_leads at called) t
   pat_leads (tree.macro_pat at called (tree.some_pat p)) t = called_names_lead at called (pat_leads p) t
+  pat_leads (tree.barred_pat at) t = alone_leads (barred_pat_leads at) t
   pat_leads (tree.slice_pat at before p behind) t =
       slice_pat_leads at (pats_leads [] before) (present_pat_leads p) (pats_leads [] behind) t
   pat_leads (tree.over_pat at form p) t = over_pat_leads at form (only_names (pat_part_leads p)) t
@@ -498,20 +501,24 @@ mutual
   pats_leads : (done : List PatId) (ps : Pats) (t : Table) → Leading (names t) (lower_pats done ps t)
   pats_leads done tree.no_pats t = unnamed _ t
   pats_leads done (tree.more_pats p ps) t = then_names t (only_names (pat_leads p) t) (λ r. pats_leads _ ps r.1)
+  pats_leads done (tree.noted_pats called ps) t = beside t (leading_told called) (λ u. pats_leads done ps t)
 
   elements_part_leads : (done : Elements) (ps : Pats) (t : Table) → Leading (names t) (lower_elements done ps t)
   elements_part_leads done tree.no_pats t = unnamed _ t
   elements_part_leads done (tree.more_pats p ps) t =
       then_names t (element_leads (is_dots p) done (only_names (pat_leads p)) t) (λ r. elements_part_leads r.0 ps r.1)
+  elements_part_leads done (tree.noted_pats called ps) t = beside t (leading_told called) (λ u. elements_part_leads done ps t)
 
   alternatives_leads : (at : Pointer) (ps : Pats) (t : Table) → Leading (named_pat t) (lower_alternatives at ps t)
   alternatives_leads at tree.no_pats t = alone_leads (leading_alloc_pat _ (Some at)) t
   alternatives_leads at (tree.more_pats p ps) t = or_leads at (pat_leads p) (later_leads ps) t
+  alternatives_leads at (tree.noted_pats called ps) t = beside_pat t (leading_told called) (λ u. alternatives_leads at ps t)
 
   later_leads : (ps : Pats) (done : List PatId) (t : Table) → Leading (alternatives_in done t) (lower_later ps done t)
   later_leads tree.no_pats done t = no_alternative done t
   later_leads (tree.more_pats p ps) done t =
       one_alternative done t (only_names (pat_leads p) (next_alternative t)) (λ r. later_leads ps _ r.1)
+  later_leads (tree.noted_pats called ps) done t = beside_later done t (leading_told called) (λ u. later_leads ps done t)
 
   pat_fields_leads : (done : List RecordFieldPat) (fs : PatFields) (t : Table) → Leading (names t) (lower_pat_fields done fs t)
   pat_fields_leads done tree.no_pat_fields t = unnamed _ t

@@ -27,7 +27,7 @@ use Rattle.hir_type_result.proofs.Whole.{refused_types, type_results}
 use Rattle.hir_lower.specs.Calls.{Outside}
 use Rattle.hir_lower.specs.Means.{AddsType, NoRoomForType, expanded_in_type, whole_type}
 use Rattle.hir_lower.specs.Roots.{AnswersFromNothing, RefusedAtEnd}
-use Rattle.hir_lower.proofs.Ways.{made}
+use Rattle.hir_lower.proofs.Onward.{made}
 
 -- what the step does
 abbrev after : Bool → Builder → TypeRef → Pointer → Checked TypeRefId × Builder

@@ -23,8 +23,8 @@ use Rattle.hir_lower_form.specs.Types.{error_type, unit_type, lower_lifetime, lo
 use Rattle.hir_lower_form.specs.Types.{TypeSteps, tuple_type_form, path_type_form, ref_type_form, fn_type_form}
 use Rattle.hir_lower_form.specs.Types.{called_type_form, impl_type_form, dyn_type_form, pattern_type_form, uncalled_type}
 use Rattle.hir_lower_form.specs.Types.{array_type_form, binding_form, path_bound_of, path_bound_form}
-use Rattle.hir_lower.proofs.Ways.{Leading, any, makes_type, new_pat, new_type, then', leading_pure, leading_count_out, leading_alloc_type}
-use Rattle.hir_lower.proofs.Ways.{leading_alloc_lifetime, leading_point_type, leading_told}
+use Rattle.hir_lower.proofs.Onward.{Leading, any, makes_type, new_pat, new_type, then', leading_pure}
+use Rattle.hir_lower.proofs.Ways.{leading_count_out, leading_alloc_type, leading_alloc_lifetime, leading_point_type, leading_told}
 
 pub error_leads : Leading new_type error_type
 unfolding error_type

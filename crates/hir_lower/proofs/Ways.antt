@@ -1,13 +1,11 @@
--- Each step of lowering lets nodes lead to what came since it began.
-use Rattle.std.proofs.Common.{arith, ◌≡◌, ◌∙◌, refl, sym, ap, subst, ℕ, suc, ◌^◌, ◌≤◌, Bool, true, false, nat_lt, length}
-use Rattle.std.proofs.Common.{if◌then◌else◌, length-append}
-use Rattle.std.proofs.Common.{List, [], ◌∷◌, Option, Some, None, Ok, Err, ◌⊎◌, inl, inr, ⊎_elim, true≢false, is_some}
+-- Each step of lowering is such a step.
+use Rattle.std.proofs.Common.{arith, refl, ℕ, suc, ◌^◌, ◌≤◌, Bool, true, false, nat_lt, length}
+use Rattle.std.proofs.Common.{if◌then◌else◌}
+use Rattle.std.proofs.Common.{List, [], ◌∷◌, Option, Some, None, Ok, Err}
 use Rattle.hir_base.specs.declared.node.HirFileId.{HirFileId}
 use Rattle.hir_base.specs.declared.node.TextRange.{TextRange}
-use Rattle.hir_store.specs.Pointers.{Pointer, same_pointer, found}
-use Rattle.hir_store.specs.Arenas.{Prefix, Sourced, pointed, with_entry, with_made}
-use Rattle.hir_store.proofs.Extending.{extends_refl}
-use Rattle.hir_store.proofs.Arenas.{prefix_push, prefix_refl, prefix_trans}
+use Rattle.hir_store.specs.Pointers.{Pointer}
+use Rattle.hir_store.proofs.Arenas.{prefix_push, prefix_refl}
 use Rattle.hir_store.specs.Stored.{Stored}
 use Rattle.hir_store.specs.Storing as storing
 use Rattle.hir_store.specs.Bindings.{Bindings, binding_id, with_binding}
@@ -22,7 +20,7 @@ use Rattle.hir_store.specs.declared.pat.Pat.{Pat as HirPat}
 use Rattle.hir_store.specs.declared.name.Name.TheVariants.{Generated}
 use Rattle.hir_store.specs.declared.ids.ExprId.{ExprId}
 use Rattle.hir_store.specs.declared.ids.LabelId.{LabelId}
-use Rattle.hir_store.specs.declared.ids.LifetimeRefId.{LifetimeRefId}
+use Rattle.hir_store.specs.declared.ids.MacroDefId.{MacroDefId}
 use Rattle.hir_store.specs.declared.ids.BindingId.{BindingId}
 use Rattle.hir_store.specs.declared.ids.PatId.{PatId}
 use Rattle.hir_store.specs.declared.ids.TypeRefId.{TypeRefId}
@@ -31,263 +29,41 @@ use Rattle.hir_store.specs.declared.type_ref.TypeRef.{TypeRef}
 use Rattle.hir_store.specs.declared.ids.BlockId.{BlockId}
 use Rattle.hir_store.specs.declared.ids.CfgId.{CfgId}
 use Rattle.hir_env.specs.Answered as tree
-use Rattle.hir_env.specs.Answered.{Called, Entered, Gone, Label, Jump}
+use Rattle.hir_env.specs.Answered.{Called, Entered, Gone, Label, Jump, Stmt}
 use Rattle.hir_env.specs.Answers.{Eager}
 use Rattle.hir_env.specs.NodeMap.{Site}
 use Rattle.hir_scope.specs.Ribs.{Target, reachable, unreachable, undeclared, target}
 use Rattle.hir_lower_form.specs.Builder.{Builder}
-use Rattle.hir_lower_form.specs.Calls.{note, note_each, note_gone, record_each, report_condition, told}
+use Rattle.hir_lower_form.specs.Calls.{behind, define_form, defined, inside_macro, note, note_each, note_gone, record_each}
+use Rattle.hir_lower_form.specs.Calls.{report_condition, told}
 use Rattle.hir_lower_form.specs.Lowering.{Checked, go_on, Lowering, ◌>>=◌, pure, alloc_expr, alloc_lifetime, alloc_type, point, report}
 use Rattle.hir_lower_form.specs.Lowering.{alloc_binding, alloc_made, alloc_pat, define, made_number, point_pat, point_pat_field}
-use Rattle.hir_lower_form.specs.Lowering.{point_type, record_expansion}
+use Rattle.hir_lower_form.specs.Lowering.{count_def, open_macro, point_type, record_expansion}
 use Rattle.hir_lower_form.specs.Lowering.{open_try, open_try_as, open_try_named, try_target}
 use Rattle.hir_lower_form.specs.Lowering.{close_barrier, note_yield}
 use Rattle.hir_lower_form.specs.Lowering.{point_field, open_barrier, enter_root, outside_root, leave_root, record_root}
 use Rattle.hir_lower_form.specs.Lowering.{enter_block, open_label, close, jump_target, found_or_fault, open_as, report_await, count_out}
 use Rattle.hir_steps.proofs.Logic.{one_more}
-use Rattle.hir_one_result.specs.Laws.{MayBeOwned}
-use Rattle.hir_lower.specs.Stays.{LeadsOn, Stays}
-
--- maps
-
-module _ {I : Type 0} (place : I → ℕ) (n : ℕ) where
-  on_refl : (es : List (Pointer × I)) → LeadsOn place n es es
-  on_refl es = λ p t f. (t, (f, inl refl))
-
-  on_trans : (a b c : List (Pointer × I)) → LeadsOn place n a b → LeadsOn place n b c → LeadsOn place n a c
-  on_trans a b c g h = λ p t f.
-      let x = g p t f in
-      let y = h p x.0 x.1.0 in
-      (y.0, (y.1.0, ⊎_elim (λ e. by p t x.0 y.0 e x.1.1) (λ l. inr l) y.1.1))
-    where
-      by : (p : Pointer) (t u v : I) → v ≡ u → (u ≡ t) ⊎ (n ≤ place u) → (v ≡ t) ⊎ (n ≤ place v)
-      by p t u v e (inl d) = inl (e ∙ d)
-      by p t u v e (inr l) = inr (subst (λ k. n ≤ place k) (sym e) l)
-
-  abbrev There : Pointer → I → List (Pointer × I) → Type 0
-  There q t more = (u : I) × ((found more q ≡ Some u) × ((u ≡ t) ⊎ (n ≤ place u)))
-
-  on_insert : (es : List (Pointer × I)) (p : Pointer) (id : I) → n ≤ place id → LeadsOn place n es (pointed es (Some p) id)
-  on_insert [] p id l = λ q t f. absurd (true≢false (sym (ap is_some f)))
-  on_insert (e ∷ es) p id l = λ q t f. by q t (on_insert es p id l q t) (same_pointer p e.0) (same_pointer q e.0) refl f
-    where
-      by : (q : Pointer) (t : I) → (found es q ≡ Some t → There q t (pointed es (Some p) id)) → (b c : Bool) → same_pointer q e.0 ≡ c
-          → found (e ∷ es) q ≡ Some t → There q t (if b then (e.0, id) ∷ es else e ∷ pointed es (Some p) id)
-      by q t others true true m f = (id, (ap (λ b. if b then Some id else found es q) m, inr l))
-      by q t others true false m f =
-          let was : found es q ≡ Some t = sym (ap (λ b. if b then Some e.1 else found es q) m) ∙ f in
-          (t, (ap (λ b. if b then Some id else found es q) m ∙ was, inl refl))
-      by q t others false true m f =
-          let w : Some e.1 ≡ Some t = sym (ap (λ b. if b then Some e.1 else found es q) m) ∙ f in
-          (e.1, (ap (λ b. if b then Some e.1 else found (pointed es (Some p) id) q) m, inl cc))
-      by q t others false false m f =
-          let r = others (sym (ap (λ b. if b then Some e.1 else found es q) m) ∙ f) in
-          (r.0, (ap (λ b. if b then Some e.1 else found (pointed es (Some p) id) q) m ∙ r.1.0, r.1.1))
-
-  on_pointed : (es : List (Pointer × I)) (p : Option Pointer) (id : I) → n ≤ place id → LeadsOn place n es (pointed es p id)
-  on_pointed es None id l = on_refl es
-  on_pointed es (Some p) id l = on_insert es p id l
-
-on_sooner : {I : Type 0} (place : I → ℕ) (n m : ℕ) (a b : List (Pointer × I)) → n ≤ m → LeadsOn place m a b → LeadsOn place n a b
-on_sooner place n m a b le h = λ p t f. let x = h p t f in (x.0, (x.1.0, ⊎_elim (λ e. inl e) (λ l. inr (omega arith)) x.1.1))
-
--- an arena with no entry lost, whose nodes lead on
-pub record Onward {E I : Type 0} (place : I → ℕ) (a b : Sourced E I) : Type 0 where
-  pub grown : length a.entries ≤ length b.entries
-  pub ways : LeadsOn place (length a.entries) a.map b.map
-
-module _ {E I : Type 0} (place : I → ℕ) where
-  pub onward_refl : (a : Sourced E I) → Onward place a a
-  onward_refl a = record { grown = omega arith; ways = on_refl place _ _ }
-
-  onward_trans : (a b c : Sourced E I) → Onward place a b → Onward place b c → Onward place a c
-  onward_trans a b c g h =
-      let n = g.grown in
-      let m = h.grown in record { grown = omega arith; ways = on_trans place _ _ _ _ g.ways (on_sooner place _ _ _ _ n h.ways) }
-
-  -- one entry more, with a number that is its place
-  onward_entry : (number : ℕ → I) → ((n : ℕ) → place (number n) ≡ n) → (a : Sourced E I) (x : E) (source : Option Pointer)
-      → Onward place a (with_entry number a x source)
-  onward_entry number placed a x source =
-      let grown = length-append a.entries (x ∷ []) in
-      let at = placed (length a.entries) in
-      record { grown = omega arith; ways = on_pointed place _ a.map source (number (length a.entries)) (omega (arith, at)) }
-
-  -- and one that was made up, to which no node leads
-  pub onward_made : (a : Sourced E I) (x : E) (source : Option Pointer) → Onward place a (with_made a x source)
-  onward_made a x source =
-      let grown = length-append a.entries (x ∷ []) in record { grown = omega arith; ways = on_refl place _ _ }
-
--- an entry, where there is room for one
-abbrev pub made : {E I : Type 0} → (ℕ → I) → Bool → E → Option Pointer → Sourced E I → Checked I × Sourced E I
-made number t x source a = if t then (Ok (number (length a.entries)), with_entry number a x source) else (Err Full, a)
-
-abbrev pub made_up : {E I : Type 0} → (ℕ → I) → Bool → E → Option Pointer → Sourced E I → Checked I × Sourced E I
-made_up number t x source a = if t then (Ok (number (length a.entries)), with_made a x source) else (Err Full, a)
-
--- what is stored
-
-abbrev pub expr_place : ExprId → ℕ
-expr_place i = i.0
-
-abbrev pub label_place : LabelId → ℕ
-label_place n = n.0
-
-abbrev pub pat_place : PatId → ℕ
-pat_place p = p.0
-
-abbrev pub type_place : TypeRefId → ℕ
-type_place i = i.0
-
-abbrev pub lifetime_place : LifetimeRefId → ℕ
-lifetime_place i = i.0
-
--- what owns bindings stays, and it is stored of each that came too
-abbrev pub OwnersStay : Stored → Stored → Type 0
-OwnersStay a b = MayBeOwned a → Prefix a.bindings.owners b.bindings.owners × MayBeOwned b
-
-pub record Went (a b : Stored) : Type 0 where
-  pub exprs : Onward expr_place a.exprs b.exprs
-  pub labels : Onward label_place a.labels b.labels
-  pub pats : Onward pat_place a.pats b.pats
-  pub types : Onward type_place a.types b.types
-  pub lifetimes : Onward lifetime_place a.lifetimes b.lifetimes
-  pub bindings : Prefix a.bindings.entries b.bindings.entries
-  pub owners : OwnersStay a b
-
-pub went_refl : (a : Stored) → Went a a
-went_refl a = record {
-  exprs = onward_refl expr_place _;
-  labels = onward_refl label_place _;
-  pats = onward_refl pat_place _;
-  types = onward_refl type_place _;
-  lifetimes = onward_refl lifetime_place _;
-  bindings = prefix_refl _;
-  owners = λ m. (prefix_refl _, m);
-}
-
-pub stays_refl : (a : Stored) → Stays a a
-stays_refl a = record {
-  extends = extends_refl a;
-  bindings = prefix_refl _;
-  owners = prefix_refl _;
-  exprs = on_refl expr_place _ _;
-  labels = on_refl label_place _ _;
-  pats = on_refl pat_place _ _;
-  types = on_refl type_place _ _;
-  lifetimes = on_refl lifetime_place _ _;
-}
-
--- the arenas are those of before, and so are the bindings and what owns them
-abbrev Arenas : Stored → Stored → Type 0
-Arenas a b = (b.exprs ≡ a.exprs) × ((b.labels ≡ a.labels) × ((b.pats ≡ a.pats) × ((b.types ≡ a.types) × ((b.lifetimes ≡ a.lifetimes)
-    × ((b.bindings.entries ≡ a.bindings.entries) × (b.bindings.owners ≡ a.bindings.owners))))))
-
-went_same : (a b : Stored) → Arenas a b → Went a b
-went_same a b e = rw (e.0, e.1.0, e.1.1.0, e.1.1.1.0, e.1.1.1.1.0, e.1.1.1.1.1.0, e.1.1.1.1.1.1) (record {
-  exprs = onward_refl expr_place _;
-  labels = onward_refl label_place _;
-  pats = onward_refl pat_place _;
-  types = onward_refl type_place _;
-  lifetimes = onward_refl lifetime_place _;
-  bindings = prefix_refl _;
-  owners = λ m. (prefix_refl _, m);
-})
-
-pub went_trans : (a b c : Stored) → Went a b → Went b c → Went a c
-went_trans a b c g h = record {
-  exprs = onward_trans expr_place _ _ _ g.exprs h.exprs;
-  labels = onward_trans label_place _ _ _ g.labels h.labels;
-  pats = onward_trans pat_place _ _ _ g.pats h.pats;
-  types = onward_trans type_place _ _ _ g.types h.types;
-  lifetimes = onward_trans lifetime_place _ _ _ g.lifetimes h.lifetimes;
-  bindings = prefix_trans g.bindings h.bindings;
-  owners = λ m. let x = g.owners m in let y = h.owners x.1 in (prefix_trans x.0 y.0, y.1);
-}
-
--- steps
-
--- what is said of an answer, of what was stored before
-abbrev pub Low : Type 0 → Type 1
-Low A = Stored → A → Type 0
-
-abbrev pub any : {A : Type 0} → Low A
-any s a = Unit {0}
-
--- it is an entry that came since
-abbrev pub since : Low ExprId
-since s i = length s.exprs.entries ≤ i.0
-
--- a pattern, and a type, that came since
-abbrev pub new_pat : Low PatId
-new_pat s p = length s.pats.entries ≤ p.0
-
-abbrev pub new_type : Low TypeRefId
-new_type s i = length s.types.entries ≤ i.0
-
-abbrev pub Goes : {A : Type 0} → Low A → Builder → Checked A → Builder → Type 0
-Goes L b (Ok a) c = Went b.stored c.stored × L b.stored a
-Goes L b (Err e) c = Went b.stored c.stored
-
-pub record Leading {A : Type 0} (L : Low A) (p : Lowering A) : Type 0 where
-  pub goes : (b : Builder) → Goes L b (p b).0 (p b).1
-
-went_of : {A : Type 0} (L : Low A) (b : Builder) (o : Checked A) (c : Builder) → Goes L b o c → Went b.stored c.stored
-went_of L b (Ok a) c h = h.0
-went_of L b (Err e) c h = h
-
-pub went : {A : Type 0} {L : Low A} {p : Lowering A} → Leading L p → (b : Builder) → Went b.stored (p b).1.stored
-went {L = L} {p = p} h b = went_of L b (p b).0 (p b).1 (h.goes b)
-
--- one after another, of which the first says L and, after that, the other M
-pub in_turn : {A B : Type 0} {L : Low A} {p : Lowering A} {f : A → Lowering B} (M : A → Low B) (N : Low B)
-    → ((s t : Stored) (a : A) (x : B) → Went s t → L s a → M a t x → N s x)
-    → Leading L p → ((a : A) → Leading (M a) (f a)) → Leading N (p >>= f)
-in_turn {A = A} {B = B} {L = L} {p = p} {f = f} M N so h k = record { goes = λ b. first b (p b).0 (p b).1 (h.goes b) }
-  where
-    second : (b b' : Builder) (a : A) → Went b.stored b'.stored → L b.stored a → (o : Checked B) (c : Builder) → Goes (M a) b' o c
-        → Goes N b o c
-    second b b' a x l (Ok e) c y = (went_trans _ _ _ x y.0, so _ _ a e x l y.1)
-    second b b' a x l (Err e) c y = went_trans _ _ _ x y
-
-    first : (b : Builder) (o : Checked A) (c : Builder) → Goes L b o c → Goes N b (go_on o c f).0 (go_on o c f).1
-    first b (Ok a) c x = second b c a x.0 x.1 (f a c).0 (f a c).1 ((k a).goes c)
-    first b (Err e) c x = x
-
-pub then' : {A B : Type 0} {L : Low A} {p : Lowering A} {f : A → Lowering B} → Leading L p
-    → ((a : A) → Leading any (f a)) → Leading any (p >>= f)
-then' h k = in_turn (λ a. any) any (λ s t a x w l y. tt) h k
-
--- and what it answers came since
-pub makes : {A : Type 0} {L : Low A} {p : Lowering A} {f : A → Lowering ExprId} → Leading L p
-    → ((a : A) → Leading since (f a)) → Leading since (p >>= f)
-makes h k = in_turn (λ a. since) since (λ s t a x w l y. let grown = w.exprs.grown in omega (arith, grown, y)) h k
-
-pub makes_pat : {A : Type 0} {L : Low A} {p : Lowering A} {f : A → Lowering PatId} → Leading L p
-    → ((a : A) → Leading new_pat (f a)) → Leading new_pat (p >>= f)
-makes_pat h k = in_turn (λ a. new_pat) new_pat (λ s t a x w l y. let grown = w.pats.grown in omega (arith, grown, y)) h k
-
-pub makes_type : {A : Type 0} {L : Low A} {p : Lowering A} {f : A → Lowering TypeRefId} → Leading L p
-    → ((a : A) → Leading new_type (f a)) → Leading new_type (p >>= f)
-makes_type h k = in_turn (λ a. new_type) new_type (λ s t a x w l y. let grown = w.types.grown in omega (arith, grown, y)) h k
-
--- what is said less of the answer
-pub weaker : {A : Type 0} {L M : Low A} {p : Lowering A} → ((s : Stored) (a : A) → L s a → M s a) → Leading L p → Leading M p
-weaker {A = A} {L = L} {M = M} {p = p} less h = record { goes = λ b. by b (p b).0 (p b).1 (h.goes b) }
-  where
-    by : (b : Builder) (o : Checked A) (c : Builder) → Goes L b o c → Goes M b o c
-    by b (Ok a) c x = (x.0, less b.stored a x.1)
-    by b (Err e) c x = x
-
-pub anyway : {A : Type 0} {L : Low A} {p : Lowering A} → Leading L p → Leading any p
-anyway h = weaker (λ s a l. tt) h
-
-pub leading_pure : {A : Type 0} (a : A) → Leading any (pure a)
-leading_pure a = record { goes = λ b. (went_same _ _ (refl, (refl, (refl, (refl, (refl, (refl, refl)))))), tt) }
+use Rattle.hir_lower.proofs.Onward.{on_trans, on_insert, onward_refl, onward_entry, onward_made, made, made_up, expr_place, label_place}
+use Rattle.hir_lower.proofs.Onward.{pat_place, type_place, lifetime_place, Went, went_refl, went_same, Low, any, since, new_pat, new_type}
+use Rattle.hir_lower.proofs.Onward.{Goes, Leading, then', leading_pure}
 
 pub leading_count_out : {A : Type 0} → Leading any (count_out {A = A})
 unfolding count_out
 leading_count_out = record { goes = λ b. went_same _ _ (refl, (refl, (refl, (refl, (refl, (refl, refl)))))) }
+
+-- what a definition of a macro counts and opens is nothing stored
+counted_leads : (t : Bool) → Leading any (if t then pure tt else count_out {A = Unit {0}})
+counted_leads true = leading_pure tt
+counted_leads false = leading_count_out
+
+pub leading_define_macro : (k : ℕ) (d : Option MacroDefId) → Leading any (define_form k d)
+unfolding define_form count_def
+leading_define_macro k d = then' (counted_leads (nat_lt (suc k) (2 ^ 32))) (λ u. leading_pure (Some (defined d)))
+
+leading_open_macro : (d : MacroDefId) → Leading any (open_macro d)
+unfolding open_macro
+leading_open_macro d = record { goes = λ b. (went_same _ _ (refl, (refl, (refl, (refl, (refl, (refl, refl)))))), tt) }
 
 pub leading_report : (d : ExpressionStoreDiagnostics) → Leading any (report d)
 unfolding report storing.report
@@ -372,6 +148,14 @@ leading_leave false i = then' (leading_record i) (λ u. leading_outside)
 pub leading_close : Leading any close
 unfolding close
 leading_close = record { goes = λ b. (went_same _ _ (refl, (refl, (refl, (refl, (refl, (refl, refl)))))), tt) }
+
+leading_inside_macro : {A : Type 0} (d : MacroDefId) {p : Lowering A} → Leading any p → Leading any (inside_macro d p)
+unfolding inside_macro
+leading_inside_macro d h = then' (leading_open_macro d) (λ u. then' h (λ x. then' leading_close (λ v. leading_pure x)))
+
+pub leading_behind : {A : Type 0} (s : Stmt) {p : Lowering A} → Leading any p → Leading any (behind s p)
+leading_behind (tree.macro_stmt k (Some d)) h = leading_inside_macro d h
+leading_behind s h = h
 
 pub leading_jump : (j : Option Jump) → Leading any (jump_target j)
 unfolding jump_target report storing.report

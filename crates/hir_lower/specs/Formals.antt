@@ -1,32 +1,22 @@
 -- What the parameters of a body become.
 use Rattle.std.specs.Prelude.{Bool, true, false, List, [], Option, Some, None}
-use Rattle.hir_syntax.specs.declared.ast.ElseBranch.TheOpen.{PatKind-F}
-use Rattle.hir_syntax.specs.declared.ast.Name.{Name as AstName}
 use Rattle.hir_syntax.specs.declared.params.ParamList.{ParamList as AstParamList}
-use Rattle.hir_syntax.specs.declared.pats.Pat.{Pat as AstPat}
-use Rattle.hir_binding.specs.declared.binding.BindingAnnotation.TheVariants.{Unannotated}
 use Rattle.hir_store.specs.Pointers.{Pointer}
-use Rattle.hir_store.specs.Range.{HasExpr, HasPatOption, HasPats}
+use Rattle.hir_store.specs.Range.{HasExpr, HasPats}
 use Rattle.hir_store.specs.Stored.{Stored}
 use Rattle.hir_store.specs.declared.hir.CoroutineKind.{CoroutineKind}
 use Rattle.hir_store.specs.declared.ids.BindingId.{BindingId}
 use Rattle.hir_store.specs.declared.ids.DefWithBodyId.{DefWithBodyId}
 use Rattle.hir_store.specs.declared.ids.ExprId.{ExprId}
 use Rattle.hir_store.specs.declared.ids.DefWithBodyId.TheVariants as owner
-use Rattle.hir_store.specs.declared.ids.PatId.{PatId}
 use Rattle.hir_store.specs.declared.diagnostics.AwaitLocation.TheVariants as location
-use Rattle.hir_env.specs.PatLayers.{PatKindLayer}
 use Rattle.hir_env.specs.Spot.{Spot}
 use Rattle.hir_env.specs.declared.place.Place.{Place}
-use Rattle.hir_env.specs.Whole.{answered_pat, pointer_at, written}
 use Rattle.hir_env.specs.Formals.{answered_formals, are_bare}
 use Rattle.hir_env.specs.Answered as tree
 use Rattle.hir_env.specs.Answered.{Formal, Formals, OptionExpr, SelfFormal}
-use Rattle.hir_env.specs.Answering.{name_written}
-use Rattle.hir_lower_form.specs.Builder.{Builder}
-use Rattle.hir_lower_form.specs.Lowering.{Checked, Lowering, ◌>>=◌, Lowers, owning, pure}
+use Rattle.hir_lower_form.specs.Lowering.{Lowering, ◌>>=◌, owning, pure}
 use Rattle.hir_lower_form.specs.Preludes.{lower_handed}
-use Rattle.hir_lower_pat.specs.Methods.{use_with}
 use Rattle.hir_one_result.specs.Formals.{in_function}
 pub use Rattle.hir_one_result.specs.Formals.{Given, InFunction, Received, each_formal, formals_read, lower_formal, lower_self}
 unfoldable pub use Rattle.hir_one_result.specs.Formals.{lower_formals}
@@ -48,9 +38,6 @@ behind_self kind skipped self fs e = do
 -- what is in it
 abbrev pub HasInFunction : Stored → InFunction → Type 0
 HasInFunction s r = HasReceived s r.0 × HasExpr s r.1.1
-
-abbrev pub LowersFormal : Formal → Builder → Checked (Option PatId) → Builder → Type 0
-LowersFormal f old result new = Lowers HasPatOption (lower_formal false f) old result new
 
 -- the node of `self`, where that is kept
 abbrev pub self_source : SelfFormal → Option Pointer
@@ -83,32 +70,3 @@ abbrev pub item_formals : Spot → DefWithBodyId → Option AstParamList → Boo
 item_formals at item ps has_body =
     let bare = are_bare (at.answers.container item) has_body in
     formals_if (are_read (at.answers.skip item) item) (answered_formals (outside_the_body at) bare ps)
-
--- ---- where only a plain name or `_` may stand
-
--- What a written pattern is there: what it is elsewhere, a name that binds, or a fault.
-pub data Bare : Type 0 where
-  as_elsewhere : Bare
-  plain_name : Option AstName → Bare
-  faulty : Bare
-
--- without `ref`, `mut` and `@`
-abbrev pub is_bare_ident : Bool → Bool → Option AstPat → Bool
-is_bare_ident false false None = true
-is_bare_ident _ _ _ = false
-
-abbrev pub name_if : Bool → Option AstName → Bare
-name_if true n = plain_name n
-name_if false n = faulty
-
-abbrev pub bare_kind : PatKindLayer written → Bare
-bare_kind (PatKind-F.IdentPat n is_ref is_mut p) = name_if (is_bare_ident is_ref is_mut p) n
-bare_kind PatKind-F.WildcardPat = as_elsewhere
-bare_kind _ = faulty
-
-abbrev pub formal_as : Spot → AstPat → Bare → Formal
-formal_as at p as_elsewhere = tree.formal (tree.some_pat (answered_pat at p))
-formal_as at p (plain_name n) =
-    let use_ = use_with at n Unannotated in
-    tree.formal (tree.some_pat (tree.bind_pat (pointer_at at p.id p.range) use_ (name_written n) tree.no_pat))
-formal_as at p faulty = tree.fault_formal (pointer_at at p.id p.range)

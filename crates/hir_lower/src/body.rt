@@ -472,29 +472,29 @@ fn body_steps<E: LowerEnv>(
 /// Lowers the body of an item (upstream's function of this name). With `is_async_fn` or `is_gen_fn` it is the body of such a
 /// function, and so a coroutine.
 ///
-/// The stored body does what the written one does, for every answerer and every number of turns that a loop may take, and so does
-/// each body inside it or inside the pattern of a parameter. That of a function with one of the flags makes its coroutine, and is
-/// the first of these bodies inside: it begins with a `let` of each parameter, `self` first, and then does what the written body
-/// does. Each expression that one of these reaches, or a literal or a side of a range in a pattern is, is reached in one way only;
-/// so is each type that the expressions and patterns reach, and each pattern that the parameters, as the outside hands them in, the
-/// expressions and types do. Store, source map and diagnostics are one result of the parameters, the flags and the tree: what is
-/// stored stands for them and no more is stored, each expression and pattern with its source, all in the range of the one root; the
-/// source map leads from each written expression and label to what it became, from the nodes of patterns, types and lifetimes to
-/// them, from calls of macros to the pattern or type that they stand for, from the values and patterns of a record's kept fields to
-/// their fields, and from nothing else; each binding is owned by
-/// the innermost closure, coroutine, `const` block, length or argument around it, and where it stands in none of these, by nothing,
-/// as `self` and all that the outside hands its arguments to; the numbers of blocks come in the order of entering, and so do the
-/// calls of macros that are entered, each behind what else was expanded for it; the diagnostics are those that body, parameters and
-/// tree owe. Each name that is made up is of one binding or label at most, or of a parameter as it is handed in and of what its
-/// coroutine begins with. Each number in store and source map is in range. A skipped body is a
-/// missing expression, no coroutine, and owes no fault of its own. `Memory` where a growth was refused; `Full` only where
-/// parameters and tree become more expressions, labels, patterns, bindings, types or lifetimes than the arenas have room for, or a
-/// path in them has more `super`s, a pattern more parts in front of its two dots, or they more names that are made up, than 32 bits
-/// count; never `Failed`. Each parameter reads back as it is written, in order, and `self` is the binding of its name, of which
-/// nothing is wrong. The outside hands its arguments to these, or, where the body is a coroutine, to a `mut` name for each at the
-/// node of its pattern, if it has one, and to a `self` of its own. Parameters are read of functions alone, and of each item that is
-/// skipped, `self` first and then those that no condition disables. In an extern block, and in a trait where the function has no
-/// body, a parameter is a plain name or `_`, and any other is missing and owes a fault. Of a skipped body each is missing.
+/// The stored body does what the written one does, for every answerer and every number of turns that a loop may take, and so does each body
+/// inside it or inside the pattern of a parameter. That of a function with one of the flags makes its coroutine, and is the first of these
+/// bodies inside: it begins with a `let` of each parameter, `self` first, and then does what the written body does. Each expression that
+/// one of these reaches, or a literal or a side of a range in a pattern is, is reached in one way only; so is each type that the
+/// expressions and patterns reach, and each pattern that the parameters, as the outside hands them in, the expressions and types do. Store,
+/// source map and diagnostics are one result of the parameters, the flags and the tree: what is stored stands for them and no more is
+/// stored, each expression and pattern with its source, all in the range of the one root; the definition of a macro stands among the
+/// statements of its block exactly where the environment knows its number, with that; the source map leads from each written expression and
+/// label to what it became, from the nodes of patterns, types and lifetimes to them, from calls of macros to the expression, pattern or
+/// type that they stand for, from the values and patterns of a record's kept fields to their fields, and from nothing else; each binding is
+/// owned by the innermost closure, coroutine, `const` block, length or argument around it, and where it stands in none of these, by
+/// nothing, as `self` and all that the outside hands its arguments to; the numbers of blocks come in the order of entering, and so do the
+/// calls of macros that are entered, each behind what else was expanded for it; the diagnostics are those that body, parameters and tree
+/// owe. Each name that is made up is of one binding or label at most, or of a parameter as it is handed in and of what its coroutine begins
+/// with. Each number in store and source map is in range. A skipped body is a missing expression, no coroutine, and owes no fault of its
+/// own. `Memory` where a growth was refused; `Full` only where parameters and tree become more expressions, labels, patterns, bindings,
+/// types or lifetimes than the arenas have room for, or a path in them has more `super`s, a pattern more parts in front of its two dots, a
+/// block more definitions of one name by `macro_rules`, or they more names that are made up, than 32 bits count; never `Failed`. Each
+/// parameter reads back as it is written, in order, and `self` is the binding of its name, of which nothing is wrong. The outside hands its
+/// arguments to these, or, where the body is a coroutine, to a `mut` name for each at the node of its pattern, if it has one, and to a
+/// `self` of its own. Parameters are read of functions alone, and of each item that is skipped, `self` first and then those that no
+/// condition disables. In an extern block, and in a trait where the function has no body, a parameter is a plain name or `_`, also behind
+/// calls of macros, and any other is missing and owes a fault. Of a skipped body each is missing.
 pub fn lower_body<E: LowerEnv>(
     alloc: Global,
     db: &E,

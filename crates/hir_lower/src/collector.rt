@@ -234,12 +234,12 @@ impl<'db, E: LowerEnv> ExprCollector<'db, E> {
     /// In each later store that keeps the problems of its bindings its expression does what the constant does, for every
     /// answerer and every number of turns that a loop may take; what is stored stands for the tree, and faults, blocks,
     /// calls of macros and ways of the source map come behind those of before. Each expression, type and pattern that it reaches
-    /// came with it, and is reached in one way only. Each binding that came is owned by the innermost closure, coroutine, `const` block, length or
-    /// argument around it, and where it stands in none of these, by the constant. `Memory` where a growth was refused, `Full`
-    /// where an arena has no room for the tree, or a path in the tree has more `super`s, a pattern more parts in front of its
-    /// two dots, or more names are made up, than 32 bits count, `Failed` after an error, and then nothing changes. All that was
-    /// stored is stored still, unless memory was refused, each binding with what owns it, and a node leads to where it led, or
-    /// to what came since.
+    /// came with it, and is reached in one way only. Each binding that came is owned by the innermost closure, coroutine, `const`
+    /// block, length or argument around it, and where it stands in none of these, by the constant. `Memory` where a growth was
+    /// refused, `Full` where an arena has no room for the tree, or a path in the tree has more `super`s, a pattern more parts in
+    /// front of its two dots, a block more definitions of one name by `macro_rules`, or more names are made up, than 32 bits
+    /// count, `Failed` after an error, and then nothing changes. All that was stored is stored still, unless memory was refused,
+    /// each binding with what owns it, and a node leads to where it led, or to what came since.
     pub fn lower_const_arg(&mut self, arg: &ast::ConstArg) -> Result<ConstRef, LowerError>
         ensures calls { Calls self.old.failed self.old.state result self.new.state self.new.failed }
         ensures rooted { let e = expr_part (spot_at (E.answers self.old.db.now) self.old.place) arg.now in
@@ -273,11 +273,13 @@ impl<'db, E: LowerEnv> ExprCollector<'db, E> {
     /// beside them, and begins where they say. Where no use tree stands around it or its trait, no segment of either is missing,
     /// and the trait has no qualified type, its names are those of the written segments that bear one. `Memory` where a
     /// growth was refused, `Full` where an arena has no room for its types, lifetimes and constants and the patterns in
-    /// them, or it has more `super`s, a pattern in it more parts in front of its two dots, or more names are made up, than
-    /// 32 bits count, `Failed` after an error. All that was stored is stored still, unless memory was refused, and nothing
-    /// comes behind it but the path's types, its lifetimes and its constants, each of which is recorded as a root, also where
-    /// the path is refused, with the patterns and bindings in them. Each of these bindings is owned by the innermost closure,
-    /// coroutine, `const` block, length or argument around it.
+    /// them, or it has more `super`s, a pattern in it more parts in front of its two dots, a block in it more definitions of one
+    /// name by `macro_rules`, or more names are made up, than 32 bits count, `Failed` after an error. All that was stored is
+    /// stored still, unless memory was refused, and nothing comes behind it but the path's types, its lifetimes and its
+    /// constants, each of which is recorded as a root, with the patterns and bindings in them, what is wrong in it, the blocks
+    /// in its constants, and the calls of macros that are entered, each behind what else was expanded for it; so it is also
+    /// where the path is refused. Each of these bindings is owned by the innermost closure, coroutine, `const` block, length or
+    /// argument around it.
     pub fn lower_path<I: ImplTraitLower>(
         &mut self,
         path: &ast::Path,

@@ -1,20 +1,17 @@
 //! The parameters of a body.
 
 ghost use Rattle.std.specs.Prelude.{◌≡◌, [], Some, true, option_copied};
-ghost use Rattle.hir_syntax.specs.declared.pats.PatKind.{out-PatKind};
 ghost use Rattle.hir_store.specs.Range.{HasBindingId, HasPatOption, HasPats};
-ghost use Rattle.hir_env.specs.Answered as tree;
-ghost use Rattle.hir_env.specs.Formals.{answered_formal, answered_formals, answered_self, are_bare, formal_of, formals_part};
+ghost use Rattle.hir_env.specs.Formals.{answered_formal, answered_formals, answered_self, are_bare, formal_part, formals_part};
 ghost use Rattle.hir_env.specs.Formals.{self_mode, self_use};
 ghost use Rattle.hir_env.specs.Pats.{name_hygiene};
 ghost use Rattle.hir_env.specs.Spot.{in_file, ptr};
-ghost use Rattle.hir_env.specs.TypePats.{bare_formal};
 ghost use Rattle.hir_env.specs.Whole.{pat_part};
 ghost use Rattle.hir_lower_form.specs.Lowering.{Lowers, alloc_binding};
+ghost use Rattle.hir_lower_form.specs.Methods.{LowersTop};
 ghost use Rattle.hir_lower_form.specs.Pats.{new_binding};
 ghost use Rattle.hir_lower_handlers.specs.Spots.{spot_at};
-ghost use Rattle.hir_lower.specs.Formals.{HasReceived, HasSelf, LowersFormal, bare_kind, each_formal, formal_as};
-ghost use Rattle.hir_lower.specs.Formals.{is_bare_ident, lower_formal, lower_formals, lower_self, self_source};
+ghost use Rattle.hir_lower.specs.Formals.{HasReceived, HasSelf, each_formal, lower_formal, lower_formals, lower_self, self_source};
 
 use hir_base::node::{AstPtr, InFile, NodeId, TextRange};
 use hir_base::{Boxed, Seq, Text};
@@ -22,7 +19,7 @@ use hir_env::env::LowerEnv;
 use hir_env::place::Place;
 use hir_lower_form::builder::BodyBuilder;
 use hir_lower_form::parts::site;
-use hir_lower_knot::knot::{bare_name, top_pat};
+use hir_lower_knot::knot::{bare_top, top_pat};
 use hir_store::diagnostics::ExpressionStoreDiagnostics;
 use hir_store::fault::StoreFault;
 use hir_store::hir::{Binding, BindingAnnotation};
@@ -48,73 +45,6 @@ fn pointer(place: Place, node: NodeId, range: TextRange) -> InFile<AstPtr>
     }
 }
 
-/// A pattern where only a plain name or `_` may stand.
-fn fault(state: &mut BodyBuilder, at: InFile<AstPtr>) -> Result<Option<PatId>, StoreFault>
-    ensures { LowersFormal (tree.fault_formal at) state.old result state.new }
-{
-    state.report(ExpressionStoreDiagnostics::PatternArgInExternFn { node: at })?;
-    Ok(Some(state.missing_pat()?))
-}
-
-/// Whether a name stands there without `ref`, `mut` and `@`.
-fn is_alone(is_ref: bool, is_mut: bool, part: &Option<Boxed<ast::Pat>>) -> bool
-    ensures { result ≡ is_bare_ident is_ref is_mut part.now }
-{
-    match part {
-        None => !is_ref && !is_mut,
-        Some(_) => false,
-    }
-}
-
-/// The pattern of a parameter, by its kind, where only a plain name or `_` may stand.
-fn bare_kind_form<E: LowerEnv>(
-    alloc: Global,
-    env: &E,
-    place: Place,
-    state: &mut BodyBuilder,
-    node: &ast::Pat,
-    whole: &Option<Boxed<ast::Pat>>,
-) -> Result<Option<PatId>, StoreFault>
-    requires { whole.now ≡ Some node.now }
-    ensures { let at = spot_at (E.answers env.now) place in
-        LowersFormal (formal_as at node.now (bare_kind (out-PatKind node.now.kind))) state.old result state.new }
-{
-    let at = pointer(place, node.id, node.range);
-    match &node.kind {
-        ast::PatKind::IdentPat {
-            name,
-            ref_,
-            mut_,
-            pat,
-        } => {
-            if is_alone(*ref_, *mut_, pat) {
-                Ok(Some(bare_name(alloc, env, place, state, at, name)?))
-            } else {
-                fault(state, at)
-            }
-        }
-        ast::PatKind::WildcardPat => Ok(Some(top_pat(alloc, env, place, state, whole)?)),
-        _ => fault(state, at),
-    }
-}
-
-/// The pattern of a parameter where only a plain name or `_` may stand.
-#[tactic(auto, using(crate::proofs::BareFormals::bare_is))]
-fn bare_form<E: LowerEnv>(
-    alloc: Global,
-    env: &E,
-    place: Place,
-    state: &mut BodyBuilder,
-    part: &Option<Boxed<ast::Pat>>,
-) -> Result<Option<PatId>, StoreFault>
-    ensures { LowersFormal (bare_formal (pat_part (spot_at (E.answers env.now) place) part.now)) state.old result state.new }
-{
-    match part {
-        None => Ok(Some(state.missing_pat()?)),
-        Some(node) => bare_kind_form(alloc, env, place, state, node.get(), part),
-    }
-}
-
 /// The pattern of a parameter that is kept.
 fn kept_form<E: LowerEnv>(
     alloc: Global,
@@ -123,19 +53,18 @@ fn kept_form<E: LowerEnv>(
     state: &mut BodyBuilder,
     bare: bool,
     part: &Option<Boxed<ast::Pat>>,
-) -> Result<Option<PatId>, StoreFault>
+) -> Result<PatId, StoreFault>
     ensures { let at = spot_at (E.answers env.now) place in
-        LowersFormal (formal_of bare (pat_part at part.now)) state.old result state.new }
+        LowersTop (formal_part bare (pat_part at part.now)) state.old result state.new }
 {
     if bare {
-        bare_form(alloc, env, place, state, part)
+        bare_top(alloc, env, place, state, part)
     } else {
-        Ok(Some(top_pat(alloc, env, place, state, part)?))
+        top_pat(alloc, env, place, state, part)
     }
 }
 
 /// A parameter, none where a condition disables it. Of a skipped body its pattern isn't read.
-#[tactic(auto, using(crate::proofs::BareFormals::skip_kept))]
 fn formal<E: LowerEnv>(
     alloc: Global,
     env: &E,
@@ -158,7 +87,7 @@ fn formal<E: LowerEnv>(
             if skipped {
                 Ok(Some(state.missing_pat()?))
             } else {
-                kept_form(alloc, env, place, state, bare, &node.pat)
+                Ok(Some(kept_form(alloc, env, place, state, bare, &node.pat)?))
             }
         }
     }

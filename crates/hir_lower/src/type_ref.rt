@@ -83,13 +83,15 @@ fn type_steps<E: LowerEnv>(
 /// The stored type is what is written, with the node that each part came from. As many types and lifetimes are stored as the
 /// tree becomes, as many expressions, labels, patterns and bindings as its constants and the patterns of its types become, and
 /// nothing besides; the source map leads from the nodes of these to them, from calls of macros to the type or pattern that they stand
-/// for, and from nowhere else; each type, pattern and expression
-/// that the answered one reaches, or that a constant does, is reached in one way only. Each constant runs as it is written and is a
-/// root, in the order in which they are done, also one that the type doesn't reach; each binding is owned by the innermost closure,
-/// coroutine, `const` block, length or argument around it; the faults and the entered blocks are those of the constants; the calls of
-/// macros that are entered come in the order of entering, each behind what else was expanded for it. Each number in store and source map is in range. An `impl` stays one. `Memory` where a growth was refused; `Full` only where the tree becomes
-/// more types, lifetimes, expressions, labels, patterns or bindings than the arenas have room for, or a path in it has more `super`s,
-/// a pattern more parts in front of its two dots, or it more names that are made up, than 32 bits count; never `Failed`.
+/// for, and from nowhere else; each type, pattern and expression that the answered one reaches, or that a constant does, is reached in
+/// one way only. Each constant runs as it is written and is a root, in the order in which they are done, also one that the type doesn't
+/// reach; each binding is owned by the innermost closure, coroutine, `const` block, length or argument around it; the faults are those
+/// of the constants, and of calls whose macro isn't found, and the entered blocks those of the constants; the calls of macros that are
+/// entered come in the order of entering, each behind what else was expanded for it. Each number in store and source map is in range.
+/// An `impl` stays one. `Memory` where a growth was refused; `Full` only where the tree becomes more types, lifetimes, expressions,
+/// labels, patterns or bindings than the arenas have room for, or a path in it has more `super`s, a pattern more parts in front of its
+/// two dots, a block more definitions of one name by `macro_rules`, or it more names that are made up, than 32 bits count; never
+/// `Failed`.
 pub fn lower_type_ref<E: LowerEnv>(
     alloc: Global,
     db: &E,

@@ -30,7 +30,7 @@ use Rattle.hir_lower_expr.specs.Calls.{There, call_at, call_in, expr_there, lowe
 -- ---- what is told, and then what stands there
 
 -- steps that end in something that is kept
-kept_after : (o : Checked (Unit {0})) (b : Builder) (s : Pointer) (q : ExprSteps)
+pub kept_after : (o : Checked (Unit {0})) (b : Builder) (s : Pointer) (q : ExprSteps)
     → go_on (go_on o b (λ _. q >>= (λ id. point s id >> pure id))).0 (go_on o b (λ _. q >>= (λ id. point s id >> pure id))).1
     (λ id. pure (Some id))
     ≡ go_on o b (λ _. some q >>= pointed s)
@@ -49,7 +49,7 @@ kept_after (Ok _) b s q = by (q b).0 (q b).1
     by (Err e) c = refl
 
 -- what nothing is left of
-gone_after : (o : Checked (Unit {0})) (b : Builder) (why : Gone) (s : Pointer)
+pub gone_after : (o : Checked (Unit {0})) (b : Builder) (why : Gone) (s : Pointer)
     → go_on (go_on (go_on o b (λ _. note_each why.entered)).0 (go_on o b (λ _. note_each why.entered)).1
     (λ _. report_condition why.condition)).0
     (go_on (go_on o b (λ _. note_each why.entered)).0 (go_on o b (λ _. note_each why.entered)).1

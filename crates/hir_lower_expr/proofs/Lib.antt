@@ -1,2 +1,6 @@
 pub mod CallLemmas
+pub mod ContentLemmas
+pub mod DefinitionLemmas
+pub mod RunLemmas
+pub mod SpliceLemmas
 pub mod StatementLemmas

@@ -1,350 +1,314 @@
--- What is in a block, one statement behind the other.
-use Rattle.std.proofs.Common.{arith, ◌≡◌, ◌∙◌, ap, refl, subst, sym, slice_index_or}
-use Rattle.std.proofs.Common.{Bool, false, List, [], ◌∷◌, Option, Some, None}
-use Rattle.std.specs.Prelude.{◌≤◌, ◌-◌, ◌≢◌, IsErrAnd, Result, Ok, Err, drop, length, take}
-use Rattle.hir_base.specs.declared.node.AstPtr.{AstPtr}
-use Rattle.hir_syntax.specs.declared.ast.BlockExpr.{BlockExpr as AstBlockExpr, out-BlockExpr}
+-- A statement that is written here, by its kind.
+use Rattle.std.proofs.Common.{arith, ◌≡◌, ◌∙◌, ap, refl, subst, sym, true≢false, ℕ}
+use Rattle.std.proofs.Common.{Bool, true, false, List, [], ◌∷◌, ◌++◌, Option, Some, None}
+use Rattle.std.specs.Prelude.{◌≢◌, IsErrAnd, Result, Ok, Err}
 use Rattle.hir_syntax.specs.declared.ast.ElseBranch.TheOpen.{ExprKind-F, StmtKind-F}
 use Rattle.hir_syntax.specs.declared.ast.Expr.{Expr as AstExpr}
-use Rattle.hir_syntax.specs.declared.ast.ExprKind.{out-ExprKind}
+use Rattle.hir_syntax.specs.declared.ast.Name.{Name as AstName}
 use Rattle.hir_syntax.specs.declared.ast.Stmt.{Stmt as AstStmt}
 use Rattle.hir_syntax.specs.declared.ast.StmtKind.{out-StmtKind, out-roll-StmtKind}
 use Rattle.hir_syntax.specs.declared.ast.StmtKind.TheVariants as kind
 use Rattle.hir_syntax.specs.declared.macros.MacroCall.{MacroCall as AstMacroCall}
-use Rattle.hir_store.specs.Pointers.{Pointer}
+use Rattle.hir_syntax.specs.declared.pats.Pat.{Pat as AstPat}
+use Rattle.hir_syntax.specs.declared.types.Type_.{Type_ as AstType_}
 use Rattle.hir_store.specs.Past.{join, past_present, past_statement, past_statements}
-use Rattle.hir_store.specs.Range.{Grows, HasExprOption, HasStatements}
+use Rattle.hir_store.specs.Pointers.{Pointer}
+use Rattle.hir_store.specs.Range.{Grows, HasExprOption, HasStatementOption, HasStatements}
 use Rattle.hir_store.specs.Stored.{Stored}
-use Rattle.hir_store.specs.declared.diagnostics.ExpressionStoreDiagnostics.TheVariants.{InactiveCode}
 use Rattle.hir_store.specs.declared.fault.StoreFault.{StoreFault}
 use Rattle.hir_store.specs.declared.fault.StoreFault.TheVariants.{Memory}
 use Rattle.hir_store.specs.declared.hir.Statement.{Statement}
+use Rattle.hir_store.specs.declared.hir.Statement.TheVariants as statement
 use Rattle.hir_store.specs.declared.ids.CfgId.{CfgId}
 use Rattle.hir_store.specs.declared.ids.ExprId.{ExprId}
+use Rattle.hir_store.specs.declared.ids.MacroDefId.{MacroDefId}
+use Rattle.hir_store.specs.declared.name.Name.{Name}
+use Rattle.hir_store.specs.declared.name.Name.TheVariants as name
 use Rattle.hir_env.specs.Answered as tree
-use Rattle.hir_env.specs.Answered.{Expr, Stmts}
-use Rattle.hir_env.specs.Answering.{asked_splice, ended, expr_kind, stmt_at, value_kind, whole_value}
-use Rattle.hir_env.specs.Calls.{append, nothing, stmts_of, value_or_none}
-use Rattle.hir_env.specs.Layers.{Defined, ExprKindLayer, Spliced, StmtKindLayer, StmtReading}
-use Rattle.hir_env.specs.Spot.{Spot, ptr, site_of}
-use Rattle.hir_env.specs.Whole.{answered, answered_value, into, pointer_at, read_stmt, read_value, reader, stmt_level, written}
-use Rattle.hir_env.proofs.Levels.{expr_is_level, stmt_is_level, value_is_level}
+use Rattle.hir_env.specs.Answered.{Stmt}
+use Rattle.hir_env.specs.Answering.{alone, asked_rules, asked_stmt, def_named, rules_named, stmt_at}
+use Rattle.hir_env.specs.Calls.{times}
+use Rattle.hir_env.specs.Layers.{Defined, ExprKindLayer, StmtKindLayer, StmtReading}
+use Rattle.hir_env.specs.Spot.{Spot, site_of}
+use Rattle.hir_env.specs.Whole.{expr_part, into, let_else_part, pat_part, pointer_at, reader, stmt_level, type_part, written}
+use Rattle.hir_env.specs.Wrapped.{AstLetElse}
+use Rattle.hir_env.specs.declared.place.Place.{Place}
 use Rattle.hir_lower_form.specs.Builder.{Builder}
-use Rattle.hir_lower_form.specs.Lower.{StoredContents, kept_part, lower_stmt, push_some}
-use Rattle.hir_lower_form.specs.Lowering.{Checked, HasFlag, Lowering, Lowers, SomeEnd, go_on, pure, report}
-use Rattle.hir_lower_form.specs.Methods.{MaybeLowersExpr, contents_at, flat, stmts_alone}
-use Rattle.hir_lower_form.specs.Nests.{Each}
-use Rattle.hir_lower_form.proofs.Flat.{flat_is}
+use Rattle.hir_lower_form.specs.Lower.{lower_stmt, push_some}
+use Rattle.hir_lower_form.specs.Lowering.{Checked, Lowering, Lowers, SomeEnd, go_on, pure}
+use Rattle.hir_lower_form.specs.Nests.{Claims, KidsOfValue}
 use Rattle.hir_lower_expr.specs.Calls.{call_in}
-use Rattle.hir_lower_expr.specs.Statements.{StmtsBehind, ValueBehind, enabled, expr_stmt, run_part, value_part}
+use Rattle.hir_lower_expr.specs.Runs.{Counts, DefinesBehind, StmtsBehind, StmtsExist, ValueExists, count_in, enabled, inside, lower_run}
+use Rattle.hir_lower_expr.specs.declared.runs.Run.{Run}
+use Rattle.hir_lower_expr.proofs.RunLemmas.{alone_on, grows_on, still_has}
+use Rattle.hir_lower_expr.proofs.SpliceLemmas.{disabled_on, flag_or}
 
--- ---- an expression in statement or tail place
+-- what is refused leaves nothing
+pub stmts_unplaced : (old new : Builder) (is : List Statement) (r : Checked (Unit {0})) (P : StoreFault → Type 0) → IsErrAnd r P
+    → StmtsExist old r is new
+stmts_unplaced old new is (Ok _) P h = absurd h
+stmts_unplaced old new is (Err e) P h = tt
 
--- what is no call stands for itself
-whole_at : (at : Spot) (k : ExprKindLayer written) (n : AstPtr) → call_in k ≡ None
-    → value_kind at.answers (reader at.answers (into at)) k n at.place []
-    ≡ whole_value (expr_kind at.answers (reader at.answers (into at)) k n at.place) []
-whole_at at (ExprKind-F.MacroExpr c) n h = cc
-whole_at at _ n h = refl
+pub value_unplaced : (old new : Builder) (is : List Statement) (r : Checked (Option ExprId)) (P : StoreFault → Type 0) → IsErrAnd r P
+    → ValueExists old r is new
+value_unplaced old new is (Ok _) P h = absurd h
+value_unplaced old new is (Err e) P h = tt
 
-pub value_whole : (at : Spot) (e : AstExpr) → call_in (out-ExprKind e.kind) ≡ None
-    → answered_value at [] e ≡ whole_value (answered at e) []
-value_whole at e h =
-    value_is_level at [] e ∙ (whole_at at (out-ExprKind e.kind) (ptr e.id e.range) h
-    ∙ ap (λ x. whole_value x []) (sym (expr_is_level at e)))
+abbrev reads : Spot → AstStmt → StmtKindLayer written → Defined → StmtReading
+reads at s k d = stmt_at at.answers (reader at.answers (into at)) k at.place (pointer_at at s.id s.range) d
 
--- and a call for nothing
-nothing_at : (at : Spot) (e : AstExpr) (k : ExprKindLayer written) (c : Option AstMacroCall) → call_in k ≡ Some c
-    → value_kind at.answers (reader at.answers (into at)) k (ptr e.id e.range) at.place []
-    ≡ asked_splice (pointer_at at e.id e.range) (at.answers.cfg (site_of (pointer_at at e.id e.range))) (nothing []) []
-nothing_at at e (ExprKind-F.MacroExpr None) c h = refl
-nothing_at at e (ExprKind-F.MacroExpr (Some x)) c h = refl
-nothing_at at e _ c h = cc
+level_of : (at : Spot) (s : AstStmt) (k : StmtKindLayer written) → out-StmtKind s.kind ≡ k → (λ d. stmt_level at d s) ≡ reads at s k
+level_of at s k h = ap (λ x. reads at s x) h
 
-pub value_nothing : (at : Spot) (e : AstExpr) (c : Option AstMacroCall) → call_in (out-ExprKind e.kind) ≡ Some c
-    → answered_value at [] e
-    ≡ asked_splice (pointer_at at e.id e.range) (at.answers.cfg (site_of (pointer_at at e.id e.range))) (nothing []) []
-value_nothing at e c h = value_is_level at [] e ∙ nothing_at at e (out-ExprKind e.kind) c h
+by_level : (at : Spot) (s : AstStmt) (k : StmtKindLayer written) (was is : Run) (old new : Builder) (o : Checked (Unit {0}))
+    → out-StmtKind s.kind ≡ k → StmtsBehind (reads at s k) was old o is new → StmtsBehind (λ d. stmt_level at d s) was old o is new
+by_level at s k was is old new o h x = subst (λ read. StmtsBehind read was old o is new) (sym (level_of at s k h)) x
 
--- ---- no macro is defined
+-- ---- one that opens nothing
 
-splice_defines : (s : Pointer) (r : Result (Unit {0}) CfgId) → (asked_splice s r (nothing []) []).defined ≡ []
-splice_defines s (Ok _) = refl
-splice_defines s (Err by) = refl
+asked_inside : (s : Pointer) (r : Result (Unit {0}) CfgId) (x : Stmt) → ((b : Builder) → inside x b ≡ b) → (b : Builder)
+    → inside (asked_stmt s r x) b ≡ b
+asked_inside s (Ok _) x h b = h b
+asked_inside s (Err by) x h b = refl
 
-value_defines : (at : Spot) (e : AstExpr) (o : Option (Option AstMacroCall)) → call_in (out-ExprKind e.kind) ≡ o
-    → (answered_value at [] e).defined ≡ []
-value_defines at e (Some c) h = ap (λ r. r.defined) (value_nothing at e c h) ∙ splice_defines _ _
-value_defines at e None h = ap (λ r. r.defined) (value_whole at e h)
-
-ended_defines : (at : Spot) (e : Option AstExpr) → (value_part at e).defined ≡ []
-ended_defines at None = refl
-ended_defines at (Some e) = value_defines at e (call_in (out-ExprKind e.kind)) refl
-
-kind_defines : (at : Spot) (k : StmtKindLayer written) (s : Pointer)
-    → (stmt_at at.answers (reader at.answers (into at)) k at.place s []).defined ≡ []
-kind_defines at (StmtKind-F.LetStmt x t e b) s = refl
-kind_defines at (StmtKind-F.ExprStmt e semi) s = ended_defines at e
-kind_defines at (StmtKind-F.MacroRules x) s = refl
-kind_defines at (StmtKind-F.MacroDef x) s = refl
-kind_defines at StmtKind-F.Item s = refl
-
-stmt_defines : (at : Spot) (s : AstStmt) → (stmt_level at [] s).defined ≡ []
-stmt_defines at s = kind_defines at (out-StmtKind s.kind) (pointer_at at s.id s.range)
-
--- ---- statements behind each other
-
-abbrev rest_of : Spot → List AstStmt → StmtReading → Stmts
-rest_of at ss r = append r.stmts (stmts_of (read_stmt at.answers (into at)) (read_value at.answers (into at)) ss at.place r.defined).stmts
-
-pub run_more : (at : Spot) (s : AstStmt) (ss : List AstStmt)
-    → (run_part at (s ∷ ss)).stmts ≡ append (stmt_level at [] s).stmts (run_part at ss).stmts
-run_more at s ss =
-    ap (rest_of at ss) (stmt_is_level at [] s)
-    ∙ ap (λ d. append (stmt_level at [] s).stmts
-    (stmts_of (read_stmt at.answers (into at)) (read_value at.answers (into at)) ss at.place d).stmts) (stmt_defines at s)
-
-run_defines : (at : Spot) (ss : List AstStmt) → (run_part at ss).defined ≡ []
-run_defines at [] = refl
-run_defines at (s ∷ ss) =
-    ap (λ r. (stmts_of (read_stmt at.answers (into at)) (read_value at.answers (into at)) ss at.place r.defined).defined)
-    (stmt_is_level at [] s)
-    ∙ (ap (λ d. (stmts_of (read_stmt at.answers (into at)) (read_value at.answers (into at)) ss at.place d).defined) (stmt_defines at s)
-    ∙ run_defines at ss)
-
-go_behind : (done : List Statement) (ss b : Stmts)
-    → ((x : Option Statement) (d : Builder) → stmts_alone (push_some done x) (append ss b) d
-    ≡ go_on (stmts_alone (push_some done x) ss d).0 (stmts_alone (push_some done x) ss d).1 (λ xs. stmts_alone xs b))
-    → (o : Checked (Option Statement)) (d : Builder)
-    → go_on o d (λ x. stmts_alone (push_some done x) (append ss b))
-    ≡ go_on (go_on o d (λ x. stmts_alone (push_some done x) ss)).0 (go_on o d (λ x. stmts_alone (push_some done x) ss)).1
-    (λ xs. stmts_alone xs b)
-go_behind done ss b rest (Ok x) d = rest x d
-go_behind done ss b rest (Err e) d = refl
-
-alone_append : (done : List Statement) (a b : Stmts) (c : Builder)
-    → stmts_alone done (append a b) c ≡ go_on (stmts_alone done a c).0 (stmts_alone done a c).1 (λ xs. stmts_alone xs b)
-alone_append done tree.no_stmts b c = refl
-alone_append done (tree.more_stmts s ss) b c =
-    go_behind done ss b (λ x d. alone_append (push_some done x) ss b d) (lower_stmt s c).0 (lower_stmt s c).1
-
--- ---- what is in a block
-
-abbrev behind : Spliced → List Statement → Lowering StoredContents
-behind r done = flat done r.stmts (kept_part r.last)
-
-flat_append : (a : Stmts) (r : Spliced) (c : Builder)
-    → flat [] (append a r.stmts) (kept_part r.last) c ≡ go_on (stmts_alone [] a c).0 (stmts_alone [] a c).1 (behind r)
-flat_append a r c =
-    ap (λ z. go_on z.0 z.1 (λ xs d. go_on (kept_part r.last d).0 (kept_part r.last d).1 (λ t. pure (xs, t)))) (alone_append [] a r.stmts c)
-    ∙ by (stmts_alone [] a c).0 (stmts_alone [] a c).1
-  where
-    by : (o : Checked (List Statement)) (d : Builder)
-        → go_on (go_on o d (λ xs. stmts_alone xs r.stmts)).0 (go_on o d (λ xs. stmts_alone xs r.stmts)).1
-        (λ xs e. go_on (kept_part r.last e).0 (kept_part r.last e).1 (λ t. pure (xs, t)))
-        ≡ go_on o d (behind r)
-    by (Ok xs) d = refl
-    by (Err e) d = refl
-
--- the statements, and then what stands behind them
-pub contents_on : (at : Spot) (b : AstBlockExpr) (c : Builder)
-    → contents_at at b c
-    ≡ go_on (stmts_alone [] (run_part at (out-BlockExpr b).stmts).stmts c).0
-    (stmts_alone [] (run_part at (out-BlockExpr b).stmts).stmts c).1
-    (λ xs. flat xs (value_part at (out-BlockExpr b).tail).stmts (kept_part (value_part at (out-BlockExpr b).tail).last))
-contents_on at b c =
-    let node = out-BlockExpr b in
-    let run = run_part at node.stmts in
-    let tail : Defined → Spliced =
-    λ d. value_or_none (read_stmt at.answers (into at)) (read_value at.answers (into at)) node.tail at.place d in
-    (λ i. flat_is [] (append run.stmts (tail run.defined).stmts) (kept_part (tail run.defined).last) i c)
-    ∙ (ap (λ d. flat [] (append run.stmts (tail d).stmts) (kept_part (tail d).last) c) (run_defines at node.stmts)
-    ∙ flat_append run.stmts (value_part at node.tail) c)
-
--- ---- step by step
-
--- no arena is shorter than it was two steps ago
-pub grows_on : (a b c : Stored) → Grows a b → Grows b c → Grows a c
-grows_on a b c h k = (
-  omega (arith, h.0, k.0),
-  omega (arith, h.1, k.1),
-  omega (arith, h.2, k.2),
-  omega (arith, h.3, k.3),
-  omega (arith, h.4, k.4),
-  omega (arith, h.5, k.5),
+plain_behind : (x : Stmt) (was : Run) (old : Builder) (r : Checked (Option Statement)) (new : Builder) (xs : List Statement)
+    (made : Option Statement) → ((b : Builder) → inside x b ≡ b) → lower_stmt x old ≡ (Ok made, new) → xs ≡ push_some was.done made
+    → StmtsBehind (alone x) was old (Ok tt) (record was { done = xs }) new
+plain_behind x was old r new xs made h k is = λ d counts. (
+  alone_on x was.done old h ∙ (ap (λ z. go_on z.0 z.1 (λ y. pure (push_some was.done y))) k ∙ ap (λ ys. (Ok ys, new)) (sym is)),
+  counts,
 )
 
-pub still_has : (old new : Stored) (ss : List Statement) → Grows old new → HasStatements old ss → HasStatements new ss
-still_has old new ss h k =
-    (omega (arith, h, k.0), omega (arith, h, k.1), omega (arith, h, k.2), omega (arith, h, k.3))
+plain_refused : (x : Stmt) (done : List Statement) (old new : Builder) (e : StoreFault) → ((b : Builder) → inside x b ≡ b)
+    → lower_stmt x old ≡ (Err e, new) → lower_run done (tree.more_stmts x tree.no_stmts) old ≡ (Err e, new)
+plain_refused x done old new e h k = alone_on x done old h ∙ ap (λ z. go_on z.0 z.1 (λ y. pure (push_some done y))) k
 
--- what is refused is refused in what it stands in
-pub refused : {A : Type 0} (Has : Stored → A → Type 0) (steps : Lowering A) (old : Builder) (e : StoreFault) (r : Checked A)
-    (new : Builder) → IsErrAnd r (λ f. f ≡ e) → (e ≢ Memory → (steps old ≡ (Err e, new)) × SomeEnd new) → Lowers Has steps old r new
-refused Has steps old e (Ok a) new is h = absurd is
-refused Has steps old e (Err f) new is h = rw is h
+module _ (at : Spot) (s : AstStmt) (p : Option AstPat) (t : Option AstType_) (e : Option AstExpr) (b : Option AstLetElse)
+    (is : s.kind ≡ kind.LetStmt p t e b) where
+  abbrev pub let_of : Stmt
+  let_of =
+      let at_node = pointer_at at s.id s.range in
+      asked_stmt at_node (at.answers.cfg (site_of at_node)) (tree.let_stmt (pat_part at p) (type_part at t) (expr_part at e)
+      (let_else_part at b))
 
-pub value_refused : (x : Spliced) (was is : List Statement) (old : Builder) (e : StoreFault) (r : Checked (Option ExprId)) (new : Builder)
-    → IsErrAnd r (λ f. f ≡ e) → (e ≢ Memory → (flat was x.stmts (kept_part x.last) old ≡ (Err e, new)) × SomeEnd new)
-    → ValueBehind x was old r is new
-value_refused x was is old e (Ok a) new same h = absurd same
-value_refused x was is old e (Err f) new same h = rw same h
+  let_kind : out-StmtKind s.kind ≡ StmtKind-F.LetStmt p t e b
+  let_kind = ap out-StmtKind (is ∙ sym (kind.rolls-LetStmt p t e b)) ∙ out-roll-StmtKind (StmtKind-F.LetStmt p t e b)
 
-pub stmts_refused : (ss : Stmts) (was is : List Statement) (old : Builder) (e : StoreFault) (r : Checked (Unit {0})) (new : Builder)
-    → IsErrAnd r (λ f. f ≡ e) → (e ≢ Memory → (stmts_alone was ss old ≡ (Err e, new)) × SomeEnd new) → StmtsBehind ss was old r is new
-stmts_refused ss was is old e (Ok a) new same h = absurd same
-stmts_refused ss was is old e (Err f) new same h = rw same h
+  let_inside : (c : Builder) → inside let_of c ≡ c
+  let_inside c =
+      let at_node = pointer_at at s.id s.range in
+      asked_inside at_node (at.answers.cfg (site_of at_node))
+      (tree.let_stmt (pat_part at p) (type_part at t) (expr_part at e) (let_else_part at b)) (λ c. refl) c
 
--- an expression that is no call, behind what is done
-pub whole_behind : (e : Expr) (done : List Statement) (old : Builder) (r : Checked (Option ExprId)) (new : Builder)
-    → HasStatements old.stored done → MaybeLowersExpr e old r new → ValueBehind (whole_value e []) done old r done new
-whole_behind e done old (Ok id) new has h =
-    (ap (λ z. go_on z.0 z.1 (λ t. pure (done, t))) h.0, h.1, (still_has old.stored new.stored done h.1 has, h.2))
-whole_behind e done old (Err x) new has h =
-    λ other. let k = h other in (ap (λ z. go_on z.0 z.1 (λ t. pure (done, t))) k.0, k.1)
+  pub let_behind : (was : Run) (old new : Builder) (made : Option Statement) (xs : List Statement) → lower_stmt let_of old ≡ (Ok made, new)
+      → xs ≡ push_some was.done made → StmtsBehind (λ d. stmt_level at d s) was old (Ok tt) (record was { done = xs }) new
+  let_behind was old new made xs k same =
+      by_level at s (StmtKind-F.LetStmt p t e b) was (record was { done = xs }) old new (Ok tt) let_kind
+      (plain_behind let_of was old (Ok made) new xs made let_inside k same)
 
--- a call, which leaves nothing
-abbrev left : List Statement → Bool → Lowering StoredContents
-left done b = pure (done, None)
+  pub let_refused : (was : Run) (old new : Builder) (x : StoreFault) (d : Defined) → lower_stmt let_of old ≡ (Err x, new)
+      → lower_run was.done (stmt_level at d s).stmts old ≡ (Err x, new)
+  let_refused was old new x d k =
+      ap (λ read. lower_run was.done (read d).stmts old) (level_of at s (StmtKind-F.LetStmt p t e b) let_kind)
+      ∙ plain_refused let_of was.done old new x let_inside k
 
-abbrev nothing_left : Unit {0} → Lowering (Option Statement)
-nothing_left u = pure None
+pub item_behind : (at : Spot) (s : AstStmt) (was : Run) (old : Builder) (xs : List Statement) → s.kind ≡ kind.Item
+    → xs ≡ was.done ++ statement.Item ∷ [] → StmtsBehind (λ d. stmt_level at d s) was old (Ok tt) (record was { done = xs }) old
+item_behind at s was old xs is same =
+    by_level at s StmtKind-F.Item was (record was { done = xs }) old old (Ok tt)
+    (ap out-StmtKind (is ∙ sym kind.rolls-Item) ∙ out-roll-StmtKind StmtKind-F.Item)
+    (plain_behind tree.item_stmt was old (Ok (Some statement.Item)) old xs (Some statement.Item) (λ c. refl) refl same)
 
-told_nothing : (done : List Statement) (o : Checked (Unit {0})) (c : Builder)
-    → (let x = go_on o c nothing_left in
-    let y = go_on x.0 x.1 (λ s. pure (push_some done s)) in
-    go_on y.0 y.1 (λ xs. pure {A = StoredContents} (xs, None)))
-    ≡ (let x = go_on o c (λ _. pure false) in go_on x.0 x.1 (left done))
-told_nothing done (Ok _) c = refl
-told_nothing done (Err e) c = refl
+-- ---- definitions
 
-abbrev pub gone_value : Pointer → Result (Unit {0}) CfgId → Spliced
-gone_value s r = asked_splice s r (nothing []) []
+module _ (at : Spot) (s : AstStmt) where
+  abbrev node : Pointer
+  node = pointer_at at s.id s.range
 
-nothing_on : (s : Pointer) (r : Result (Unit {0}) CfgId) (done : List Statement) (c : Builder)
-    → flat done (gone_value s r).stmts (kept_part (gone_value s r).last) c ≡ go_on (enabled s r c).0 (enabled s r c).1 (left done)
-nothing_on s (Ok _) done c = refl
-nothing_on s (Err by) done c = let t = report (InactiveCode s by) c in told_nothing done t.0 t.1
+  abbrev answer : Result (Unit {0}) CfgId
+  answer = at.answers.cfg (site_of node)
 
-pub nothing_behind : (s : Pointer) (r : Result (Unit {0}) CfgId) (done : List Statement) (old : Builder) (b : Bool) (new : Builder)
-    → HasStatements old.stored done → Lowers HasFlag (enabled s r) old (Ok b) new
-    → ValueBehind (gone_value s r) done old (Ok None) done new
-nothing_behind s r done old b new has h = (
-  nothing_on s r done old ∙ ap (λ z. go_on z.0 z.1 (left done)) h.0,
-  h.1,
-  (still_has old.stored new.stored done h.1 has, omega arith),
-)
+  -- one that a condition disables
+  off_refused : (x : StmtReading) (d : Defined) (done : List Statement) (r : Result (Unit {0}) CfgId) (old new : Builder) (e : StoreFault)
+      → enabled node r old ≡ (Err e, new) → lower_run done (asked_rules node r x d).stmts old ≡ (Err e, new)
+  off_refused x d done (Ok _) old new e h = absurd (true≢false (ap (λ z. flag_or false z.0) h))
+  off_refused x d done (Err by) old new e h =
+      disabled_on node by tree.item_stmt done old ∙ ap (λ z. go_on z.0 z.1 (λ _. pure done)) h
 
-pub nothing_refused : (s : Pointer) (r : Result (Unit {0}) CfgId) (done : List Statement) (old : Builder) (e : StoreFault) (new : Builder)
-    → (enabled s r old ≡ (Err e, new)) × SomeEnd new
-    → (flat done (gone_value s r).stmts (kept_part (gone_value s r).last) old ≡ (Err e, new)) × SomeEnd new
-nothing_refused s r done old e new h = (nothing_on s r done old ∙ ap (λ z. go_on z.0 z.1 (left done)) h.0, h.1)
+  off_behind : (x : Defined → StmtReading) (was : Run) (r : Result (Unit {0}) CfgId) (old new : Builder)
+      → enabled node r old ≡ (Ok false, new) → StmtsBehind (λ d. asked_rules node r (x d) d) was old (Ok tt) was new
+  off_behind x was (Ok _) old new h = absurd (true≢false (ap (λ z. flag_or true z.0) h))
+  off_behind x was (Err by) old new h =
+      λ d counts. (disabled_on node by tree.item_stmt was.done old ∙ ap (λ z. go_on z.0 z.1 (λ _. pure was.done)) h, counts)
 
--- an expression statement
-abbrev ended_by : Bool → StoredContents → Lowering (List Statement)
-ended_by semi z = pure (push_some z.0 (expr_stmt z.1 semi))
+  on_behind : (x : Defined → StmtReading) (was is : Run) (r : Result (Unit {0}) CfgId) (old mid new : Builder) (o : Checked (Unit {0}))
+      → r ≡ Ok tt → old ≡ mid → StmtsBehind x was mid o is new → StmtsBehind (λ d. asked_rules node r (x d) d) was old o is new
+  on_behind x was is (Ok _) old mid new o h same k = subst (λ b. StmtsBehind x was b o is new) (sym same) k
+  on_behind x was is (Err by) old mid new o h same k = cc
 
-value_then : (done : List Statement) (semi : Bool) (o : Checked (Option ExprId)) (c : Builder)
-    → (let x = go_on o c (λ v. pure (expr_stmt v semi)) in go_on x.0 x.1 (λ s. pure (push_some done s)))
-    ≡ (let x = go_on o c (λ v. pure {A = StoredContents} (done, v)) in go_on x.0 x.1 (ended_by semi))
-value_then done semi (Ok v) c = refl
-value_then done semi (Err e) c = refl
+  module _ (n : Option AstName) (is : s.kind ≡ kind.MacroRules n) where
+    rules_kind : out-StmtKind s.kind ≡ StmtKind-F.MacroRules n
+    rules_kind = ap out-StmtKind (is ∙ sym (kind.rolls-MacroRules n)) ∙ out-roll-StmtKind (StmtKind-F.MacroRules n)
 
-last_then : (r : Spliced) (semi : Bool) (o : Checked (List Statement)) (c : Builder)
-    → go_on o c (λ xs. stmts_alone xs (tree.more_stmts (tree.expr_stmt r.last semi) tree.no_stmts))
-    ≡ (let x = go_on o c (λ xs d. go_on (kept_part r.last d).0 (kept_part r.last d).1 (λ v. pure {A = StoredContents} (xs, v))) in
-    go_on x.0 x.1 (ended_by semi))
-last_then r semi (Ok xs) c = value_then xs semi (kept_part r.last c).0 (kept_part r.last c).1
-last_then r semi (Err e) c = refl
+    pub rules_unknown : (was : Run) (old new : Builder) (e : StoreFault) (d : Defined) → enabled node answer old ≡ (Err e, new)
+        → lower_run was.done (stmt_level at d s).stmts old ≡ (Err e, new)
+    rules_unknown was old new e d h =
+        ap (λ read. lower_run was.done (read d).stmts old) (level_of at s (StmtKind-F.MacroRules n) rules_kind)
+        ∙ off_refused (rules_named at.answers at.place n d) d was.done answer old new e h
 
-ended_on : (r : Spliced) (semi : Bool) (done : List Statement) (c : Builder)
-    → stmts_alone done (ended semi r).stmts c
-    ≡ (let x = flat done r.stmts (kept_part r.last) c in go_on x.0 x.1 (ended_by semi))
-ended_on r semi done c =
-    alone_append done r.stmts (tree.more_stmts (tree.expr_stmt r.last semi) tree.no_stmts) c
-    ∙ last_then r semi (stmts_alone done r.stmts c).0 (stmts_alone done r.stmts c).1
+    pub rules_off : (was : Run) (old new : Builder) → enabled node answer old ≡ (Ok false, new)
+        → StmtsBehind (λ d. stmt_level at d s) was old (Ok tt) was new
+    rules_off was old new h =
+        by_level at s (StmtKind-F.MacroRules n) was was old new (Ok tt) rules_kind
+        (off_behind (rules_named at.answers at.place n) was answer old new h)
 
-stmt_expr : (at : Spot) (s : AstStmt) (e : Option AstExpr) (semi : Bool) → s.kind ≡ kind.ExprStmt e semi
-    → stmt_level at [] s ≡ ended semi (value_part at e)
-stmt_expr at s e semi h =
-    ap (λ k. stmt_at at.answers (reader at.answers (into at)) k at.place (pointer_at at s.id s.range) [])
-    (ap out-StmtKind (h ∙ sym (kind.rolls-ExprStmt e semi)) ∙ out-roll-StmtKind (StmtKind-F.ExprStmt e semi))
+    pub rules_on : (was now : Run) (old mid new : Builder) (o : Checked (Unit {0})) → answer ≡ Ok tt → old ≡ mid
+        → StmtsBehind (rules_named at.answers at.place n) was mid o now new → StmtsBehind (λ d. stmt_level at d s) was old o now new
+    rules_on was now old mid new o on same h =
+        by_level at s (StmtKind-F.MacroRules n) was now old new o rules_kind
+        (on_behind (rules_named at.answers at.place n) was now answer old mid new o on same h)
 
-pub ended_behind : (at : Spot) (s : AstStmt) (e : Option AstExpr) (semi : Bool) (was done now : List Statement) (v : Option ExprId)
-    (old new : Builder) → s.kind ≡ kind.ExprStmt e semi → ValueBehind (value_part at e) was old (Ok v) done new
-    → now ≡ push_some done (expr_stmt v semi) → stmts_alone was (stmt_level at [] s).stmts old ≡ (Ok now, new)
-ended_behind at s e semi was done now v old new h k is =
-    ap (λ r. stmts_alone was r.stmts old) (stmt_expr at s e semi h)
-    ∙ (ended_on (value_part at e) semi was old
-    ∙ (ap (λ z. go_on z.0 z.1 (ended_by semi)) k.0 ∙ ap (λ xs. (Ok xs, new)) (sym is)))
+  module _ (n : Option AstName) (is : s.kind ≡ kind.MacroDef n) where
+    abbrev def_of : Stmt
+    def_of = tree.macro_stmt 0 (def_named at.answers at.place n)
 
-pub ended_refused : (at : Spot) (s : AstStmt) (e : Option AstExpr) (semi : Bool) (was : List Statement) (x : StoreFault)
-    (old new : Builder) → s.kind ≡ kind.ExprStmt e semi
-    → flat was (value_part at e).stmts (kept_part (value_part at e).last) old ≡ (Err x, new)
-    → stmts_alone was (stmt_level at [] s).stmts old ≡ (Err x, new)
-ended_refused at s e semi was x old new h k =
-    ap (λ r. stmts_alone was r.stmts old) (stmt_expr at s e semi h)
-    ∙ (ended_on (value_part at e) semi was old ∙ ap (λ z. go_on z.0 z.1 (ended_by semi)) k)
+    def_kind : out-StmtKind s.kind ≡ StmtKind-F.MacroDef n
+    def_kind = ap out-StmtKind (is ∙ sym (kind.rolls-MacroDef n)) ∙ out-roll-StmtKind (StmtKind-F.MacroDef n)
 
-pub pushed_has : (s : Stored) (done now : List Statement) (v : Option ExprId) (semi : Bool) → HasStatements s done → HasExprOption s v
-    → past_statements now ≡ join (past_statements done) (past_present past_statement (expr_stmt v semi)) → HasStatements s now
-pushed_has s done now None semi h k is =
-    rw is (omega (arith, h.0), omega (arith, h.1), omega (arith, h.2), omega (arith, h.3))
-pushed_has s done now (Some id) semi h k is =
-    rw is (omega (arith, h.0, k), omega (arith, h.1), omega (arith, h.2), omega (arith, h.3))
+    -- the same as it is asked
+    asked_as : (r : Result (Unit {0}) CfgId) → (was now : Run) (old new : Builder) (o : Checked (Unit {0}))
+        → StmtsBehind (λ d. asked_rules node r (alone def_of d) d) was old o now new
+        → StmtsBehind (λ d. alone (asked_stmt node r def_of) d) was old o now new
+    asked_as (Ok _) was now old new o h = h
+    asked_as (Err by) was now old new (Ok _) h = h
+    asked_as (Err by) was now old new (Err e) h = h
 
--- a run of statements
-take_all : {A : Type 0} (xs : List A) → take (length xs) xs ≡ xs
-take_all [] = refl
-take_all (x ∷ xs) = ap (λ ys. x ∷ ys) (take_all xs)
+    asked_to : (r : Result (Unit {0}) CfgId) (done : List Statement) (d : Defined) (old new : Builder) (e : StoreFault)
+        → lower_run done (asked_rules node r (alone def_of d) d).stmts old ≡ (Err e, new)
+        → lower_run done (tree.more_stmts (asked_stmt node r def_of) tree.no_stmts) old ≡ (Err e, new)
+    asked_to (Ok _) done d old new e h = h
+    asked_to (Err by) done d old new e h = h
 
--- what is first, and what is behind it
-first_of : {A : Type 0} (xs : List A) (x : A) → x ≡ slice_index_or xs 0 x → 1 ≤ length xs
-    → xs ≡ x ∷ take (length xs - 1) (drop 1 xs)
-first_of [] x h le = absurd (omega (arith, le))
-first_of (y ∷ ys) x h le =
-    let rest : length (y ∷ ys) - 1 ≡ length ys = omega arith in
-    λ j. sym h j ∷ sym (ap (λ n. take n ys) rest ∙ take_all ys) j
+    pub def_unknown : (was : Run) (old new : Builder) (e : StoreFault) (d : Defined) → enabled node answer old ≡ (Err e, new)
+        → lower_run was.done (stmt_level at d s).stmts old ≡ (Err e, new)
+    def_unknown was old new e d h =
+        ap (λ read. lower_run was.done (read d).stmts old) (level_of at s (StmtKind-F.MacroDef n) def_kind)
+        ∙ asked_to answer was.done d old new e (off_refused (alone def_of d) d was.done answer old new e h)
 
-pub rest_may : {A : Type 0} (K : A → Type 0) (xs : List A) (x : A) → x ≡ slice_index_or xs 0 x → 1 ≤ length xs
-    → Each K xs → Each K (take (length xs - 1) (drop 1 xs))
-rest_may K xs x h le all = (subst (Each K) (first_of xs x h le) all).1
+    pub def_off : (was : Run) (old new : Builder) → enabled node answer old ≡ (Ok false, new)
+        → StmtsBehind (λ d. stmt_level at d s) was old (Ok tt) was new
+    def_off was old new h =
+        by_level at s (StmtKind-F.MacroDef n) was was old new (Ok tt) def_kind
+        (asked_as answer was was old new (Ok tt) (off_behind (alone def_of) was answer old new h))
 
-pub first_may : {A : Type 0} (K : A → Type 0) (xs : List A) (x : A) → x ≡ slice_index_or xs 0 x → 1 ≤ length xs → Each K xs → K x
-first_may K xs x h le all = (subst (Each K) (first_of xs x h le) all).0
+    defined_alone : (was : Run) (xs : List Statement) (old new : Builder) (o : Checked (Unit {0}))
+        → DefinesBehind 0 (def_named at.answers at.place n) was.done old o xs new
+        → StmtsBehind (alone def_of) was old o (record was { done = xs }) new
+    defined_alone was xs old new (Ok _) h = λ d counts. (h, counts)
+    defined_alone was xs old new (Err e) h = λ d counts other. h other
 
-run_on : (at : Spot) (s : AstStmt) (ss : List AstStmt) (done : List Statement) (c : Builder)
-    → stmts_alone done (run_part at (s ∷ ss)).stmts c
-    ≡ go_on (stmts_alone done (stmt_level at [] s).stmts c).0 (stmts_alone done (stmt_level at [] s).stmts c).1
-    (λ xs. stmts_alone xs (run_part at ss).stmts)
-run_on at s ss done c =
-    ap (λ x. stmts_alone done x c) (run_more at s ss) ∙ alone_append done (stmt_level at [] s).stmts (run_part at ss).stmts c
+    pub def_on : (was : Run) (xs : List Statement) (old mid new : Builder) (o : Checked (Unit {0})) → answer ≡ Ok tt → old ≡ mid
+        → DefinesBehind 0 (def_named at.answers at.place n) was.done mid o xs new
+        → StmtsBehind (λ d. stmt_level at d s) was old o (record was { done = xs }) new
+    def_on was xs old mid new o on same h =
+        by_level at s (StmtKind-F.MacroDef n) was (record was { done = xs }) old new o def_kind
+        (asked_as answer was (record was { done = xs }) old new o
+        (on_behind (alone def_of) was (record was { done = xs }) answer old mid new o on same (defined_alone was xs mid new o h)))
 
-pub run_goes_on : (at : Spot) (xs : List AstStmt) (x : AstStmt) (done now : List Statement) (c d : Builder)
-    → x ≡ slice_index_or xs 0 x → 1 ≤ length xs → stmts_alone done (stmt_level at [] x).stmts c ≡ (Ok now, d)
-    → stmts_alone done (run_part at xs).stmts c ≡ stmts_alone now (run_part at (take (length xs - 1) (drop 1 xs))).stmts d
-run_goes_on at xs x done now c d h le is =
-    let behind = take (length xs - 1) (drop 1 xs) in
-    ap (λ ys. stmts_alone done (run_part at ys).stmts c) (first_of xs x h le)
-    ∙ (run_on at x behind done c ∙ ap (λ z. go_on z.0 z.1 (λ ys. stmts_alone ys (run_part at behind).stmts)) is)
+-- ---- what exists
 
-pub run_refused : (at : Spot) (xs : List AstStmt) (x : AstStmt) (done : List Statement) (e : StoreFault) (c d : Builder)
-    → x ≡ slice_index_or xs 0 x → 1 ≤ length xs → stmts_alone done (stmt_level at [] x).stmts c ≡ (Err e, d)
-    → stmts_alone done (run_part at xs).stmts c ≡ (Err e, d)
-run_refused at xs x done e c d h le is =
-    let behind = take (length xs - 1) (drop 1 xs) in
-    ap (λ ys. stmts_alone done (run_part at ys).stmts c) (first_of xs x h le)
-    ∙ (run_on at x behind done c ∙ ap (λ z. go_on z.0 z.1 (λ ys. stmts_alone ys (run_part at behind).stmts)) is)
+grows_self : (s : Stored) → Grows s s
+grows_self s = (omega arith, omega arith, omega arith, omega arith, omega arith, omega arith)
 
--- what is in a block
-pub contents_go_on : (at : Spot) (b : AstBlockExpr) (done : List Statement) (c d : Builder)
-    → stmts_alone [] (run_part at (out-BlockExpr b).stmts).stmts c ≡ (Ok done, d)
-    → contents_at at b c
-    ≡ flat done (value_part at (out-BlockExpr b).tail).stmts (kept_part (value_part at (out-BlockExpr b).tail).last) d
-contents_go_on at b done c d h =
-    contents_on at b c ∙ ap (λ z. go_on z.0 z.1 (behind (value_part at (out-BlockExpr b).tail))) h
+pub value_on : (old end new : Builder) (xs : List Statement) (steps : Lowering (Option ExprId)) (o : Checked (Option ExprId))
+    → Grows old.stored end.stored → HasStatements end.stored xs → Lowers HasExprOption steps end o new → ValueExists old o xs new
+value_on old end new xs steps (Ok v) g h k =
+    (grows_on old.stored end.stored new.stored g k.1, (still_has end.stored new.stored xs k.1 h, k.2))
+value_on old end new xs steps (Err e) g h k = tt
 
-pub contents_refused : (at : Spot) (b : AstBlockExpr) (e : StoreFault) (c d : Builder)
-    → stmts_alone [] (run_part at (out-BlockExpr b).stmts).stmts c ≡ (Err e, d) → contents_at at b c ≡ (Err e, d)
-contents_refused at b e c d h =
-    contents_on at b c ∙ ap (λ z. go_on z.0 z.1 (behind (value_part at (out-BlockExpr b).tail))) h
+pub value_here : (old new : Builder) (xs : List Statement) (steps : Lowering (Option ExprId)) (o : Checked (Option ExprId))
+    → HasStatements old.stored xs → Lowers HasExprOption steps old o new → ValueExists old o xs new
+value_here old new xs steps o h k = value_on old old new xs steps o (grows_self old.stored) h k
+
+pub nothing_exists : (old new : Builder) (xs : List Statement) → Grows old.stored new.stored → HasStatements old.stored xs
+    → ValueExists old (Ok None) xs new
+nothing_exists old new xs g h = (g, (still_has old.stored new.stored xs g h, omega arith))
+
+pub stmts_stay : (old new : Builder) (xs : List Statement) → Grows old.stored new.stored → HasStatements old.stored xs
+    → StmtsExist old (Ok tt) xs new
+stmts_stay old new xs g h = (g, still_has old.stored new.stored xs g h)
+
+pub value_same : (old mid new : Builder) (xs : List Statement) (o : Checked (Option ExprId)) → old ≡ mid → ValueExists mid o xs new
+    → ValueExists old o xs new
+value_same old mid new xs o same h = subst (λ b. ValueExists b o xs new) (sym same) h
+
+pub stmts_same : (old mid new : Builder) (xs : List Statement) (o : Checked (Unit {0})) → old ≡ mid → StmtsExist mid o xs new
+    → StmtsExist old o xs new
+stmts_same old mid new xs o same h = subst (λ b. StmtsExist b o xs new) (sym same) h
+
+pub pushed_one : (s : Stored) (done now : List Statement) (x : Option Statement) → HasStatements s done → HasStatementOption s x
+    → past_statements now ≡ join (past_statements done) (past_present past_statement x) → HasStatements s now
+pushed_one s done now x h k is =
+    rw is (omega (arith, h.0, k.0), omega (arith, h.1, k.1), omega (arith, h.2, k.2), omega (arith, h.3, k.3))
+
+-- ---- what may be handed in
+
+pub ends_in : (s : AstStmt) (e : Option AstExpr) (semi : Bool) → s.kind ≡ kind.ExprStmt e semi
+    → out-StmtKind s.kind ≡ StmtKind-F.ExprStmt e semi
+ends_in s e semi is = ap out-StmtKind (is ∙ sym (kind.rolls-ExprStmt e semi)) ∙ out-roll-StmtKind (StmtKind-F.ExprStmt e semi)
+
+pub value_may : (C : Claims) (p : Place) (k : ExprKindLayer written) (e : AstExpr) → call_in k ≡ None → KidsOfValue C p k e → C.expr e
+value_may C p (ExprKind-F.MacroExpr c) e h may = cc
+value_may C p _ e h may = may
+
+pub splice_may : (C : Claims) (p : Place) (k : ExprKindLayer written) (e : AstExpr) (c : Option AstMacroCall) → call_in k ≡ Some c
+    → KidsOfValue C p k e → C.splice p e
+splice_may C p (ExprKind-F.MacroExpr x) e c h may = may
+splice_may C p _ e c h may = cc
+
+pub called_kind : (k : ExprKindLayer written) (c : Option AstMacroCall) → call_in k ≡ Some c → k ≡ ExprKind-F.MacroExpr c
+called_kind (ExprKind-F.MacroExpr x) c h = let same : x ≡ c = cc in ap (λ y. ExprKind-F.MacroExpr y) same
+called_kind _ c h = cc
+
+-- ---- the definition of a macro, by itself
+
+pub define_alone : (k : ℕ) (m : Option MacroDefId) (was : Run) (xs : List Statement) (old new : Builder) (o : Checked (Unit {0}))
+    → DefinesBehind k m was.done old o xs new → StmtsBehind (alone (tree.macro_stmt k m)) was old o (record was { done = xs }) new
+define_alone k m was xs old new (Ok _) h = λ d counts. (h, counts)
+define_alone k m was xs old new (Err e) h = λ d counts other. h other
+
+pub define_unmet : (k : ℕ) (m : Option MacroDefId) (done xs : List Statement) (old : Builder) (e : StoreFault) (r : Checked (Unit {0}))
+    (new : Builder) → IsErrAnd r (λ f. f ≡ e)
+    → (e ≢ Memory → (lower_run done (tree.more_stmts (tree.macro_stmt k m) tree.no_stmts) old ≡ (Err e, new)) × SomeEnd new)
+    → DefinesBehind k m done old r xs new
+define_unmet k m done xs old e (Ok _) new is h = absurd is
+define_unmet k m done xs old e (Err f) new is h = rw is h
+
+-- one by `macro_rules`, of the name that it has
+module _ (at : Spot) (n : AstName) (nm : Name) (named : nm ≡ name.Text n.t) (was : Run) (k : ℕ)
+    (counted : k ≡ count_in was.counts.entries nm)
+    (m : Option MacroDefId) (found : m ≡ at.answers.legacy_macro at.place.module_id nm k) (old new : Builder) where
+  abbrev rules : Defined → StmtReading
+  rules = rules_named at.answers at.place (Some n)
+
+  before : (d : Defined) → Counts was.counts.entries d → times (name.Text n.t) d ≡ k
+  before d counts = ap (λ q. times q d) (sym named) ∙ sym (counted ∙ counts nm)
+
+  as_read : (d : Defined) → Counts was.counts.entries d
+      → lower_run was.done (rules d).stmts old ≡ lower_run was.done (tree.more_stmts (tree.macro_stmt k m) tree.no_stmts) old
+  as_read d counts =
+      let place = before d counts in
+      let def = found ∙ (λ i. at.answers.legacy_macro at.place.module_id (named i) (sym place i)) in
+      λ i. lower_run was.done (tree.more_stmts (tree.macro_stmt (place i) (sym def i)) tree.no_stmts) old
+
+  pub rules_defined : (now : Run) → DefinesBehind k m was.done old (Ok tt) now.done new
+      → ((d : Defined) → Counts was.counts.entries d → k ≡ times nm d → Counts now.counts.entries (nm ∷ d))
+      → StmtsBehind rules was old (Ok tt) now new
+  rules_defined now h up = λ d counts. (
+    as_read d counts ∙ h,
+    subst (λ q. Counts now.counts.entries (q ∷ d)) named (up d counts (counted ∙ counts nm)),
+  )
+
+  pub rules_undefined : (e : StoreFault) (xs : List Statement) (d : Defined) → DefinesBehind k m was.done old (Err e) xs new
+      → Counts was.counts.entries d → e ≢ Memory → (lower_run was.done (rules d).stmts old ≡ (Err e, new)) × SomeEnd new
+  rules_undefined e xs d h counts other = let k = h other in (as_read d counts ∙ k.0, k.1)

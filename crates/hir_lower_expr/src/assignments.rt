@@ -17,6 +17,7 @@ use hir_syntax::ast;
 
 /// The target before the value, which is read first where it runs.
 #[tactic(auto, unfolding(hir_lower_form::specs::Forms::assign_form))]
+#[inline(never)]
 pub(crate) fn assign_form<P: LowerParts, E: ExprPart>(
     lowerer: &Lowerer<P>,
     state: &mut BodyBuilder,
@@ -38,6 +39,7 @@ pub(crate) fn assign_form<P: LowerParts, E: ExprPart>(
 }
 
 /// By the operator: what is on the left of `=` is no operand.
+#[inline(never)]
 pub fn bin_form<P: LowerParts, E: ExprPart>(
     lowerer: &Lowerer<P>,
     state: &mut BodyBuilder,

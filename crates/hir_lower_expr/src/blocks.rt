@@ -12,16 +12,19 @@ ghost use Rattle.hir_lower_form.specs.declared.parts.BlockRole.TheVariants as ro
 
 use crate::consts::const_form;
 use crate::coroutines::{coroutine, coroutine_form};
-use crate::statements::{collect_run, collect_value_opt};
+use crate::definitions::close_definitions;
+use crate::runs::{Run, collect_run, collect_value_opt};
+use crate::stored::store_block;
 use crate::tries::try_form;
 use crate::written::WrittenBlock;
 use hir_base::node::{AstPtr, InFile};
 use hir_lower_form::builder::BodyBuilder;
 use hir_lower_form::parts::{BlockRole, LowerParts, Lowerer};
 use hir_store::fault::StoreFault;
-use hir_store::hir::{CoroutineKind, Expr, Statement};
+use hir_store::hir::{CoroutineKind, Statement};
 use hir_store::ids::{BlockId, ExprId, LabelId, LangItemId};
 use hir_syntax::{Seq, ast};
+use std::collections::BTreeMap;
 
 /// The expression of a last statement that has no semicolon.
 fn value_at_end(statements: &[Statement]) -> Option<ExprId>
@@ -55,7 +58,7 @@ fn settle(statements: &mut Seq<Statement>, tail: Option<ExprId>) -> Option<ExprI
     }
 }
 
-/// The statements, and then the tail.
+/// The statements, and then the tail, behind which the definitions among them are closed.
 pub(crate) fn flat_contents<P: LowerParts>(
     lowerer: &Lowerer<P>,
     state: &mut BodyBuilder,
@@ -64,10 +67,15 @@ pub(crate) fn flat_contents<P: LowerParts>(
     requires { KidsBlock (P.can lowerer.now.parts) (P.spot lowerer.now.parts).place (out-BlockExpr node.now) }
     ensures { Lowers HasContents (contents_at (P.spot lowerer.now.parts) node.now) state.old result state.new }
 {
-    let mut statements = Seq::new(lowerer.alloc);
-    collect_run(lowerer, state, &mut statements, node.stmts.as_slice())?;
-    let tail = collect_value_opt(lowerer, state, &mut statements, &node.tail)?;
-    Ok((statements, tail))
+    let mut run = Run {
+        done: Seq::new(lowerer.alloc),
+        counts: BTreeMap::new(lowerer.alloc),
+    };
+    collect_run(lowerer, state, &mut run, node.stmts.as_slice())?;
+    let tail = collect_value_opt(lowerer, state, &mut run, &node.tail)?;
+    let Run { done, counts: _ } = run;
+    close_definitions(state, done.as_slice());
+    Ok((done, tail))
 }
 
 /// A block that is read here, as one that is unsafe or isn't, inside the label of this number.
@@ -89,18 +97,12 @@ fn plain_node<P: LowerParts, N: WrittenBlock>(
     state.enter_block(number)?;
     let (mut statements, tail) = node.contents(lowerer, state)?;
     let tail = settle(&mut statements, tail);
-    let expr = Expr::Block {
-        is_unsafe,
-        label,
-        id: number,
-        statements,
-        tail,
-    };
-    state.alloc_expr(expr, Some(at))
+    store_block(state, Some(at), is_unsafe, label, number, statements, tail)
 }
 
 /// The block of a `try` that is read here. Its tail goes through the item before the block is stored.
 #[tactic(auto, unfolding(hir_lower_form::specs::Made::try_block_form))]
+#[inline(never)]
 fn try_node<P: LowerParts, N: WrittenBlock>(
     lowerer: &Lowerer<P>,
     state: &mut BodyBuilder,
@@ -120,18 +122,20 @@ fn try_node<P: LowerParts, N: WrittenBlock>(
     state.close();
     let tail = settle(&mut statements, tail);
     let tail = state.wrapped(lowerer.alloc, at, item, tail)?;
-    let expr = Expr::Block {
-        is_unsafe: false,
-        label: Some(label),
-        id: number,
+    store_block(
+        state,
+        Some(at),
+        false,
+        Some(label),
+        number,
         statements,
-        tail: Some(tail),
-    };
-    state.alloc_expr(expr, Some(at))
+        Some(tail),
+    )
 }
 
 /// The block of a coroutine that is read here, which comes from no node, and the coroutine around it.
 #[tactic(auto, unfolding(hir_lower_form::specs::Forms::coroutine_block_form))]
+#[inline(never)]
 fn coroutine_node<P: LowerParts, N: WrittenBlock>(
     lowerer: &Lowerer<P>,
     state: &mut BodyBuilder,
@@ -148,14 +152,7 @@ fn coroutine_node<P: LowerParts, N: WrittenBlock>(
     state.enter_block(number)?;
     let (mut statements, tail) = node.contents(lowerer, state)?;
     let tail = settle(&mut statements, tail);
-    let expr = Expr::Block {
-        is_unsafe: false,
-        label: None,
-        id: number,
-        statements,
-        tail,
-    };
-    let body = state.alloc_expr(expr, None)?;
+    let body = store_block(state, None, false, None, number, statements, tail)?;
     state.alloc_expr(coroutine(lowerer.alloc, kind, moves, body), Some(at))
 }
 

@@ -16,6 +16,7 @@ use hir_syntax::ast;
 
 /// A call: the callee, then its arguments first to last.
 #[tactic(auto, unfolding(hir_lower_form::specs::Forms::call_form))]
+#[inline(never)]
 pub fn call_form<P: LowerParts, E: ExprPart, A: ArgsPart>(
     lowerer: &Lowerer<P>,
     state: &mut BodyBuilder,
@@ -37,6 +38,7 @@ pub fn call_form<P: LowerParts, E: ExprPart, A: ArgsPart>(
 
 /// The generic arguments behind the others.
 #[tactic(auto, unfolding(hir_lower_form::specs::Forms::method_call_form))]
+#[inline(never)]
 pub fn method_call_form<P: LowerParts, E: ExprPart, G: GenericsPart, A: ArgsPart>(
     lowerer: &Lowerer<P>,
     state: &mut BodyBuilder,
@@ -70,6 +72,7 @@ pub fn method_call_form<P: LowerParts, E: ExprPart, G: GenericsPart, A: ArgsPart
 
 /// The parentheses lead to what is in them.
 #[tactic(auto, unfolding(hir_lower_form::specs::Forms::paren_form))]
+#[inline(never)]
 pub fn paren_form<P: LowerParts, E: ExprPart>(
     lowerer: &Lowerer<P>,
     state: &mut BodyBuilder,

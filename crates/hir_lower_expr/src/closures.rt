@@ -91,6 +91,7 @@ fn kept_param<P: LowerParts, Q: PatPart, T: TypePart>(
 }
 
 /// A parameter behind others, which stay alone where a condition disables it.
+#[inline(never)]
 fn param_form<P: LowerParts>(
     lowerer: &Lowerer<P>,
     state: &mut BodyBuilder,
@@ -268,6 +269,7 @@ fn bordered_closure<P: LowerParts, A: ParamsPart, R: RetPart, E: ExprPart>(
 
 /// A closure without `async` and `gen`, which owns the bindings that are made in it.
 #[tactic(auto, unfolding(hir_lower_form::specs::Lowering::owning))]
+#[inline(never)]
 fn plain_closure<P: LowerParts, A: ParamsPart, R: RetPart, E: ExprPart>(
     lowerer: &Lowerer<P>,
     state: &mut BodyBuilder,

@@ -15,6 +15,7 @@ ghost use Rattle.hir_lower_form.specs.Nests.{Claims, IfPresent, KidsElse};
 ghost use Rattle.hir_lower_form.specs.Methods.{LowersExpr, LowersIfPresent};
 
 use crate::part::{BlockPart, ExprPart};
+use crate::stored::{store_break, store_loop};
 use hir_base::node::{AstPtr, InFile};
 use hir_lower_form::builder::BodyBuilder;
 use hir_lower_form::parts::{LowerParts, Lowerer};
@@ -82,6 +83,7 @@ impl ElsePart for Option<ast::ElseBranch> {
 
 /// The branches are lowered before the condition.
 #[tactic(auto, unfolding(hir_lower_form::specs::Forms::if_form))]
+#[inline(never)]
 pub fn if_form<P: LowerParts, E: ExprPart, B: BlockPart, L: ElsePart>(
     lowerer: &Lowerer<P>,
     state: &mut BodyBuilder,
@@ -111,6 +113,7 @@ pub fn if_form<P: LowerParts, E: ExprPart, B: BlockPart, L: ElsePart>(
 
 /// A `loop`, whose label lies around its body.
 #[tactic(auto, unfolding(hir_lower_form::specs::Forms::loop_form))]
+#[inline(never)]
 pub fn loop_form<P: LowerParts, B: BlockPart>(
     lowerer: &Lowerer<P>,
     state: &mut BodyBuilder,
@@ -130,34 +133,21 @@ pub fn loop_form<P: LowerParts, B: BlockPart>(
         None => {
             let body = body.lower(lowerer, state)?;
             let label = None;
-            state.alloc_expr(
-                Expr::Loop {
-                    body,
-                    label,
-                    source,
-                },
-                Some(at),
-            )
+            store_loop(state, at, body, label, source)
         }
         Some(label) => {
             let label = lowerer.open_label(state, label)?;
             let body = body.lower(lowerer, state)?;
             state.close();
             let label = Some(label);
-            state.alloc_expr(
-                Expr::Loop {
-                    body,
-                    label,
-                    source,
-                },
-                Some(at),
-            )
+            store_loop(state, at, body, label, source)
         }
     }
 }
 
 /// The turn of a `while`: its body where the condition holds, else a break. The body is lowered before the condition.
 #[tactic(auto, unfolding(hir_lower_form::specs::Forms::turn_form))]
+#[inline(never)]
 fn turn_form<P: LowerParts, E: ExprPart, B: BlockPart>(
     lowerer: &Lowerer<P>,
     state: &mut BodyBuilder,
@@ -173,11 +163,7 @@ fn turn_form<P: LowerParts, E: ExprPart, B: BlockPart>(
 {
     let body = body.lower(lowerer, state)?;
     let tested = condition.lower(lowerer, state)?;
-    let out = Expr::Break {
-        label: None,
-        expr: None,
-    };
-    let out = state.alloc_expr(out, Some(at))?;
+    let out = store_break(state, at)?;
     let turn = Expr::If {
         condition: tested,
         then_branch: body,
@@ -194,6 +180,7 @@ fn turn_form<P: LowerParts, E: ExprPart, B: BlockPart>(
 /// 'a: loop { if c b else { break } }
 /// ```
 #[tactic(auto, unfolding(hir_lower_form::specs::Forms::loop_form))]
+#[inline(never)]
 pub fn while_form<P: LowerParts, E: ExprPart, B: BlockPart>(
     lowerer: &Lowerer<P>,
     state: &mut BodyBuilder,
@@ -216,28 +203,14 @@ pub fn while_form<P: LowerParts, E: ExprPart, B: BlockPart>(
         None => {
             let body = turn_form(lowerer, state, at, condition, body)?;
             let label = None;
-            state.alloc_expr(
-                Expr::Loop {
-                    body,
-                    label,
-                    source,
-                },
-                Some(at),
-            )
+            store_loop(state, at, body, label, source)
         }
         Some(label) => {
             let label = lowerer.open_label(state, label)?;
             let body = turn_form(lowerer, state, at, condition, body)?;
             state.close();
             let label = Some(label);
-            state.alloc_expr(
-                Expr::Loop {
-                    body,
-                    label,
-                    source,
-                },
-                Some(at),
-            )
+            store_loop(state, at, body, label, source)
         }
     }
 }

@@ -144,6 +144,7 @@ fn bordered_coroutine_closure<P: LowerParts, A: ParamsPart, R: RetPart, E: ExprP
 /// |mut x, mut made| || { let x = x; let mut made = made; let (y, z) = made; b }
 /// ```
 #[tactic(auto, unfolding(hir_lower_form::specs::Lowering::owning))]
+#[inline(never)]
 pub(crate) fn coroutine_closure_form<P: LowerParts, A: ParamsPart, R: RetPart, E: ExprPart>(
     lowerer: &Lowerer<P>,
     state: &mut BodyBuilder,

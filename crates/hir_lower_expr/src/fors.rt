@@ -22,6 +22,7 @@ ghost use Rattle.hir_lower_expr.specs.Fors.{items_of};
 use crate::blocks::block_form;
 use crate::part::{ExprPart, PatPart};
 use crate::questions::two_arms;
+use crate::stored::store_made_loop;
 use hir_base::node::{AstPtr, InFile};
 use hir_env::lang::LangItems;
 use hir_lower_form::builder::BodyBuilder;
@@ -130,6 +131,7 @@ impl BodyPart for Option<Boxed<ast::BlockExpr>> {
 
 /// What asks the iterator for its next item.
 #[tactic(auto, unfolding(hir_lower_form::specs::Made::next_form))]
+#[inline(never)]
 fn next_item(
     alloc: Global,
     state: &mut BodyBuilder,
@@ -145,6 +147,7 @@ fn next_item(
 
 /// The arm for no item, which ends the loop.
 #[tactic(auto, unfolding(hir_lower_form::specs::Made::done_arm_form))]
+#[inline(never)]
 fn done_arm(
     state: &mut BodyBuilder,
     at: InFile<AstPtr>,
@@ -183,6 +186,7 @@ fn gives_arm<P: LowerParts, B: BodyPart>(
 }
 
 /// A block with nothing but this value.
+#[inline(never)]
 fn only_tail(
     alloc: Global,
     state: &mut BodyBuilder,
@@ -204,6 +208,7 @@ fn only_tail(
 
 /// One turn of the loop, for the iterator of this name.
 #[tactic(auto, unfolding(hir_lower_form::specs::Made::for_turn_form))]
+#[inline(never)]
 fn turn<P: LowerParts, B: BodyPart>(
     lowerer: &Lowerer<P>,
     state: &mut BodyBuilder,
@@ -228,6 +233,7 @@ fn turn<P: LowerParts, B: BodyPart>(
 
 /// The loop over such turns.
 #[tactic(auto, unfolding(hir_lower_form::specs::Made::made_loop_form))]
+#[inline(never)]
 fn turns<P: LowerParts, B: BodyPart>(
     lowerer: &Lowerer<P>,
     state: &mut BodyBuilder,
@@ -249,28 +255,14 @@ fn turns<P: LowerParts, B: BodyPart>(
         None => {
             let body = turn(lowerer, state, at, items, number, pat, body)?;
             let label = None;
-            state.alloc_made(
-                Expr::Loop {
-                    body,
-                    label,
-                    source,
-                },
-                Some(at),
-            )
+            store_made_loop(state, at, body, label, source)
         }
         Some(label) => {
             let label = lowerer.open_label(state, label)?;
             let body = turn(lowerer, state, at, items, number, pat, body)?;
             state.close();
             let label = Some(label);
-            state.alloc_made(
-                Expr::Loop {
-                    body,
-                    label,
-                    source,
-                },
-                Some(at),
-            )
+            store_made_loop(state, at, body, label, source)
         }
     }
 }
@@ -309,6 +301,7 @@ pub(crate) fn head_node<P: LowerParts>(
 }
 
 /// A list with this arm alone, which has no guard.
+#[inline(never)]
 fn one_arm(alloc: Global, pat: PatId, expr: ExprId) -> Result<Seq<MatchArm>, AllocError>
     ensures value { IfOk result (λ arms. arms ≡ spec.arm_for pat expr ∷ []) }
 {
@@ -361,6 +354,7 @@ fn for_with<P: LowerParts, Q: PatPart, E: ExprPart, B: BodyPart>(
 ///     mut made => 'a: loop { match next(&mut made) { None => break, Some(p) => b } },
 /// }
 /// ```
+#[inline(never)]
 pub fn for_form<P: LowerParts, Q: PatPart, E: ExprPart, B: BodyPart>(
     lowerer: &Lowerer<P>,
     state: &mut BodyBuilder,

@@ -15,6 +15,7 @@ use hir_syntax::ast;
 
 /// A `continue`. Where its label has no target, that is told, and it has none.
 #[tactic(auto, unfolding(hir_lower_form::specs::Forms::continue_form))]
+#[inline(never)]
 pub fn continue_form<P: LowerParts>(
     lowerer: &Lowerer<P>,
     state: &mut BodyBuilder,
@@ -29,6 +30,7 @@ pub fn continue_form<P: LowerParts>(
 
 /// A `break`: its target first, then its value. Where its label has no target, that is told, and it has none.
 #[tactic(auto, unfolding(hir_lower_form::specs::Forms::break_form))]
+#[inline(never)]
 pub fn break_form<P: LowerParts, E: ExprPart>(
     lowerer: &Lowerer<P>,
     state: &mut BodyBuilder,

@@ -14,6 +14,7 @@ use hir_store::ids::ExprId;
 use hir_syntax::ast;
 
 /// A literal.
+#[inline(never)]
 pub fn literal_form<P: LowerParts>(
     lowerer: &Lowerer<P>,
     state: &mut BodyBuilder,
@@ -27,6 +28,7 @@ pub fn literal_form<P: LowerParts>(
 }
 
 /// A condition predicate is read to what it comes to.
+#[inline(never)]
 pub fn predicate_form<P: LowerParts>(
     lowerer: &Lowerer<P>,
     state: &mut BodyBuilder,
@@ -41,6 +43,7 @@ pub fn predicate_form<P: LowerParts>(
 }
 
 /// `_` where a value stands.
+#[inline(never)]
 pub fn underscore_form<P: LowerParts>(
     lowerer: &Lowerer<P>,
     state: &mut BodyBuilder,
@@ -52,6 +55,7 @@ pub fn underscore_form<P: LowerParts>(
 }
 
 /// `include_bytes!`, whose bytes nobody read.
+#[inline(never)]
 pub fn include_bytes_form<P: LowerParts>(
     lowerer: &Lowerer<P>,
     state: &mut BodyBuilder,
@@ -63,6 +67,7 @@ pub fn include_bytes_form<P: LowerParts>(
 }
 
 /// Inline assembly and format strings are left out, and missing.
+#[inline(never)]
 pub fn left_out_form<P: LowerParts>(
     lowerer: &Lowerer<P>,
     state: &mut BodyBuilder,

@@ -13,6 +13,7 @@ use hir_store::ids::ExprId;
 
 /// A `return`, with its value if it has one.
 #[tactic(auto, unfolding(hir_lower_form::specs::Forms::value_form))]
+#[inline(never)]
 pub fn return_form<P: LowerParts, E: ExprPart>(
     lowerer: &Lowerer<P>,
     state: &mut BodyBuilder,
@@ -30,6 +31,7 @@ pub fn return_form<P: LowerParts, E: ExprPart>(
 
 /// A `do yeet`, with its value if it has one.
 #[tactic(auto, unfolding(hir_lower_form::specs::Forms::value_form))]
+#[inline(never)]
 pub fn yeet_form<P: LowerParts, E: ExprPart>(
     lowerer: &Lowerer<P>,
     state: &mut BodyBuilder,
@@ -47,6 +49,7 @@ pub fn yeet_form<P: LowerParts, E: ExprPart>(
 
 /// A `yield`, with its value if it has one. It is noted before its value is lowered.
 #[tactic(auto, unfolding(hir_lower_form::specs::Forms::yield_form))]
+#[inline(never)]
 pub fn yield_form<P: LowerParts, E: ExprPart>(
     lowerer: &Lowerer<P>,
     state: &mut BodyBuilder,
@@ -63,6 +66,7 @@ pub fn yield_form<P: LowerParts, E: ExprPart>(
 
 /// The call that it becomes is missing where it is absent.
 #[tactic(auto, unfolding(hir_lower_form::specs::Forms::operand_form))]
+#[inline(never)]
 pub fn become_form<P: LowerParts, E: ExprPart>(
     lowerer: &Lowerer<P>,
     state: &mut BodyBuilder,

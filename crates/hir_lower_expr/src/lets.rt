@@ -21,6 +21,7 @@ use hir_syntax::ast;
 
 /// The pattern before the expression.
 #[tactic(auto, unfolding(hir_lower_form::specs::Forms::let_form))]
+#[inline(never)]
 pub fn let_form<P: LowerParts, Q: PatPart, E: ExprPart>(
     lowerer: &Lowerer<P>,
     state: &mut BodyBuilder,
@@ -104,6 +105,7 @@ fn kept_let<P: LowerParts, Q: PatPart, T: TypePart, E: ExprPart, L: LetElsePart>
 }
 
 /// The statement, none where a condition disables it.
+#[inline(never)]
 pub(crate) fn let_stmt<P: LowerParts, Q: PatPart, T: TypePart, E: ExprPart, L: LetElsePart>(
     lowerer: &Lowerer<P>,
     state: &mut BodyBuilder,

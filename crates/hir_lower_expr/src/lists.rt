@@ -26,6 +26,7 @@ fn with_first(alloc: Global, first: ExprId, rest: Seq<ExprId>) -> Result<Seq<Exp
 
 /// A leading comma stands for a missing element in front, which is made last.
 #[tactic(auto, unfolding(hir_lower_form::specs::Forms::list_form))]
+#[inline(never)]
 pub fn tuple_form<P: LowerParts, F: ListPart>(
     lowerer: &Lowerer<P>,
     state: &mut BodyBuilder,
@@ -49,6 +50,7 @@ pub fn tuple_form<P: LowerParts, F: ListPart>(
 
 /// An array of listed elements, first to last.
 #[tactic(auto, unfolding(hir_lower_form::specs::Forms::list_form))]
+#[inline(never)]
 pub fn array_form<P: LowerParts, F: ListPart>(
     lowerer: &Lowerer<P>,
     state: &mut BodyBuilder,
@@ -66,6 +68,7 @@ pub fn array_form<P: LowerParts, F: ListPart>(
 
 /// An array of one element again and again: the element, then how often.
 #[tactic(auto, unfolding(hir_lower_form::specs::Forms::repeat_form))]
+#[inline(never)]
 pub fn repeat_form<P: LowerParts, E: ExprPart, C: ConstPart>(
     lowerer: &Lowerer<P>,
     state: &mut BodyBuilder,

@@ -42,7 +42,7 @@ fn expr_of<'a>(entered: Entered<'a>) -> Option<(Place, &'a ast::Expr)>
 }
 
 /// The node leads to what is left of what it stands for.
-fn pointed(
+pub(crate) fn pointed(
     state: &mut BodyBuilder,
     at: InFile<AstPtr>,
     inner: Option<ExprId>,
@@ -81,6 +81,7 @@ fn call_form<P: LowerParts>(
 /// A call as an expression: what it stands for, which is missing at the call where it stands for no expression. Of one that the text
 /// lacks, and of one whose expression a condition disables, nothing is left.
 #[tactic(auto, unfolding(hir_lower_form::specs::Calls::note_gone))]
+#[inline(never)]
 pub fn macro_form<P: LowerParts>(
     lowerer: &Lowerer<P>,
     state: &mut BodyBuilder,

@@ -79,6 +79,7 @@ fn kept_arm<P: LowerParts, Q: PatPart, E: ExprPart, G: GuardPart>(
 }
 
 /// The arm, none where a condition disables it.
+#[inline(never)]
 fn arm_form<P: LowerParts>(
     lowerer: &Lowerer<P>,
     state: &mut BodyBuilder,
@@ -160,6 +161,7 @@ impl ArmsPart for Option<Seq<ast::MatchArm>> {
 
 /// What is matched before the arms.
 #[tactic(auto, unfolding(hir_lower_form::specs::Forms::match_form))]
+#[inline(never)]
 pub fn match_form<P: LowerParts, E: ExprPart, A: ArmsPart>(
     lowerer: &Lowerer<P>,
     state: &mut BodyBuilder,

@@ -36,6 +36,7 @@ fn mutability(is_mut: bool) -> Mutability
 
 /// A field of a value, by its name.
 #[tactic(auto, unfolding(hir_lower_form::specs::Forms::operand_form))]
+#[inline(never)]
 pub fn field_form<P: LowerParts, E: ExprPart>(
     lowerer: &Lowerer<P>,
     state: &mut BodyBuilder,
@@ -55,6 +56,7 @@ pub fn field_form<P: LowerParts, E: ExprPart>(
 
 /// Without its operator the expression is missing, and its operand stays.
 #[tactic(auto, unfolding(hir_lower_form::specs::Forms::operand_form))]
+#[inline(never)]
 pub fn prefix_form<P: LowerParts, E: ExprPart>(
     lowerer: &Lowerer<P>,
     state: &mut BodyBuilder,
@@ -74,6 +76,7 @@ pub fn prefix_form<P: LowerParts, E: ExprPart>(
 
 /// A reference to a place, or a raw pointer to one.
 #[tactic(auto, unfolding(hir_lower_form::specs::Forms::operand_form))]
+#[inline(never)]
 pub fn reference_form<P: LowerParts, E: ExprPart>(
     lowerer: &Lowerer<P>,
     state: &mut BodyBuilder,
@@ -102,6 +105,7 @@ pub fn reference_form<P: LowerParts, E: ExprPart>(
 
 /// The operands from left to right, whatever the operator, which is no `=`.
 #[tactic(auto, using(hir_lower_form::proofs::Binaries::binary_is), unfolding(hir_lower_form::specs::Forms::operands_form))]
+#[inline(never)]
 pub(crate) fn binary_form<P: LowerParts, E: ExprPart>(
     lowerer: &Lowerer<P>,
     state: &mut BodyBuilder,
@@ -125,6 +129,7 @@ pub(crate) fn binary_form<P: LowerParts, E: ExprPart>(
 
 /// An element: what is indexed, then the index.
 #[tactic(auto, unfolding(hir_lower_form::specs::Forms::operands_form))]
+#[inline(never)]
 pub fn index_form<P: LowerParts, E: ExprPart>(
     lowerer: &Lowerer<P>,
     state: &mut BodyBuilder,
@@ -145,6 +150,7 @@ pub fn index_form<P: LowerParts, E: ExprPart>(
 
 /// Outside of async code it is a fault, which comes behind those of the operand.
 #[tactic(auto, unfolding(hir_lower_form::specs::Forms::await_form))]
+#[inline(never)]
 pub fn await_form<P: LowerParts, E: ExprPart>(
     lowerer: &Lowerer<P>,
     state: &mut BodyBuilder,

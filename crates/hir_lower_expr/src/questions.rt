@@ -138,6 +138,7 @@ fn residual_arm(
 }
 
 /// The arms, in this order.
+#[inline(never)]
 pub(crate) fn two_arms(
     alloc: Global,
     first: MatchArm,
@@ -182,6 +183,7 @@ fn question_with<P: LowerParts, E: ExprPart>(
 ///     Break(residual) => break 'try into_try_type(residual), // outside of a `try`: return from_residual(residual)
 /// }
 /// ```
+#[inline(never)]
 pub fn question_form<P: LowerParts, E: ExprPart>(
     lowerer: &Lowerer<P>,
     state: &mut BodyBuilder,

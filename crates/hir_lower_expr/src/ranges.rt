@@ -229,6 +229,7 @@ fn made_of(
 /// RangeInclusiveCopy { start: a, last: b }
 /// ```
 #[tactic(auto, unfolding(hir_lower_form::specs::Ranges::range_form))]
+#[inline(never)]
 pub fn range_form<P: LowerParts, E: ExprPart>(
     lowerer: &Lowerer<P>,
     state: &mut BodyBuilder,

@@ -48,6 +48,7 @@ fn named_field<P: LowerParts, E: ExprPart>(
 }
 
 /// The field, none where a condition disables it or it has no name.
+#[inline(never)]
 fn field_form<P: LowerParts>(
     lowerer: &Lowerer<P>,
     state: &mut BodyBuilder,
@@ -179,6 +180,7 @@ impl RecordPart for Option<ast::RecordExprFieldList> {
 
 /// Where the path is absent or refused the record is missing, and nothing else of it is read.
 #[tactic(auto, unfolding(hir_lower_form::specs::Forms::record_form))]
+#[inline(never)]
 pub fn record_form<P: LowerParts, W: PathPart, R: RecordPart>(
     lowerer: &Lowerer<P>,
     state: &mut BodyBuilder,

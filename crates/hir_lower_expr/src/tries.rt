@@ -17,6 +17,7 @@ use hir_syntax::{Boxed, ast};
 
 /// The name is made up before the type is lowered, which stands outside of the block.
 #[tactic(auto, unfolding(hir_lower_form::specs::Made::typed_try_form))]
+#[inline(never)]
 fn typed_try<P: LowerParts>(
     lowerer: &Lowerer<P>,
     state: &mut BodyBuilder,

@@ -37,6 +37,7 @@ fn read_path_expr(
 
 /// A path that is absent or refused is missing.
 #[tactic(auto, unfolding(hir_lower_form::specs::Forms::path_form))]
+#[inline(never)]
 pub fn path_form<P: LowerParts, W: PathPart>(
     lowerer: &Lowerer<P>,
     state: &mut BodyBuilder,
@@ -54,6 +55,7 @@ pub fn path_form<P: LowerParts, W: PathPart>(
 
 /// A cast: what is cast, then the type.
 #[tactic(auto, unfolding(hir_lower_form::specs::Forms::cast_form))]
+#[inline(never)]
 pub fn cast_form<P: LowerParts, E: ExprPart, T: TypePart>(
     lowerer: &Lowerer<P>,
     state: &mut BodyBuilder,
@@ -80,6 +82,7 @@ fn field_names(alloc: Global, names: &Seq<ast::Name>) -> Result<Seq<Name>, Alloc
 
 /// `offset_of!`: the type, then the names of the fields.
 #[tactic(auto, unfolding(hir_lower_form::specs::Forms::offset_of_form))]
+#[inline(never)]
 pub fn offset_of_form<P: LowerParts, T: TypePart>(
     lowerer: &Lowerer<P>,
     state: &mut BodyBuilder,

@@ -4,17 +4,21 @@ use Rattle.hir_syntax.specs.declared.macros.Fragment.{Fragment as AstFragment}
 use Rattle.hir_syntax.specs.declared.macros.MacroCall.{MacroCall as AstMacroCall}
 use Rattle.hir_store.specs.Pointers.{Pointer}
 use Rattle.hir_store.specs.declared.diagnostics.ExpressionStoreDiagnostics.TheVariants.{InactiveCode, UnresolvedMacroCall}
+use Rattle.hir_store.specs.declared.hir.Statement.{Statement}
+use Rattle.hir_store.specs.declared.hir.Statement.TheVariants as statement
 use Rattle.hir_store.specs.declared.ids.CfgId.{CfgId}
+use Rattle.hir_store.specs.declared.ids.MacroDefId.{MacroDefId}
 use Rattle.hir_env.specs.Spot.{site_of}
 use Rattle.hir_env.specs.declared.expand.FragmentKind.{FragmentKind}
+use Rattle.hir_env.specs.declared.expand.FragmentKind.TheVariants as kind
 use Rattle.hir_env.specs.declared.place.Place.{Place}
 use Rattle.hir_env.specs.Answers.{Answers, Eager, Expanding, expanded}
 use Rattle.hir_env.specs.Calls.{asked_call, call_pointer, called, inside_file}
 use Rattle.hir_env.specs.Lent.{fragment_lent}
 use Rattle.hir_env.specs.Spot.{Spot}
 use Rattle.hir_env.specs.Answered as tree
-use Rattle.hir_env.specs.Answered.{Called, Entered, Gone}
-use Rattle.hir_lower_form.specs.Lowering.{Lowering, Checked, ◌>>◌, pure, record_expansion, report}
+use Rattle.hir_env.specs.Answered.{Called, Entered, Gone, Stmt}
+use Rattle.hir_lower_form.specs.Lowering.{Lowering, Checked, ◌>>=◌, ◌>>◌, pure, close, count_def, open_macro, record_expansion, report}
 use Rattle.hir_lower_form.specs.declared.calls.Entered.{Entered as LentEntered}
 use Rattle.hir_lower_form.specs.declared.calls.Entered.TheVariants as lent
 
@@ -37,6 +41,11 @@ told (tree.unresolved at path) = report (UnresolvedMacroCall at path)
 told (tree.entered c) = note c
 told _ = pure tt
 
+-- in statement and tail place one whose macro isn't found is none
+abbrev pub told_splice : Called → Lowering (Unit {0})
+told_splice (tree.entered c) = note c
+told_splice _ = pure tt
+
 abbrev pub note_each : List Entered → Lowering (Unit {0})
 note_each [] = pure tt
 note_each (c ∷ cs) = do
@@ -52,6 +61,28 @@ unfoldable pub note_gone : Gone → Lowering (Unit {0})
 note_gone why = do
   note_each why.entered
   report_condition why.condition
+
+-- ---- definitions of macros
+
+abbrev pub defined : Option MacroDefId → Statement
+defined None = statement.Item
+defined (Some d) = statement.MacroDef d
+
+unfoldable pub define_form : ℕ → Option MacroDefId → Lowering (Option Statement)
+define_form k d = count_def k >> pure (Some (defined d))
+
+-- steps inside of the definition of a macro
+unfoldable pub inside_macro : {A : Type 0} → MacroDefId → Lowering A → Lowering A
+inside_macro d inner = do
+  open_macro d
+  x ← inner
+  close
+  pure x
+
+-- Steps behind a statement. Those behind the definition of a macro are inside of it.
+abbrev pub behind : {A : Type 0} → Stmt → Lowering A → Lowering A
+behind (tree.macro_stmt k (Some d)) rest = inside_macro d rest
+behind s rest = rest
 
 -- ---- what a call that is read here comes to
 
@@ -80,7 +111,20 @@ enter_left env k c (suc n) p = asked_step env k c n p
 abbrev pub entered_at : Spot → FragmentKind → AstMacroCall → Lowering Found
 entered_at at k c = enter_left at.answers k c at.place.left at.place
 
--- the same by value
+-- the same in statement or tail place
+abbrev pub splice_step : Pointer → ℕ → Place → Expanding → Lowering Found
+splice_step at n p x = do
+  told_splice (called at x)
+  pure (found_in n p x)
+
+abbrev pub splice_left : Answers → AstMacroCall → ℕ → Place → Lowering Found
+splice_left env c zero p = pure None
+splice_left env c (suc n) p = splice_step (call_pointer p c) n p (asked_call env kind.Stmts c p)
+
+abbrev pub splice_entered : Spot → AstMacroCall → Lowering Found
+splice_entered at c = splice_left at.answers c at.place.left at.place
+
+-- what is found by value
 abbrev pub found_of : LentEntered → Found
 found_of lent.No = None
 found_of (lent.Yes p x) = Some (p, fragment_lent x)

@@ -30,7 +30,8 @@ use Rattle.hir_store.specs.declared.diagnostics.ExpressionStoreDiagnostics.{Expr
 use Rattle.hir_store.specs.declared.diagnostics.ExpressionStoreDiagnostics.TheVariants.{AwaitOutsideOfAsync}
 use Rattle.hir_store.specs.declared.diagnostics.ExpressionStoreDiagnostics.TheVariants.{UndeclaredLabel, UnreachableLabel}
 use Rattle.hir_store.specs.declared.diagnostics.AwaitLocation.{AwaitLocation}
-use Rattle.hir_scope.specs.Ribs.{label_rib, try_rib, barrier_rib, Target, reachable, unreachable, undeclared, target}
+use Rattle.hir_store.specs.declared.ids.MacroDefId.{MacroDefId}
+use Rattle.hir_scope.specs.Ribs.{label_rib, macro_rib, try_rib, barrier_rib, Target, reachable, unreachable, undeclared, target}
 use Rattle.hir_scope.specs.Ribs.{Try, innermost_try_rib}
 use Rattle.hir_lower_scope.specs.declared.labels.NoTarget.{NoTarget}
 use Rattle.hir_lower_scope.specs.declared.labels.NoTarget.TheVariants as no
@@ -204,6 +205,14 @@ close_barrier outside = λ b. (Ok b.yields, record b { scopes = rest b.scopes; y
 -- a `yield` stands here
 unfoldable pub note_yield : Lowering (Unit {0})
 note_yield = λ b. (Ok tt, record b { yields = true })
+
+-- how many definitions of a name stand before one is a number itself, which has an end
+unfoldable pub count_def : ℕ → Lowering (Unit {0})
+count_def k = if nat_lt (suc k) (2 ^ 32) then pure tt else count_out
+
+-- behind it a macro is defined
+unfoldable pub open_macro : MacroDefId → Lowering (Unit {0})
+open_macro d = λ b. (Ok tt, record b { scopes = macro_rib d ∷ b.scopes })
 
 -- closes what was opened last
 unfoldable pub close : Lowering (Unit {0})

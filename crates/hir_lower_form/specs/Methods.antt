@@ -245,23 +245,6 @@ record_at r = spec.record_contents (spec.lower_fields [] r.fields) (spec.lower_s
 
 -- the contents of a block
 
--- the statements, without what stands behind them
-abbrev pub stmts_alone : List Statement → Stmts → Lowering (List Statement)
-stmts_alone done tree.no_stmts = pure done
-stmts_alone done (tree.more_stmts s ss) = do
-  x ← spec.lower_stmt s
-  stmts_alone (spec.push_some done x) ss
-
--- the statements one after another, and then the tail
-abbrev pub flat : List Statement → Stmts → Lowering (Option ExprId) → Lowering StoredContents
-flat done ss tail = do
-  xs ← stmts_alone done ss
-  t ← tail
-  pure (xs, t)
-
-abbrev pub LowersStmts : Stmts → Builder → Checked (List Statement) → Builder → Type 0
-LowersStmts ss old result new = Lowers HasStatements (stmts_alone [] ss) old result new
-
 abbrev pub HasContents : Stored → StoredContents → Type 0
 HasContents s c = HasStatements s c.0 × HasExprOption s c.1
 

@@ -7,6 +7,7 @@ use Rattle.hir_base.specs.declared.op.RangeOp.{RangeOp}
 use Rattle.hir_binding.specs.declared.binding.BindingAnnotation.{BindingAnnotation}
 use Rattle.hir_binding.specs.Uses.{name_use}
 use Rattle.hir_binding.specs.Steps.{Noted, over_recent, fresh, after, entered, next, left}
+use Rattle.hir_store.specs.declared.diagnostics.ExpressionStoreDiagnostics.TheVariants.{PatternArgInExternFn}
 use Rattle.hir_store.specs.Names.{same_name}
 use Rattle.hir_store.specs.Pointers.{Pointer}
 use Rattle.hir_store.specs.declared.hir.Expr.TheVariants as hir
@@ -27,7 +28,7 @@ use Rattle.hir_store.specs.declared.path.PathKind.TheVariants as kind
 use Rattle.hir_env.specs.Answered as tree
 use Rattle.hir_env.specs.Answered.{Called, Pat, PatLeaf, PatUnary, Signed, Use}
 use Rattle.hir_lower_form.specs.Lowering.{Lowering, ◌>>=◌, ◌>>◌, pure, alloc_binding, alloc_expr, alloc_pat, count_out, define}
-use Rattle.hir_lower_form.specs.Lowering.{point_pat, point_pat_field, set_problem}
+use Rattle.hir_lower_form.specs.Lowering.{point_pat, point_pat_field, report, set_problem}
 use Rattle.hir_lower_form.specs.Calls.{told}
 use Rattle.hir_lower_form.specs.Forms.{root_hygiene}
 
@@ -145,6 +146,10 @@ called_pat_form at called pat_in inner = do
 abbrev pub uncalled_pat : Pointer → Called → Lowering PatId
 uncalled_pat at tree.callless = unwritten_pattern
 uncalled_pat at called = called_pat_form at called (λ i. i) unwritten_pattern
+
+-- one where only a plain name or `_` may stand is missing without a way to it, too
+abbrev pub barred_pat_form : Pointer → Lowering PatId
+barred_pat_form at = report (PatternArgInExternFn at) >> missing_pat
 
 -- what no written side of a range is stays absent
 abbrev pub unwritten_side : Lowering (Option ExprId)

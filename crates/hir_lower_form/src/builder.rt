@@ -22,7 +22,7 @@ use hir_store::expansions::ExpandedCall;
 use hir_store::fault::StoreFault;
 use hir_store::hir::{Binding, BindingProblems, Expr, Label, Pat};
 use hir_store::ids::{
-    BindingId, BlockId, ExprId, HygieneId, LabelId, LifetimeRefId, PatId, TypeRefId,
+    BindingId, BlockId, ExprId, HygieneId, LabelId, LifetimeRefId, MacroDefId, PatId, TypeRefId,
 };
 use hir_store::name::Name;
 use hir_store::type_ref::{LifetimeRef, TypeRef};
@@ -420,6 +420,26 @@ impl BodyBuilder {
             }
             None => Err(self.count_out()),
         }
+    }
+
+    /// Counts the definition of a macro that so many of its name stand before.
+    #[tactic(auto, unfolding(crate::specs::Lowering::count_def, crate::specs::Lowering::count_out))]
+    pub fn count_def(&mut self, before: u32) -> Result<(), StoreFault>
+        ensures { Lowers HasNone (spec.count_def before) self.old result self.new }
+    {
+        match before.checked_add(1) {
+            Some(_) => Ok(()),
+            None => Err(self.count_out()),
+        }
+    }
+
+    /// Opens the definition of a macro, inside all that are open: what follows it stands in it.
+    #[tactic(auto, unfolding(crate::specs::Lowering::open_macro))]
+    pub fn open_macro(&mut self, def: MacroDefId) -> Result<(), StoreFault>
+        ensures { Lowers HasNone (spec.open_macro def) self.old result self.new }
+    {
+        self.scopes.enter_macro(def)?;
+        Ok(())
     }
 
     /// Stores a label and opens it inside all that are open.

@@ -4,7 +4,7 @@ ghost use Rattle.std.specs.Prelude.{◌≡◌};
 ghost use Rattle.hir_store.specs.Range.{HasNone};
 ghost use Rattle.hir_env.specs.Calls.{inside_file};
 ghost use Rattle.hir_env.specs.Lent.{shown};
-ghost use Rattle.hir_lower_form.specs.Calls.{entered_at, found, note, record_each, told_step};
+ghost use Rattle.hir_lower_form.specs.Calls.{entered_at, found, note, record_each, splice_entered, splice_step, told_step};
 ghost use Rattle.hir_lower_form.specs.Lowering.{Lowers};
 ghost use Rattle.hir_lower_form.specs.Methods.{HasRead};
 
@@ -89,7 +89,27 @@ fn told<'a>(
     }
 }
 
-/// Asks about a call that is read here, and tells what it came to. Where none may be entered nothing is asked.
+/// The same of a call in statement or tail place, where it is no fault that its macro isn't found.
+fn told_splice<'a>(
+    state: &mut BodyBuilder,
+    place: Place,
+    left: u32,
+    call: InFile<AstPtr>,
+    expansion: Expansion<'a>,
+) -> Result<Entered<'a>, StoreFault>
+    ensures { Lowers HasRead (splice_step call left place (shown expansion.entry)) state.old (found result) state.new }
+{
+    match expansion {
+        Expansion::NoExpansion | Expansion::Unresolved(_) => Ok(Entered::No),
+        Expansion::Expanded(file, root, eager) => {
+            note(state, call, file, eager)?;
+            Ok(Entered::Yes(inside_file(place, file, left), root))
+        }
+    }
+}
+
+/// Asks about a call that is read here as an expression, a pattern or a type, and tells what it came to. Where none may be entered
+/// nothing is asked.
 pub fn enter<'a, P: LowerParts>(
     lowerer: &'a Lowerer<P>,
     state: &mut BodyBuilder,
@@ -105,4 +125,21 @@ pub fn enter<'a, P: LowerParts>(
     let at = lowerer.pointer(call.id, call.range);
     let expansion = lowerer.parts.expand(site(at), call, kind);
     told(state, place, place.left - 1, at, expansion)
+}
+
+/// The same of a call in statement or tail place, which stands for statements.
+pub fn enter_splice<'a, P: LowerParts>(
+    lowerer: &'a Lowerer<P>,
+    state: &mut BodyBuilder,
+    call: &MacroCall,
+) -> Result<Entered<'a>, StoreFault>
+    ensures { Lowers HasRead (splice_entered (P.spot lowerer.now.parts) call.now) state.old (found result) state.new }
+{
+    let place = lowerer.parts.place();
+    if place.left == 0 {
+        return Ok(Entered::No);
+    }
+    let at = lowerer.pointer(call.id, call.range);
+    let expansion = lowerer.parts.expand(site(at), call, FragmentKind::Stmts);
+    told_splice(state, place, place.left - 1, at, expansion)
 }

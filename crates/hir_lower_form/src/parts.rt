@@ -4,12 +4,14 @@
 ghost use Rattle.std.specs.Prelude.{◌≡◌};
 ghost use Rattle.hir_env.specs.Answered as tree;
 ghost use Rattle.hir_env.specs.Lent.{shown};
+ghost use Rattle.hir_env.specs.LocalPaths.{local_root};
 ghost use Rattle.hir_env.specs.Spot.{Spot, in_file, ptr, site_of};
 ghost use Rattle.hir_env.specs.Whole.{answered, answered_arg_list, answered_path, answered_plain, answered_type};
 ghost use Rattle.hir_env.specs.Whole.{block_part, expr_part, pointer_at};
 ghost use Rattle.hir_scope.specs.Ribs.{search, sought_first};
 ghost use Rattle.hir_lower_scope.specs.Labels.{answer};
-ghost use Rattle.hir_lower_form.specs.Nests.{CallsNest, Claims, IfPresent, PatsNest, TargetsArePlaces, TargetsNest};
+ghost use Rattle.hir_lower_form.specs.Nests.{CallsNest, Claims, IfPresent, Moved, PatCallsNest, PatsNest, SplicesNest, TargetsArePlaces};
+ghost use Rattle.hir_lower_form.specs.Nests.{TargetsNest, TypeCallsNest};
 ghost use Rattle.hir_lower_form.specs.Methods.{HasRole, LowersBlock, LowersBlockOpt, LowersExpr, LowersExprOpt, LowersIfPresent};
 ghost use Rattle.hir_lower_form.specs.Methods.{LowersInside, MaybeLowersExpr, MaybeLowersExprOpt};
 ghost use Rattle.hir_lower_form.specs.Methods.{HasWalk, LowersArgs, LowersConstant, LowersType, ReadsPath, at_place, constant_at};
@@ -24,7 +26,9 @@ use hir_env::resolved::{Resolved, Shadow};
 use hir_lower_scope::labels::{LabelScopes, NoTarget};
 use hir_store::fault::StoreFault;
 use hir_store::hir::CoroutineKind;
-use hir_store::ids::{CfgId, CrateId, ExprId, HygieneId, LabelId, LangItemId, TypeRefId};
+use hir_store::ids::{
+    CfgId, CrateId, ExprId, HygieneId, LabelId, LangItemId, MacroDefId, TypeRefId,
+};
 use hir_store::name::Name;
 use hir_store::path::{GenericArgs, ModPath};
 use hir_store::type_ref::ConstRef;
@@ -52,11 +56,16 @@ pub enum BlockRole {
 }
 
 /// What lowers the parts of a form at one place, and answers its questions there.
-pub trait LowerParts {
+pub trait LowerParts: Copy {
     /// The nodes that may be handed in.
     ghost can: { Self → Claims };
     /// Where the parts are read.
     ghost spot: { Self → Spot };
+
+    /// The same, at this place.
+    fn moved(&self, place: Place) -> Self
+        ensures spot { spot result ≡ at_place (spot self.now) place }
+        ensures can { Moved (can self.now) (can result) place };
 
     fn place(&self) -> Place
         ensures { result ≡ (spot self.now).place };
@@ -77,6 +86,10 @@ pub trait LowerParts {
     fn crate_root(&self, name: InFile<NodeId>) -> Option<CrateId>
         ensures { let answers = (spot self.now).answers in result ≡ answers.crate_root (answers.context name) };
 
+    /// The root of the crate at the node, where the macro that the node came from is local to its crate.
+    fn local_root(&self, node: InFile<NodeId>) -> Option<Option<CrateId>>
+        ensures { let answers = (spot self.now).answers in result ≡ local_root answers (answers.context node) };
+
     /// What the path stands for.
     fn resolve(&self, path: &ModPath, shadow: Shadow) -> Resolved
         ensures { let at = spot self.now in result ≡ at.answers.resolve at.place.module_id path.now shadow };
@@ -89,6 +102,14 @@ pub trait LowerParts {
         kind: FragmentKind,
     ) -> Expansion<'_>
         ensures { let at = spot self.now in shown result ≡ at.answers.expand node call.now at.place.module_id kind };
+
+    /// The definition of the macro of this name, which isn't by `macro_rules`.
+    fn macro_def(&self, name: &Name) -> Option<MacroDefId>
+        ensures { let at = spot self.now in result ≡ at.answers.macro_def at.place.module_id name.now };
+
+    /// The definition by `macro_rules` that so many of its name stand before in a block.
+    fn legacy_macro(&self, name: &Name, before: u32) -> Option<MacroDefId>
+        ensures { let at = spot self.now in result ≡ at.answers.legacy_macro at.place.module_id name.now before };
 
     /// The items that the language itself names.
     fn lang_items(&self) -> &LangItems
@@ -192,6 +213,12 @@ pub trait LowerParts {
 
     /// What a call that may be entered stands for may be handed in where it is entered.
     ghost call_kids: { CallsNest can spot };
+
+    ghost pat_call_kids: { PatCallsNest can spot };
+
+    ghost type_call_kids: { TypeCallsNest can spot };
+
+    ghost splice_kids: { SplicesNest can spot };
 }
 
 /// The node that a pointer leads to, as it is asked about.
@@ -222,6 +249,17 @@ pub struct Lowerer<P> {
 }
 
 impl<P: LowerParts> Lowerer<P> {
+    /// The same, whose parts are read at this place.
+    pub fn moved(&self, place: Place) -> Lowerer<P>
+        ensures spot { P.spot result.parts ≡ at_place (P.spot self.now.parts) place }
+        ensures can { Moved (P.can self.now.parts) (P.can result.parts) place }
+    {
+        Lowerer {
+            alloc: self.alloc,
+            parts: self.parts.moved(place),
+        }
+    }
+
     pub fn pointer(&self, node: NodeId, range: TextRange) -> InFile<AstPtr>
         ensures { result ≡ pointer_at (P.spot self.now.parts) node range }
     {

@@ -1,3 +1,2 @@
 pub mod Spots
 pub mod Nests
-pub mod CallKids

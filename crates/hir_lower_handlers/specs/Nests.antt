@@ -1,5 +1,5 @@
 -- A function value that lowers a given part.
-use Rattle.std.specs.Prelude.{◌≡◌, ◌≤◌, Option, Some, None}
+use Rattle.std.specs.Prelude.{◌≡◌, Option}
 use Rattle.std.specs.declared.alloc.Global.{Global}
 use denote.Ref.{Bor, MutBor}
 use Rattle.hir_syntax.specs.declared.ast.Expr.{Expr as AstExpr}
@@ -13,18 +13,15 @@ use Rattle.hir_store.specs.Range.{HasExpr, HasExprOption}
 use Rattle.hir_store.specs.declared.path.GenericArgs.{GenericArgs}
 use Rattle.hir_store.specs.declared.ids.ExprId.{ExprId}
 use Rattle.hir_store.specs.declared.ids.TypeRefId.{TypeRefId}
-use Rattle.hir_env.specs.declared.expand.FragmentKind.TheVariants as kind
 use Rattle.hir_env.specs.declared.place.Place.{Place}
 use Rattle.hir_env.specs.Answers.{Answers}
 use Rattle.hir_env.specs.Answered as tree
-use Rattle.hir_env.specs.Answered.{Binder, OptionExpr}
-use Rattle.hir_env.specs.Calls.{asked_call, expr_in}
-use Rattle.hir_env.specs.Count.{count_expr, count_option_expr}
-use Rattle.hir_env.specs.Layers.{Entering}
+use Rattle.hir_env.specs.Answered.{Binder}
 use Rattle.hir_env.specs.Paths.{inside_constant}
 use Rattle.hir_env.specs.Wrapped.{AstGenericArgList}
-use Rattle.hir_env.specs.Whole.{answered, answered_arg_list, answered_path, answered_plain, answered_type, entering}
+use Rattle.hir_env.specs.Whole.{answered, answered_arg_list, answered_path, answered_plain, answered_type}
 use Rattle.hir_lower_form.specs.Builder.{Builder}
+use Rattle.hir_lower_form.specs.Inside.{InCall, InPatCall, InSplice, InTypeCall}
 use Rattle.hir_lower_form.specs.Lowering.{Lowering, Checked, Lowers}
 use Rattle.hir_lower_form.specs.Lower.{lower_kept, lower_inside}
 use Rattle.hir_lower_form.specs.Methods.{HasRole, HasWalk, LowersArgs, LowersType, ReadsPath}
@@ -122,19 +119,22 @@ module _ {E : Type 0} (answers : E → Answers) where
   HandlesTarget pre post path_pre path_post env =
       InTarget (complete (answers env)) (HandlesExpr answers pre post env) (HandlesPath answers path_pre path_post env)
 
--- what a call of a macro stands for that is read there
-abbrev pub inside_call : Answers → Option Entering → Place → AstMacroCall → OptionExpr
-inside_call env None p c = tree.no_expr
-inside_call env (Some into) p c = expr_in into p (asked_call env kind.Expr c p)
-
--- Each expression that counts no more than what the call stands for may be handed in, wherever it is read.
-abbrev pub InCall : Answers → (Place → AstExpr → Type 0) → Place → AstMacroCall → Type 0
-InCall env expr p c = (q : Place) (e : AstExpr)
-    → count_expr (answered (spot_at env q) e) ≤ count_option_expr (inside_call env (entering env p.left) p c) → expr q e
-
+-- of calls of macros
 module _ {E : Type 0} (answers : E → Answers) where
+  abbrev pub HandlesPatCall : PathPre E → PathPost E → E → Place → AstMacroCall → Type 0
+  HandlesPatCall pre post env = InPatCall (complete (answers env)) (HandlesPath answers pre post env)
+
+  abbrev pub HandlesTypeCall : TypePre E → TypePost E → E → Place → AstMacroCall → Type 0
+  HandlesTypeCall pre post env = InTypeCall (complete (answers env)) (HandlesType answers pre post env)
+
   abbrev pub HandlesCall : Pre E → Post E (Option ExprId) → E → Place → AstMacroCall → Type 0
   HandlesCall pre post env = InCall (complete (answers env)) (HandlesExpr answers pre post env)
+
+  abbrev pub HandlesSplice : Pre E → Post E (Option ExprId) → BlockPre E → BlockPost E → PathPre E → PathPost E → TypePre E → TypePost E
+      → E → Place → AstExpr → Type 0
+  HandlesSplice pre post block_pre block_post path_pre path_post type_pre type_post env =
+      InSplice (complete (answers env)) (HandlesExpr answers pre post env) (HandlesBlock answers block_pre block_post env)
+      (HandlesPath answers path_pre path_post env) (HandlesType answers type_pre type_post env)
 
 -- what may be handed in to functions of which this is so, at a place
 module _ {E : Type 0} (answers : E → Answers) (pre : Pre E) (post : Post E (Option ExprId)) (block_pre : BlockPre E)
@@ -152,4 +152,7 @@ module _ {E : Type 0} (answers : E → Answers) (pre : Pre E) (post : Post E (Op
     pat = HandlesPat answers path_pre path_post env;
     target = HandlesTarget answers pre post path_pre path_post env;
     call = HandlesCall answers pre post env;
+    pat_call = HandlesPatCall answers path_pre path_post env;
+    type_call = HandlesTypeCall answers type_pre type_post env;
+    splice = HandlesSplice answers pre post block_pre block_post path_pre path_post type_pre type_post env;
   }

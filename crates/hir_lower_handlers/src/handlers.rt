@@ -1,8 +1,9 @@
 //! What lowers the parts of a form, of functions that are handed in.
 
+ghost use Rattle.hir_lower_form.proofs.Inside.{call_nests, pat_call_nests, type_call_nests};
+ghost use Rattle.hir_lower_form.proofs.Runs.{splice_nests};
 ghost use Rattle.hir_lower_pat.proofs.Nested.{pat_nests, target_is_place, target_nests};
-ghost use Rattle.hir_lower_handlers.specs.CallKids.{call_nests};
-ghost use Rattle.hir_lower_handlers.specs.Nests.{Handled, HandlesExpr, HandlesPath};
+ghost use Rattle.hir_lower_handlers.specs.Nests.{Handled, HandlesExpr, HandlesPath, HandlesType};
 ghost use Rattle.hir_lower_handlers.specs.Spots.{complete, spot_at};
 
 use crate::constant::constant_form;
@@ -18,7 +19,7 @@ use hir_lower_form::walk::{PathWalk, Reading};
 use hir_lower_scope::labels::{LabelScopes, NoTarget};
 use hir_lower_type::places::inside_constant;
 use hir_store::fault::StoreFault;
-use hir_store::ids::{CfgId, CrateId, ExprId, HygieneId, LabelId, TypeRefId};
+use hir_store::ids::{CfgId, CrateId, ExprId, HygieneId, LabelId, MacroDefId, TypeRefId};
 use hir_store::name::Name;
 use hir_store::path::{GenericArgs, ModPath};
 use hir_store::type_ref::ConstRef;
@@ -41,31 +42,43 @@ pub struct Handlers<'e, E, F, B, Q, T, G> {
 impl<
     'e,
     E: LowerEnv,
-    F: Fn(Global, &E, Place, &mut BodyBuilder, &ast::Expr) -> Result<Option<ExprId>, StoreFault>,
-    B: Fn(
-        Global,
-        &E,
-        Place,
-        &mut BodyBuilder,
-        BlockRole,
-        &ast::BlockExpr,
-    ) -> Result<ExprId, StoreFault>,
-    Q: Fn(Global, &E, Place, &mut BodyBuilder, PathWalk, &ast::Path) -> Result<Reading, StoreFault>,
-    T: Fn(
-        Global,
-        &E,
-        Place,
-        &mut BodyBuilder,
-        &Option<Seq<Name>>,
-        &ast::Type_,
-    ) -> Result<TypeRefId, StoreFault>,
-    G: Fn(
-        Global,
-        &E,
-        Place,
-        &mut BodyBuilder,
-        &ast::GenericArgList,
-    ) -> Result<Option<GenericArgs>, StoreFault>,
+    F: Copy
+        + Fn(Global, &E, Place, &mut BodyBuilder, &ast::Expr) -> Result<Option<ExprId>, StoreFault>,
+    B: Copy
+        + Fn(
+            Global,
+            &E,
+            Place,
+            &mut BodyBuilder,
+            BlockRole,
+            &ast::BlockExpr,
+        ) -> Result<ExprId, StoreFault>,
+    Q: Copy
+        + Fn(
+            Global,
+            &E,
+            Place,
+            &mut BodyBuilder,
+            PathWalk,
+            &ast::Path,
+        ) -> Result<Reading, StoreFault>,
+    T: Copy
+        + Fn(
+            Global,
+            &E,
+            Place,
+            &mut BodyBuilder,
+            &Option<Seq<Name>>,
+            &ast::Type_,
+        ) -> Result<TypeRefId, StoreFault>,
+    G: Copy
+        + Fn(
+            Global,
+            &E,
+            Place,
+            &mut BodyBuilder,
+            &ast::GenericArgList,
+        ) -> Result<Option<GenericArgs>, StoreFault>,
 > LowerParts for Handlers<'e, E, F, B, Q, T, G> {
     ghost can = { λ it. Handled E.answers (F.pre it.expr) (F.post it.expr) (B.pre it.block) (B.post it.block)
         (Q.pre it.path) (Q.post it.path) (T.pre it.type_ref) (T.post it.type_ref) (G.pre it.args) (G.post it.args) it.env.now it.place };
@@ -83,9 +96,25 @@ impl<
         (HandlesExpr E.answers (F.pre it.expr) (F.post it.expr) it.env.now)
         (HandlesPath E.answers (Q.pre it.path) (Q.post it.path) it.env.now) it.place };
 
-    ghost call_kids = { λ it. call_nests E.answers (F.pre it.expr) (F.post it.expr) it.env.now it.place };
+    ghost call_kids = { λ it. call_nests (complete (E.answers it.env.now))
+        (HandlesExpr E.answers (F.pre it.expr) (F.post it.expr) it.env.now) it.place };
+
+    ghost pat_call_kids = { λ it. pat_call_nests (complete (E.answers it.env.now))
+        (HandlesPath E.answers (Q.pre it.path) (Q.post it.path) it.env.now) it.place };
+
+    ghost type_call_kids = { λ it. type_call_nests (complete (E.answers it.env.now))
+        (HandlesType E.answers (T.pre it.type_ref) (T.post it.type_ref) it.env.now) it.place };
+
+    ghost splice_kids = { λ it. splice_nests (complete (E.answers it.env.now))
+        (Handled E.answers (F.pre it.expr) (F.post it.expr) (B.pre it.block) (B.post it.block)
+        (Q.pre it.path) (Q.post it.path) (T.pre it.type_ref) (T.post it.type_ref) (G.pre it.args) (G.post it.args) it.env.now it.place)
+        (λ p x paths. paths) (λ p e kids. kids) it.place };
 
     ghost spot = { λ it. spot_at (E.answers it.env.now) it.place };
+
+    fn moved(&self, place: Place) -> Self {
+        Handlers { place, ..*self }
+    }
 
     fn place(&self) -> Place {
         self.place
@@ -107,6 +136,14 @@ impl<
         self.env.crate_root(self.env.context(name))
     }
 
+    fn local_root(&self, node: InFile<NodeId>) -> Option<Option<CrateId>> {
+        let context = self.env.context(node);
+        match self.env.outer_macro(context) {
+            Some(outer) if outer.local_inner => Some(self.env.crate_root(context)),
+            _ => None,
+        }
+    }
+
     fn resolve(&self, path: &ModPath, shadow: Shadow) -> Resolved {
         self.env.resolve(self.place.module_id, path, shadow)
     }
@@ -118,6 +155,14 @@ impl<
         kind: FragmentKind,
     ) -> Expansion<'_> {
         self.env.expand(node, call, self.place.module_id, kind)
+    }
+
+    fn macro_def(&self, name: &Name) -> Option<MacroDefId> {
+        self.env.macro_def(self.place.module_id, name)
+    }
+
+    fn legacy_macro(&self, name: &Name, before: u32) -> Option<MacroDefId> {
+        self.env.legacy_macro(self.place.module_id, name, before)
     }
 
     fn lang_items(&self) -> &LangItems {

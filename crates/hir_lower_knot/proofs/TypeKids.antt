@@ -10,6 +10,7 @@ use Rattle.hir_syntax.specs.declared.ast.SegmentKind.TheVariants as kind
 use Rattle.hir_syntax.specs.declared.pats.Pat.{Pat as AstPat}
 use Rattle.hir_syntax.specs.declared.types.BoundKind.{BoundKind}
 use Rattle.hir_syntax.specs.declared.types.BoundKind.TheVariants as bound_kind
+use Rattle.hir_syntax.specs.declared.macros.MacroCall.{MacroCall as AstMacroCall}
 use Rattle.hir_syntax.specs.declared.types.Type_.{Type_ as AstType_}
 use Rattle.hir_syntax.specs.declared.types.Param.{Param as AstParam, out-Param}
 use Rattle.hir_syntax.specs.declared.types.PathType.{PathType as AstPathType, out-PathType}
@@ -38,8 +39,11 @@ use Rattle.hir_env.specs.Whole.{answered_pat, pat_part}
 use Rattle.hir_env.specs.Whole.{answered, answered_type, answered_path, answered_arg_list, type_part, path_part, arg_list_part, types_part}
 use Rattle.hir_env.specs.Whole.{type_args_part, params_part, answer_part, ret_part, parens_part, path_type_part, segment_part}
 use Rattle.hir_env.specs.Whole.{segments_part, first_part, rest_part, generic_args_part, bounds_part, answered_constant, constant_part}
+use Rattle.hir_env.proofs.LocalPaths.{path_counts}
 use Rattle.hir_env.proofs.PathLevels.{param_is_level, segment_is_level, path_type_is_level}
 use Rattle.hir_env.proofs.PathLevels.{arg_is_level, assoc_arg_is_level, bound_is_level}
+use Rattle.hir_lower_form.proofs.Inside.{type_call_more}
+use Rattle.hir_lower_form.specs.Inside.{inside_type_call}
 use Rattle.hir_lower_form.specs.Nests.{Claims, IfPresent, Each, KidsTypeArg, KidsRet, KidsParam, KidsTrait, KidsBound, KidsBounds, KidsImpl}
 use Rattle.hir_lower_form.specs.Nests.{Unless, KidsBinding, KidsAssoc, KidsType, KidsArg, KidsArgs, KidsParens, KidsSegmentArgs, KidsName}
 use Rattle.hir_lower_form.specs.Nests.{KidsQualified, KidsSegment, KidsSegments, KidsPath, const_expr}
@@ -55,6 +59,8 @@ pub record Below (env : Answers) (C : Claims) (n : ℕ) : Type 0 where
   -- by the expression, which is read inside of it
   pub constants : (p : Place) (e : AstExpr) → count_expr (answered (spot_at env (inside_constant p)) e) < n → C.constant p (Some e)
   pub no_constant : (p : Place) → C.constant p None
+  -- of a call by what it stands for
+  pub type_calls : (p : Place) (c : AstMacroCall) → count_option_type (inside_type_call env (entering env p.left) p c) < n → C.type_call p c
   pub pats : (p : Place) (x : AstPat) → count_pat (answered_pat (spot_at env (inside_constant p)) x) < n → C.pat (inside_constant p) x
   pub lists : (p : Place) (l : AstGenericArgList) → suc (count_args (answered_arg_list (spot_at env p) l)) < n → C.args p l
 
@@ -176,7 +182,9 @@ module _ (env : Answers) (C : Claims) (n : ℕ) (below : Below env C n) where
   kids_type p at (TypeKind-F.ImplTraitType bs) h = impl_bounds p at bs h
   kids_type p at (TypeKind-F.DynTraitType bs) h = bounds p bs (omega (arith, h))
   kids_type p at (TypeKind-F.PatternType t x) h = (type_ p t (omega (arith, h)), pat p x (omega (arith, h)))
-  kids_type p at (TypeKind-F.MacroType c) h = tt
+  kids_type p at (TypeKind-F.MacroType None) h = tt
+  kids_type p at (TypeKind-F.MacroType (Some c)) h =
+      let more = type_call_more env (entering env p.left) p c at in below.type_calls p c (omega (arith, h, more))
   kids_type p at TypeKind-F.NeverType h = tt
   kids_type p at TypeKind-F.InferType h = tt
 
@@ -276,7 +284,9 @@ module _ (env : Answers) (C : Claims) (n : ℕ) (below : Below env C n) where
 
   pub kids_path : (p : Place) (x : PathLayer written)
       → count_path (of.path_step env (reader env (entering env p.left)) x p) ≤ n → KidsPath C p x
-  kids_path p x h = (all_segments p x.segs (omega (arith, h)), path_below p x.use_ (omega (arith, h)))
+  kids_path p x h =
+      let more = path_counts env (entering env p.left) x p in
+      (all_segments p x.segs (omega (arith, h, more)), path_below p x.use_ (omega (arith, h, more)))
 
 -- of the same list in the same environment the same is so
 pub args_read : {E : Type 0} (answers : E → Answers) (p : Place) {v env : E} {l m : AstGenericArgList} (old new : Builder)

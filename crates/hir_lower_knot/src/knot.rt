@@ -1,16 +1,12 @@
 //! The functions that lower a node call each other through the forms: each hands the others to the forms by name.
 
 ghost use Rattle.hir_env.specs.Answered.{some_arg_list, some_path};
-ghost use Rattle.hir_binding.specs.declared.binding.BindingAnnotation.TheVariants.{Unannotated};
-ghost use Rattle.hir_env.specs.Answered as tree;
-ghost use Rattle.hir_env.specs.Answering.{name_written};
+ghost use Rattle.hir_env.specs.TypePats.{bare_part};
 ghost use Rattle.hir_env.specs.Whole.{answered, answered_arg_list, answered_path, answered_plain, answered_type, pat_part};
 ghost use Rattle.hir_lower_form.specs.Methods.{HasRole, HasWalk, LowersArgs, LowersExpr, LowersInside, LowersPath};
 ghost use Rattle.hir_lower_form.specs.Methods.{LowersTop, LowersType, MaybeLowersExpr, ReadsPath};
-ghost use Rattle.hir_lower_pat.specs.Methods.{use_with};
 ghost use Rattle.hir_lower_handlers.specs.Spots.{spot_at};
 
-use hir_base::node::{AstPtr, InFile};
 use hir_env::env::LowerEnv;
 use hir_env::place::Place;
 use hir_lower_expr::blocks::block_node;
@@ -20,7 +16,7 @@ use hir_lower_form::walk::{PathWalk, Reading, path_read};
 use hir_lower_handlers::handlers::Handlers;
 use hir_lower_handlers::numbers::{block_number, inside, number};
 use hir_lower_kinds::exprs::expr_node;
-use hir_lower_pat::top as patterns;
+use hir_lower_pat::{bare, top as patterns};
 use hir_lower_path::path::path_node;
 use hir_lower_type::args::args_node;
 use hir_lower_type::types::type_node;
@@ -233,17 +229,16 @@ pub fn top_pat<E: LowerEnv>(
     patterns::top_pat(&lowerer, state, part)
 }
 
-/// A name that binds, whatever it stands for elsewhere.
-pub fn bare_name<E: LowerEnv>(
+/// The pattern of a parameter that may only be a plain name, which binds whatever it stands for elsewhere, or `_`: missing where it is
+/// absent.
+pub fn bare_top<E: LowerEnv>(
     alloc: Global,
     env: &E,
     place: Place,
     state: &mut BodyBuilder,
-    at: InFile<AstPtr>,
-    name: &Option<ast::Name>,
+    part: &Option<Boxed<ast::Pat>>,
 ) -> Result<PatId, StoreFault>
-    ensures { let use_ = use_with (spot_at (E.answers env.now) place) name.now Unannotated in
-        LowersTop (tree.some_pat (tree.bind_pat at use_ (name_written name.now) tree.no_pat)) state.old result state.new }
+    ensures { LowersTop (bare_part (pat_part (spot_at (E.answers env.now) place) part.now)) state.old result state.new }
 {
     let lowerer = Lowerer {
         alloc,
@@ -258,5 +253,5 @@ pub fn bare_name<E: LowerEnv>(
             args: lower_arg_list::<E>,
         },
     };
-    patterns::bare_name(&lowerer, state, at, name)
+    bare::bare_top(&lowerer, state, part)
 }

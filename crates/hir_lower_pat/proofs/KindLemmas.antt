@@ -20,15 +20,14 @@ use Rattle.hir_env.specs.PatLayers.{PatKindLayer}
 use Rattle.hir_env.specs.Pats.{minus_fits, name_or_bind, pat_at, plain_side, side_of}
 use Rattle.hir_env.specs.TypePats.{is_plain}
 use Rattle.hir_env.specs.Whole.{answered_pat, into, pats_part, pointer_at, reader, written}
-use Rattle.hir_env.proofs.PatLevels.{pat_is_level}
 use Rattle.hir_store.specs.Range.{HasPat}
 use Rattle.hir_store.specs.declared.ids.PatId.{PatId}
 use Rattle.hir_lower_form.specs.Builder.{Builder}
 use Rattle.hir_lower_form.specs.Lower.{lower_later, lower_pat}
 use Rattle.hir_lower_form.specs.Lowering.{Checked}
-use Rattle.hir_lower_form.specs.Pats.{Table, alone, is_dots, or_form}
+use Rattle.hir_lower_form.specs.Pats.{Table, alone, or_form}
 use Rattle.hir_lower_pat.specs.Bindings.{LowersNamed}
-use Rattle.hir_lower_pat.specs.Methods.{IsPlain, LowersPat, is_rest, kind_at, lower_plain}
+use Rattle.hir_lower_pat.specs.Methods.{IsPlain, IsUncalled, LowersPat, kind_at, lower_plain}
 use Rattle.hir_lower_pat.specs.declared.bindings.Bindings.{Bindings}
 
 abbrev level : Spot → PatKindLayer written → Pointer → Pat
@@ -38,38 +37,6 @@ level at k s = pat_at at.answers (reader at.answers (into at)) k at.place s
 pub of_either : {A : Type 0} (f : Pat → A) (b : Bool) (p q : Pat) (a : A) → f p ≡ a → f q ≡ a → f (if b then p else q) ≡ a
 of_either f true p q a h k = h
 of_either f false p q a h k = k
-
--- ---- two dots
-
-name_is_no_dots : (b : Bool) (s : Pointer) (u : Use) (w : IsWritten u.name) (q : OptionPat) → is_dots (name_or_bind b s u w q) ≡ false
-name_is_no_dots true s u w q = refl
-name_is_no_dots false s u w q = refl
-
-dots_at : (at : Spot) (k : PatKindLayer written) (s : Pointer) → is_dots (level at k s) ≡ is_rest k
-dots_at at (PatKind-F.IdentPat n is_ref is_mut x) s = name_is_no_dots _ s _ _ _
-dots_at at (PatKind-F.TupleStructPat x comma ps) s = refl
-dots_at at (PatKind-F.TuplePat comma ps) s = refl
-dots_at at (PatKind-F.RefPat is_mut x) s = refl
-dots_at at (PatKind-F.PathPat x) s = refl
-dots_at at (PatKind-F.OrPat ps) s = refl
-dots_at at (PatKind-F.ParenPat x) s = refl
-dots_at at (PatKind-F.MacroPat None) s = refl
-dots_at at (PatKind-F.MacroPat (Some c)) s = refl
-dots_at at (PatKind-F.BoxPat x) s = refl
-dots_at at (PatKind-F.DerefPat x) s = refl
-dots_at at (PatKind-F.RecordPat x fs dots) s = refl
-dots_at at (PatKind-F.SlicePat before x after) s = refl
-dots_at at (PatKind-F.LiteralPat None minus) s = refl
-dots_at at (PatKind-F.LiteralPat (Some l) minus) s = of_either is_dots (minus_fits minus l.literal.lit) _ _ false refl refl
-dots_at at (PatKind-F.RangePat op low high) s = refl
-dots_at at (PatKind-F.CfgPredPat pred) s = refl
-dots_at at PatKind-F.WildcardPat s = refl
-dots_at at PatKind-F.RestPat s = refl
-dots_at at PatKind-F.NotNullPat s = refl
-dots_at at PatKind-F.ConstBlockPat s = refl
-
-pub dots_are : (at : Spot) (p : AstPat) → is_dots (answered_pat at p) ≡ is_rest (out-PatKind p.kind)
-dots_are at p = ap is_dots (pat_is_level at p) ∙ dots_at at (out-PatKind p.kind) (pointer_at at p.id p.range)
 
 -- ---- sides
 
@@ -94,8 +61,7 @@ plain_at at (PatKind-F.LiteralPat None minus) s t h = refl
 plain_at at (PatKind-F.LiteralPat (Some l) minus) s t h = either_plain (minus_fits minus l.literal.lit) _ _ t refl refl
 plain_at at (PatKind-F.RangePat op low high) s t h = refl
 plain_at at (PatKind-F.CfgPredPat pred) s t h = refl
-plain_at at (PatKind-F.MacroPat None) s t h = refl
-plain_at at (PatKind-F.MacroPat (Some c)) s t h = refl
+plain_at at (PatKind-F.MacroPat c) s t h = absurd h
 plain_at at PatKind-F.WildcardPat s t h = refl
 plain_at at PatKind-F.RestPat s t h = refl
 plain_at at PatKind-F.NotNullPat s t h = refl
@@ -124,13 +90,11 @@ pub only_plain : (k : AstPatKind) → IsPlain (out-PatKind k)
     → ((l : Option PatLiteral) (minus : Bool) → k ≡ kind.LiteralPat l minus → ⊥)
     → ((op : Option RangeOp) (low high : Option AstPat) → k ≡ kind.RangePat op low high → ⊥)
     → ((pred : Option PredId) → k ≡ kind.CfgPredPat pred → ⊥)
-    → (k ≡ kind.MacroPat None → ⊥)
-    → ((c : AstMacroCall) → k ≡ kind.MacroPat (Some c) → ⊥)
     → (k ≡ kind.WildcardPat → ⊥)
     → (k ≡ kind.RestPat → ⊥)
     → (k ≡ kind.NotNullPat → ⊥)
     → (k ≡ kind.ConstBlockPat → ⊥) → ⊥
-only_plain k is no_path no_literal no_range no_cfgpred no_call no_macro no_wildcard no_rest no_notnull no_constblock =
+only_plain k is no_path no_literal no_range no_cfgpred no_wildcard no_rest no_notnull no_constblock =
     by (out-PatKind k) refl is
   where
     by : (l : PatKindLayer written) → out-PatKind k ≡ l → IsPlain l → ⊥
@@ -138,13 +102,36 @@ only_plain k is no_path no_literal no_range no_cfgpred no_call no_macro no_wildc
     by (PatKind-F.LiteralPat l minus) h is = no_literal l minus (made k _ h ∙ kind.rolls-LiteralPat l minus)
     by (PatKind-F.RangePat op low high) h is = no_range op low high (made k _ h ∙ kind.rolls-RangePat op low high)
     by (PatKind-F.CfgPredPat pred) h is = no_cfgpred pred (made k _ h ∙ kind.rolls-CfgPredPat pred)
-    by (PatKind-F.MacroPat None) h is = no_call (made k _ h ∙ kind.rolls-MacroPat None)
-    by (PatKind-F.MacroPat (Some c)) h is = no_macro c (made k _ h ∙ kind.rolls-MacroPat (Some c))
     by PatKind-F.WildcardPat h is = no_wildcard (made k _ h ∙ kind.rolls-WildcardPat)
     by PatKind-F.RestPat h is = no_rest (made k _ h ∙ kind.rolls-RestPat)
     by PatKind-F.NotNullPat h is = no_notnull (made k _ h ∙ kind.rolls-NotNullPat)
     by PatKind-F.ConstBlockPat h is = no_constblock (made k _ h ∙ kind.rolls-ConstBlockPat)
     by _ h is = is
+
+-- a call was taken before
+pub no_call_left : (k : AstPatKind) → ((o : Option AstMacroCall) → k ≡ kind.MacroPat o → ⊥) → IsUncalled (out-PatKind k)
+no_call_left k no_call = by (out-PatKind k) refl
+  where
+    by : (l : PatKindLayer written) → out-PatKind k ≡ l → IsUncalled l
+    by (PatKind-F.MacroPat o) h = absurd (no_call o (made k _ h ∙ kind.rolls-MacroPat o))
+    by (PatKind-F.IdentPat n is_ref is_mut x) h = tt
+    by (PatKind-F.TupleStructPat x comma ps) h = tt
+    by (PatKind-F.TuplePat comma ps) h = tt
+    by (PatKind-F.RefPat is_mut x) h = tt
+    by (PatKind-F.PathPat x) h = tt
+    by (PatKind-F.OrPat ps) h = tt
+    by (PatKind-F.ParenPat x) h = tt
+    by (PatKind-F.BoxPat x) h = tt
+    by (PatKind-F.DerefPat x) h = tt
+    by (PatKind-F.RecordPat x fs dots) h = tt
+    by (PatKind-F.SlicePat before x after) h = tt
+    by (PatKind-F.LiteralPat l minus) h = tt
+    by (PatKind-F.RangePat op low high) h = tt
+    by (PatKind-F.CfgPredPat pred) h = tt
+    by PatKind-F.WildcardPat h = tt
+    by PatKind-F.RestPat h = tt
+    by PatKind-F.NotNullPat h = tt
+    by PatKind-F.ConstBlockPat h = tt
 
 -- ---- alternatives
 

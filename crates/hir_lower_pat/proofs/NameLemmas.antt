@@ -172,3 +172,7 @@ used_first u was mid is b c id n copied stored number at ids notes count deep en
     past_later : past_ids was.ids.entries ≤ length b.stored.bindings.entries → Grows b.stored c.stored
         → past_ids was.ids.entries ≤ length c.stored.bindings.entries
     past_later h (_, _, _, _, _, le) = omega (arith, h, le)
+
+-- what is stored further takes no name away
+pub names_grow : (s t : Stored) (b : Bindings) → Grows s t → HasNames s b → HasNames t b
+names_grow s t b more names = (names.0, omega (arith, names.1, more.5))

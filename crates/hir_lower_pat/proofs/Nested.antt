@@ -9,6 +9,7 @@ use Rattle.hir_syntax.specs.declared.ast.Name.{Name as AstName}
 use Rattle.hir_syntax.specs.declared.ast.Path.{Path as AstPath}
 use Rattle.hir_syntax.specs.declared.ast.RecordExprField.{RecordExprField as AstField, out-RecordExprField}
 use Rattle.hir_syntax.specs.declared.ast.RecordExprFieldList.{RecordExprFieldList as AstFieldList, out-RecordExprFieldList}
+use Rattle.hir_syntax.specs.declared.macros.MacroCall.{MacroCall as AstMacroCall}
 use Rattle.hir_syntax.specs.declared.pats.Pat.{Pat as AstPat}
 use Rattle.hir_syntax.specs.declared.pats.PatKind.{out-PatKind}
 use Rattle.hir_syntax.specs.declared.pats.RecordPatField.{RecordPatField as AstPatField, out-RecordPatField}
@@ -19,23 +20,26 @@ use Rattle.hir_env.specs.Answers.{Answers}
 use Rattle.hir_env.specs.Answered as tree
 use Rattle.hir_env.specs.Answered.{Field, PatField, Use}
 use Rattle.hir_env.specs.Answering.{asked_field, expr_at, field_of, name_written}
+use Rattle.hir_env.specs.Calls.{entered_pat}
 use Rattle.hir_env.specs.Count.{count_expr, count_exprs, count_field, count_fields, count_option_expr, count_option_path, count_path}
 use Rattle.hir_env.specs.Count.{count_option_pat, count_pat, count_pat_field, count_pat_fields, count_pats, count_side, count_spread}
-use Rattle.hir_env.specs.Layers.{ExprKindLayer}
+use Rattle.hir_env.specs.Layers.{Entering, ExprKindLayer}
 use Rattle.hir_env.specs.PatLayers.{PatKindLayer}
 use Rattle.hir_env.specs.Pats.{asked_pat_field, name_or_bind, pat_at, pat_field_of, side_of, use_at}
 use Rattle.hir_env.specs.Spot.{site_of}
 use Rattle.hir_env.specs.TypePats.{is_plain}
 use Rattle.hir_env.specs.Whole.{answered, answered_field, answered_pat, answered_pat_field, answered_path, expr_part, exprs_part}
 use Rattle.hir_env.specs.Whole.{fields_part, into, pat_fields_part, pat_part, path_part, pats_part, pointer_at, reader}
-use Rattle.hir_env.specs.Whole.{record_part, written}
+use Rattle.hir_env.specs.Whole.{elements_part, record_part, written}
 use Rattle.hir_env.specs.declared.place.Place.{Place}
 use Rattle.hir_env.proofs.Levels.{field_is_level, record_is_level}
 use Rattle.hir_env.proofs.PatLevels.{pat_field_is_level, pat_is_level}
 use Rattle.hir_lower_form.specs.Nests.{Claims, Each, IfPresent, KidsCallee, KidsOfPat, KidsPatFields, KidsSide, KidsSidePart}
 use Rattle.hir_lower_form.specs.Nests.{KidsTarget, KidsTargetFields}
+use Rattle.hir_lower_form.specs.Inside.{InPatCall, inside_pat_call}
 use Rattle.hir_lower_pat.specs.Nested.{InPat, InTarget, read_at}
 use Rattle.hir_lower_pat.proofs.AimLemmas.{kept_below}
+use Rattle.hir_lower_pat.proofs.Elements.{count_in}
 
 -- a condition counts for nothing
 count_kept : (s : Pointer) (r : Result (Unit {0}) CfgId) (f : Field) → count_field (asked_field s r f) ≡ count_field f
@@ -49,13 +53,19 @@ count_kept_part s (Err by) f = refl
 -- ---- patterns
 
 module _ (env : Answers) (Q : Place → AstPath → Type 0) (p : Place) (n : ℕ)
-    (paths : (x : AstPath) → count_path (answered_path (read_at env p) x) < n → Q p x) where
+    (paths : (q : Place) (x : AstPath) → count_path (answered_path (read_at env q) x) < n → Q q x) where
   path : (o : Option AstPath) → count_option_path (path_part (read_at env p) o) < n → IfPresent (Q p) o
   path None h = tt
-  path (Some x) h = paths x h
+  path (Some x) h = paths p x h
 
   whole : (x : AstPat) → count_pat (answered_pat (read_at env p) x) ≤ n → InPat env Q p x
-  whole x h q less = paths q (omega (arith, h, less))
+  whole x h q y less = paths q y (omega (arith, h, less))
+
+  -- what a call stands for is smaller than the call
+  in_call : (c : AstMacroCall) (s : Pointer) (o : Option Entering) → count_pat (entered_pat env o c p s) ≤ n
+      → (q : Place) (y : AstPath) → count_path (answered_path (read_at env q) y) < count_option_pat (inside_pat_call env o p c) → Q q y
+  in_call c s None h q y less = absurd (omega (arith, less))
+  in_call c s (Some into) h q y less = paths q y (omega (arith, h, less))
 
   part : (o : Option AstPat) → count_option_pat (pat_part (read_at env p) o) ≤ n → IfPresent (InPat env Q p) o
   part None h = tt
@@ -64,6 +74,12 @@ module _ (env : Answers) (Q : Place → AstPath → Type 0) (p : Place) (n : ℕ
   each : (xs : List AstPat) → count_pats (pats_part (read_at env p) xs) ≤ n → Each (InPat env Q p) xs
   each [] h = tt
   each (x ∷ xs) h = (whole x (omega (arith, h)), each xs (omega (arith, h)))
+
+  each_element : (xs : List AstPat) → count_pats (elements_part (read_at env p) xs) ≤ n → Each (InPat env Q p) xs
+  each_element [] h = tt
+  each_element (x ∷ xs) h =
+      let same = count_in (answered_pat (read_at env p) x) (elements_part (read_at env p) xs) in
+      (whole x (omega (arith, h, same)), each_element xs (omega (arith, h, same)))
 
   -- a field without its part counts for nothing
   own : (s : Pointer) (m : Option AstName) (o : Option AstPat)
@@ -123,10 +139,10 @@ module _ (env : Answers) (Q : Place → AstPath → Type 0) (p : Place) (n : ℕ
       in_side (pointer_at at x.id x.range) (out-PatKind x.kind) (omega (arith, h, same))
 
   kids : (s : Pointer) (k : PatKindLayer written) → count_pat (pat_at env (reader env (into (read_at env p))) k p s) ≤ n
-      → KidsOfPat (InPat env Q p) (Q p) k
+      → KidsOfPat (InPat env Q p) (Q p) (InPatCall env Q p) k
   kids s (PatKind-F.IdentPat m is_ref is_mut x) h = ident s (use_at env p m is_ref is_mut) (name_written m) _ x h
-  kids s (PatKind-F.TupleStructPat x comma ps) h = (path x (omega (arith, h)), each ps (omega (arith, h)))
-  kids s (PatKind-F.TuplePat comma ps) h = each ps (omega (arith, h))
+  kids s (PatKind-F.TupleStructPat x comma ps) h = (path x (omega (arith, h)), each_element ps (omega (arith, h)))
+  kids s (PatKind-F.TuplePat comma ps) h = each_element ps (omega (arith, h))
   kids s (PatKind-F.RefPat is_mut x) h = part x (omega (arith, h))
   kids s (PatKind-F.PathPat x) h = path x (omega (arith, h))
   kids s (PatKind-F.OrPat ps) h = each ps (omega (arith, h))
@@ -139,7 +155,8 @@ module _ (env : Answers) (Q : Place → AstPath → Type 0) (p : Place) (n : ℕ
   kids s (PatKind-F.LiteralPat l minus) h = tt
   kids s (PatKind-F.RangePat op low high) h = (side low (omega (arith, h)), side high (omega (arith, h)))
   kids s (PatKind-F.CfgPredPat pred) h = tt
-  kids s (PatKind-F.MacroPat call) h = tt
+  kids s (PatKind-F.MacroPat None) h = tt
+  kids s (PatKind-F.MacroPat (Some c)) h = in_call c s (into (read_at env p)) h
   kids s PatKind-F.WildcardPat h = tt
   kids s PatKind-F.RestPat h = tt
   kids s PatKind-F.NotNullPat h = tt
@@ -147,7 +164,7 @@ module _ (env : Answers) (Q : Place → AstPath → Type 0) (p : Place) (n : ℕ
 
 -- what may be handed in may be gone into
 pub pat_nests : (env : Answers) (Q : Place → AstPath → Type 0) (p : Place) (x : AstPat) → InPat env Q p x
-    → KidsOfPat (InPat env Q p) (Q p) (out-PatKind x.kind)
+    → KidsOfPat (InPat env Q p) (Q p) (InPatCall env Q p) (out-PatKind x.kind)
 pat_nests env Q p x c =
     let at = read_at env p in
     let same = ap count_pat (pat_is_level at x) in

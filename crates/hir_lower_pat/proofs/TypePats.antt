@@ -13,7 +13,11 @@ use Rattle.hir_syntax.specs.declared.pats.PatKind.TheVariants as kind
 use Rattle.hir_syntax.specs.declared.pats.PatLiteral.{PatLiteral}
 use Rattle.hir_base.specs.declared.op.RangeOp.{RangeOp}
 use Rattle.hir_store.specs.Pointers.{Pointer}
+use Rattle.hir_env.specs.Answers.{Answers}
+use Rattle.hir_env.specs.Calls.{entered_pat}
+use Rattle.hir_env.specs.Layers.{Entering}
 use Rattle.hir_env.specs.Spot.{Spot}
+use Rattle.hir_env.specs.declared.place.Place.{Place}
 use Rattle.hir_env.specs.Answered as tree
 use Rattle.hir_env.specs.Answered.{OptionPat, Pat, Side, Use}
 use Rattle.hir_env.specs.Answering.{name_written}
@@ -33,7 +37,6 @@ use Rattle.hir_store.specs.declared.name.Name.{Name}
 use Rattle.hir_lower_form.specs.Builder.{Builder}
 use Rattle.hir_lower_form.specs.Lower.{limit_side, lower_type_pat, lower_type_pats, missing}
 use Rattle.hir_lower_form.specs.Lowering.{Checked, Lowering, Lowers, SomeEnd, go_on}
-use Rattle.hir_lower_pat.specs.Methods.{uncalled}
 use Rattle.hir_lower_pat.specs.TypePats.{IsOther}
 use Rattle.hir_lower_pat.proofs.KindLemmas.{first_of, named_side, of_either}
 
@@ -62,6 +65,7 @@ is_side (tree.record_pat s x fs dots) = tt
 is_side (tree.or_pat s ps) = tt
 is_side (tree.paren_pat s q) = tt
 is_side (tree.macro_pat s c q) = tt
+is_side (tree.barred_pat s) = tt
 is_side (tree.slice_pat s ps q qs) = tt
 is_side (tree.over_pat s form q) = tt
 is_side (tree.literal_pat s None l) = tt
@@ -117,6 +121,12 @@ no_plain_name at s n true false None other = no_name at s n true false None refl
 no_plain_name at s n true true None other = no_name at s n true true None refl
 no_plain_name at s n is_ref is_mut (Some y) other = no_name at s n is_ref is_mut (Some y) refl
 
+-- and neither is a call
+call_is_no_side : (env : Answers) (o : Option Entering) (c : AstMacroCall) (p : Place) (s : Pointer)
+    → side_of (tree.some_pat (entered_pat env o c p s)) ≡ tree.other_side
+call_is_no_side env None c p s = refl
+call_is_no_side env (Some into) c p s = refl
+
 pub no_limit_left : (at : Spot) (p : AstPat)
     → ((l : PatLiteral) (minus : Bool) → p.kind ≡ kind.LiteralPat (Some l) minus → ⊥)
     → ((n : Option AstName) → p.kind ≡ kind.IdentPat n false false None → ⊥)
@@ -139,7 +149,7 @@ no_limit_left at p no_literal no_ident no_path = by (out-PatKind p.kind) refl
     by (PatKind-F.OrPat ps) h = refl
     by (PatKind-F.ParenPat x) h = refl
     by (PatKind-F.MacroPat None) h = refl
-    by (PatKind-F.MacroPat (Some c)) h = refl
+    by (PatKind-F.MacroPat (Some c)) h = ap limit_side (call_is_no_side at.answers (into at) c at.place s)
     by (PatKind-F.BoxPat x) h = refl
     by (PatKind-F.DerefPat x) h = refl
     by (PatKind-F.RecordPat x fs dots) h = refl
@@ -185,21 +195,6 @@ other_at items at (PatKind-F.RangePat o low high) s h = absurd h
 pub other_is : (items : LangItems) (at : Spot) (p : AstPat) → IsOther (out-PatKind p.kind)
     → type_pat_of items (pat_level at p) ≡ tree.other_type_pat (pointer_at at p.id p.range)
 other_is items at p h = other_at items at (out-PatKind p.kind) (pointer_at at p.id p.range) h
-
--- ---- calls
-
-call_at : (items : LangItems) (at : Spot) (call : Option AstMacroCall) (s : Pointer)
-    → type_pat_of items (level at (PatKind-F.MacroPat call) s) ≡ tree.macro_type_pat s (uncalled (is_some call)) tree.no_type_pat
-call_at items at None s = refl
-call_at items at (Some c) s = refl
-
-pub call_is : (items : LangItems) (at : Spot) (p : AstPat) (call : Option AstMacroCall) (written : Bool)
-    → out-PatKind p.kind ≡ PatKind-F.MacroPat call → written ≡ is_some call
-    → type_pat_of items (answered_pat at p) ≡ tree.macro_type_pat (pointer_at at p.id p.range) (uncalled written) tree.no_type_pat
-call_is items at p call written h same =
-    let s = pointer_at at p.id p.range in
-    ap (type_pat_of items) (pat_is_level at p) ∙ (ap (λ k. type_pat_of items (level at k s)) h
-    ∙ (call_at items at call s ∙ ap (λ b. tree.macro_type_pat s (uncalled b) tree.no_type_pat) (sym same)))
 
 -- none of those is left where each was taken
 pub others_left : (k : AstPatKind) → (k ≡ kind.NotNullPat → ⊥) → ((ps : List AstPat) → k ≡ kind.OrPat ps → ⊥)

@@ -1,5 +1,5 @@
--- A function value that lowers a given pattern.
-use Rattle.std.specs.Prelude.{◌≡◌}
+-- Function values that lower a given pattern.
+use Rattle.std.specs.Prelude.{◌≡◌, Option}
 use denote.Ref.{Bor, MutBor}
 use Rattle.hir_syntax.specs.declared.pats.Pat.{Pat as AstPat}
 use Rattle.hir_store.specs.declared.ids.PatId.{PatId}
@@ -9,7 +9,7 @@ use Rattle.hir_lower_form.specs.Builder.{Builder}
 use Rattle.hir_lower_form.specs.Lowering.{Checked}
 use Rattle.hir_lower_form.specs.declared.parts.Lowerer.{Lowerer}
 use Rattle.hir_lower_pat.specs.Bindings.{HasNames}
-use Rattle.hir_lower_pat.specs.Methods.{LowersPat}
+use Rattle.hir_lower_pat.specs.Methods.{LowersElement, LowersPat}
 use Rattle.hir_lower_pat.specs.declared.bindings.Bindings.{Bindings}
 
 abbrev pub Pre : Type 0 → Type 1
@@ -25,3 +25,17 @@ pub record HandlesPat {P : Type 0} (spot : P → Spot) (pre : Pre P) (post : Pos
   pub lowers : (v : Bor (Lowerer P)) (old new : MutBor Builder) (was is : MutBor Bindings) (b : Bor AstPat) (r : Checked PatId)
       → v.now ≡ lowerer → b.now ≡ p → post v old was b r new is
       → LowersPat (answered_pat (spot lowerer.parts) p) was.now old.now r is.now new.now
+
+-- the same as an element of a tuple or a call
+
+abbrev pub ElementPost : Type 0 → Type 1
+ElementPost P = Bor (Lowerer P) → MutBor Builder → MutBor Bindings → Bor AstPat → Checked (Option PatId) → MutBor Builder
+    → MutBor Bindings → Type 0
+
+pub record HandlesElement {P : Type 0} (spot : P → Spot) (pre : Pre P) (post : ElementPost P) (lowerer : Lowerer P) (p : AstPat)
+    : Type 0 where
+  pub callable : (v : Bor (Lowerer P)) (old : MutBor Builder) (was : MutBor Bindings) (b : Bor AstPat)
+      → v.now ≡ lowerer → b.now ≡ p → HasNames old.now.stored was.now → pre v old was b
+  pub lowers : (v : Bor (Lowerer P)) (old new : MutBor Builder) (was is : MutBor Bindings) (b : Bor AstPat)
+      (r : Checked (Option PatId)) → v.now ≡ lowerer → b.now ≡ p → post v old was b r new is
+      → LowersElement (answered_pat (spot lowerer.parts) p) was.now old.now r is.now new.now

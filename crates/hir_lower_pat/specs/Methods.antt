@@ -1,7 +1,8 @@
 -- What each kind of method does: the steps of one part, and what it answers.
-use Rattle.std.specs.Prelude.{ℕ, Bool, true, false, List, [], Option, Some, option_map}
+use Rattle.std.specs.Prelude.{ℕ, Bool, true, false, List, [], ◌∷◌, ◌++◌, Option, Some, None, option_map}
 use Rattle.hir_syntax.specs.declared.ast.ElseBranch.TheOpen.{PatKind-F}
 use Rattle.hir_syntax.specs.declared.ast.Name.{Name as AstName}
+use Rattle.hir_syntax.specs.declared.macros.MacroCall.{MacroCall as AstMacroCall}
 use Rattle.hir_syntax.specs.declared.pats.PatKind.{PatKind as AstPatKind, out-PatKind}
 use Rattle.hir_binding.specs.declared.binding.BindingAnnotation.{BindingAnnotation}
 use Rattle.hir_store.specs.Pointers.{Pointer}
@@ -16,14 +17,15 @@ use Rattle.hir_env.specs.Spot.{Spot}
 use Rattle.hir_env.specs.Answering.{name_or_missing, truth}
 use Rattle.hir_env.specs.Pats.{name_hygiene, pat_at}
 use Rattle.hir_env.specs.Answered as tree
-use Rattle.hir_env.specs.Answered.{Called, Pat, OptionPat, Pats, PatFields, PatField, Signed, Use}
+use Rattle.hir_env.specs.Answered.{Pat, OptionPat, Pats, PatFields, PatField, Signed, Use}
 use Rattle.hir_env.specs.PatLayers.{PatKindLayer}
 use Rattle.hir_env.specs.Whole.{into, reader, written}
 use Rattle.hir_lower_form.specs.Builder.{Builder}
-use Rattle.hir_lower_form.specs.Lowering.{Checked, Lowering, alloc_pat}
+use Rattle.hir_lower_form.specs.Calls.{told}
+use Rattle.hir_lower_form.specs.Lowering.{Checked, Lowering, ◌>>=◌, ◌>>◌, alloc_pat, point_pat, pure}
 use Rattle.hir_lower_form.specs.Lower as spec
-use Rattle.hir_lower_form.specs.Pats.{Elements, no_elements, stored_pat_leaf, name_pat_of, path_pat_form, literal_pat_form}
-use Rattle.hir_lower_form.specs.Pats.{range_pat_form, missing_pat, uncalled_pat}
+use Rattle.hir_lower_form.specs.Pats.{Elements, Table, dots_after, no_elements, stored_pat_leaf, name_pat_of, path_pat_form, literal_pat_form}
+use Rattle.hir_lower_form.specs.Pats.{barred_pat_form, range_pat_form, missing_pat}
 use Rattle.hir_lower_pat.specs.Bindings.{LowersNamed}
 use Rattle.hir_lower_pat.specs.declared.bindings.Bindings.{Bindings}
 
@@ -49,6 +51,34 @@ LowersLater ps done was old result is new = LowersNamed HasPats (spec.lower_late
 
 abbrev pub HasElements : Stored → Elements → Type 0
 HasElements s es = HasPats s es.0
+
+-- one more behind those that are lowered; two dots are none
+abbrev pub add_element : Elements → Option PatId → Elements
+add_element done None = (done.0, dots_after done.0 done.1)
+add_element done (Some i) = (done.0 ++ i ∷ [], done.1)
+
+abbrev pub element_behind : Elements → (Table → Lowering (Option PatId × Table)) → Table → Lowering (Elements × Table)
+element_behind done part t = do
+  r ← part t
+  pure (add_element done r.0, r.1)
+
+-- the call leads to the element that it stands for, unless it is two dots
+abbrev pub point_found : Pointer → Option PatId → Lowering (Option PatId)
+point_found at None = pure None
+point_found at (Some i) = point_pat at i >> pure (Some i)
+
+abbrev pub point_element : Pointer → Option PatId × Table → Lowering (Option PatId × Table)
+point_element at r = point_found at r.0 >>= (λ o. pure (o, r.1))
+
+-- a pattern as an element, none where it is two dots, be it through calls
+abbrev pub element_steps : Pat → Table → Lowering (Option PatId × Table)
+element_steps (tree.leaf_pat at tree.rest_leaf) t = pure (None, t)
+element_steps (tree.macro_pat at called (tree.some_pat p)) t = told called >> (element_steps p t >>= point_element at)
+element_steps (tree.macro_pat at tree.callless tree.no_pat) t = spec.present_pat (tree.some_pat (tree.leaf_pat at tree.broken_leaf)) t
+element_steps p t = spec.present_pat (tree.some_pat p) t
+
+abbrev pub LowersElement : Pat → Bindings → Builder → Checked (Option PatId) → Bindings → Builder → Type 0
+LowersElement p was old result is new = LowersNamed HasPatOption (element_steps p) was old result is new
 
 abbrev pub LowersElements : Pats → Bindings → Builder → Checked Elements → Bindings → Builder → Type 0
 LowersElements ps was old result is new = LowersNamed HasElements (spec.lower_elements no_elements ps) was old result is new
@@ -77,10 +107,14 @@ LowersPatFields fs was old result is new = LowersNamed HasPatFields (spec.lower_
 
 -- kinds
 
--- two dots
-abbrev pub is_rest : PatKindLayer written → Bool
-is_rest PatKind-F.RestPat = true
-is_rest _ = false
+-- a call is taken before a pattern's form is asked for
+abbrev pub IsUncalled : PatKindLayer written → Type 0
+IsUncalled (PatKind-F.MacroPat call) = ⊥
+IsUncalled _ = Unit {0}
+
+-- so that nothing is claimed of one
+abbrev pub AnyCall : AstMacroCall → Type 0
+AnyCall c = Unit {0}
 
 -- without a pattern whose names count
 abbrev pub IsPlain : PatKindLayer written → Type 0
@@ -88,7 +122,6 @@ IsPlain (PatKind-F.PathPat x) = Unit {0}
 IsPlain (PatKind-F.LiteralPat l minus) = Unit {0}
 IsPlain (PatKind-F.RangePat op low high) = Unit {0}
 IsPlain (PatKind-F.CfgPredPat pred) = Unit {0}
-IsPlain (PatKind-F.MacroPat call) = Unit {0}
 IsPlain PatKind-F.WildcardPat = Unit {0}
 IsPlain PatKind-F.RestPat = Unit {0}
 IsPlain PatKind-F.NotNullPat = Unit {0}
@@ -102,13 +135,8 @@ lower_plain (tree.name_pat at u _) = alloc_pat (name_pat_of u) (Some at)
 lower_plain (tree.path_pat at p) = path_pat_form at (spec.lower_path p)
 lower_plain (tree.literal_pat at node l) = literal_pat_form at node l
 lower_plain (tree.range_pat at op low high) = range_pat_form at op (spec.lower_side low) (spec.lower_side high)
-lower_plain (tree.macro_pat at called tree.no_pat) = uncalled_pat at called
+lower_plain (tree.barred_pat at) = barred_pat_form at
 lower_plain _ = missing_pat
-
--- what is known of a call that isn't entered, which the text has or lacks
-abbrev pub uncalled : Bool → Called
-uncalled true = tree.unentered
-uncalled false = tree.callless
 
 -- the literal of a predicate
 abbrev pub plain_truth : Option Bool → Signed

@@ -5,18 +5,14 @@ use Rattle.hir_syntax.specs.declared.ast.Path.{Path as AstPath}
 use Rattle.hir_syntax.specs.declared.pats.Pat.{Pat as AstPat}
 use Rattle.hir_env.specs.Answers.{Answers}
 use Rattle.hir_env.specs.Count.{count_expr, count_pat, count_path}
-use Rattle.hir_env.specs.Spot.{Spot}
 use Rattle.hir_env.specs.Whole.{answered, answered_pat, answered_path}
 use Rattle.hir_env.specs.declared.place.Place.{Place}
+pub use Rattle.hir_lower_form.specs.Inside.{read_at}
 
-abbrev pub read_at : Answers → Place → Spot
-read_at env p = record { answers = env; place = p }
-
--- Each path that is smaller than the pattern may be handed in, and so each that the pattern has.
+-- Each path that is smaller than the pattern may be handed in, wherever it is read, and so each that the pattern has, also behind calls.
 abbrev pub InPat : Answers → (Place → AstPath → Type 0) → Place → AstPat → Type 0
-InPat env path p x =
-    let at = read_at env p in
-    (q : AstPath) → count_path (answered_path at q) < count_pat (answered_pat at x) → path p q
+InPat env path p x = (q : Place) (y : AstPath)
+    → count_path (answered_path (read_at env q) y) < count_pat (answered_pat (read_at env p) x) → path q y
 
 -- so may what is assigned to be as an expression
 abbrev pub InTarget : Answers → (Place → AstExpr → Type 0) → (Place → AstPath → Type 0) → Place → AstExpr → Type 0

@@ -91,6 +91,7 @@ fn hygiene_of(path: &Path, hygiene: HygieneId) -> HygieneId
 }
 
 /// The path, as a pattern or as a place.
+#[inline(never)]
 fn path_form<H: Here>(
     parts: &H,
     state: &mut BodyBuilder,

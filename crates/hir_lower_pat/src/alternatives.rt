@@ -23,6 +23,7 @@ use hir_store::lists::push_pat;
 use hir_syntax::{Seq, ast};
 
 #[tactic(auto, unfolding(hir_lower_form::specs::Pats::slice_pat_form))]
+#[inline(never)]
 pub(crate) fn slice_form<S: PatParts, L: PatsPart, E: PatPart>(
     parts: &S,
     state: &mut BodyBuilder,
@@ -131,6 +132,7 @@ fn alternatives<S: PatParts>(
 }
 
 /// Without alternatives it binds nothing.
+#[inline(never)]
 pub(crate) fn or_form<S: PatParts>(
     parts: &S,
     state: &mut BodyBuilder,

@@ -3,7 +3,9 @@
 
 mod aims;
 mod alternatives;
+pub mod bare;
 pub mod bindings;
+mod calls;
 pub mod items;
 mod limits;
 mod names;

@@ -93,6 +93,7 @@ fn is_found<H: Here>(parts: &H, name: &Name) -> Result<bool, AllocError>
 }
 
 /// A name that stands for something else is a path.
+#[inline(never)]
 fn name_form(
     alloc: Global,
     state: &mut BodyBuilder,
@@ -108,6 +109,7 @@ fn name_form(
 
 /// A name that binds, behind what stands after its `@`.
 #[tactic(auto, unfolding(hir_lower_form::specs::Pats::bind_form))]
+#[inline(never)]
 fn bind_form<S: PatParts, E: PatPart>(
     parts: &S,
     state: &mut BodyBuilder,
@@ -132,6 +134,7 @@ fn bind_form<S: PatParts, E: PatPart>(
 }
 
 /// A plain name that stands for a constant, a variant or a struct is a path, and any other name binds.
+#[inline(never)]
 pub(crate) fn ident_form<S: PatParts>(
     parts: &S,
     state: &mut BodyBuilder,

@@ -1,18 +1,16 @@
 //! Patterns as parts of a form. A form that hands one on has it as a type parameter, so that no tree is among the form's types.
 
-ghost use Rattle.std.specs.Prelude.{◌≡◌};
 ghost use Rattle.hir_syntax.specs.declared.pats.Pat.{Pat as AstPat};
 ghost use Rattle.hir_env.specs.Answered.{OptionPat, Pat as AnsweredPat, Pats};
 ghost use Rattle.hir_env.specs.Spot.{Spot};
-ghost use Rattle.hir_env.specs.Whole.{answered_pat, pat_part, pats_part};
+ghost use Rattle.hir_env.specs.Whole.{answered_pat, elements_part, pat_part, pats_part};
 ghost use Rattle.hir_lower_form.specs.Nests.{Each, IfPresent};
-ghost use Rattle.hir_lower_form.specs.Pats.{is_dots};
 ghost use Rattle.hir_lower_pat.specs.Bindings.{HasNames};
-ghost use Rattle.hir_lower_pat.specs.Methods.{LowersElements, LowersPat, LowersPatIfPresent, LowersPatOpt, LowersPats};
+ghost use Rattle.hir_lower_pat.specs.Methods.{LowersElement, LowersElements, LowersPat, LowersPatIfPresent, LowersPatOpt, LowersPats};
 
 use crate::bindings::Bindings;
-use crate::parts::{Here, PatParts};
-use crate::tuples::{element, stands_for_rest};
+use crate::parts::PatParts;
+use crate::tuples::element;
 use hir_lower_form::builder::BodyBuilder;
 use hir_store::fault::StoreFault;
 use hir_store::ids::PatId;
@@ -25,10 +23,6 @@ pub trait PatNode {
 
     ghost read: { Spot → Self → AnsweredPat };
 
-    /// Whether it is two dots.
-    fn is_rest<H: Here>(&self, parts: &H) -> bool
-        ensures { result ≡ is_dots (read (H.spot parts.now) self.now) };
-
     /// The pattern, with the names of its top pattern that were used before.
     fn lower_node<S: PatParts>(
         &self,
@@ -39,17 +33,23 @@ pub trait PatNode {
         requires part { can (S.can_pat parts.now) self.now }
         requires names { HasNames state.old.stored bindings.old }
         ensures { LowersPat (read (S.spot parts.now) self.now) bindings.old state.old result bindings.new state.new };
+
+    /// The same as an element of a tuple or a call, none where it is two dots, be it through calls.
+    fn lower_element<S: PatParts>(
+        &self,
+        parts: &S,
+        state: &mut BodyBuilder,
+        bindings: &mut Bindings,
+    ) -> Result<Option<PatId>, StoreFault>
+        requires part { can (S.can_pat parts.now) self.now }
+        requires names { HasNames state.old.stored bindings.old }
+        ensures { LowersElement (read (S.spot parts.now) self.now) bindings.old state.old result bindings.new state.new };
 }
 
 impl PatNode for ast::Pat {
     ghost can = { λ pattern p. pattern p };
 
     ghost read = { answered_pat };
-
-    fn is_rest<H: Here>(&self, parts: &H) -> bool {
-        let _ = parts;
-        stands_for_rest(self)
-    }
 
     fn lower_node<S: PatParts>(
         &self,
@@ -58,6 +58,15 @@ impl PatNode for ast::Pat {
         bindings: &mut Bindings,
     ) -> Result<PatId, StoreFault> {
         parts.lower_pat(state, bindings, self)
+    }
+
+    fn lower_element<S: PatParts>(
+        &self,
+        parts: &S,
+        state: &mut BodyBuilder,
+        bindings: &mut Bindings,
+    ) -> Result<Option<PatId>, StoreFault> {
+        parts.lower_element(state, bindings, self)
     }
 }
 
@@ -125,6 +134,8 @@ pub trait PatsPart {
     ghost can: { (AstPat → Type 0) → Self → Type 0 };
 
     ghost read: { Spot → Self → Pats };
+    /// The same as the parts of a tuple or a call.
+    ghost read_elements: { Spot → Self → Pats };
 
     /// The patterns.
     fn lower_each<S: PatParts>(
@@ -146,13 +157,15 @@ pub trait PatsPart {
     ) -> Result<(Seq<PatId>, Option<usize>), StoreFault>
         requires parts { can (S.can_pat parts.now) self.now }
         requires names { HasNames state.old.stored bindings.old }
-        ensures { LowersElements (read (S.spot parts.now) self.now) bindings.old state.old result bindings.new state.new };
+        ensures { LowersElements (read_elements (S.spot parts.now) self.now) bindings.old state.old result bindings.new state.new };
 }
 
 impl PatsPart for Seq<ast::Pat> {
     ghost can = { λ pattern. Each pattern };
 
     ghost read = { pats_part };
+
+    ghost read_elements = { elements_part };
 
     fn lower_each<S: PatParts>(
         &self,

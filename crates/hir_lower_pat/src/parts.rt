@@ -11,8 +11,8 @@ ghost use Rattle.hir_lower_form.specs.Lowering.{Lowers};
 ghost use Rattle.hir_lower_form.specs.Methods.{LowersPath};
 ghost use Rattle.hir_lower_pat.specs.Aims.{Aims, HandlesTarget, HasAim, placed};
 ghost use Rattle.hir_lower_pat.specs.Bindings.{HasNames};
-ghost use Rattle.hir_lower_pat.specs.Handlers.{HandlesPat};
-ghost use Rattle.hir_lower_pat.specs.Methods.{LowersPat};
+ghost use Rattle.hir_lower_pat.specs.Handlers.{HandlesElement, HandlesPat};
+ghost use Rattle.hir_lower_pat.specs.Methods.{LowersElement, LowersPat};
 
 use crate::aims::Aim;
 use crate::bindings::Bindings;
@@ -80,6 +80,17 @@ pub trait PatParts: Here {
         requires part { can_pat self.now node.now }
         requires names { HasNames state.old.stored bindings.old }
         ensures { LowersPat (answered_pat (Self.spot self.now) node.now) bindings.old state.old result bindings.new state.new };
+
+    /// The pattern as an element of a tuple or a call, none where it is two dots, be it through calls.
+    fn lower_element(
+        &self,
+        state: &mut BodyBuilder,
+        bindings: &mut Bindings,
+        node: &ast::Pat,
+    ) -> Result<Option<PatId>, StoreFault>
+        requires part { can_pat self.now node.now }
+        requires names { HasNames state.old.stored bindings.old }
+        ensures { LowersElement (answered_pat (Self.spot self.now) node.now) bindings.old state.old result bindings.new state.new };
 }
 
 /// What lowers the parts of what is assigned to at one place.
@@ -145,12 +156,26 @@ impl<'l, P: LowerParts, F> Here for Inside<'l, P, F> {
     }
 }
 
+/// The functions that lower a pattern as such, and as an element.
+#[derive(Clone, Copy)]
+pub struct PatBy<F, G> {
+    pub pat: F,
+    pub element: G,
+}
+
 impl<
     'l,
     P: LowerParts,
     F: Fn(&Lowerer<P>, &mut BodyBuilder, &mut Bindings, &ast::Pat) -> Result<PatId, StoreFault>,
-> PatParts for Inside<'l, P, F> {
-    ghost can_pat = { λ it. HandlesPat P.spot (F.pre it.by) (F.post it.by) it.lowerer.now };
+    G: Fn(
+        &Lowerer<P>,
+        &mut BodyBuilder,
+        &mut Bindings,
+        &ast::Pat,
+    ) -> Result<Option<PatId>, StoreFault>,
+> PatParts for Inside<'l, P, PatBy<F, G>> {
+    ghost can_pat = { λ it p. HandlesPat P.spot (F.pre it.by.pat) (F.post it.by.pat) it.lowerer.now p
+        × HandlesElement P.spot (G.pre it.by.element) (G.post it.by.element) it.lowerer.now p };
 
     fn lower_pat(
         &self,
@@ -158,7 +183,16 @@ impl<
         bindings: &mut Bindings,
         node: &ast::Pat,
     ) -> Result<PatId, StoreFault> {
-        (self.by)(self.lowerer, state, bindings, node)
+        (self.by.pat)(self.lowerer, state, bindings, node)
+    }
+
+    fn lower_element(
+        &self,
+        state: &mut BodyBuilder,
+        bindings: &mut Bindings,
+        node: &ast::Pat,
+    ) -> Result<Option<PatId>, StoreFault> {
+        (self.by.element)(self.lowerer, state, bindings, node)
     }
 }
 

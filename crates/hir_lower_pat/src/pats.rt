@@ -6,18 +6,22 @@ ghost use Rattle.hir_env.specs.Paths.{mutability};
 ghost use Rattle.hir_env.specs.Whole.{answered_pat, pat_level};
 ghost use Rattle.hir_lower_form.specs.Nests.{KidsOfPat};
 ghost use Rattle.hir_lower_pat.specs.Bindings.{HasNames};
-ghost use Rattle.hir_lower_pat.specs.Methods.{LowersPat};
+ghost use Rattle.hir_lower_pat.specs.Calls.{written_call};
+ghost use Rattle.hir_lower_pat.specs.Methods.{AnyCall, IsUncalled, LowersElement, LowersPat};
 
 use crate::alternatives::{or_form, slice_form};
 use crate::bindings::Bindings;
+use crate::calls::{missing_form, pat_of, point_element};
 use crate::names::{ident_form, mode_of};
 use crate::part::PatPart;
-use crate::parts::{Here, Inside, PatParts};
+use crate::parts::{Here, Inside, PatBy, PatParts};
 use crate::plain::plain_kind;
 use crate::records::record_form;
 use crate::tuples::{tuple_form, tuple_struct_form};
 use hir_base::node::{AstPtr, InFile};
+use hir_env::expand::FragmentKind;
 use hir_lower_form::builder::BodyBuilder;
+use hir_lower_form::calls::enter;
 use hir_lower_form::parts::{LowerParts, Lowerer};
 use hir_store::fault::StoreFault;
 use hir_store::hir::{Mutability, Pat};
@@ -25,6 +29,7 @@ use hir_store::ids::PatId;
 use hir_syntax::ast;
 
 #[tactic(auto, unfolding(hir_lower_form::specs::Pats::over_pat_form))]
+#[inline(never)]
 fn ref_form<S: PatParts, E: PatPart>(
     parts: &S,
     state: &mut BodyBuilder,
@@ -48,6 +53,7 @@ fn ref_form<S: PatParts, E: PatPart>(
 }
 
 #[tactic(auto, unfolding(hir_lower_form::specs::Pats::over_pat_form))]
+#[inline(never)]
 fn box_form<S: PatParts, E: PatPart>(
     parts: &S,
     state: &mut BodyBuilder,
@@ -65,6 +71,7 @@ fn box_form<S: PatParts, E: PatPart>(
 }
 
 #[tactic(auto, unfolding(hir_lower_form::specs::Pats::over_pat_form))]
+#[inline(never)]
 fn deref_form<S: PatParts, E: PatPart>(
     parts: &S,
     state: &mut BodyBuilder,
@@ -81,7 +88,7 @@ fn deref_form<S: PatParts, E: PatPart>(
     state.alloc_pat(Pat::Deref { inner }, Some(at))
 }
 
-/// The form of a pattern. One whose parts know of no name is made by itself.
+/// The form of a pattern that is no call. One whose parts know of no name is made by itself.
 #[tactic(auto, using(crate::proofs::KindLemmas::plain_is_alone))]
 pub(crate) fn pat_form<S: PatParts>(
     parts: &S,
@@ -89,7 +96,8 @@ pub(crate) fn pat_form<S: PatParts>(
     bindings: &mut Bindings,
     node: &ast::Pat,
 ) -> Result<PatId, StoreFault>
-    requires parts { KidsOfPat (S.can_pat parts.now) (S.can_path parts.now) (out-PatKind node.now.kind) }
+    requires uncalled { IsUncalled (out-PatKind node.now.kind) }
+    requires parts { KidsOfPat (S.can_pat parts.now) (S.can_path parts.now) AnyCall (out-PatKind node.now.kind) }
     requires names { HasNames state.old.stored bindings.old }
     ensures { LowersPat (pat_level (S.spot parts.now) node.now) bindings.old state.old result bindings.new state.new }
 {
@@ -127,11 +135,81 @@ pub(crate) fn pat_form<S: PatParts>(
         | ast::PatKind::LiteralPat { .. }
         | ast::PatKind::RangePat { .. }
         | ast::PatKind::CfgPredPat { .. }
-        | ast::PatKind::MacroPat { .. }
         | ast::PatKind::WildcardPat
         | ast::PatKind::RestPat
         | ast::PatKind::NotNullPat
         | ast::PatKind::ConstBlockPat => plain_kind(parts, state, at, &node.kind),
+        ast::PatKind::MacroPat { .. } => unreachable!(),
+    }
+}
+
+/// A call that is written here: what it stands for, which is missing where it stands for no pattern. Its node leads there.
+#[cycle(pat)]
+#[inline(never)]
+fn called_pat<P: LowerParts>(
+    lowerer: &Lowerer<P>,
+    state: &mut BodyBuilder,
+    bindings: &mut Bindings,
+    at: InFile<AstPtr>,
+    call: &ast::MacroCall,
+) -> Result<PatId, StoreFault>
+    requires part { (P.can lowerer.now.parts).pat_call (P.spot lowerer.now.parts).place call.now }
+    requires names { HasNames state.old.stored bindings.old }
+    ensures { LowersPat (written_call (P.spot lowerer.now.parts) at call.now) bindings.old state.old result bindings.new state.new }
+{
+    let entered = enter(lowerer, state, FragmentKind::Pat, call)?;
+    let pat = match pat_of(entered) {
+        None => state.missing_pat()?,
+        Some((place, node)) => lower_pat(&lowerer.moved(place), state, bindings, node)?,
+    };
+    state.point_pat(at, pat)?;
+    Ok(pat)
+}
+
+/// The same as an element, none where it stands for two dots, to which it doesn't lead.
+#[cycle(pat)]
+#[inline(never)]
+fn called_element<P: LowerParts>(
+    lowerer: &Lowerer<P>,
+    state: &mut BodyBuilder,
+    bindings: &mut Bindings,
+    at: InFile<AstPtr>,
+    call: &ast::MacroCall,
+) -> Result<Option<PatId>, StoreFault>
+    requires part { (P.can lowerer.now.parts).pat_call (P.spot lowerer.now.parts).place call.now }
+    requires names { HasNames state.old.stored bindings.old }
+    ensures { LowersElement (written_call (P.spot lowerer.now.parts) at call.now) bindings.old state.old result bindings.new state.new }
+{
+    let entered = enter(lowerer, state, FragmentKind::Pat, call)?;
+    match pat_of(entered) {
+        None => Ok(Some(missing_form(state, at)?)),
+        Some((place, node)) => {
+            let found = lower_element(&lowerer.moved(place), state, bindings, node)?;
+            point_element(state, at, found)
+        }
+    }
+}
+
+/// An element of a tuple or a call, none where it is two dots. A call that the text lacks is missing at its own node here.
+#[cycle(pat)]
+fn lower_element<P: LowerParts>(
+    lowerer: &Lowerer<P>,
+    state: &mut BodyBuilder,
+    bindings: &mut Bindings,
+    node: &ast::Pat,
+) -> Result<Option<PatId>, StoreFault>
+    requires part { (P.can lowerer.now.parts).pat (P.spot lowerer.now.parts).place node.now }
+    requires names { HasNames state.old.stored bindings.old }
+    ensures { LowersElement (answered_pat (P.spot lowerer.now.parts) node.now) bindings.old state.old result bindings.new state.new }
+{
+    let at = lowerer.pointer(node.id, node.range);
+    match &node.kind {
+        ast::PatKind::RestPat => Ok(None),
+        ast::PatKind::MacroPat { call } => match call {
+            None => Ok(Some(state.alloc_pat(Pat::Missing, Some(at))?)),
+            Some(written) => called_element(lowerer, state, bindings, at, written),
+        },
+        _ => Ok(Some(lower_pat(lowerer, state, bindings, node)?)),
     }
 }
 
@@ -139,6 +217,7 @@ pub(crate) fn pat_form<S: PatParts>(
 ///
 /// `Full` where an arena has reached its limit, or more parts than are counted stand in front of two dots; `Memory` where a growth
 /// was refused.
+#[cycle(pat)]
 pub fn lower_pat<P: LowerParts>(
     lowerer: &Lowerer<P>,
     state: &mut BodyBuilder,
@@ -149,9 +228,20 @@ pub fn lower_pat<P: LowerParts>(
     requires names { HasNames state.old.stored bindings.old }
     ensures { LowersPat (answered_pat (P.spot lowerer.now.parts) node.now) bindings.old state.old result bindings.new state.new }
 {
-    let parts = Inside {
-        lowerer,
-        by: lower_pat::<P>,
-    };
-    pat_form(&parts, state, bindings, node)
+    match &node.kind {
+        ast::PatKind::MacroPat { call } => match call {
+            None => state.missing_pat(),
+            Some(written) => {
+                let at = lowerer.pointer(node.id, node.range);
+                called_pat(lowerer, state, bindings, at, written)
+            }
+        },
+        _ => {
+            let by = PatBy {
+                pat: lower_pat::<P>,
+                element: lower_element::<P>,
+            };
+            pat_form(&Inside { lowerer, by }, state, bindings, node)
+        }
+    }
 }

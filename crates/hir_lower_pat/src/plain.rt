@@ -2,12 +2,11 @@
 
 ghost use Rattle.hir_syntax.specs.declared.pats.PatKind.{out-PatKind};
 ghost use Rattle.hir_store.specs.Range.{HasPat};
-ghost use Rattle.hir_env.specs.Answered as tree;
 ghost use Rattle.hir_lower_form.specs.Lower.{lower_path};
 ghost use Rattle.hir_lower_form.specs.Lowering.{Lowers};
 ghost use Rattle.hir_lower_form.specs.Nests.{KidsOfPat};
 ghost use Rattle.hir_lower_form.specs.Pats as spec;
-ghost use Rattle.hir_lower_pat.specs.Methods.{IsPlain, kind_at, lower_plain, uncalled};
+ghost use Rattle.hir_lower_pat.specs.Methods.{AnyCall, IsPlain, kind_at, lower_plain};
 
 use crate::parts::{Here, PatParts};
 use crate::paths::PathPart;
@@ -21,6 +20,7 @@ use hir_syntax::ast;
 
 /// A path that is absent or refused is missing.
 #[tactic(auto, unfolding(hir_lower_form::specs::Pats::path_pat_form))]
+#[inline(never)]
 fn path_form<H: Here, W: PathPart>(
     parts: &H,
     state: &mut BodyBuilder,
@@ -39,36 +39,9 @@ fn path_form<H: Here, W: PathPart>(
     }
 }
 
-/// A call that isn't entered, whose node leads to the pattern that is missing.
-#[tactic(auto, unfolding(hir_lower_form::specs::Pats::called_pat_form))]
-pub(crate) fn unentered_form(
-    state: &mut BodyBuilder,
-    at: InFile<AstPtr>,
-) -> Result<PatId, StoreFault>
-    ensures { Lowers HasPat (spec.uncalled_pat at tree.unentered) state.old result state.new }
-{
-    let id = state.missing_pat()?;
-    state.point_pat(at, id)?;
-    Ok(id)
-}
-
-/// A call that isn't entered, or that the text lacks.
-pub(crate) fn call_form(
-    state: &mut BodyBuilder,
-    at: InFile<AstPtr>,
-    is_written: bool,
-) -> Result<PatId, StoreFault>
-    ensures { Lowers HasPat (spec.uncalled_pat at (uncalled is_written)) state.old result state.new }
-{
-    if is_written {
-        unentered_form(state, at)
-    } else {
-        state.missing_pat()
-    }
-}
-
-/// A pattern that knows of no name. A call isn't entered yet, and one that the text lacks is missing without a way to it.
+/// A pattern that knows of no name.
 #[tactic(auto, using(crate::proofs::KindLemmas::only_plain))]
+#[inline(never)]
 pub(crate) fn plain_kind<S: PatParts>(
     parts: &S,
     state: &mut BodyBuilder,
@@ -76,7 +49,7 @@ pub(crate) fn plain_kind<S: PatParts>(
     kind: &ast::PatKind,
 ) -> Result<PatId, StoreFault>
     requires plain { IsPlain (out-PatKind kind.now) }
-    requires parts { KidsOfPat (S.can_pat parts.now) (S.can_path parts.now) (out-PatKind kind.now) }
+    requires parts { KidsOfPat (S.can_pat parts.now) (S.can_path parts.now) AnyCall (out-PatKind kind.now) }
     ensures { Lowers HasPat (lower_plain (kind_at (S.spot parts.now) at kind.now)) state.old result state.new }
 {
     match kind {
@@ -86,8 +59,6 @@ pub(crate) fn plain_kind<S: PatParts>(
             range_form(parts, state, at, *op, start, end)
         }
         ast::PatKind::CfgPredPat { pred } => predicate_form(parts, state, at, *pred),
-        ast::PatKind::MacroPat { call: None } => state.missing_pat(),
-        ast::PatKind::MacroPat { call: Some(_) } => unentered_form(state, at),
         ast::PatKind::WildcardPat => state.alloc_pat(Pat::Wild, Some(at)),
         ast::PatKind::RestPat => state.alloc_pat(Pat::Rest, Some(at)),
         ast::PatKind::NotNullPat => state.alloc_pat(Pat::NotNull, Some(at)),

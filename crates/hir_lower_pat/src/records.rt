@@ -72,6 +72,7 @@ fn present_field<S: PatParts, N: PatNode>(
 }
 
 /// The field, none where a condition disables it, or it has no part or no name.
+#[inline(never)]
 fn field_form<S: PatParts>(
     parts: &S,
     state: &mut BodyBuilder,
@@ -176,6 +177,7 @@ fn record_of<S: PatParts, L: PatFieldsPart>(
 
 /// Where the path is absent or refused the record is missing, and nothing else of it is read.
 #[tactic(auto, unfolding(hir_lower_form::specs::Pats::record_pat_form))]
+#[inline(never)]
 pub(crate) fn record_form<S: PatParts, W: PathPart, L: PatFieldsPart>(
     parts: &S,
     state: &mut BodyBuilder,

@@ -56,6 +56,7 @@ pub(crate) fn signed(written: &ast::Literal, minus: bool) -> Result<Literal, All
 
 /// A literal pattern, missing where its literal is absent or takes no minus.
 #[tactic(auto, unfolding(hir_lower_form::specs::Pats::literal_pat_form))]
+#[inline(never)]
 pub(crate) fn literal_form<H: Here>(
     parts: &H,
     state: &mut BodyBuilder,
@@ -81,6 +82,7 @@ pub(crate) fn literal_form<H: Here>(
 
 /// A predicate is a literal, which is true unless it is known not to be.
 #[tactic(auto, unfolding(hir_lower_form::specs::Pats::literal_pat_form))]
+#[inline(never)]
 pub(crate) fn predicate_form<H: Here>(
     parts: &H,
     state: &mut BodyBuilder,
@@ -268,6 +270,7 @@ impl SidePart for Option<Boxed<ast::Pat>> {
 
 /// Without its operator a range is missing, and its sides are read all the same.
 #[tactic(auto, unfolding(hir_lower_form::specs::Pats::range_pat_form))]
+#[inline(never)]
 pub(crate) fn range_form<H: Here, E: SidePart>(
     parts: &H,
     state: &mut BodyBuilder,

@@ -136,6 +136,7 @@ impl TargetsPart for Seq<ast::Expr> {
 
 /// A leading comma adds nothing.
 #[tactic(auto, unfolding(hir_lower_form::specs::Targets::tuple_target_form))]
+#[inline(never)]
 fn tuple_form<T: TargetParts, L: TargetsPart>(
     parts: &T,
     state: &mut BodyBuilder,
@@ -178,6 +179,7 @@ fn call_of<T: TargetParts, L: TargetsPart>(
 
 /// Where the path is absent or refused the call is missing, and nothing else of it is read.
 #[tactic(auto, unfolding(hir_lower_form::specs::Targets::call_target_form))]
+#[inline(never)]
 fn call_form<T: TargetParts, W: PathPart, L: TargetsPart>(
     parts: &T,
     state: &mut BodyBuilder,
@@ -286,6 +288,7 @@ fn array_of<T: TargetParts, L: TargetsPart>(
 }
 
 /// The parts in front of the first two dots, the node of these, and the parts behind them.
+#[inline(never)]
 fn array_form<T: TargetParts, L: TargetsPart>(
     parts: &T,
     state: &mut BodyBuilder,

@@ -95,6 +95,7 @@ fn kept_field<T: TargetParts>(
 }
 
 /// The field, none where a condition disables it.
+#[inline(never)]
 fn field_form<T: TargetParts>(
     parts: &T,
     state: &mut BodyBuilder,
@@ -223,6 +224,7 @@ impl TargetRecord for ast::RecordExprFieldList {
 
 /// Where the path is absent or refused the record is missing, and nothing else of it is read.
 #[tactic(auto, unfolding(hir_lower_form::specs::Targets::record_target_form))]
+#[inline(never)]
 fn record_form<T: TargetParts, W: PathPart, L: TargetRecord>(
     parts: &T,
     state: &mut BodyBuilder,

@@ -3,13 +3,11 @@
 ghost use Rattle.std.specs.Prelude.{◌≡◌, ◌∷◌, IfOk, Some};
 ghost use Rattle.hir_store.specs.Range.{HasPat, HasPath, HasPats};
 ghost use Rattle.hir_env.specs.Answered as tree;
-ghost use Rattle.hir_syntax.specs.declared.pats.PatKind.{out-PatKind};
-ghost use Rattle.hir_lower_form.specs.Lower.{lower_elements, lower_pat};
+ghost use Rattle.hir_lower_form.specs.Lower.{lower_elements};
 ghost use Rattle.hir_lower_form.specs.Lowering.{Lowers};
 ghost use Rattle.hir_lower_form.specs.Pats as spec;
-ghost use Rattle.hir_lower_form.specs.Pats.{is_dots};
 ghost use Rattle.hir_lower_pat.specs.Bindings.{HasNames, LowersNamed};
-ghost use Rattle.hir_lower_pat.specs.Methods.{HasCounted, HasDots, HasElements, LowersPat, is_rest};
+ghost use Rattle.hir_lower_pat.specs.Methods.{HasCounted, HasDots, HasElements, LowersPat, element_behind, element_steps};
 
 use crate::bindings::Bindings;
 use crate::part::{PatNode, PatsPart};
@@ -22,15 +20,8 @@ use hir_store::hir::Pat;
 use hir_store::ids::PatId;
 use hir_store::lists::push_pat;
 use hir_store::path::Path;
-use hir_syntax::{Seq, ast};
+use hir_syntax::Seq;
 use std::alloc::{AllocError, Global};
-
-/// Whether a pattern is two dots.
-pub(crate) fn stands_for_rest(node: &ast::Pat) -> bool
-    ensures { result ≡ is_rest (out-PatKind node.now.kind) }
-{
-    matches!(&node.kind, ast::PatKind::RestPat)
-}
 
 /// One part more. Two dots are none, and of several the first count.
 pub(crate) fn element<S: PatParts, N: PatNode>(
@@ -44,20 +35,22 @@ pub(crate) fn element<S: PatParts, N: PatNode>(
     requires names { HasNames state.old.stored bindings.old }
     requires done { HasPats state.old.stored done.0 }
     ensures { let read = N.read (S.spot parts.now) node.now in
-        LowersNamed HasElements (spec.element_form (is_dots read) done (lower_pat read))
-        bindings.old state.old result bindings.new state.new }
+        LowersNamed HasElements (element_behind done (element_steps read)) bindings.old state.old result bindings.new state.new }
 {
     let (mut ids, dots) = done;
-    if node.is_rest(parts) {
-        let first = match dots {
-            Some(place) => place,
-            None => ids.len(),
-        };
-        return Ok((ids, Some(first)));
+    match node.lower_element(parts, state, bindings)? {
+        None => {
+            let first = match dots {
+                Some(place) => place,
+                None => ids.len(),
+            };
+            Ok((ids, Some(first)))
+        }
+        Some(id) => {
+            push_pat(&mut ids, id)?;
+            Ok((ids, dots))
+        }
     }
-    let id = node.lower_node(parts, state, bindings)?;
-    push_pat(&mut ids, id)?;
-    Ok((ids, dots))
 }
 
 /// The place of the dots, behind a comma in front one further, where it is counted.
@@ -140,6 +133,7 @@ pub(crate) fn stored_elements(
 }
 
 #[tactic(auto, unfolding(hir_lower_form::specs::Pats::tuple_pat_form))]
+#[inline(never)]
 pub(crate) fn tuple_form<S: PatParts, L: PatsPart>(
     parts: &S,
     state: &mut BodyBuilder,
@@ -150,7 +144,7 @@ pub(crate) fn tuple_form<S: PatParts, L: PatsPart>(
 ) -> Result<PatId, StoreFault>
     requires parts { L.can (S.can_pat parts.now) fields.now }
     requires names { HasNames state.old.stored bindings.old }
-    ensures { LowersPat (tree.tuple_pat at leading_comma (L.read (S.spot parts.now) fields.now))
+    ensures { LowersPat (tree.tuple_pat at leading_comma (L.read_elements (S.spot parts.now) fields.now))
         bindings.old state.old result bindings.new state.new }
 {
     let done = fields.elements(parts, state, bindings)?;
@@ -171,7 +165,7 @@ fn tuple_struct_of<S: PatParts, L: PatsPart>(
     requires path { HasPath state.old.stored path }
     requires parts { L.can (S.can_pat parts.now) fields.now }
     requires names { HasNames state.old.stored bindings.old }
-    ensures { let read = lower_elements spec.no_elements (L.read (S.spot parts.now) fields.now) in
+    ensures { let read = lower_elements spec.no_elements (L.read_elements (S.spot parts.now) fields.now) in
         LowersNamed HasPat (spec.tuple_struct_of at leading_comma read (Some path)) bindings.old state.old result bindings.new state.new }
 {
     let done = fields.elements(parts, state, bindings)?;
@@ -186,6 +180,7 @@ fn tuple_struct_of<S: PatParts, L: PatsPart>(
 
 /// Where the path is absent or refused the call is missing, and nothing else of it is read.
 #[tactic(auto, unfolding(hir_lower_form::specs::Pats::tuple_struct_form))]
+#[inline(never)]
 pub(crate) fn tuple_struct_form<S: PatParts, W: PathPart, L: PatsPart>(
     parts: &S,
     state: &mut BodyBuilder,
@@ -199,7 +194,7 @@ pub(crate) fn tuple_struct_form<S: PatParts, W: PathPart, L: PatsPart>(
     requires parts { L.can (S.can_pat parts.now) fields.now }
     requires names { HasNames state.old.stored bindings.old }
     ensures { let here = S.spot parts.now in
-        LowersPat (tree.tuple_struct_pat at (W.read here path.now) leading_comma (L.read here fields.now))
+        LowersPat (tree.tuple_struct_pat at (W.read here path.now) leading_comma (L.read_elements here fields.now))
         bindings.old state.old result bindings.new state.new }
 {
     match parts.path(state, path)? {

@@ -11,13 +11,16 @@ ghost use Rattle.hir_lower_form.specs.Lowering.{Lowers};
 ghost use Rattle.hir_lower_form.specs.Lower as steps;
 ghost use Rattle.hir_lower_form.specs.Methods.{LowersTypePat, at_place};
 ghost use Rattle.hir_lower_form.specs.Nests.{Each, IfPresent};
+ghost use Rattle.hir_lower_pat.specs.Calls.{written_call};
 ghost use Rattle.hir_lower_pat.specs.TypePats.{IsOther};
 
+use crate::calls::{missing_form, pat_of, pointed_form};
 use crate::limits::LimitPart;
-use crate::plain::call_form;
 use hir_base::node::{AstPtr, InFile};
+use hir_env::expand::FragmentKind;
 use hir_env::place::Place;
 use hir_lower_form::builder::BodyBuilder;
+use hir_lower_form::calls::enter;
 use hir_lower_form::parts::{LowerParts, Lowerer, pointer_in};
 use hir_store::fault::StoreFault;
 use hir_store::hir::Pat;
@@ -35,6 +38,7 @@ fn not_null_form(state: &mut BodyBuilder, at: InFile<AstPtr>) -> Result<PatId, S
 
 /// Both ends are part of the range as it is stored.
 #[tactic(auto, unfolding(hir_lower_form::specs::Ranges::limits_form))]
+#[inline(never)]
 fn range_form<P: LowerParts, E: LimitPart>(
     lowerer: &Lowerer<P>,
     state: &mut BodyBuilder,
@@ -98,6 +102,7 @@ fn each_type_pat<P: LowerParts>(
 /// Alternatives stay, also where there is one.
 #[cycle(type_pat)]
 #[tactic(auto, unfolding(hir_lower_form::specs::Ranges::type_alternatives_form))]
+#[inline(never)]
 fn alternatives_form<P: LowerParts>(
     lowerer: &Lowerer<P>,
     state: &mut BodyBuilder,
@@ -114,6 +119,32 @@ fn alternatives_form<P: LowerParts>(
     let at = pointer_in(place, node.id, node.range);
     let ids = each_type_pat(lowerer, state, place, all.as_slice())?;
     state.alloc_pat(Pat::Or(ids), Some(at))
+}
+
+/// A call: what it stands for, which is missing where it stands for no pattern. Its node leads there.
+#[cycle(type_pat)]
+#[inline(never)]
+fn called_form<P: LowerParts>(
+    lowerer: &Lowerer<P>,
+    state: &mut BodyBuilder,
+    place: Place,
+    at: InFile<AstPtr>,
+    call: &ast::MacroCall,
+) -> Result<PatId, StoreFault>
+    requires { (P.can lowerer.now.parts).pat_call place call.now }
+    ensures { let here = at_place (P.spot lowerer.now.parts) place in
+        let read = of.type_pat_of here.answers.lang_items (written_call here at call.now) in
+        Lowers HasPat (steps.lower_type_pat read) state.old result state.new }
+{
+    let there = lowerer.moved(place);
+    let entered = enter(&there, state, FragmentKind::Pat, call)?;
+    match pat_of(entered) {
+        None => missing_form(state, at),
+        Some((place, node)) => {
+            let id = type_pat(&there, state, place, node)?;
+            pointed_form(state, at, id)
+        }
+    }
 }
 
 #[cycle(type_pat)]
@@ -136,7 +167,10 @@ fn type_pat<P: LowerParts>(
         ast::PatKind::RangePat { op, start, end } => {
             range_form(lowerer, state, place, at, *op, start, end)
         }
-        ast::PatKind::MacroPat { call } => call_form(state, at, call.is_some()),
+        ast::PatKind::MacroPat { call } => match call {
+            None => state.missing_pat(),
+            Some(written) => called_form(lowerer, state, place, at, written),
+        },
         _ => other_form(lowerer, state, place, node),
     }
 }

@@ -20,7 +20,7 @@ pub each_last : {A : Type 0} (P : A → Type 0) (xs : List A) (x : A) → Each P
 each_last P [] x h = h.0
 each_last P (y ∷ xs) x h = each_last P xs x h.1
 
-open_stays : (o : Checked Reading) (b : Builder) → (o, b) ≡ go_on o b (λ r. proceed r (λ v. pure (Open v)))
+pub open_stays : (o : Checked Reading) (b : Builder) → (o, b) ≡ go_on o b (λ r. proceed r (λ v. pure (Open v)))
 open_stays (Ok Refused) b = refl
 open_stays (Ok (Ended w)) b = refl
 open_stays (Ok (Open w)) b = refl

@@ -1,3 +1,4 @@
 pub mod Ends
 pub mod Outputs
 pub mod Sugar
+pub mod Rooted

@@ -73,6 +73,7 @@ fn sugared_args(
 
 /// `(A) -> C`. Without `(A)` nothing is read.
 #[tactic(auto, using(crate::proofs::Sugar::sugared_has), unfolding(hir_lower_form::specs::Paths::parens_form))]
+#[inline(never)]
 fn parens<P: LowerParts>(
     lowerer: &Lowerer<P>,
     state: &mut BodyBuilder,

@@ -2,4 +2,5 @@
 #![tactic(auto)]
 
 mod args;
+mod local;
 pub mod path;

@@ -1,9 +1,9 @@
 //! A path is read from its last segment to its first, then the path of the use tree around it.
 
-ghost use Rattle.std.specs.Prelude.{None, false, true};
+ghost use Rattle.std.specs.Prelude.{None, Some, false, true};
 ghost use Rattle.hir_syntax.specs.declared.ast.Path.{out-Path};
 ghost use Rattle.hir_syntax.specs.declared.ast.PathSegment.{out-PathSegment};
-ghost use Rattle.hir_store.specs.Range.{HasType};
+ghost use Rattle.hir_store.specs.Range.{HasPath, HasType};
 ghost use Rattle.hir_env.specs.Paths.{named_segment, qualified_segment};
 ghost use Rattle.hir_env.specs.Whole.{first_part, path_level, path_part, path_type_level, path_type_part, rest_part};
 ghost use Rattle.hir_env.specs.Whole.{segment_args_level, segment_level, segment_part, segments_part, type_part};
@@ -16,6 +16,7 @@ ghost use Rattle.hir_lower_form.specs.Paths as forms;
 ghost use Rattle.hir_lower_form.specs.Walks.{super_read};
 
 use crate::args::segment_args;
+use crate::local::called_path;
 use hir_base::node::InFile;
 use hir_lower_form::builder::BodyBuilder;
 use hir_lower_form::parts::{LowerParts, Lowerer};
@@ -60,7 +61,7 @@ fn name_form<P: LowerParts>(
     Ok(walk.named(Name::Text(name.t.clone()?), args)?)
 }
 
-fn trait_path<P: LowerParts>(
+pub(crate) fn trait_path<P: LowerParts>(
     lowerer: &Lowerer<P>,
     state: &mut BodyBuilder,
     node: &ast::PathType,
@@ -71,8 +72,29 @@ fn trait_path<P: LowerParts>(
     lowerer.path_if_present(state, lowerer.parts.place(), &node.path)
 }
 
-/// `<T as Trait>`, whose path is stored as a type too.
-#[tactic(auto, using(hir_lower_form::proofs::Walked::projected_has), unfolding(hir_lower_form::specs::Paths::with_trait))]
+/// `<T as Trait>` with this path, which is stored as a type too.
+#[tactic(auto, using(hir_lower_form::proofs::Walked::projected_has))]
+pub(crate) fn projected_form<P: LowerParts>(
+    lowerer: &Lowerer<P>,
+    state: &mut BodyBuilder,
+    walk: PathWalk,
+    ty: TypeRefId,
+    node: &ast::PathType,
+    path: Path,
+) -> Result<Reading, StoreFault>
+    requires walk { HasWalk state.old.stored walk }
+    requires ty { HasType state.old.stored ty }
+    requires path { HasPath state.old.stored path }
+    ensures { let at = (path_type_level (P.spot lowerer.now.parts) node.now).pointer in
+        Lowers HasReading (forms.read_trait ty at walk (Some path)) state.old result state.new }
+{
+    let at = lowerer.pointer(node.id, node.range);
+    let _ = state.alloc_type(TypeRef::Path(path.copy(lowerer.alloc)?), Some(at))?;
+    Ok(walk.projected(lowerer.alloc, ty, path)?)
+}
+
+/// `<T as Trait>`.
+#[tactic(auto, unfolding(hir_lower_form::specs::Paths::with_trait))]
 fn trait_form<P: LowerParts>(
     lowerer: &Lowerer<P>,
     state: &mut BodyBuilder,
@@ -86,12 +108,10 @@ fn trait_form<P: LowerParts>(
     ensures { let level = path_type_level (P.spot lowerer.now.parts) node.now in
         Lowers HasReading (forms.with_trait (spec.lower_path level.path) ty level.pointer walk) state.old result state.new }
 {
-    let Some(path) = trait_path(lowerer, state, node)? else {
-        return Ok(Reading::Refused);
-    };
-    let at = lowerer.pointer(node.id, node.range);
-    let _ = state.alloc_type(TypeRef::Path(path.copy(lowerer.alloc)?), Some(at))?;
-    Ok(walk.projected(lowerer.alloc, ty, path)?)
+    match trait_path(lowerer, state, node)? {
+        None => Ok(Reading::Refused),
+        Some(path) => projected_form(lowerer, state, walk, ty, node, path),
+    }
 }
 
 /// `<T>` or `<T as Trait>`, which may only be the first.
@@ -136,7 +156,7 @@ fn super_form(state: &mut BodyBuilder, walk: PathWalk) -> Result<Reading, StoreF
 }
 
 #[tactic(auto, using(hir_lower_form::proofs::Walked::self_has))]
-fn segment_form<P: LowerParts>(
+pub(crate) fn segment_form<P: LowerParts>(
     lowerer: &Lowerer<P>,
     state: &mut BodyBuilder,
     walk: PathWalk,
@@ -240,7 +260,7 @@ fn own_segments<P: LowerParts>(
 }
 
 #[tactic(auto, unfolding(hir_lower_form::specs::Paths::whole))]
-fn whole_path<P: LowerParts>(
+pub(crate) fn whole_path<P: LowerParts>(
     lowerer: &Lowerer<P>,
     state: &mut BodyBuilder,
     walk: PathWalk,
@@ -278,12 +298,15 @@ pub fn path_node<P: LowerParts>(
     requires walk { HasWalk state.old.stored walk }
     ensures { ReadsPath (path_level (P.spot lowerer.now.parts) node.now) walk state.old result state.new }
 {
-    whole_path(
-        lowerer,
-        state,
-        walk,
-        node.leading,
-        node.segs.as_slice(),
-        &node.use_,
-    )
+    let all = node.segs.as_slice();
+    match &node.use_ {
+        None => {
+            if node.in_macro {
+                called_path(lowerer, state, walk, node)
+            } else {
+                whole_path(lowerer, state, walk, node.leading, all, &node.use_)
+            }
+        }
+        Some(_) => whole_path(lowerer, state, walk, node.leading, all, &node.use_),
+    }
 }

@@ -3,7 +3,7 @@
 
 ghost use Rattle.std.specs.Prelude.{◌≡◌, [], ◌∷◌, OnOk, OnErr, reverse};
 ghost use Rattle.hir_scope.specs.Ribs.{Rib, label_rib, try_rib, macro_rib, barrier_rib, Sought, sought_first, is_for, past_macro};
-ghost use Rattle.hir_scope.specs.Ribs.{search, innermost_try_rib};
+ghost use Rattle.hir_scope.specs.Ribs.{is_the, search, innermost_try_rib};
 ghost use Rattle.hir_lower_scope.specs.Labels.{answer, rest};
 ghost use Rattle.hir_lower_scope.specs.Found.{rib_of, ribs_of, sought_of, try_of};
 
@@ -149,6 +149,16 @@ struct Wanted {
     context: Option<CtxId>,
 }
 
+/// Whether the context came from the macro of this definition.
+fn came_from<E: LowerEnv>(env: &E, context: CtxId, def: MacroDefId) -> bool
+    ensures { result ≡ is_the ((E.answers env.now).contexts.outer_macro context) def }
+{
+    match env.outer_macro(context) {
+        Some(outer) => outer.def == def,
+        None => false,
+    }
+}
+
 /// What is sought behind the definition of a macro.
 fn past<E: LowerEnv>(env: &E, def: MacroDefId, wanted: Wanted) -> Wanted
     ensures { sought_of result ≡ past_macro (E.answers env.now).contexts def (sought_of wanted) wanted.context }
@@ -156,7 +166,7 @@ fn past<E: LowerEnv>(env: &E, def: MacroDefId, wanted: Wanted) -> Wanted
     let Some(context) = wanted.context else {
         return wanted;
     };
-    if env.outer_macro(context) != Some(def) {
+    if !came_from(env, context, def) {
         return wanted;
     }
     let parent = env.context_parent(context);

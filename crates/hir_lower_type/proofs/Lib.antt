@@ -1,3 +1,4 @@
 pub mod Here
 pub mod BoundsExist
+pub mod CallLemmas
 pub mod Params

@@ -1,8 +1,9 @@
 -- The parameters of a function pointer one after another: what a loop over them does, and their names.
 use Rattle.std.proofs.Common.{arith, ◌≡◌, ◌∙◌, ap, refl, sym, slice_index_or}
-use Rattle.std.proofs.Common.{Bool, true, false, List, [], ◌∷◌, Option, Some, None, Ok, Err}
+use Rattle.std.proofs.Common.{ℕ, zero, suc, Bool, true, false, List, [], ◌∷◌, Option, Some, None, Ok, Err}
 use Rattle.std.specs.Prelude.{if◌then◌else◌, ◌≤◌, ◌-◌, ◌≢◌, drop, length, take, IsErrAnd}
 use Rattle.hir_syntax.specs.declared.ast.ElseBranch.TheOpen.{PatKind-F}
+use Rattle.hir_syntax.specs.declared.macros.MacroCall.{MacroCall as AstMacroCall}
 use Rattle.hir_syntax.specs.declared.pats.Pat.{Pat as AstPat}
 use Rattle.hir_syntax.specs.declared.ast.Name.{Name as AstName}
 use Rattle.hir_syntax.specs.declared.pats.PatKind.{PatKind as AstPatKind, out-PatKind, roll-PatKind, roll-out-PatKind}
@@ -16,6 +17,7 @@ use Rattle.hir_store.specs.declared.fault.StoreFault.TheVariants.{Memory}
 use Rattle.hir_store.specs.declared.ids.TypeRefId.{TypeRefId}
 use Rattle.hir_env.specs.Spot.{Spot}
 use Rattle.hir_env.specs.Answers.{Answers}
+use Rattle.hir_env.specs.Calls.{entered_pat}
 use Rattle.hir_env.proofs.PathLevels.{param_is_level}
 use Rattle.hir_env.specs.declared.place.Place.{Place}
 use Rattle.hir_env.specs.Answered as tree
@@ -110,6 +112,12 @@ no_name_of_either : (b : Bool) (p q : Pat) → name_given (tree.some_pat p) ≡ 
 no_name_of_either true p q h k = h
 no_name_of_either false p q h k = k
 
+-- nor does a call give one, entered or not
+called_name : (env : Answers) (left : ℕ) (c : AstMacroCall) (p : Place) (s : Pointer)
+    → name_given (tree.some_pat (entered_pat env (entering env left) c p s)) ≡ None
+called_name env zero c p s = refl
+called_name env (suc n) c p s = refl
+
 kind_name : (at : Spot) (k : PatKindLayer written) (s : Pointer)
     → name_given (tree.some_pat (pat_at at.answers (reader at.answers (into at)) k at.place s)) ≡ name_of_kind k
 kind_name at (PatKind-F.IdentPat n is_ref is_mut x) s = one_name _ s _ _ _
@@ -128,7 +136,7 @@ kind_name at (PatKind-F.LiteralPat (Some l) minus) s = no_name_of_either (minus_
 kind_name at (PatKind-F.RangePat op low high) s = refl
 kind_name at (PatKind-F.CfgPredPat pred) s = refl
 kind_name at (PatKind-F.MacroPat None) s = refl
-kind_name at (PatKind-F.MacroPat (Some c)) s = refl
+kind_name at (PatKind-F.MacroPat (Some c)) s = called_name at.answers at.place.left c at.place s
 kind_name at PatKind-F.WildcardPat s = refl
 kind_name at PatKind-F.RestPat s = refl
 kind_name at PatKind-F.NotNullPat s = refl

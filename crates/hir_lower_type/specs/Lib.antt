@@ -1,3 +1,4 @@
 pub mod Abis
 pub mod Bounds
+pub mod Calls
 pub mod Params

@@ -28,6 +28,7 @@ use hir_syntax::ast;
 
 /// A binding, whose parts are read at this place: its arguments, its type, its bounds.
 #[tactic(auto, unfolding(hir_lower_form::specs::Types::binding_form))]
+#[inline(never)]
 fn binding_form<P: LowerParts>(
     lowerer: &Lowerer<P>,
     state: &mut BodyBuilder,
@@ -51,6 +52,7 @@ fn binding_form<P: LowerParts>(
 }
 
 /// A binding with a parameter list, and one without a name, is skipped.
+#[inline(never)]
 fn assoc_form<P: LowerParts>(
     lowerer: &Lowerer<P>,
     state: &mut BodyBuilder,

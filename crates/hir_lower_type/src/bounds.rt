@@ -54,6 +54,7 @@ fn stored_path_bound(maybe: bool, names: Seq<Name>, ty: TypeRefId) -> TypeBound
 }
 
 #[tactic(auto, using(crate::proofs::BoundsExist::path_bound_has), unfolding(hir_lower_form::specs::Types::path_bound_form))]
+#[inline(never)]
 fn path_bound_form<P: LowerParts>(
     lowerer: &Lowerer<P>,
     state: &mut BodyBuilder,
@@ -122,6 +123,7 @@ fn use_args<P: LowerParts>(
     Ok(done)
 }
 
+#[inline(never)]
 fn bound_form<P: LowerParts>(
     lowerer: &Lowerer<P>,
     state: &mut BodyBuilder,

@@ -87,6 +87,7 @@ fn abi(written: &Option<Text>) -> ExternAbi
     }
 }
 
+#[inline(never)]
 fn param_form<P: LowerParts>(
     lowerer: &Lowerer<P>,
     state: &mut BodyBuilder,
@@ -287,6 +288,7 @@ impl AnswerPart for Option<ast::RetType> {
 
 /// What it returns is lowered first.
 #[tactic(auto, unfolding(hir_lower_form::specs::Types::fn_type_form))]
+#[inline(never)]
 pub(crate) fn fn_form<P: LowerParts, L: ParamsPart, R: AnswerPart>(
     lowerer: &Lowerer<P>,
     state: &mut BodyBuilder,

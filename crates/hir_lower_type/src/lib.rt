@@ -3,6 +3,7 @@
 
 pub mod args;
 mod bounds;
+mod calls;
 mod functions;
 mod lifetimes;
 mod part;

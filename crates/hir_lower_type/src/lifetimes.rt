@@ -35,6 +35,7 @@ fn lifetime_ref(written: &ast::Lifetime) -> Result<LifetimeRef, AllocError>
 
 /// A lifetime of the file of this place.
 #[tactic(auto, unfolding(hir_lower_form::specs::Types::lower_lifetime))]
+#[inline(never)]
 pub(crate) fn lifetime(
     state: &mut BodyBuilder,
     place: Place,
@@ -75,6 +76,7 @@ fn binder_names(alloc: Global, mut left: &[Option<ast::Lifetime>]) -> Result<Seq
 }
 
 /// The names that a binder introduces, none where it is absent.
+#[inline(never)]
 pub(crate) fn binder(
     alloc: Global,
     written: &Option<ast::ForBinder>,

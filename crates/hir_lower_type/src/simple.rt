@@ -37,20 +37,8 @@ fn written_mutability(mut_: bool) -> Mutability
     }
 }
 
-/// A call that isn't entered: its node leads to an error that comes from none.
-#[tactic(auto, unfolding(hir_lower_form::specs::Types::called_type_form))]
-pub(crate) fn unentered_form(
-    state: &mut BodyBuilder,
-    at: InFile<AstPtr>,
-) -> Result<TypeRefId, StoreFault>
-    ensures { LowersType None (tree.macro_type at tree.unentered tree.no_type) state.old result state.new }
-{
-    let id = state.error_type()?;
-    state.point_type(at, id)?;
-    Ok(id)
-}
-
 /// `for<..> T` is what T is.
+#[inline(never)]
 pub(crate) fn for_form<P: LowerParts, T: TypePart>(
     lowerer: &Lowerer<P>,
     state: &mut BodyBuilder,
@@ -65,6 +53,7 @@ pub(crate) fn for_form<P: LowerParts, T: TypePart>(
 }
 
 #[tactic(auto, unfolding(hir_lower_form::specs::Types::over_form))]
+#[inline(never)]
 pub(crate) fn slice_form<P: LowerParts, T: TypePart>(
     lowerer: &Lowerer<P>,
     state: &mut BodyBuilder,
@@ -79,6 +68,7 @@ pub(crate) fn slice_form<P: LowerParts, T: TypePart>(
 }
 
 #[tactic(auto, unfolding(hir_lower_form::specs::Types::over_form))]
+#[inline(never)]
 pub(crate) fn pointer_form<P: LowerParts, T: TypePart>(
     lowerer: &Lowerer<P>,
     state: &mut BodyBuilder,
@@ -113,6 +103,7 @@ fn array_of_length<P: LowerParts, T: TypePart>(
 
 /// The length before the type of the elements.
 #[tactic(auto, unfolding(hir_lower_form::specs::Types::array_type_form))]
+#[inline(never)]
 pub(crate) fn array_form<P: LowerParts, T: TypePart, C: ConstPart>(
     lowerer: &Lowerer<P>,
     state: &mut BodyBuilder,
@@ -131,6 +122,7 @@ pub(crate) fn array_form<P: LowerParts, T: TypePart, C: ConstPart>(
 
 /// The type before the lifetime.
 #[tactic(auto, unfolding(hir_lower_form::specs::Types::ref_type_form))]
+#[inline(never)]
 pub(crate) fn ref_form<P: LowerParts, T: TypePart>(
     lowerer: &Lowerer<P>,
     state: &mut BodyBuilder,
@@ -156,6 +148,7 @@ pub(crate) fn ref_form<P: LowerParts, T: TypePart>(
 }
 
 #[tactic(auto, unfolding(hir_lower_form::specs::Types::tuple_type_form))]
+#[inline(never)]
 pub(crate) fn tuple_form<P: LowerParts, L: TypesPart>(
     lowerer: &Lowerer<P>,
     state: &mut BodyBuilder,
@@ -171,6 +164,7 @@ pub(crate) fn tuple_form<P: LowerParts, L: TypesPart>(
 
 /// A path that is absent or refused is an error.
 #[tactic(auto, unfolding(hir_lower_form::specs::Types::path_type_form))]
+#[inline(never)]
 pub(crate) fn path_form<P: LowerParts, W: PathPart>(
     lowerer: &Lowerer<P>,
     state: &mut BodyBuilder,
@@ -188,6 +182,7 @@ pub(crate) fn path_form<P: LowerParts, W: PathPart>(
 
 /// An `impl` inside of another one is an error, whose bounds aren't read; those of one that isn't allowed are.
 #[tactic(auto, unfolding(hir_lower_form::specs::Types::impl_type_form))]
+#[inline(never)]
 pub(crate) fn impl_form<P: LowerParts, L: BoundsPart>(
     lowerer: &Lowerer<P>,
     state: &mut BodyBuilder,
@@ -212,6 +207,7 @@ pub(crate) fn impl_form<P: LowerParts, L: BoundsPart>(
 }
 
 #[tactic(auto, unfolding(hir_lower_form::specs::Types::dyn_type_form))]
+#[inline(never)]
 pub(crate) fn dyn_form<P: LowerParts, L: BoundsPart>(
     lowerer: &Lowerer<P>,
     state: &mut BodyBuilder,
@@ -227,6 +223,7 @@ pub(crate) fn dyn_form<P: LowerParts, L: BoundsPart>(
 
 /// The type before its pattern.
 #[tactic(auto, unfolding(hir_lower_form::specs::Types::pattern_type_form))]
+#[inline(never)]
 pub(crate) fn pattern_form<P: LowerParts, T: TypePart, R: TypePatPart>(
     lowerer: &Lowerer<P>,
     state: &mut BodyBuilder,

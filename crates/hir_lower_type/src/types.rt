@@ -5,10 +5,11 @@ ghost use Rattle.hir_env.specs.Whole.{type_level};
 ghost use Rattle.hir_lower_form.specs.Methods.{LowersType};
 ghost use Rattle.hir_lower_form.specs.Nests.{KidsType};
 
+use crate::calls::call_form;
 use crate::functions::fn_form;
 use crate::simple::{
     array_form, dyn_form, for_form, impl_form, path_form, pattern_form, pointer_form, ref_form,
-    slice_form, tuple_form, unentered_form,
+    slice_form, tuple_form,
 };
 use hir_lower_form::builder::BodyBuilder;
 use hir_lower_form::parts::{LowerParts, Lowerer};
@@ -52,7 +53,9 @@ pub fn type_node<P: LowerParts>(
         ast::TypeKind::DynTraitType { bounds } => dyn_form(lowerer, state, at, bounds),
         ast::TypeKind::PatternType { ty, pat } => pattern_form(lowerer, state, at, ty, pat),
         ast::TypeKind::MacroType { call: None } => state.alloc_type(TypeRef::Error, Some(at)),
-        ast::TypeKind::MacroType { call: Some(_) } => unentered_form(state, at),
+        ast::TypeKind::MacroType { call: Some(call) } => {
+            call_form(lowerer, state, at, binder, call)
+        }
         ast::TypeKind::NeverType => state.alloc_type(TypeRef::Never, Some(at)),
         ast::TypeKind::InferType => state.alloc_type(TypeRef::Placeholder, Some(at)),
     }

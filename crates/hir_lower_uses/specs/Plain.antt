@@ -12,6 +12,7 @@ plain_answers items = record {
   context = λ node. record { 0 = 0 };
   contexts = record { parent = λ c. c; opaque = λ c. record { 0 = 0 }; outer_macro = λ c. None };
   crate_root = λ c. None;
+  local_inner = λ c. false;
   cfg_pred = λ p. None;
   block = λ node inside. None;
   skip = λ owner. false;

@@ -2,7 +2,7 @@
 
 use hir_base::node::{InFile, NodeId, PredId};
 use hir_env::env::LowerEnv;
-use hir_env::expand::{Expansion, FragmentKind};
+use hir_env::expand::{Expansion, FragmentKind, OuterMacro};
 use hir_env::lang::LangItems;
 use hir_env::resolved::{Resolved, Shadow};
 use hir_store::ids::{
@@ -51,7 +51,7 @@ impl LowerEnv for Plain {
         HygieneId::ROOT
     }
 
-    fn outer_macro(&self, _context: CtxId) -> Option<MacroDefId> {
+    fn outer_macro(&self, _context: CtxId) -> Option<OuterMacro> {
         None
     }
 

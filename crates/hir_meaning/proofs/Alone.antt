@@ -6,7 +6,7 @@ use Rattle.hir_env.specs.Answered as tree
 use Rattle.hir_env.specs.Answered.{Label, Expr, OptionExpr, Exprs, Fields, Spread, Block, OptionBlock, Stmts, Arms, Guard}
 use Rattle.hir_env.specs.Answered.{Target, Targets, TargetFields}
 use Rattle.hir_env.specs.Targets.{head_pointer}
-use Rattle.hir_scope.specs.Scopes.{Scope, loop_scope, try_scope, barrier, outward, scopes_in_block}
+use Rattle.hir_scope.specs.Scopes.{Scope, loop_scope, macro_scope, try_scope, barrier, outward, scopes_in_block}
 use Rattle.hir_scope.proofs.Alone.{nothing_outside}
 use Rattle.hir_data.specs.Patterns.{written_pat}
 use Rattle.hir_data.specs.Targets.{target_data}
@@ -197,6 +197,9 @@ module _ (turns : ℕ) (outer : List Scope) where
     stmts_alone (tree.more_stmts (tree.disabled_stmt at by s) ss) has_tail out tail h inner = stmts_alone ss has_tail out tail h inner
     stmts_alone (tree.more_stmts tree.item_stmt ss) has_tail out tail h inner = stmts_alone ss has_tail out tail h inner
     stmts_alone (tree.more_stmts (tree.call_stmt c) ss) has_tail out tail h inner = stmts_alone ss has_tail out tail h inner
+    stmts_alone (tree.more_stmts (tree.macro_stmt k None) ss) has_tail out tail h inner = stmts_alone ss has_tail out tail h inner
+    stmts_alone (tree.more_stmts (tree.macro_stmt k (Some d)) ss) has_tail out tail h inner =
+        stmts_alone ss has_tail out tail h (macro_scope d ∷ inner)
     stmts_alone (tree.more_stmts (tree.let_stmt p t e b) ss) has_tail out tail h inner = λ i.
         present_alone e inner i >>= (λ vs. binds (written_pat p) (written_option_type t) vs
         >>= (λ fits. else_alone b fits inner (stmts_alone ss has_tail out tail h inner) i))

@@ -11,6 +11,7 @@ use Rattle.hir_meaning.specs.Catching.{loop, block}
 use Rattle.hir_scope.specs.Scopes.{Scope, scopes_in_block}
 use Rattle.hir_meaning.specs.Left.{is_left, stmt_is_left, none_left}
 use Rattle.hir_meaning.specs.Syntax.{SyntaxRun, run_part, run_present, run_else, run_stmts, run_tail, catching, as_it_is}
+use Rattle.hir_meaning.specs.Syntax.{behind_def}
 use Rattle.hir_meaning.specs.Store.{run_store, run_to}
 use Rattle.hir_meaning.specs.Macros.{CallIsNothing}
 use Rattle.hir_meaning.specs.Worked.{RunsAsWorked}
@@ -111,6 +112,7 @@ module _ (x : Stmt) (after : Stmts) (gone : stmt_is_left x ≡ false)
   run_more turns has_tail tail scopes tree.no_stmts = nothing turns has_tail tail scopes
   run_more turns has_tail tail scopes (tree.more_stmts tree.item_stmt ss) = run_more turns has_tail tail scopes ss
   run_more turns has_tail tail scopes (tree.more_stmts (tree.call_stmt c) ss) = run_more turns has_tail tail scopes ss
+  run_more turns has_tail tail scopes (tree.more_stmts (tree.macro_stmt k d) ss) = run_more turns has_tail tail (behind_def d scopes) ss
   run_more turns has_tail tail scopes (tree.more_stmts (tree.disabled_stmt at c s) ss) = run_more turns has_tail tail scopes ss
   run_more turns has_tail tail scopes (tree.more_stmts (tree.let_stmt p t e b) ss) =
       ap (λ m. run_present turns e scopes >>= (λ vs. binds (written_pat p) (written_option_type t) vs

@@ -5,6 +5,8 @@ use Rattle.hir_meaning.specs.Run.{ends, event, ◌>>=◌}
 use Rattle.hir_meaning.specs.Catching.{loop, block}
 use Rattle.hir_meaning.specs.Store.{run_store, run_to}
 use Rattle.hir_meaning.specs.Macros.{RunsWhatItStandsFor, CallsAreSilent, LeavesNoArgument, UnenteredIsMissing}
+use Rattle.hir_meaning.specs.Macros.{SplicesItsTail, KeepsItsSemicolon, ReachesTheLabel, MissesTheLabel, EndsWithItsBlock}
+use Rattle.hir_meaning.specs.Macros.{BeginsWhereItStands}
 
 pub runs_what_it_stands_for : RunsWhatItStandsFor
 unfolding ends event ◌>>=◌ loop block run_store run_to stored_path
@@ -20,3 +22,27 @@ leaves_no_argument = record { written = record { events = refl; ends = refl }; s
 pub unentered_is_missing : UnenteredIsMissing
 unfolding ends event ◌>>=◌ loop block run_store run_to stored_path
 unentered_is_missing = record { written = record { events = refl; ends = refl }; stored = record { events = refl; ends = refl } }
+
+pub splices_its_tail : SplicesItsTail
+unfolding ends event ◌>>=◌ loop block run_store run_to stored_path
+splices_its_tail = record { written = record { events = refl; ends = refl }; stored = record { events = refl; ends = refl } }
+
+pub keeps_its_semicolon : KeepsItsSemicolon
+unfolding ends event ◌>>=◌ loop block run_store run_to stored_path
+keeps_its_semicolon = record { written = record { events = refl; ends = refl }; stored = record { events = refl; ends = refl } }
+
+pub reaches_the_label : ReachesTheLabel
+unfolding ends event ◌>>=◌ loop block run_store run_to stored_path
+reaches_the_label = record { written = record { events = refl; ends = refl }; stored = record { events = refl; ends = refl } }
+
+pub misses_the_label : MissesTheLabel
+unfolding ends event ◌>>=◌ loop block run_store run_to stored_path
+misses_the_label = record { written = record { events = refl; ends = refl }; stored = record { events = refl; ends = refl } }
+
+pub ends_with_its_block : EndsWithItsBlock
+unfolding ends event ◌>>=◌ loop block run_store run_to stored_path
+ends_with_its_block = record { written = record { events = refl; ends = refl }; stored = record { events = refl; ends = refl } }
+
+pub begins_where_it_stands : BeginsWhereItStands
+unfolding ends event ◌>>=◌ loop block run_store run_to stored_path
+begins_where_it_stands = record { written = record { events = refl; ends = refl }; stored = record { events = refl; ends = refl } }

@@ -396,6 +396,7 @@ abbrev mutual
   stmt_bodies (tree.expr_stmt e semi) = bodies_in e
   stmt_bodies tree.item_stmt = []
   stmt_bodies (tree.call_stmt c) = []
+  stmt_bodies (tree.macro_stmt k d) = []
   stmt_bodies (tree.disabled_stmt at by s) = []
   stmt_bodies (tree.let_stmt p t e b) = pat_part_bodies p ++ (part_bodies t ++ (bodies_in e ++ block_part_bodies b))
 
@@ -412,6 +413,7 @@ abbrev mutual
   pat_bodies (tree.or_pat at ps) = pats_bodies ps
   pat_bodies (tree.paren_pat at p) = pat_part_bodies p
   pat_bodies (tree.macro_pat at called p) = pat_part_bodies p
+  pat_bodies (tree.barred_pat at) = []
   pat_bodies (tree.slice_pat at before middle behind) = pats_bodies before ++ (pat_part_bodies middle ++ pats_bodies behind)
   pat_bodies (tree.over_pat at form p) = pat_part_bodies p
   pat_bodies (tree.literal_pat at own l) = []
@@ -424,6 +426,7 @@ abbrev mutual
   pub pats_bodies : Pats → Bodies
   pats_bodies tree.no_pats = []
   pats_bodies (tree.more_pats p ps) = pat_bodies p ++ pats_bodies ps
+  pats_bodies (tree.noted_pats called ps) = pats_bodies ps
 
   -- a field without a name is no part of the record
   pub pat_fields_bodies : PatFields → Bodies

@@ -24,6 +24,7 @@ stmt_is_left (tree.disabled_stmt at by s) = false
 stmt_is_left (tree.expr_stmt e semi) = is_left e
 stmt_is_left tree.item_stmt = true
 stmt_is_left (tree.call_stmt c) = false
+stmt_is_left (tree.macro_stmt k d) = true
 stmt_is_left (tree.let_stmt p t e b) = true
 
 abbrev pub none_left : Stmts → Bool

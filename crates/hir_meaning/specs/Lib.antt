@@ -32,3 +32,7 @@ pub mod Closures
 pub mod Coroutines
 pub mod CoroutineClosures
 pub mod CoroutineFunctions
+pub mod Reading
+pub mod ReadCalls
+pub mod ReadBlocks
+pub mod ReadParts

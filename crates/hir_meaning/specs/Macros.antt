@@ -1,15 +1,22 @@
 -- Small bodies with calls of macros, and what they do.
-use Rattle.std.specs.Prelude.{◌≡◌, ℕ, Bool, true, List, [], ◌∷◌, Option, Some}
+use Rattle.std.specs.Prelude.{◌≡◌, ℕ, ◌+◌, Bool, true, false, List, [], ◌∷◌, Option, Some, None}
 use Rattle.hir_store.specs.Pointers.{Pointer}
 use Rattle.hir_store.specs.declared.hir.Expr.TheVariants as hir
+use Rattle.hir_store.specs.declared.hir.Statement.{Statement}
+use Rattle.hir_store.specs.declared.hir.Statement.TheVariants as statement
 use Rattle.hir_store.specs.declared.ids.BlockId.{BlockId}
+use Rattle.hir_store.specs.declared.ids.LabelId.{LabelId}
+use Rattle.hir_store.specs.declared.ids.MacroDefId.{MacroDefId}
 use Rattle.hir_env.specs.Answered as tree
 use Rattle.hir_env.specs.Answered.{Called, Entered, Expr, Gone, IsWrittenLabel, Label, OptionExpr, Stmts}
+use Rattle.hir_scope.specs.Laws.{jump_by, one_of}
 use Rattle.hir_scope.specs.Scopes.{Scope}
-use Rattle.hir_meaning.specs.Run.{answered, call, missing}
+use Rattle.hir_meaning.specs.Run.{answered, unit, call, missing}
 use Rattle.hir_meaning.specs.Syntax.{run_block, run_syntax}
 use Rattle.hir_meaning.specs.Same.{ended, left}
-use Rattle.hir_meaning.specs.Small.{at, root, name_at, id, stored_name, event_of, read_name, Example, BothDo}
+use Rattle.hir_meaning.specs.Small.{at, root, one, two, literal_at, name_at, in_braces, first, block_of, loop_of, break_of}
+use Rattle.hir_meaning.specs.Small.{StoredExprs, id, number, stored_one, stored_two, stored_name, stored_block, stored_loop}
+use Rattle.hir_meaning.specs.Small.{event_of, literal_event, read_name, Example, BothDo}
 use Rattle.hir_meaning.specs.Rows.{joined}
 use Rattle.hir_meaning.specs.Forms.{name_a, stored_a, reads_a, disabled_at}
 use Rattle.hir_meaning.specs.Worked.{no}
@@ -73,3 +80,109 @@ CallIsNothing =
     (before after : Stmts) (c : Entered) (tail : OptionExpr) (ss : List Scope)
     → run_block turns (tree.block p is_unsafe label w number (joined before (tree.more_stmts (tree.call_stmt c) after)) tail) ss
     ≡ run_block turns (tree.block p is_unsafe label w number (joined before after) tail) ss
+
+-- `{ m!() }`, where m!() stands for `1; 2`
+
+abbrev pub one_then_two : Example
+one_then_two = record {
+  written = tree.some_expr (tree.block_expr (block_of 0 None
+      (tree.more_stmts (tree.call_stmt (entered_at 3)) (first (literal_at 4 one) tree.no_stmts))
+      (tree.macro_expr (at 2) tree.spliced (tree.some_expr (literal_at 5 two)))));
+  nodes = (stored_one, Some 4) ∷ (stored_two, Some 5) ∷ (stored_block None (statement.Expr (id 0) true ∷ []) 1, Some 0) ∷ [];
+  root = 2;
+}
+
+-- What it stands for happens in the block, whose value is that of the tail.
+abbrev pub SplicesItsTail : Type 0
+SplicesItsTail = BothDo one_then_two 0 (no 11 ∷ no 12 ∷ []) (literal_event one 4 ∷ literal_event two 5 ∷ []) (ended (answered 12))
+
+-- `{ m!() }`, where m!() stands for `1;`
+
+abbrev pub one_alone : Example
+one_alone = record {
+  written = tree.some_expr (tree.block_expr (tree.block (at 0) false None tt None
+      (tree.more_stmts (tree.call_stmt (entered_at 3)) (first (literal_at 4 one) tree.no_stmts)) tree.no_expr));
+  nodes = (stored_one, Some 4) ∷ (hir.Block false None None (statement.Expr (id 0) true ∷ []) None, Some 0) ∷ [];
+  root = 1;
+}
+
+-- It keeps its semicolon: the block has no value.
+abbrev pub KeepsItsSemicolon : Type 0
+KeepsItsSemicolon = BothDo one_alone 0 (no 11 ∷ []) (literal_event one 4 ∷ []) (ended unit)
+
+-- ---- definitions
+
+abbrev pub nine : MacroDefId
+nine = record { 0 = 9 }
+
+-- `macro_rules! m {..}`, of this number, before others
+abbrev pub defining : Stmts → Stmts
+defining ss = tree.more_stmts (tree.macro_stmt 0 (Some nine)) ss
+
+-- `loop { m!() };` before others, where m!() stands for `break 'a 1` that the macro of this number wrote
+abbrev pub jumping : ℕ → Stmts → Stmts
+jumping outer ss = first (loop_of 4 None (in_braces 5 None (tree.macro_expr (at 8) (tree.entered (entered_at 9)) (tree.some_expr
+    (break_of 10 (Some (jump_by (one_of 0 0 outer))) (literal_at 11 one)))))) ss
+
+-- `'a: loop { ss break 2 }`
+abbrev pub looping : Stmts → OptionExpr
+looping ss = tree.some_expr (loop_of 2 (Some root) (block_of 3 None ss (break_of 6 None (literal_at 7 two))))
+
+-- `{ macro_rules! m {..} }` before others
+abbrev pub defining_inside : Stmts → Stmts
+defining_inside ss =
+    tree.more_stmts (tree.expr_stmt (tree.some_expr (tree.block_expr
+    (tree.block (at 12) false None tt None (defining tree.no_stmts) tree.no_expr))) false) ss
+
+-- The loop with the jump, which is for this label or for none, has the number k + 3; ss stand in front of the break.
+abbrev pub stored_looping : ℕ → Option LabelId → List Statement → StoredExprs
+stored_looping k label ss =
+    (stored_one, Some 11)
+    ∷ (hir.Break label (Some (id k)), Some 10)
+    ∷ (stored_block None [] (k + 1), Some 5)
+    ∷ (stored_loop None (k + 2), Some 4)
+    ∷ (stored_two, Some 7)
+    ∷ (hir.Break None (Some (id (k + 4))), Some 6)
+    ∷ (stored_block None ss (k + 5), Some 3)
+    ∷ (stored_loop (Some (number 0)) (k + 6), Some 2)
+    ∷ []
+
+abbrev pub behind_definition : ℕ → Option LabelId → Example
+behind_definition outer label = record {
+  written = looping (defining (jumping outer tree.no_stmts));
+  nodes = stored_looping 0 label (statement.MacroDef nine ∷ statement.Expr (id 3) true ∷ []);
+  root = 7;
+}
+
+-- Behind the definition of its macro the jump reaches the label that was open there.
+abbrev pub ReachesTheLabel : Type 0
+ReachesTheLabel = BothDo (behind_definition 9 (Some (number 0))) 1 (no 11 ∷ no 12 ∷ []) (literal_event one 11 ∷ []) (ended (answered 11))
+
+-- One that another macro wrote doesn't, and leaves the loop around it.
+abbrev pub MissesTheLabel : Type 0
+MissesTheLabel = BothDo (behind_definition 8 None) 1 (no 11 ∷ no 12 ∷ []) (literal_event one 11 ∷ literal_event two 7 ∷ [])
+    (ended (answered 12))
+
+-- Nor does one behind the block that has the definition, which ends with it.
+abbrev pub behind_its_block : Example
+behind_its_block = record {
+  written = looping (defining_inside (jumping 9 tree.no_stmts));
+  nodes = (hir.Block false None None (statement.MacroDef nine ∷ []) None, Some 12)
+      ∷ stored_looping 1 None (statement.Expr (id 0) false ∷ statement.Expr (id 4) true ∷ []);
+  root = 8;
+}
+
+abbrev pub EndsWithItsBlock : Type 0
+EndsWithItsBlock = BothDo behind_its_block 1 (no 11 ∷ no 12 ∷ []) (literal_event one 11 ∷ literal_event two 7 ∷ []) (ended (answered 12))
+
+-- Nor does one in front of the definition.
+abbrev pub before_definition : Example
+before_definition = record {
+  written = looping (jumping 9 (defining tree.no_stmts));
+  nodes = stored_looping 0 None (statement.Expr (id 3) true ∷ statement.MacroDef nine ∷ []);
+  root = 7;
+}
+
+abbrev pub BeginsWhereItStands : Type 0
+BeginsWhereItStands = BothDo before_definition 1 (no 11 ∷ no 12 ∷ []) (literal_event one 11 ∷ literal_event two 7 ∷ [])
+    (ended (answered 12))

@@ -11,6 +11,7 @@ use Rattle.hir_store.specs.declared.name.Name.TheVariants as name
 use Rattle.hir_store.specs.declared.ids.BlockId.{BlockId}
 use Rattle.hir_store.specs.declared.ids.HygieneId.{HygieneId}
 use Rattle.hir_store.specs.declared.ids.LangItemId.{LangItemId}
+use Rattle.hir_store.specs.declared.ids.MacroDefId.{MacroDefId}
 use Rattle.hir_base.specs.declared.op.LogicOp.{LogicOp}
 use Rattle.hir_base.specs.declared.op.BinaryOp.TheVariants as ast
 use Rattle.hir_env.specs.NodeMap.{Site}
@@ -29,8 +30,8 @@ use Rattle.hir_meaning.specs.Run.{Leave, returned, became, yeeted, unmatched, ma
 use Rattle.hir_meaning.specs.Run.{ends, pure, ◌>>=◌, ◌>>◌, event, ask, tests, tests_pattern, entering}
 use Rattle.hir_meaning.specs.Catching.{turn, loop, block}
 use Rattle.hir_scope.specs.Ribs.{Try}
-use Rattle.hir_scope.specs.Scopes.{Scope, loop_scope, try_scope, Count, break_target, continue_target, innermost_try, outward}
-use Rattle.hir_scope.specs.Scopes.{continue_past_block, scopes_in_block}
+use Rattle.hir_scope.specs.Scopes.{Scope, loop_scope, macro_scope, try_scope, Count, break_target, continue_target, innermost_try}
+use Rattle.hir_scope.specs.Scopes.{outward, continue_past_block, scopes_in_block}
 use Rattle.hir_data.specs.Closures.{capture_of, kind_of, params_types}
 use Rattle.hir_data.specs.Data.{PathData, item_path, OptionTypeData, no_type, some_type, PatData, pat_at, generated_pattern}
 use Rattle.hir_data.specs.Data.{path_pattern, tuple_struct_pattern, no_patterns, more_patterns}
@@ -270,6 +271,11 @@ run_for turns items p head head_site body site = do
   iterator ← through (Some items.into_iter) head_site head
   loop outward turns (for_turn items p iterator body site)
 
+-- The definition of a macro encloses what is behind it in its block. One without a number is an item.
+abbrev pub behind_def : Option MacroDefId → List Scope → List Scope
+behind_def None ss = ss
+behind_def (Some d) ss = macro_scope d ∷ ss
+
 -- with so many turns at each entry of a loop
 module _ (turns : ℕ) where
   abbrev mutual
@@ -477,6 +483,7 @@ module _ (turns : ℕ) where
     run_stmts (tree.more_stmts (tree.disabled_stmt at by s) stmts) has_tail out tail ss = run_stmts stmts has_tail out tail ss
     run_stmts (tree.more_stmts tree.item_stmt stmts) has_tail out tail ss = run_stmts stmts has_tail out tail ss
     run_stmts (tree.more_stmts (tree.call_stmt c) stmts) has_tail out tail ss = run_stmts stmts has_tail out tail ss
+    run_stmts (tree.more_stmts (tree.macro_stmt k d) stmts) has_tail out tail ss = run_stmts stmts has_tail out tail (behind_def d ss)
     run_stmts (tree.more_stmts (tree.let_stmt p t e b) stmts) has_tail out tail ss = do
       vs ← run_present e ss
       fits ← binds (written_pat p) (written_option_type t) vs

@@ -2,6 +2,9 @@
 //! function whose contract is the law. Those of small bodies are computed, as they are written and as they are stored.
 #![tactic(auto)]
 
+pub mod definitions;
+pub mod reading;
+
 ghost use Rattle.hir_meaning.specs.Worked.{RunsAsWorked};
 ghost use Rattle.hir_meaning.specs.Rows.{LeavesTheLoop, LeavesTheBlock, HasNoTurn, StraysFromBlock, HasTwoSites, EntersItsNumber};
 ghost use Rattle.hir_meaning.specs.Rows.{MissingIsNoLiteral, ParenthesesAreSilent, DisabledIsNothing, RunsAlone};

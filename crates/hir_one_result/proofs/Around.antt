@@ -1,6 +1,7 @@
 -- The scopes around what is open.
 use Rattle.std.proofs.Common.{◌≡◌, ◌∙◌, refl, ap, Bool, List, [], ◌∷◌, Some, None}
 use Rattle.hir_store.specs.Pointers.{Pointer}
+use Rattle.hir_store.specs.declared.ids.MacroDefId.{MacroDefId}
 use Rattle.hir_env.specs.Answered.{Label}
 use Rattle.hir_scope.specs.Ribs.{Rib, label_rib, try_rib, macro_rib, barrier_rib, map_ribs}
 use Rattle.hir_scope.specs.Scopes.{Scope, loop_scope, block_scope, try_scope, macro_scope, barrier, one_out, ribs}
@@ -27,6 +28,9 @@ block_is_rib l a = record { around = λ ss rs e. ap (λ y. label_rib l.name l.hy
 
 pub try_is_rib : {A : Type 0} (typed : Bool) (a : A) → IsRib (try_scope typed) (try_rib a typed)
 try_is_rib typed a = record { around = λ ss rs e. ap (λ y. try_rib tt typed ∷ y) (farther ss rs e) }
+
+pub macro_is_rib : {A : Type 0} (d : MacroDefId) → IsRib {A = A} (macro_scope d) (macro_rib d)
+macro_is_rib d = record { around = λ ss rs e. ap (λ y. macro_rib d ∷ y) e }
 
 -- whatever is open, there are scopes for it
 

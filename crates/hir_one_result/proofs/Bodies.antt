@@ -3,8 +3,7 @@ use Rattle.std.proofs.Common.{arith, ◌≡◌, ◌∙◌, refl, sym, ap, subst,
 use Rattle.std.proofs.Common.{Option, Some, None}
 use Rattle.hir_store.specs.Arenas.{Prefix}
 use Rattle.hir_store.specs.Stored.{Stored, store_of, map_of}
-use Rattle.hir_store.specs.declared.diagnostics.ExpressionStoreDiagnostics.{ExpressionStoreDiagnostics}
-use Rattle.hir_store.specs.declared.diagnostics.ExpressionStoreDiagnostics.TheVariants.{InactiveCode, PatternArgInExternFn}
+use Rattle.hir_store.specs.declared.diagnostics.ExpressionStoreDiagnostics.TheVariants.{InactiveCode}
 use Rattle.hir_store.specs.declared.hir.CoroutineKind.{CoroutineKind}
 use Rattle.hir_store.specs.declared.ids.BindingId.{BindingId}
 use Rattle.hir_store.specs.declared.ids.PatId.{PatId}
@@ -88,11 +87,6 @@ formal_more p ts h hs done = correct_as (correct_bind h (λ x. hs (push_some don
     })
 
 -- of one at fault nothing is read
-fault_stands : (d : ExpressionStoreDiagnostics) → Correct (report d >> some missing_pat)
-    (Shows (λ final rs o ws. (i : PatId) × (o ≡ Some i) × top final rs tree.no_pat i ws))
-fault_stands d = correct_as (correct_bind (correct_report d) (λ u. present_some no_top_stands))
-    (λ final ps m m' o g row. record { shown = shown_after (moved_fault d row.first.stored) row.second.shown })
-
 formals_stand : (skipped : Bool) (fs : List Formal) (done : List PatId)
     → Correct (each_formal skipped done fs) (Shows (λ final rs is. Behind done (tops final rs (formals_read skipped fs)) is))
 formals_stand skipped [] done = done_stand done
@@ -107,12 +101,8 @@ formals_stand skipped (tree.disabled_formal at by ∷ fs) done = correct_as
     })
 formals_stand true (tree.formal p ∷ fs) done =
     formal_more tree.no_pat (formals_read true fs) (present_some no_top_stands) (formals_stand true fs) done
-formals_stand true (tree.fault_formal at ∷ fs) done =
-    formal_more tree.no_pat (formals_read true fs) (present_some no_top_stands) (formals_stand true fs) done
 formals_stand false (tree.formal p ∷ fs) done =
     formal_more p (formals_read false fs) (present_some (top_stands p)) (formals_stand false fs) done
-formals_stand false (tree.fault_formal at ∷ fs) done =
-    formal_more tree.no_pat (formals_read false fs) (fault_stands (PatternArgInExternFn at)) (formals_stand false fs) done
 
 -- ---- the whole
 

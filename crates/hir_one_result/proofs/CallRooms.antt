@@ -111,7 +111,7 @@ takes_called_type at {n = n} {p = p} l h = record { takes = λ b d. by b (p b).0
 
 -- ---- forms
 
-tells_behind : {A B : Type 0} {n : Size} {P : B → Type 0} {p : Lowering A} {f : A → Lowering B} → Takes nothing p
+pub tells_behind : {A B : Type 0} {n : Size} {P : B → Type 0} {p : Lowering A} {f : A → Lowering B} → Takes nothing p
     → ((a : A) → Tells n P (f a)) → Tells n P (p >>= f)
 tells_behind h more = tells_as (none_before _) (tells_then (tells_any h) (λ a x. more a))
 

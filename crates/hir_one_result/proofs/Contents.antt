@@ -7,6 +7,7 @@ use Rattle.hir_store.specs.declared.hir.Statement.TheVariants as statement
 use Rattle.hir_store.specs.declared.ids.ExprId.{ExprId}
 use Rattle.hir_env.specs.Answered as tree
 use Rattle.hir_env.specs.Answered.{OptionExpr, Stmts}
+use Rattle.hir_scope.specs.Ribs.{macro_rib}
 use Rattle.hir_meaning.specs.Left.{is_kept, is_left, none_left, gives_value}
 use Rattle.hir_meaning.specs.Contents.{BlockContents}
 use Rattle.hir_lower_form.specs.Lower.{settled}
@@ -37,6 +38,7 @@ none_gives : (ss : Stmts) → gives_value ss true ≡ false
 none_gives tree.no_stmts = refl
 none_gives (tree.more_stmts tree.item_stmt ss) = none_gives ss
 none_gives (tree.more_stmts (tree.call_stmt c) ss) = none_gives ss
+none_gives (tree.more_stmts (tree.macro_stmt k d) ss) = none_gives ss
 none_gives (tree.more_stmts (tree.expr_stmt e semi) ss) = never (is_left e) semi (none_left ss) (gives_value ss true) (none_gives ss)
 none_gives (tree.more_stmts (tree.disabled_stmt at by s) ss) = none_gives ss
 none_gives (tree.more_stmts (tree.let_stmt p t e b) ss) = none_gives ss
@@ -103,6 +105,8 @@ module _ (store : Store) (source_map : SourceMap) where
     empty rs (tree.more_stmts tree.item_stmt ss) is ws h = (statement.Item, h.0, h.1)
     empty rs (tree.more_stmts (tree.disabled_stmt at by s) ss) is ws h = empty rs ss is ws h
     empty rs (tree.more_stmts (tree.call_stmt c) ss) is ws h = empty rs ss is ws h
+    empty rs (tree.more_stmts (tree.macro_stmt k None) ss) is ws h = (statement.Item, h.0, h.1)
+    empty rs (tree.more_stmts (tree.macro_stmt k (Some d)) ss) is ws h = (statement.MacroDef d, h.0, h.1)
     empty rs (tree.more_stmts (tree.let_stmt p t e b) ss) is ws h = (statement.Let h.0 h.1 h.2 h.3, h.4, h.5)
     empty rs (tree.more_stmts (tree.expr_stmt e semi) ss) is ws h =
         let o = kept_there rs e h.0 h.3.left h.3.first in
@@ -115,6 +119,10 @@ module _ (store : Store) (source_map : SourceMap) where
         subst (Settled (gives_value ss false)) (sym h.1) (before (gives_value ss false) statement.Item h.0 refl (gives rs ss h.0 ws h.2))
     gives rs (tree.more_stmts (tree.disabled_stmt at by s) ss) is ws h = gives rs ss is ws h
     gives rs (tree.more_stmts (tree.call_stmt c) ss) is ws h = gives rs ss is ws h
+    gives rs (tree.more_stmts (tree.macro_stmt k None) ss) is ws h =
+        subst (Settled (gives_value ss false)) (sym h.1) (before (gives_value ss false) statement.Item h.0 refl (gives rs ss h.0 ws h.2))
+    gives rs (tree.more_stmts (tree.macro_stmt k (Some d)) ss) is ws h = subst (Settled (gives_value ss false)) (sym h.1)
+        (before (gives_value ss false) (statement.MacroDef d) h.0 refl (gives (macro_rib d ∷ rs) ss h.0 ws h.2))
     gives rs (tree.more_stmts (tree.let_stmt p t e b) ss) is ws h =
         subst (Settled (gives_value ss false)) (sym h.5)
         (before (gives_value ss false) (statement.Let h.0 h.1 h.2 h.3) h.4 refl (gives rs ss h.4 h.6.right h.6.second))
@@ -139,6 +147,8 @@ module _ (store : Store) (source_map : SourceMap) where
     tail_there rs (tree.more_stmts (tree.expr_stmt x semi) ss) is ws h = tail_there rs ss h.1 h.3.right h.3.second
     tail_there rs (tree.more_stmts (tree.disabled_stmt at by s) ss) is ws h = tail_there rs ss is ws h
     tail_there rs (tree.more_stmts (tree.call_stmt c) ss) is ws h = tail_there rs ss is ws h
+    tail_there rs (tree.more_stmts (tree.macro_stmt k None) ss) is ws h = tail_there rs ss h.0 ws h.2
+    tail_there rs (tree.more_stmts (tree.macro_stmt k (Some d)) ss) is ws h = tail_there (macro_rib d ∷ rs) ss h.0 ws h.2
     tail_there rs (tree.more_stmts (tree.let_stmt p t c b) ss) is ws h = tail_there rs ss h.4 h.6.right h.6.second
 
   pub has_contents : (rs : Open) (ss : Stmts) (e : OptionExpr) (is : List Statement) (tail : Option ExprId) (ws : List Way)

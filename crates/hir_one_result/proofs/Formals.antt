@@ -41,18 +41,13 @@ formal_now : (skipped : Bool) (f : Formal) → Correct (lower_formal skipped f) 
 formal_now skipped (tree.disabled_formal at by) = correct_as (correct_bind (correct_report _) (λ u. correct_pure None))
     (λ final ps m m' o g row. rw row.second.is (record { is = refl }))
 formal_now true (tree.formal p) = some_now (top_now tree.no_pat)
-formal_now true (tree.fault_formal at) = some_now (top_now tree.no_pat)
 formal_now false (tree.formal p) = some_now (top_now p)
-formal_now false (tree.fault_formal at) = correct_as (correct_bind (correct_report _) (λ u. some_now (top_now tree.no_pat)))
-    (λ final ps m m' o g row. record { is = row.second.is })
 
 read_apart : (skipped : Bool) (f : Formal) (fs : List Formal)
     → formals_data skipped (f ∷ fs) ≡ formals_data skipped (f ∷ []) ++ formals_data skipped fs
 read_apart skipped (tree.disabled_formal at by) fs = refl
 read_apart true (tree.formal p) fs = refl
-read_apart true (tree.fault_formal at) fs = refl
 read_apart false (tree.formal p) fs = refl
-read_apart false (tree.fault_formal at) fs = refl
 
 pushed : (done : List PatId) (o : Option PatId) → push_some done o ≡ done ++ option_to_list o
 pushed done None = sym (append-nil done)

@@ -1,18 +1,20 @@
 -- What steps answer, whatever they store.
-use Rattle.std.proofs.Common.{◌≡◌, ◌∙◌, refl, sym, ap, subst, Bool, true, false, ◌||◌, List, [], ◌∷◌, ◌++◌, append-nil, option_to_list}
+use Rattle.std.proofs.Common.{◌≡◌, ◌∙◌, refl, sym, ap, subst, ℕ, Bool, true, false, ◌||◌, List, [], ◌∷◌, ◌++◌, append-nil, option_to_list}
 use Rattle.std.proofs.Common.{Option, Some, None, is_some, Ok, Err}
 use Rattle.hir_store.specs.declared.hir.Statement.{Statement}
 use Rattle.hir_store.specs.declared.hir.Statement.TheVariants as statement
 use Rattle.hir_store.specs.declared.ids.ExprId.{ExprId}
+use Rattle.hir_store.specs.declared.ids.MacroDefId.{MacroDefId}
 use Rattle.hir_store.specs.declared.ids.PatId.{PatId}
 use Rattle.hir_store.specs.declared.ids.TypeRefId.{TypeRefId}
 use Rattle.hir_env.specs.Answered as tree
 use Rattle.hir_env.specs.Answered.{Expr, OptionExpr, Stmts}
 use Rattle.hir_meaning.specs.Left.{is_kept, is_left, none_left, gives_value}
 use Rattle.hir_lower_form.specs.Builder.{Builder}
+use Rattle.hir_lower_form.specs.Calls.{define_form, defined, inside_macro}
 use Rattle.hir_lower_form.specs.Forms.{let_stmt_form}
 use Rattle.hir_lower_form.specs.Lower.{ExprSteps, StoredContents, kept, kept_part, lower, lower_stmts, push_some, settled, some}
-use Rattle.hir_lower_form.specs.Lowering.{Checked, go_on, Lowering, ◌>>=◌, pure}
+use Rattle.hir_lower_form.specs.Lowering.{Checked, go_on, Lowering, ◌>>=◌, pure, close, open_macro}
 use Rattle.hir_one_result.specs.Size.{Size}
 use Rattle.hir_one_result.specs.Stands.{statement_of}
 use Rattle.hir_one_result.proofs.Contents.{IsThere, IsEmpty, Settled, before, of_expr, empty_expr, has_value}
@@ -122,6 +124,15 @@ unfolding let_stmt_form
 let_gives p t e b = gives_then (gives_any p) (λ q u. gives_then (gives_any t) (λ y u. gives_then (gives_any e) (λ x u.
     gives_then (gives_any b) (λ z u. gives_pure _ (q, y, x, z, refl)))))
 
+define_gives : (k : ℕ) (d : Option MacroDefId) → Gives (λ x. x ≡ Some (defined d)) (define_form k d)
+unfolding define_form
+define_gives k d = gives_then (gives_any _) (λ u v. gives_pure (Some (defined d)) refl)
+
+inside_gives : {A : Type 0} {P : A → Type 0} (d : MacroDefId) {p : Lowering A} → Gives P p → Gives P (inside_macro d p)
+unfolding inside_macro
+inside_gives d h = gives_then (gives_any (open_macro d)) (λ u v.
+    gives_then h (λ x is. gives_then (gives_any close) (λ y z. gives_pure x is)))
+
 pub stmts_give : (ss : Stmts) (e : OptionExpr) (done : List Statement)
     → Gives (λ r. Contained ss (is_left e) done r) (lower_stmts done ss (kept_part e))
 stmts_give tree.no_stmts e done = gives_then (kept_part_gives e) (λ t there. gives_pure (done, t) (record {
@@ -148,6 +159,18 @@ stmts_give (tree.more_stmts (tree.call_stmt c) ss) e done =
     (λ x k new n. subst (λ y. IsEmpty (none_left ss) (option_to_list y ++ new)) (sym k) n)
     (λ x k new n s. subst (λ y. Settled (gives_value ss false) (option_to_list y ++ new)) (sym k) s)
     (λ ys. stmts_give ss e ys) done
+stmts_give (tree.more_stmts (tree.macro_stmt n None) ss) e done =
+    more_given (λ x. x ≡ Some statement.Item) (define_gives n None)
+    (λ x k new n. stays_empty x statement.Item new k)
+    (λ x k new n s. stays_settled (gives_value ss false) x statement.Item new k
+    (before (gives_value ss false) statement.Item new refl s))
+    (λ ys. stmts_give ss e ys) done
+stmts_give (tree.more_stmts (tree.macro_stmt n (Some d)) ss) e done =
+    more_given (λ x. x ≡ Some (statement.MacroDef d)) (define_gives n (Some d))
+    (λ x k new n. stays_empty x (statement.MacroDef d) new k)
+    (λ x k new n s. stays_settled (gives_value ss false) x (statement.MacroDef d) new k
+    (before (gives_value ss false) (statement.MacroDef d) new refl s))
+    (λ ys. inside_gives d (stmts_give ss e ys)) done
 stmts_give (tree.more_stmts tree.item_stmt ss) e done =
     more_given (λ x. x ≡ Some statement.Item) (gives_pure _ refl)
     (λ x k new n. stays_empty x statement.Item new k)

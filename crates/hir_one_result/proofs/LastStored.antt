@@ -34,6 +34,7 @@ use Rattle.hir_lower_form.specs.Pats.{Elements, Table, called_pat_form, missing_
 use Rattle.hir_lower_form.specs.Ranges as ranges
 use Rattle.hir_lower_form.specs.Types as types
 use Rattle.hir_lower_form.specs.Types.{called_type_form, error_type, uncalled_type}
+use Rattle.hir_steps.proofs.Calls.{only_told}
 
 -- ---- what is last of what is counted so
 
@@ -226,6 +227,12 @@ later_behind (tree.more_pats p ps) done t b =
         → Behind done (go_on o c (λ r. lower.lower_later ps (done ++ r.0 ∷ []) r.1)).0
     by (Ok r) c later = behind_more done r.0 (lower.lower_later ps (done ++ r.0 ∷ []) r.1 c).0 (later r c)
     by (Err e) c later = tt
+later_behind (tree.noted_pats called ps) done t b = by (told called b).0 (told called b).1 (λ c. later_behind ps done t c)
+  where
+    by : (o : Checked (Unit {0})) (c : Builder) → ((d : Builder) → Behind done (lower.lower_later ps done t d).0)
+        → Behind done (go_on o c (λ u. lower.lower_later ps done t)).0
+    by (Ok u) c later = later c
+    by (Err e) c later = tt
 
 module _ (at : Pointer) where
   abbrev chosen : List PatId × Table → Lowering (PatId × Table)
@@ -247,12 +254,28 @@ module _ (at : Pointer) where
       by (Ok rs) c h = (chosen_last i j h.0 rs h.1).last c
       by (Err e) c h = tt
 
+  -- behind one of them, which is the last by then; what is told of a call stores none
+  later_last : (ps : Pats) (i : PatId) (t : Table) (b : Builder) → suc i.0 ≡ pats_in b.stored
+      → let r = (lower.lower_later ps (i ∷ []) t >>= chosen) b in EndsAt pats_in (λ (x : PatId × Table). x.0.0) r.0 r.1
+  later_last tree.no_pats i t b e = e
+  later_last (tree.more_pats q qs) i t b e =
+      (last_joined pats_in (lower.lower_pat q (next_alternative t)) (λ s. lower.lower_later qs (i ∷ (s.0 ∷ [])) s.1) chosen
+      (λ s. many_last qs i s.0 s.1)).last b
+  later_last (tree.noted_pats called qs) i t b e = subst (λ r. EndsFrom r.0 r.1) (sym ((only_told called).is b)) (later_last qs i t _ e)
+    where
+      EndsFrom : Checked (Unit {0}) → Builder → Type 0
+      EndsFrom o c =
+          let x = go_on o c (λ u. lower.lower_later qs (i ∷ []) t) in
+          let y = go_on x.0 x.1 chosen in EndsAt pats_in (λ (z : PatId × Table). z.0.0) y.0 y.1
+
   or_last : (ps : Pats) {p : Table → Lowering (PatId × Table)} → EachLast p → EachLast (pats.or_form at p (lower.lower_later ps))
   unfolding pats.or_form
-  or_last tree.no_pats h t = last_given pats_in (λ r. (r.0, pats.leave_or r.1)) (λ r. refl) (h (pats.enter_or t))
-  or_last (tree.more_pats q qs) {p = p} h t = lastly pats_in (p (pats.enter_or t))
-      (λ r. last_joined pats_in (lower.lower_pat q (next_alternative r.1)) (λ s. lower.lower_later qs (r.0 ∷ (s.0 ∷ [])) s.1) chosen
-      (λ s. many_last qs r.0 s.0 s.1))
+  or_last ps {p = p} h t = record { last = λ b. by (p (pats.enter_or t) b).0 (p (pats.enter_or t) b).1 ((h (pats.enter_or t)).last b) }
+    where
+      by : (o : Checked (PatId × Table)) (c : Builder) → EndsAt pats_in (λ r. r.0.0) o c
+          → let x = go_on o c (λ r. lower.lower_later ps (r.0 ∷ []) r.1 >>= chosen) in EndsAt pats_in (λ (r : PatId × Table). r.0.0) x.0 x.1
+      by (Ok r) c e = later_last ps r.0 r.1 c e
+      by (Err f) c e = tt
 
 mutual
   pub lower_pat_last : (p : Pat) → EachLast (lower.lower_pat p)
@@ -264,16 +287,21 @@ mutual
       tuple_struct_last at comma (lower.lower_elements no_elements ps) (lower.lower_path p)
   lower_pat_last (tree.tuple_pat at comma ps) = tuple_pat_last at comma (lower.lower_elements no_elements ps)
   lower_pat_last (tree.record_pat at p fs dots) = record_pat_last at dots (lower.lower_pat_fields [] fs) (lower.lower_path p)
-  lower_pat_last (tree.or_pat at tree.no_pats) = alone_last (pat_last _ _)
-  lower_pat_last (tree.or_pat at (tree.more_pats p ps)) = or_last at ps (lower_pat_last p)
+  lower_pat_last (tree.or_pat at ps) = alternatives_last at ps
   lower_pat_last (tree.paren_pat at p) = part_pat_last p
   lower_pat_last (tree.macro_pat at c tree.no_pat) = alone_last (uncalled_pat_last at c)
   lower_pat_last (tree.macro_pat at c (tree.some_pat p)) = λ t. called_pat_last at c (λ r. r.0) (lower_pat_last p t)
+  lower_pat_last (tree.barred_pat at) = alone_last (lastly pats_in _ (λ u. missing_pat_last))
   lower_pat_last (tree.slice_pat at before middle behind) =
       slice_pat_last at (lower.lower_pats [] before) (lower.present_pat middle) (lower.lower_pats [] behind)
   lower_pat_last (tree.over_pat at form p) = over_pat_last at form (lower.pat_part p)
   lower_pat_last (tree.literal_pat at own l) = alone_last (literal_pat_last at own l)
   lower_pat_last (tree.range_pat at op low high) = alone_last (range_pat_last at op (lower.lower_side low) (lower.lower_side high))
+
+  alternatives_last : (at : Pointer) (ps : Pats) → EachLast (lower.lower_alternatives at ps)
+  alternatives_last at tree.no_pats = alone_last (pat_last _ _)
+  alternatives_last at (tree.more_pats p ps) = or_last at ps (lower_pat_last p)
+  alternatives_last at (tree.noted_pats called ps) = λ t. lastly pats_in (told called) (λ u. alternatives_last at ps t)
 
   part_pat_last : (p : OptionPat) → EachLast (lower.pat_part p)
   part_pat_last tree.no_pat = alone_last missing_pat_last

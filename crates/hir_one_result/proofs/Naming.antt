@@ -29,7 +29,8 @@ use Rattle.hir_steps.proofs.Steps.{Mark}
 use Rattle.hir_one_result.specs.Laws.{Settled}
 use Rattle.hir_one_result.specs.Leads.{Way, Ways, No, ◌&◌}
 use Rattle.hir_one_result.specs.PatRoom.{is_known}
-use Rattle.hir_one_result.specs.Stands.{Names, Open, NewName, PatIs, StandsName}
+use Rattle.hir_one_result.specs.Stands.{Names, Open, PatIs, StandsName}
+use Rattle.hir_one_result.specs.StandsParts.{NewName}
 use Rattle.hir_one_result.proofs.Defining.{MakesNone}
 use Rattle.hir_one_result.proofs.Lasting.{Correct, Lasts, bound, correct_alloc_pat, correct_as, correct_bind, correct_pure, in_prefix}
 use Rattle.hir_one_result.proofs.Leading.{Shown, shown_as, shown_none, shown_both, shown_before, shown_binding}

@@ -509,6 +509,7 @@ AsMany tree.no_pats [] = Unit {0}
 AsMany tree.no_pats (x ∷ xs) = ⊥
 AsMany (tree.more_pats p ps) [] = ⊥
 AsMany (tree.more_pats p ps) (x ∷ xs) = AsMany ps xs
+AsMany (tree.noted_pats called ps) xs = AsMany ps xs
 
 or_takes : (at : Pointer) (p : Pat) (ps : Pats) (i : PatId) (is : List PatId) → AsMany ps is
     → Takes (or_size at (tree.more_pats p ps)) (forms.or_of at (i ∷ is))
@@ -516,6 +517,7 @@ or_takes at p tree.no_pats i [] h = takes_pure i
 or_takes at p tree.no_pats i (j ∷ is) h = absurd h
 or_takes at p (tree.more_pats q ps) i [] h = absurd h
 or_takes at p (tree.more_pats q ps) i (j ∷ is) h = takes_pat _ (Some at)
+or_takes at p (tree.noted_pats called ps) i is h = or_takes at p ps i is h
 
 pub or_form_takes : (at : Pointer) (p : Pat) (ps : Pats) {n m : Size} {us vs ws : FirstUses} {first : PatSteps}
     {later : List PatId → Table → Lowering (List PatId × Table)} → PatTakes n us vs first

@@ -1,5 +1,5 @@
 -- What is done with the parts of types, paths, arguments and bounds stores as much as they become, or there is no room for it.
-use Rattle.std.proofs.Common.{◌≡◌, ◌∙◌, refl, sym, ap, subst, ℕ, ◌+◌, ◌^◌, nat_lt, Bool, true, false, not, ◌&&◌, ◌||◌, if◌then◌else◌}
+use Rattle.std.proofs.Common.{◌≤◌, ◌≡◌, ◌∙◌, refl, sym, ap, subst, ℕ, ◌+◌, ◌^◌, nat_lt, Bool, true, false, not, ◌&&◌, ◌||◌, if◌then◌else◌}
 use Rattle.std.proofs.Common.{List, [], ◌∷◌, ◌++◌, reverse, Option, Some, None, is_some, is_none, option_map, inr, inl}
 use Rattle.std.proofs.lemmas.Bool.{ltb-false}
 use Rattle.std.proofs.lemmas.List.{reverse-append}
@@ -171,8 +171,9 @@ whole_tells {read = read} k g h more = tells_then h (λ r e. proceed_tells r rea
 pub counts_out : (n : Size) (b : Builder) → n.overcounts → Short n b
 counts_out n b h = inr (inr (inr (inr (inr (inr (inl h))))))
 
-super_counts : (n : ℕ) → Same nothing (a_super n)
-super_counts n = record {
+-- what isn't counted too far is nothing
+pub counts_so_far : (X : Type 0) → Same nothing (record nothing { overcounts = X })
+counts_so_far X = record {
   exprs = refl;
   labels = refl;
   bindings = refl;
@@ -193,7 +194,8 @@ counted_tells w = by (nat_lt (supers w.kind + 1) (2 ^ 32)) refl
     by : (b : Bool) → nat_lt (supers w.kind + 1) (2 ^ 32) ≡ b
         → Tells (a_super (supers w.kind)) (Gives (goes_on (one_more (seen w))))
         (counted (option_map (λ k. Open (record w { kind = k })) (if b then Some (kind.Super (supers w.kind + 1)) else None)))
-    by true is = tells_as (super_counts (supers w.kind)) (tells_pure _ (Open (record w { kind = kind.Super (supers w.kind + 1) })) refl)
+    by true is = tells_as (counts_so_far (2 ^ 32 ≤ supers w.kind + 1))
+        (tells_pure _ (Open (record w { kind = kind.Super (supers w.kind + 1) })) refl)
     by false is = record { tells = λ b d. counts_out (a_super (supers w.kind)) b (ltb-false (supers w.kind + 1) (2 ^ 32) is) }
 
 pub trait_tells : {n : Size} {x : Option Seen} {p : Lowering (Option HirPath)} → Tells n (GivesPath x) p → (t : TypeRefId) (at : Pointer)

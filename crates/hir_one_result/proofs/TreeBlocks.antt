@@ -14,7 +14,8 @@ use Rattle.hir_lower_form.specs.Lower.{lower_each, lower_block, lower_block_part
 use Rattle.hir_lower_form.specs.Lower.{type_part, present_type, type_or_unit, lower_parts, read_segment, read_each, read_path, read_option}
 use Rattle.hir_lower_form.specs.Lower.{lower_path, lower_segment_args, parens_part, output_part, args_part, lower_args, lower_arg}
 use Rattle.hir_lower_form.specs.Lower.{lower_bounds, lower_bound, lower_arms, lower_arm, lower_guard, present_block, lower_top, lower_pat}
-use Rattle.hir_lower_form.specs.Lower.{pat_part, present_pat, lower_pats, lower_elements, lower_later, lower_pat_fields, lower_pat_field}
+use Rattle.hir_lower_form.specs.Lower.{lower_alternatives, pat_part, present_pat, lower_pats, lower_elements, lower_later, lower_pat_fields}
+use Rattle.hir_lower_form.specs.Lower.{lower_pat_field}
 use Rattle.hir_lower_form.specs.Lower.{lower_side, lower_type_pat_part, lower_type_pat, lower_type_pats, lower_limit, limit_side}
 use Rattle.hir_lower_form.specs.Lower.{lower_target, lower_targets, lower_target_fields, lower_target_field, some}
 use Rattle.hir_env.specs.Answered.{Fields, Field, Spread, Expr, OptionExpr, Exprs, Block, OptionBlock, Stmts, Stmt, Type_, OptionType}
@@ -74,6 +75,7 @@ use Rattle.hir_lower_form.specs.Pats.{Elements, Table, no_elements, no_names, ne
 use Rattle.hir_one_result.specs.Formals.{lower_self, each_formal, lower_formals, lower_body, plain_body, formals_read}
 use Rattle.hir_one_result.proofs.CallTelling.{called_pat_tells, called_tells, called_type_tells, gone_tells, note_tells}
 use Rattle.hir_one_result.proofs.CallTelling.{told_tells, uncalled_pat_tells, uncalled_tells, uncalled_type_tells}
+use Rattle.hir_one_result.proofs.DefTelling.{behind_tells, define_tells}
 use Rattle.hir_one_result.proofs.PatTelling.{tells_pat, tells_binding, missing_pat_tells, alone_tells, settle_tells, element_tells}
 use Rattle.hir_one_result.proofs.PatTelling.{path_pat_tells, bind_tells, over_pat_tells, tuple_pat_tells, tuple_struct_tells}
 use Rattle.hir_one_result.proofs.PatTelling.{record_pat_tells, pat_field_tells, slice_pat_tells, or_tells, literal_pat_tells}
@@ -394,7 +396,7 @@ mutual
       → Enters (blocks_of_stmts stmts ++ ns) (lower_stmts done stmts tail)
   contents_blocks done tree.no_stmts h = tells_end entered h (λ t. tells_pure entered _)
   contents_blocks done (tree.more_stmts s stmts) {ns = ns} h =
-      tells_as entered (tells_bind entered (stmt_blocks s) (λ x. contents_blocks _ stmts h))
+      tells_as entered (tells_bind entered (stmt_blocks s) (λ x. behind_tells entered s (contents_blocks _ stmts h)))
       (λ ss. append_assoc (blocks_of_stmt s) (blocks_of_stmts stmts) ns)
 
   stmt_blocks : (s : Stmt) → Enters (blocks_of_stmt s) (lower_stmt s)
@@ -402,6 +404,7 @@ mutual
   stmt_blocks (tree.disabled_stmt at by s) = tells_end entered (tells_report entered _) (λ u. tells_pure entered None)
   stmt_blocks tree.item_stmt = tells_pure entered _
   stmt_blocks (tree.call_stmt c) = tells_end entered (note_tells entered c) (λ u. tells_pure entered None)
+  stmt_blocks (tree.macro_stmt k d) = define_tells entered k d
   stmt_blocks (tree.let_stmt p t e b) =
       let_stmt_tells entered (top_enters p) (present_type_enters t) (present_blocks e) (present_block_enters b)
 
@@ -413,16 +416,21 @@ mutual
   pat_enters (tree.tuple_struct_pat at p comma ps) = tuple_struct_tells entered at comma p (whole_enters p) (elements_enters no_elements ps)
   pat_enters (tree.tuple_pat at comma ps) = tuple_pat_tells entered at comma (elements_enters no_elements ps)
   pat_enters (tree.record_pat at p fs dots) = record_pat_tells entered at dots p (whole_enters p) (pat_fields_enters [] fs)
-  pat_enters (tree.or_pat at tree.no_pats) = alone_tells entered (tells_pat entered _ _)
-  pat_enters (tree.or_pat at (tree.more_pats p ps)) = or_tells entered at (pat_enters p) (λ done. later_enters ps done)
+  pat_enters (tree.or_pat at ps) = alternatives_enter at ps
   pat_enters (tree.paren_pat at p) = pat_part_enters p
   pat_enters (tree.macro_pat at c tree.no_pat) = alone_tells entered (uncalled_pat_tells entered at c)
   pat_enters (tree.macro_pat at c (tree.some_pat p)) = λ t. called_pat_tells entered at c (λ r. r.0) (pat_enters p t)
+  pat_enters (tree.barred_pat at) = alone_tells entered (tells_bind entered (tells_report entered _) (λ u. missing_pat_tells entered))
   pat_enters (tree.slice_pat at before middle behind) =
       slice_pat_tells entered at (pats_enters [] before) (subpat_enters middle) (pats_enters [] behind)
   pat_enters (tree.over_pat at form p) = over_pat_tells entered at form (pat_part_enters p)
   pat_enters (tree.literal_pat at own l) = alone_tells entered (literal_pat_tells entered at own l)
   pat_enters (tree.range_pat at op low high) = alone_tells entered (range_pat_tells entered at op (side_enters low) (side_enters high))
+
+  alternatives_enter : (at : Pointer) (ps : Pats) (t : Table) → Enters (blocks_of_pats ps) (lower_alternatives at ps t)
+  alternatives_enter at tree.no_pats = alone_tells entered (tells_pat entered _ _)
+  alternatives_enter at (tree.more_pats p ps) = or_tells entered at (pat_enters p) (λ done. later_enters ps done)
+  alternatives_enter at (tree.noted_pats c ps) = λ t. tells_bind entered (told_tells entered c) (λ u. alternatives_enter at ps t)
 
   pat_part_enters : (p : OptionPat) (t : Table) → Enters (blocks_of_top p) (pat_part p t)
   pat_part_enters tree.no_pat = alone_tells entered (missing_pat_tells entered)
@@ -435,16 +443,19 @@ mutual
   pats_enters : (done : List PatId) (ps : Pats) (t : Table) → Enters (blocks_of_pats ps) (lower_pats done ps t)
   pats_enters done tree.no_pats t = tells_pure entered (done, t)
   pats_enters done (tree.more_pats p ps) t = tells_bind entered (pat_enters p t) (λ r. pats_enters _ ps r.1)
+  pats_enters done (tree.noted_pats c ps) t = tells_bind entered (told_tells entered c) (λ u. pats_enters done ps t)
 
   later_enters : (ps : Pats) (done : List PatId) (t : Table) → Enters (blocks_of_pats ps) (lower_later ps done t)
   later_enters tree.no_pats done t = tells_pure entered (done, t)
   later_enters (tree.more_pats p ps) done t = tells_bind entered (pat_enters p (next_alternative t)) (λ r. later_enters ps _ r.1)
+  later_enters (tree.noted_pats c ps) done t = tells_bind entered (told_tells entered c) (λ u. later_enters ps done t)
 
   elements_enters : (done : Elements) (ps : Pats) (t : Table) → Enters (blocks_of_pats ps) (lower_elements done ps t)
   elements_enters done tree.no_pats t = tells_pure entered (done, t)
   elements_enters done (tree.more_pats p ps) t =
       tells_bind entered (element_tells entered (forms.is_dots p) done (λ e ss. dots_enter_none p e) (pat_enters p) t)
       (λ r. elements_enters r.0 ps r.1)
+  elements_enters done (tree.noted_pats c ps) t = tells_bind entered (told_tells entered c) (λ u. elements_enters done ps t)
 
   pat_fields_enters : (done : List RecordFieldPat) (fs : PatFields) (t : Table)
       → Enters (blocks_of_pat_fields fs) (lower_pat_fields done fs t)
@@ -522,12 +533,8 @@ each_formal_enters skipped done (tree.disabled_formal at by ∷ fs) =
     tells_bind entered (tells_end entered (tells_report entered _) (λ u. tells_pure entered None)) (λ x. each_formal_enters skipped _ fs)
 each_formal_enters true done (tree.formal p ∷ fs) =
     tells_bind entered (tells_some_pat (missing_pat_tells entered)) (λ x. each_formal_enters true _ fs)
-each_formal_enters true done (tree.fault_formal at ∷ fs) =
-    tells_bind entered (tells_some_pat (missing_pat_tells entered)) (λ x. each_formal_enters true _ fs)
 each_formal_enters false done (tree.formal p ∷ fs) =
     tells_bind entered (tells_some_pat (top_enters p)) (λ x. each_formal_enters false _ fs)
-each_formal_enters false done (tree.fault_formal at ∷ fs) = tells_bind entered
-    (tells_bind entered (tells_report entered _) (λ u. tells_some_pat (missing_pat_tells entered))) (λ x. each_formal_enters false _ fs)
 
 pub body_enters : (kind : Option CoroutineKind) (skipped : Bool) (f : Formals) (e : OptionExpr)
     → Enters (blocks_of_tops (formals_read skipped f.formals) ++ blocks_of_part e) (lower_body kind skipped f e)

@@ -17,7 +17,8 @@ use Rattle.hir_lower_form.specs.Lower.{lower_each, lower_block, lower_block_part
 use Rattle.hir_lower_form.specs.Lower.{present_type, type_or_unit, lower_parts, read_segment, read_each, read_path, read_option, lower_path}
 use Rattle.hir_lower_form.specs.Lower.{lower_segment_args, parens_part, output_part, args_part, lower_args, lower_arg, lower_bounds}
 use Rattle.hir_lower_form.specs.Lower.{lower_bound, lower_arms, lower_arm, lower_guard, present_block, lower_stmt, lower_top, lower_pat}
-use Rattle.hir_lower_form.specs.Lower.{pat_part, present_pat, lower_pats, lower_elements, lower_later, lower_pat_fields, lower_pat_field}
+use Rattle.hir_lower_form.specs.Lower.{lower_alternatives, pat_part, present_pat, lower_pats, lower_elements, lower_later, lower_pat_fields}
+use Rattle.hir_lower_form.specs.Lower.{lower_pat_field}
 use Rattle.hir_lower_form.specs.Lower.{lower_side, lower_type_pat_part, lower_type_pat, lower_type_pats, lower_limit, limit_side}
 use Rattle.hir_lower_form.specs.Lower.{lower_target, lower_targets, lower_target_fields, lower_target_field, some}
 use Rattle.hir_env.specs.Answered.{Fields, Field, Spread, Expr, OptionExpr, Exprs, Block, OptionBlock, Stmts, Type_, OptionType, Parts}
@@ -74,6 +75,7 @@ use Rattle.hir_lower_form.specs.Pats.{Elements, Table, no_elements, no_names, ne
 use Rattle.hir_one_result.specs.Formals.{lower_self, lower_formal, each_formal, lower_formals, lower_body, plain_body}
 use Rattle.hir_one_result.proofs.CallTelling.{called_pat_tells, called_tells, called_type_tells, gone_tells, note_tells}
 use Rattle.hir_one_result.proofs.CallTelling.{told_tells, uncalled_pat_tells, uncalled_tells, uncalled_type_tells}
+use Rattle.hir_one_result.proofs.DefTelling.{behind_tells, define_tells}
 use Rattle.hir_one_result.proofs.PatTelling.{tells_pat, tells_binding, missing_pat_tells, alone_tells, settle_tells, element_tells}
 use Rattle.hir_one_result.proofs.PatTelling.{path_pat_tells, bind_tells, over_pat_tells, tuple_pat_tells, tuple_struct_tells}
 use Rattle.hir_one_result.proofs.PatTelling.{record_pat_tells, pat_field_tells, slice_pat_tells, or_tells, literal_pat_tells}
@@ -402,13 +404,15 @@ mutual
   contents_faults : (done : List Statement) (stmts : Stmts) {tail : Lowering (Option ExprId)} {D : List Scope → Faults} → Reports D tail
       → Reports (λ ss. contents_diagnostics ss stmts D) (lower_stmts done stmts tail)
   contents_faults done tree.no_stmts h = tells_end reported h (λ t. tells_pure reported _)
-  contents_faults done (tree.more_stmts s stmts) h = tells_bind reported (stmt_reports s) (λ x. contents_faults _ stmts h)
+  contents_faults done (tree.more_stmts s stmts) h =
+      tells_bind reported (stmt_reports s) (λ x. behind_tells reported s (contents_faults _ stmts h))
 
   stmt_reports : (s : Stmt) → Reports (λ ss. stmt_diagnostics ss s) (lower_stmt s)
   stmt_reports (tree.expr_stmt e semi) = tells_end reported (kept_part_faults e) (λ x. tells_pure reported _)
   stmt_reports (tree.disabled_stmt at by s) = tells_end reported (tells_report reported _) (λ u. tells_pure reported None)
   stmt_reports tree.item_stmt = tells_pure reported _
   stmt_reports (tree.call_stmt c) = tells_end reported (note_tells reported c) (λ u. tells_pure reported None)
+  stmt_reports (tree.macro_stmt k d) = define_tells reported k d
   stmt_reports (tree.let_stmt p t e b) =
       let_stmt_tells reported (top_reports p) (present_type_reports t) (present_faults e) (present_block_reports b)
 
@@ -421,16 +425,21 @@ mutual
       tuple_struct_tells reported at comma p (whole_reports p) (elements_reports no_elements ps)
   pat_reports (tree.tuple_pat at comma ps) = tuple_pat_tells reported at comma (elements_reports no_elements ps)
   pat_reports (tree.record_pat at p fs dots) = record_pat_tells reported at dots p (whole_reports p) (pat_fields_reports [] fs)
-  pat_reports (tree.or_pat at tree.no_pats) = alone_tells reported (tells_pat reported _ _)
-  pat_reports (tree.or_pat at (tree.more_pats p ps)) = or_tells reported at (pat_reports p) (λ done. later_reports ps done)
+  pat_reports (tree.or_pat at ps) = alternatives_report at ps
   pat_reports (tree.paren_pat at p) = pat_part_reports p
   pat_reports (tree.macro_pat at c tree.no_pat) = alone_tells reported (uncalled_pat_tells reported at c)
   pat_reports (tree.macro_pat at c (tree.some_pat p)) = λ t. called_pat_tells reported at c (λ r. r.0) (pat_reports p t)
+  pat_reports (tree.barred_pat at) = alone_tells reported (tells_end reported (tells_report reported _) (λ u. missing_pat_tells reported))
   pat_reports (tree.slice_pat at before middle behind) =
       slice_pat_tells reported at (pats_reports [] before) (subpat_reports middle) (pats_reports [] behind)
   pat_reports (tree.over_pat at form p) = over_pat_tells reported at form (pat_part_reports p)
   pat_reports (tree.literal_pat at own l) = alone_tells reported (literal_pat_tells reported at own l)
   pat_reports (tree.range_pat at op low high) = alone_tells reported (range_pat_tells reported at op (side_reports low) (side_reports high))
+
+  alternatives_report : (at : Pointer) (ps : Pats) (t : Table) → Reports (λ ss. pats_faults ss ps) (lower_alternatives at ps t)
+  alternatives_report at tree.no_pats = alone_tells reported (tells_pat reported _ _)
+  alternatives_report at (tree.more_pats p ps) = or_tells reported at (pat_reports p) (λ done. later_reports ps done)
+  alternatives_report at (tree.noted_pats c ps) = λ t. tells_bind reported (told_tells reported c) (λ u. alternatives_report at ps t)
 
   pat_part_reports : (p : OptionPat) (t : Table) → Reports (λ ss. top_faults ss p) (pat_part p t)
   pat_part_reports tree.no_pat = alone_tells reported (missing_pat_tells reported)
@@ -443,16 +452,19 @@ mutual
   pats_reports : (done : List PatId) (ps : Pats) (t : Table) → Reports (λ ss. pats_faults ss ps) (lower_pats done ps t)
   pats_reports done tree.no_pats t = tells_pure reported (done, t)
   pats_reports done (tree.more_pats p ps) t = tells_bind reported (pat_reports p t) (λ r. pats_reports _ ps r.1)
+  pats_reports done (tree.noted_pats c ps) t = tells_bind reported (told_tells reported c) (λ u. pats_reports done ps t)
 
   later_reports : (ps : Pats) (done : List PatId) (t : Table) → Reports (λ ss. pats_faults ss ps) (lower_later ps done t)
   later_reports tree.no_pats done t = tells_pure reported (done, t)
   later_reports (tree.more_pats p ps) done t = tells_bind reported (pat_reports p (next_alternative t)) (λ r. later_reports ps _ r.1)
+  later_reports (tree.noted_pats c ps) done t = tells_bind reported (told_tells reported c) (λ u. later_reports ps done t)
 
   elements_reports : (done : Elements) (ps : Pats) (t : Table) → Reports (λ ss. pats_faults ss ps) (lower_elements done ps t)
   elements_reports done tree.no_pats t = tells_pure reported (done, t)
   elements_reports done (tree.more_pats p ps) t =
       tells_bind reported (element_tells reported (forms.is_dots p) done (λ e ss. dots_fault_none p e ss) (pat_reports p) t)
       (λ r. elements_reports r.0 ps r.1)
+  elements_reports done (tree.noted_pats c ps) t = tells_bind reported (told_tells reported c) (λ u. elements_reports done ps t)
 
   pat_fields_reports : (done : List RecordFieldPat) (fs : PatFields) (t : Table)
       → Reports (λ ss. pat_fields_faults ss fs) (lower_pat_fields done fs t)
@@ -527,10 +539,7 @@ self_reports (tree.self_formal at u _) = tells_end reported (tells_binding repor
 formal_reports : (skipped : Bool) (f : Formal) → Reports (λ ss. formal_faults skipped ss f) (lower_formal skipped f)
 formal_reports skipped (tree.disabled_formal at by) = tells_end reported (tells_report reported _) (λ u. tells_pure reported None)
 formal_reports true (tree.formal p) = tells_some_pat (missing_pat_tells reported)
-formal_reports true (tree.fault_formal at) = tells_some_pat (missing_pat_tells reported)
 formal_reports false (tree.formal p) = tells_some_pat (top_reports p)
-formal_reports false (tree.fault_formal at) =
-    tells_end reported (tells_report reported _) (λ u. tells_some_pat (missing_pat_tells reported))
 
 each_formal_reports : (skipped : Bool) (done : List PatId) (fs : List Formal)
     → Reports (λ ss. each_formal_faults skipped ss fs) (each_formal skipped done fs)

@@ -1,6 +1,7 @@
 -- Lowering a tree stores as much as it becomes, or there is no room for it.
 use Rattle.std.proofs.Common.{◌≡◌, ◌∙◌, refl, sym, ap, Bool, true, false, List, [], ◌∷◌, ◌++◌, Option, Some, None, ◌||◌, length}
 use Rattle.std.proofs.Common.{append-nil, append_assoc}
+use Rattle.hir_store.specs.Pointers.{Pointer}
 use Rattle.hir_store.specs.declared.hir.CoroutineKind.{CoroutineKind}
 use Rattle.hir_store.specs.declared.hir.Statement.{Statement}
 use Rattle.hir_store.specs.declared.ids.ExprId.{ExprId}
@@ -27,14 +28,14 @@ use Rattle.hir_lower_form.specs.Lower.{lower_bound, lower_arms, lower_arm, lower
 use Rattle.hir_lower_form.specs.Lower.{present_pat, lower_pats, lower_elements, lower_later, lower_pat_fields, lower_pat_field, lower_side}
 use Rattle.hir_lower_form.specs.Lower.{lower_type_pat_part, lower_type_pat, lower_type_pats, lower_limit, limit_side, lower_target}
 use Rattle.hir_lower_form.specs.Lower.{lower_targets, lower_target_fields, lower_target_field, lower_params, lower_param, lower_rooted}
-use Rattle.hir_lower_form.specs.Lower.{no_closure_params}
+use Rattle.hir_lower_form.specs.Lower.{lower_alternatives, no_closure_params}
 use Rattle.hir_lower_form.specs.declared.closures.ClosureParams.{ClosureParams}
 use Rattle.hir_lower_form.specs.Pats.{Elements, Table, no_elements, no_names, next_alternative}
 use Rattle.hir_lower_form.specs.Targets as targets
 use Rattle.hir_read_back.proofs.PatParts as parts
 use Rattle.hir_read_back.proofs.PatParts.{dots_or_part}
 use Rattle.hir_one_result.specs.Formals.{lower_self, each_formal, lower_formals, lower_body, plain_body, formals_read}
-use Rattle.hir_one_result.specs.PatRoom.{names_after, names_after_part, names_after_each, names_after_fields, names_after_field}
+use Rattle.hir_one_result.specs.PatRoom.{names_after, names_after_part, names_after_each, names_after_fields, names_after_field, or_size}
 use Rattle.hir_one_result.specs.Size.{an_expr, ◌∪◌}
 use Rattle.hir_store.specs.declared.hir.RecordLitField.{RecordLitField}
 use Rattle.hir_lower_form.specs.Types.{no_lists}
@@ -54,7 +55,8 @@ use Rattle.hir_one_result.proofs.CoroutineRooms.{coroutine_closure_takes}
 use Rattle.hir_one_result.proofs.FunctionRooms.{coroutine_body_takes}
 use Rattle.hir_one_result.proofs.LastTree.{part_last}
 use Rattle.hir_one_result.proofs.CallRooms.{called_pat_takes, called_pat_tells, called_takes, called_type_takes, takes_gone, takes_note}
-use Rattle.hir_one_result.proofs.CallRooms.{takes_told, uncalled_pat_takes, uncalled_takes, uncalled_type_takes}
+use Rattle.hir_one_result.proofs.CallRooms.{takes_told, tells_behind, uncalled_pat_takes, uncalled_takes, uncalled_type_takes}
+use Rattle.hir_one_result.proofs.DefRooms.{behind_stmt_takes, define_takes}
 use Rattle.hir_one_result.proofs.LastStored.{lower_pat_last, type_last, type_pat_last}
 use Rattle.hir_one_result.proofs.Rooms.{Takes, takes_then, takes_as, takes_end, takes_begin, takes_pure, takes_report, takes_alloc}
 use Rattle.hir_one_result.proofs.Rooms.{takes_binding, takes_constant, takes_inner, takes_type, takes_pat}
@@ -393,13 +395,15 @@ mutual
       → Takes (stmts_size ss ∪ size_kept e) (lower_stmts done ss (kept_part e))
   stmts_take done tree.no_stmts e h = takes_as (nothing_first _) (takes_end h (λ t. takes_pure (done, t)))
   stmts_take done (tree.more_stmts s ss) e h =
-      takes_as (moved_in (stmt_size s) (stmts_size ss) (size_kept e)) (takes_then (stmt_takes s) (λ x. stmts_take _ ss e h))
+      takes_as (moved_in (stmt_size s) (stmts_size ss) (size_kept e))
+      (takes_then (stmt_takes s) (λ x. behind_stmt_takes s (stmts_take _ ss e h)))
 
   stmt_takes : (s : Stmt) → Takes (stmt_size s) (lower_stmt s)
   stmt_takes (tree.expr_stmt e semi) = takes_end (kept_part_takes e) (λ x. takes_pure _)
   stmt_takes (tree.disabled_stmt at by s) = takes_end (takes_report _) (λ u. takes_pure None)
   stmt_takes tree.item_stmt = takes_pure _
   stmt_takes (tree.call_stmt c) = takes_end (takes_note c) (λ u. takes_pure None)
+  stmt_takes (tree.macro_stmt k d) = define_takes k d
   stmt_takes (tree.let_stmt p t e b) =
       let_stmt_takes (top_takes p) (present_type_takes t) (present_takes e) (block_present_takes b)
 
@@ -411,8 +415,7 @@ mutual
   pat_takes (tree.tuple_struct_pat at p comma ps) us = tuple_struct_takes at comma (path_tells p) (whole_parts (elements_are ps us))
   pat_takes (tree.tuple_pat at comma ps) us = tuple_pat_takes at comma (whole_parts (elements_are ps us))
   pat_takes (tree.record_pat at p fs dots) us = record_pat_takes at dots (path_tells p) (pat_fields_take fs us [])
-  pat_takes (tree.or_pat at tree.no_pats) us = alone_takes at us (takes_as (nothing_first _) (takes_pat _ _))
-  pat_takes (tree.or_pat at (tree.more_pats p ps)) us = or_form_takes at p ps (pat_takes p us) (later_take ps (names_after p us))
+  pat_takes (tree.or_pat at ps) us = alternatives_take at ps us
   pat_takes (tree.paren_pat at p) us = pat_part_takes p us
   pat_takes (tree.macro_pat at c tree.no_pat) us = alone_takes at us (uncalled_pat_takes at c)
   pat_takes (tree.macro_pat at c (tree.some_pat p)) us =
@@ -422,7 +425,14 @@ mutual
       (pats_take behind (names_after_part middle (names_after_each before us)) [])
   pat_takes (tree.over_pat at form p) us = over_pat_takes at form (pat_part_takes p us)
   pat_takes (tree.literal_pat at own l) us = alone_takes at us (literal_pat_takes at own l)
+  pat_takes (tree.barred_pat at) us = alone_takes at us (takes_begin (takes_report _) (λ u. missing_pat_takes))
   pat_takes (tree.range_pat at op low high) us = alone_takes at us (range_pat_takes at op (side_takes low) (side_takes high))
+
+  alternatives_take : (at : Pointer) (ps : Pats) (us : FirstUses)
+      → PatTakes (pats_size ps us ∪ or_size at ps) us (names_after_each ps us) (lower_alternatives at ps)
+  alternatives_take at tree.no_pats us = alone_takes at us (takes_as (nothing_first _) (takes_pat _ _))
+  alternatives_take at (tree.more_pats p ps) us = or_form_takes at p ps (pat_takes p us) (later_take ps (names_after p us))
+  alternatives_take at (tree.noted_pats c ps) us = λ t k. tells_behind (takes_told c) (λ u. alternatives_take at ps us t k)
 
   later_take : (ps : Pats) (us : FirstUses) (done : List PatId) (t : Table) → Keyed us t
       → Tells (pats_size ps us) (λ r. Keyed (names_after_each ps us) r.1 × ((new : List PatId) × (r.0 ≡ done ++ new) × AsMany ps new))
@@ -432,6 +442,7 @@ mutual
       tells_then (pat_takes p us (next_alternative t) (record { each = k.each })) (λ r e.
       tells_less (λ s x. (x.0, (r.0 ∷ x.1.0, x.1.1 ∙ append_assoc done (r.0 ∷ []) x.1.0, x.1.2)))
       (later_take ps (names_after p us) (done ++ r.0 ∷ []) r.1 e))
+  later_take (tree.noted_pats c ps) us done t k = tells_behind (takes_told c) (λ u. later_take ps us done t k)
 
   pat_part_takes : (p : OptionPat) (us : FirstUses) → PatTakes (pat_part_size p us) us (names_after_part p us) (pat_part p)
   pat_part_takes tree.no_pat us t k = tells_end (tells_any missing_pat_takes) (λ i x. tells_pure _ (i, t) k)
@@ -444,12 +455,14 @@ mutual
   pats_take : (ps : Pats) (us : FirstUses) (done : List PatId) → PatTakes (pats_size ps us) us (names_after_each ps us) (lower_pats done ps)
   pats_take tree.no_pats us done t k = tells_pure _ _ k
   pats_take (tree.more_pats p ps) us done t k = tells_then (pat_takes p us t k) (λ r e. pats_take ps (names_after p us) _ r.1 e)
+  pats_take (tree.noted_pats c ps) us done t k = tells_behind (takes_told c) (λ u. pats_take ps us done t k)
 
   elements_are : (ps : Pats) (us : FirstUses)
       → PartsTake (elements_size ps us) us (names_after_each ps us) (dots_among ps) (λ done t. lower_elements done ps t)
   elements_are tree.no_pats us done t k = tells_pure _ _ (k, parts.no_dots (length done.0) done.1)
   elements_are (tree.more_pats p ps) us done t k =
       element_takes p (dots_or_part p) (pat_takes p us) (elements_are ps (names_after p us)) done t k
+  elements_are (tree.noted_pats c ps) us done t k = tells_behind (takes_told c) (λ u. elements_are ps us done t k)
 
   pat_fields_take : (fs : PatFields) (us : FirstUses) (done : List RecordFieldPat)
       → PatTakes (pat_fields_size fs us) us (names_after_fields fs us) (lower_pat_fields done fs)
@@ -521,12 +534,7 @@ each_formal_takes skipped done (tree.disabled_formal at by ∷ fs) = takes_begin
     (λ x. each_formal_takes skipped _ fs)
 each_formal_takes true done (tree.formal p ∷ fs) = takes_then (takes_end missing_pat_takes (λ i. takes_pure (Some i)))
     (λ x. each_formal_takes true _ fs)
-each_formal_takes true done (tree.fault_formal at ∷ fs) = takes_then (takes_end missing_pat_takes (λ i. takes_pure (Some i)))
-    (λ x. each_formal_takes true _ fs)
 each_formal_takes false done (tree.formal p ∷ fs) = takes_then (takes_end (top_takes p) (λ i. takes_pure (Some i)))
-    (λ x. each_formal_takes false _ fs)
-each_formal_takes false done (tree.fault_formal at ∷ fs) =
-    takes_then (takes_begin (takes_report _) (λ u. takes_end missing_pat_takes (λ i. takes_pure (Some i))))
     (λ x. each_formal_takes false _ fs)
 
 formals_take : (skipped : Bool) (f : Formals) → Takes (formals_size skipped f) (lower_formals skipped f)

@@ -257,6 +257,7 @@ abbrev mutual
   blocks_of_stmt (tree.disabled_stmt at by s) = []
   blocks_of_stmt tree.item_stmt = []
   blocks_of_stmt (tree.call_stmt c) = []
+  blocks_of_stmt (tree.macro_stmt k d) = []
   blocks_of_stmt (tree.let_stmt p t e b) =
       blocks_of_top p ++ (blocks_of_present_type t ++ (blocks_of_part e ++ blocks_of_block_part b))
 
@@ -273,6 +274,7 @@ abbrev mutual
   blocks_of_pat (tree.or_pat at ps) = blocks_of_pats ps
   blocks_of_pat (tree.paren_pat at p) = blocks_of_top p
   blocks_of_pat (tree.macro_pat at called p) = blocks_of_top p
+  blocks_of_pat (tree.barred_pat at) = []
   blocks_of_pat (tree.slice_pat at before middle behind) =
       blocks_of_pats before ++ (blocks_of_top middle ++ blocks_of_pats behind)
   blocks_of_pat (tree.over_pat at form p) = blocks_of_top p
@@ -286,6 +288,7 @@ abbrev mutual
   pub blocks_of_pats : Pats → List BlockId
   blocks_of_pats tree.no_pats = []
   blocks_of_pats (tree.more_pats p ps) = blocks_of_pat p ++ blocks_of_pats ps
+  blocks_of_pats (tree.noted_pats called ps) = blocks_of_pats ps
 
   pub blocks_of_pat_fields : PatFields → List BlockId
   blocks_of_pat_fields tree.no_pat_fields = []

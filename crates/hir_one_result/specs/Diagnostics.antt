@@ -17,7 +17,7 @@ use Rattle.hir_env.specs.Answered.{Block, OptionBlock, Stmts, Stmt, Arms, Arm, G
 use Rattle.hir_env.specs.Answered.{TypePat, OptionTypePat, TypePats, Limit, Target, Targets, TargetFields, TargetField, SelfFormal, Formal}
 use Rattle.hir_env.specs.Answered.{Formals, Param, Params}
 use Rattle.hir_data.specs.Written.{written_path}
-use Rattle.hir_meaning.specs.Syntax.{is_typed}
+use Rattle.hir_meaning.specs.Syntax.{behind_def, is_typed}
 use Rattle.hir_steps.specs.Calls.{called_faults, condition_faults}
 use Rattle.hir_one_result.specs.Blocks.{where_some, where_goes_on, unless}
 use Rattle.hir_one_result.specs.PathRoom.{Seen, nothing_seen, at_first, segments_read, own_read, yields}
@@ -45,6 +45,11 @@ await_faults at (Some location) = AwaitOutsideOfAsync at location ∷ []
 abbrev pub spread_faults : Option Pointer → Faults
 spread_faults None = []
 spread_faults (Some at) = FruInDestructuringAssignment at ∷ []
+
+-- what stands behind the definition of a macro is inside of it
+abbrev pub behind_stmt : Stmt → List Scope → List Scope
+behind_stmt (tree.macro_stmt k d) ss = behind_def d ss
+behind_stmt s ss = ss
 
 abbrev mutual
   -- ---- constants in types, paths, arguments and bounds
@@ -279,13 +284,14 @@ abbrev mutual
   -- the statements, and then the tail, in the scopes that the statements leave
   pub contents_diagnostics : List Scope → Stmts → (List Scope → Faults) → Faults
   contents_diagnostics ss tree.no_stmts tail = tail ss
-  contents_diagnostics ss (tree.more_stmts s stmts) tail = stmt_diagnostics ss s ++ contents_diagnostics ss stmts tail
+  contents_diagnostics ss (tree.more_stmts s stmts) tail = stmt_diagnostics ss s ++ contents_diagnostics (behind_stmt s ss) stmts tail
 
   pub stmt_diagnostics : List Scope → Stmt → Faults
   stmt_diagnostics ss (tree.expr_stmt e semi) = part_diagnostics ss e
   stmt_diagnostics ss (tree.disabled_stmt at by s) = InactiveCode at by ∷ []
   stmt_diagnostics ss tree.item_stmt = []
   stmt_diagnostics ss (tree.call_stmt c) = []
+  stmt_diagnostics ss (tree.macro_stmt k d) = []
   stmt_diagnostics ss (tree.let_stmt p t e b) =
       top_faults ss p ++ (present_type_faults ss t ++ (part_diagnostics ss e ++ block_part_diagnostics ss b))
 
@@ -302,6 +308,7 @@ abbrev mutual
   pat_faults ss (tree.or_pat at ps) = pats_faults ss ps
   pat_faults ss (tree.paren_pat at p) = top_faults ss p
   pat_faults ss (tree.macro_pat at called p) = called_faults called ++ top_faults ss p
+  pat_faults ss (tree.barred_pat at) = PatternArgInExternFn at ∷ []
   pat_faults ss (tree.slice_pat at before middle behind) = pats_faults ss before ++ (top_faults ss middle ++ pats_faults ss behind)
   pat_faults ss (tree.over_pat at form p) = top_faults ss p
   pat_faults ss (tree.literal_pat at own l) = []
@@ -314,6 +321,7 @@ abbrev mutual
   pub pats_faults : List Scope → Pats → Faults
   pats_faults ss tree.no_pats = []
   pats_faults ss (tree.more_pats p ps) = pat_faults ss p ++ pats_faults ss ps
+  pats_faults ss (tree.noted_pats called ps) = called_faults called ++ pats_faults ss ps
 
   pub pat_fields_faults : List Scope → PatFields → Faults
   pat_fields_faults ss tree.no_pat_fields = []
@@ -364,7 +372,6 @@ abbrev pub formal_faults : Bool → List Scope → Formal → Faults
 formal_faults skipped ss (tree.disabled_formal at by) = InactiveCode at by ∷ []
 formal_faults true ss f = []
 formal_faults false ss (tree.formal p) = top_faults ss p
-formal_faults false ss (tree.fault_formal at) = PatternArgInExternFn at ∷ []
 
 abbrev pub each_formal_faults : Bool → List Scope → List Formal → Faults
 each_formal_faults skipped ss [] = []

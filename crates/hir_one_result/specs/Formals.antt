@@ -1,7 +1,7 @@
 -- The parameters of a body, and what lowering makes of them. `self` comes first, then the others in order, and then the body. Where the
 -- function is a coroutine, that begins with `let`s of its parameters, and what the outside hands them to comes last.
 use Rattle.std.specs.Prelude.{Bool, true, false, List, [], ◌∷◌, Option, Some, None}
-use Rattle.hir_store.specs.declared.diagnostics.ExpressionStoreDiagnostics.TheVariants.{InactiveCode, PatternArgInExternFn}
+use Rattle.hir_store.specs.declared.diagnostics.ExpressionStoreDiagnostics.TheVariants.{InactiveCode}
 use Rattle.hir_store.specs.declared.hir.CoroutineKind.{CoroutineKind}
 use Rattle.hir_store.specs.declared.hir.CoroutineSource.TheVariants as source
 use Rattle.hir_store.specs.declared.ids.BindingId.{BindingId}
@@ -17,13 +17,12 @@ use Rattle.hir_lower_form.specs.Pats.{missing_pat, new_binding}
 use Rattle.hir_lower_form.specs.Preludes.{let_params, let_self, lower_handed, made_coroutine_form}
 use Rattle.hir_lower_form.specs.declared.preludes.Handed.{Handed}
 
--- What is read of the parameters that no condition disables: nothing where the body is skipped, and nothing of one at fault.
+-- What is read of the parameters that no condition disables: nothing where the body is skipped.
 abbrev pub formals_read : Bool → List Formal → Tops
 formals_read skipped [] = []
 formals_read skipped (tree.disabled_formal at by ∷ fs) = formals_read skipped fs
 formals_read true (f ∷ fs) = tree.no_pat ∷ formals_read true fs
 formals_read false (tree.formal p ∷ fs) = p ∷ formals_read false fs
-formals_read false (tree.fault_formal at ∷ fs) = tree.no_pat ∷ formals_read false fs
 
 -- the binding of `self`, and the patterns of the others that are kept
 abbrev pub Received : Type 0
@@ -46,11 +45,7 @@ lower_formal skipped (tree.disabled_formal at by) = do
   report (InactiveCode at by)
   pure None
 lower_formal true (tree.formal p) = some missing_pat
-lower_formal true (tree.fault_formal at) = some missing_pat
 lower_formal false (tree.formal p) = some (lower_top p)
-lower_formal false (tree.fault_formal at) = do
-  report (PatternArgInExternFn at)
-  some missing_pat
 
 abbrev pub each_formal : Bool → List PatId → List Formal → Lowering (List PatId)
 each_formal skipped done [] = pure done

@@ -32,6 +32,7 @@ abbrev mutual
   names_after (tree.or_pat at ps) us = names_after_each ps us
   names_after (tree.paren_pat at p) us = names_after_part p us
   names_after (tree.macro_pat at called p) us = names_after_part p us
+  names_after (tree.barred_pat at) us = us
   names_after (tree.slice_pat at before middle behind) us =
       names_after_each behind (names_after_part middle (names_after_each before us))
   names_after (tree.over_pat at form p) us = names_after_part p us
@@ -45,6 +46,7 @@ abbrev mutual
   pub names_after_each : Pats → FirstUses → FirstUses
   names_after_each tree.no_pats us = us
   names_after_each (tree.more_pats p ps) us = names_after_each ps (names_after p us)
+  names_after_each (tree.noted_pats called ps) us = names_after_each ps us
 
   pub names_after_fields : PatFields → FirstUses → FirstUses
   names_after_fields tree.no_pat_fields us = us
@@ -64,10 +66,16 @@ name_size us u = if_so (not (is_known us u)) a_binding
 abbrev pub front_pat_size : Bool → Size
 front_pat_size comma = if_so comma (a_pat None)
 
--- one alternative is that pattern
+-- one alternative is that pattern; these stand behind it
+abbrev pub or_behind : Pointer → Pats → Size
+or_behind at tree.no_pats = nothing
+or_behind at (tree.more_pats p ps) = a_pat (Some at)
+or_behind at (tree.noted_pats called ps) = or_behind at ps
+
 abbrev pub or_size : Pointer → Pats → Size
-or_size at (tree.more_pats p tree.no_pats) = nothing
-or_size at ps = a_pat (Some at)
+or_size at tree.no_pats = a_pat (Some at)
+or_size at (tree.more_pats p ps) = or_behind at ps
+or_size at (tree.noted_pats called ps) = or_size at ps
 
 -- a plain name without name is no side
 abbrev pub name_side_size : Name → Size

@@ -24,7 +24,7 @@ use Rattle.hir_one_result.specs.PatRoom.{names_after, names_after_part, names_af
 use Rattle.hir_one_result.specs.PatRoom.{or_size, name_side_size, rest_size, range_size}
 use Rattle.hir_one_result.specs.PreludeRoom.{handed_size, prelude_size, self_let_size}
 use Rattle.hir_one_result.specs.Size.{Size, nothing, an_expr, a_label, a_binding, a_pat, a_type, a_lifetime, a_super, a_body, dots_behind}
-use Rattle.hir_one_result.specs.Size.{a_pat_call, a_type_call, uncalled_pat_size, uncalled_type_size}
+use Rattle.hir_one_result.specs.Size.{a_def, a_pat_call, a_type_call, uncalled_pat_size, uncalled_type_size}
 use Rattle.hir_one_result.specs.Size.{a_made_name, a_made_bind, a_flow_arm, a_for_turn, an_item_call, owned, ◌∪◌, if_so, or_missing}
 use Rattle.hir_one_result.specs.PathRoom.{Seen, nothing_seen, at_first, segments_read, own_read, whole_read, before, yields, lifetime_size}
 use Rattle.hir_one_result.specs.PathRoom.{uses_size}
@@ -318,6 +318,7 @@ abbrev mutual
   stmt_size (tree.disabled_stmt at by s) = nothing
   stmt_size tree.item_stmt = nothing
   stmt_size (tree.call_stmt c) = nothing
+  stmt_size (tree.macro_stmt k d) = a_def k
   stmt_size (tree.let_stmt p t e b) = top_size p ∪ present_size t ∪ size_present e ∪ block_present_size b
 
   -- ---- patterns, where these names have a use
@@ -340,6 +341,7 @@ abbrev mutual
   pat_size (tree.paren_pat at p) us = pat_part_size p us
   pat_size (tree.macro_pat at called tree.no_pat) us = uncalled_pat_size at called
   pat_size (tree.macro_pat at called (tree.some_pat p)) us = pat_size p us ∪ a_pat_call at
+  pat_size (tree.barred_pat at) us = a_pat None
   pat_size (tree.slice_pat at before middle behind) us =
       let between = names_after_each before us in
       let past = names_after_part middle between in
@@ -360,11 +362,13 @@ abbrev mutual
   pub pats_size : Pats → FirstUses → Size
   pats_size tree.no_pats us = nothing
   pats_size (tree.more_pats p ps) us = pat_size p us ∪ pats_size ps (names_after p us)
+  pats_size (tree.noted_pats called ps) us = pats_size ps us
 
   -- two dots are no part of a tuple
   pub elements_size : Pats → FirstUses → Size
   elements_size tree.no_pats us = nothing
   elements_size (tree.more_pats p ps) us = if_so (not (is_dots p)) (pat_size p us) ∪ elements_size ps (names_after p us)
+  elements_size (tree.noted_pats called ps) us = elements_size ps us
 
   pub pat_fields_size : PatFields → FirstUses → Size
   pat_fields_size tree.no_pat_fields us = nothing

@@ -51,7 +51,8 @@ pub record Size : Type 1 where
   pub type_leads : List NodeLeads
   -- the bodies inside that stand in no other one, in the order in which they are done
   pub inner : Bodies
-  -- some path that is read has more `super`s than are counted, or more parts stand in front of two dots
+  -- some path that is read has more `super`s than are counted, or more parts stand in front of two dots, or more definitions by
+  -- `macro_rules` in front of one of the same name
   pub overcounts : Type 0
 
 abbrev pub nothing : Size
@@ -134,6 +135,10 @@ a_super n = record nothing { overcounts = 2 ^ 32 ≤ n + 1 }
 abbrev pub dots_behind : Option ℕ → Size
 dots_behind None = nothing
 dots_behind (Some n) = record nothing { overcounts = 2 ^ 32 ≤ n }
+
+-- the definition of a macro, where so many of its name were counted
+abbrev pub a_def : ℕ → Size
+a_def k = record nothing { overcounts = 2 ^ 32 ≤ suc k }
 
 -- the one, and then the other
 infixr 20 ◌∪◌

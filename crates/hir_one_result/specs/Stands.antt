@@ -7,8 +7,7 @@
 -- owns it: the innermost closure, coroutine, `const` block, length or argument around it. What its constants became stands for them, also
 -- where nothing names it. A top pattern reads back as it is written, and so does one in a field without a name, which is part of nothing;
 -- the names of a top pattern have one binding each, and what is in it stands for what is written there.
-use Rattle.std.specs.Prelude.{◌≡◌, ℕ, Bool, true, false, List, [], ◌∷◌, ◌++◌, map, Option, Some, None, option_to_list, slice_get}
-use Rattle.std.specs.Prelude.{unwrap_or}
+use Rattle.std.specs.Prelude.{◌≡◌, ℕ, Bool, true, false, List, [], ◌∷◌, ◌++◌, map, Option, Some, None, option_to_list, slice_get, unwrap_or}
 use Rattle.hir_base.specs.declared.op.RangeOp.{RangeOp}
 use Rattle.hir_syntax.specs.declared.ast.Literal.{Literal as AstLiteral}
 use Rattle.hir_store.specs.Pointers.{Pointer}
@@ -39,7 +38,7 @@ use Rattle.hir_store.specs.declared.ids.HygieneId.{HygieneId}
 use Rattle.hir_store.specs.declared.ids.PatId.{PatId}
 use Rattle.hir_store.specs.declared.ids.TypeRefId.{TypeRefId}
 use Rattle.hir_store.specs.declared.type_ref.ConstRef.{ConstRef}
-use Rattle.hir_scope.specs.Ribs.{try_rib, barrier_rib, jump_number, innermost_try_rib}
+use Rattle.hir_scope.specs.Ribs.{macro_rib, try_rib, barrier_rib, jump_number, innermost_try_rib}
 use Rattle.hir_env.specs.Answered as tree
 use Rattle.hir_env.specs.Answered.{Type_, OptionType, Parts, Path as WrittenPath, OptionPath, Segments, Segment, SegmentArgs, OptionParens}
 use Rattle.hir_env.specs.Answered.{OptionRet, OptionArgs, Args, Arg, Bounds, Bound, Constant, Listing, Label, Expr, OptionExpr, Exprs}
@@ -62,12 +61,11 @@ use Rattle.hir_one_result.specs.Forms.{pat_unary_form, range_fields}
 use Rattle.hir_one_result.specs.PathRoom.{Seen, nothing_seen, at_first, segments_read, own_read, yields}
 use Rattle.hir_one_result.specs.Leads.{Ways, No, OneWay, OneUnled, OneLabelWay, OneFieldWay, OnePatFieldWay, OwnedBy, Overtaken, ◌&◌}
 pub use Rattle.hir_one_result.specs.StandsParts.{ExprAt, LabelAt, Open, opened, Absent, There, ThereIf, ReadsAs, statement_of, SomeExpr}
-pub use Rattle.hir_one_result.specs.StandsParts.{SomeConst}
 use Rattle.hir_one_result.specs.StandsMade.{StandsFor, StandsForLoop, StandsForTurn, StandsQuestion, StandsTry, StandsTypedTry, StandsWhile}
 use Rattle.hir_one_result.specs.StandsMade.{StandsClosure, StandsCoroutine, StandsParam, StoredParams}
 use Rattle.hir_one_result.specs.StandsPreludes.{StandsCoroutineClosure}
 pub use Rattle.hir_one_result.specs.StandsReads.{NamesOf, WithNames, ReadsAsPat, ReadsAsTarget, ReadsAsType}
-pub use Rattle.hir_one_result.specs.StandsParts.{WhereOn, Unless, StandsBefore, WherePath, BehindFront, Names, NewName, StandsName}
+pub use Rattle.hir_one_result.specs.StandsParts.{SomeConst, WhereOn, Unless, StandsBefore, WherePath, BehindFront, Names, StandsName}
 
 -- in a store
 
@@ -476,6 +474,11 @@ module _ (store : Store) (source_map : SourceMap) where
         (others : List Statement) × (is ≡ statement.Item ∷ others) × StandsContents rs ss Tail others tail ws
     StandsContents rs (tree.more_stmts (tree.disabled_stmt at by s) ss) Tail is tail = StandsContents rs ss Tail is tail
     StandsContents rs (tree.more_stmts (tree.call_stmt c) ss) Tail is tail = StandsContents rs ss Tail is tail
+    -- a definition that has no number is an item; behind another one all that follows stands inside of it
+    StandsContents rs (tree.more_stmts (tree.macro_stmt k None) ss) Tail is tail = λ ws.
+        (others : List Statement) × (is ≡ statement.Item ∷ others) × StandsContents rs ss Tail others tail ws
+    StandsContents rs (tree.more_stmts (tree.macro_stmt k (Some d)) ss) Tail is tail = λ ws.
+        (others : List Statement) × (is ≡ statement.MacroDef d ∷ others) × StandsContents (macro_rib d ∷ rs) ss Tail others tail ws
     StandsContents rs (tree.more_stmts (tree.let_stmt p t e b) ss) Tail is tail = λ ws.
         (q : PatId) × (y : Option TypeRefId) × (x : Option ExprId) × (z : Option ExprId) × (others : List Statement)
         × (is ≡ statement.Let q y x z ∷ others)
@@ -506,6 +509,7 @@ module _ (store : Store) (source_map : SourceMap) where
     StandsPat ks rs (tree.or_pat at ps) us i = λ ws. (is : List PatId) × OrIs is i × StandsPats ks rs ps us is ws
     StandsPat ks rs (tree.paren_pat at p) us i = StandsPatPart ks rs p us i
     StandsPat ks rs (tree.macro_pat at called p) us i = StandsPatPart ks rs p us i
+    StandsPat ks rs (tree.barred_pat at) us i = No
     StandsPat ks rs (tree.slice_pat at before middle behind) us i = λ ws.
         (bs : List PatId) × (m : Option PatId) × (as' : List PatId) × PatIs i (pat.Slice bs m as')
         × (StandsPats ks rs before us bs & StandsSubpat ks rs middle (uses_after_each before us) m
@@ -529,12 +533,14 @@ module _ (store : Store) (source_map : SourceMap) where
     StandsPats ks rs tree.no_pats us is = λ ws. (is ≡ []) × No ws
     StandsPats ks rs (tree.more_pats p ps) us is =
         StandsBefore false (λ i. StandsPat ks rs p us i) (λ others. StandsPats ks rs ps (uses_after p us) others) is
+    StandsPats ks rs (tree.noted_pats called ps) us is = StandsPats ks rs ps us is
 
     -- two dots are no part of a tuple
     pub StandsElements : Names → Open → Pats → FirstUses → List PatId → Ways
     StandsElements ks rs tree.no_pats us is = λ ws. (is ≡ []) × No ws
     StandsElements ks rs (tree.more_pats p ps) us is =
         StandsBefore (is_dots p) (λ i. StandsPat ks rs p us i) (λ others. StandsElements ks rs ps (uses_after p us) others) is
+    StandsElements ks rs (tree.noted_pats called ps) us is = StandsElements ks rs ps us is
 
     -- one without a name is no part of the record, and a disabled one becomes nothing
     pub StandsPatFields : Names → Open → PatFields → FirstUses → List RecordFieldPat → Ways

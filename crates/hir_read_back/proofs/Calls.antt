@@ -1,5 +1,5 @@
 -- What a call of a macro becomes reads back as what the call stands for.
-use Rattle.std.proofs.Common.{refl, arith, Bool, false, Option, Some}
+use Rattle.std.proofs.Common.{refl, arith, Bool, false, List, Option, Some}
 use Rattle.hir_store.specs.Pointers.{Pointer}
 use Rattle.hir_store.specs.declared.hir.Expr.TheVariants as hir
 use Rattle.hir_store.specs.declared.ids.PatId.{PatId}
@@ -11,17 +11,17 @@ use Rattle.hir_env.specs.Spot.{site_of}
 use Rattle.hir_lower_form.specs.Calls.{told}
 use Rattle.hir_lower_form.specs.Forms.{ExprSteps, called_form, uncalled_form}
 use Rattle.hir_lower_form.specs.Lowering.{Lowering, ◌>>=◌, ◌>>◌, pure}
-use Rattle.hir_lower_form.specs.Pats.{Table, called_pat_form, uncalled_pat}
+use Rattle.hir_lower_form.specs.Pats.{Table, barred_pat_form, called_pat_form, uncalled_pat}
 use Rattle.hir_lower_form.specs.Types.{TypeSteps, called_type_form, uncalled_type}
 use Rattle.hir_steps.proofs.Calls.{correct_point_pat, correct_point_type, correct_told, only_told, raises_only}
-use Rattle.hir_steps.proofs.Steps.{Correct, Rel, correct_as, correct_bind, correct_pure}
+use Rattle.hir_steps.proofs.Steps.{Correct, Rel, correct_as, correct_bind, correct_pure, correct_report}
 use Rattle.hir_steps.proofs.Yields.{Raises, raises_begin}
 use Rattle.hir_data.specs.Data as datum
 use Rattle.hir_data.specs.Data.{PatData, TypeData, absent_pattern, typed}
 use Rattle.hir_data.specs.Uses.{FirstUses}
 use Rattle.hir_data.specs.Written.{call_source}
 use Rattle.hir_read_back.proofs.Layers.{Layer, Reads, a_type, type0}
-use Rattle.hir_read_back.proofs.Pats.{PatFine, a_pat}
+use Rattle.hir_read_back.proofs.Pats.{PatFine, PatIs, PushedNamed, a_pat}
 use Rattle.hir_read_back.proofs.Sites as sites
 use Rattle.hir_read_back.proofs.Sites.{From, ends_from}
 use Rattle.hir_read_back.proofs.TypePats.{missing_pattern_reads}
@@ -38,6 +38,17 @@ reads_before : {A B D : Type 0} {l : Layer A D} {x : D} {p : Lowering A} {q : A 
     → ((a : A) → Correct (q a) (R a)) → Correct (p >>= (λ a. q a >>= (λ b. pure a))) (Reads l x)
 reads_before h k = correct_as (correct_bind h (λ a. correct_bind (k a) (λ b. correct_pure a)))
     (λ final ps m m' a g row. rw row.second.second.is (record { is = λ d le. row.first.is d (omega (le, row.after.entries, arith)) }))
+
+-- the same of a pattern, and of a list of them
+pub told_is : {A D : Type 0} {l : Layer A D} {x : FirstUses → D} {f : FirstUses → FirstUses} {t : Table} {p : Lowering (A × Table)}
+    (c : Called) → Correct p (PatIs l x f t) → Correct (told c >> p) (PatIs l x f t)
+told_is c h = correct_as (correct_bind (correct_told c) (λ u. h))
+    (λ final ps m m' r g row. record { uses = row.second.uses; reads = row.second.reads })
+
+pub told_named : {A D : Type 0} {l : Layer (List A) D} {x : FirstUses → D} {f : FirstUses → FirstUses} {t : Table} {done : List A}
+    {p : Lowering (List A × Table)} (c : Called) → Correct p (PushedNamed done l x f t) → Correct (told c >> p) (PushedNamed done l x f t)
+told_named c h = correct_as (correct_bind (correct_told c) (λ u. h)) (λ final ps m m' r g row. let s = row.second in
+    record { new = s.new; is = s.is; rel = record { uses = s.rel.uses; reads = s.rel.reads } })
 
 module _ (at : Pointer) where
   pub called_type_reads : (c : Called) {x : TypeData} {t : TypeSteps} → Correct t (Reads a_type x)
@@ -57,6 +68,10 @@ module _ (at : Pointer) where
   pub uncalled_pat_reads : (c : Called) → Correct (uncalled_pat at c) (Reads a_pat absent_pattern)
   uncalled_pat_reads tree.callless = missing_pattern_reads
   uncalled_pat_reads c = called_type_pat_reads c missing_pattern_reads
+
+  pub barred_pat_reads : Correct (barred_pat_form at) (Reads a_pat absent_pattern)
+  barred_pat_reads = correct_as (correct_bind (correct_report _) (λ u. missing_pattern_reads))
+      (λ final ps m m' i g row. record { is = row.second.is })
 
   pub called_pat_reads : (c : Called) {x : FirstUses → PatData} {f : FirstUses → FirstUses} {p : Table → Lowering (PatId × Table)}
       → PatFine a_pat p x f → PatFine a_pat (λ t. called_pat_form at c (λ r. r.0) (p t)) x f

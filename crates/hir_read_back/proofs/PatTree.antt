@@ -15,6 +15,7 @@ use Rattle.hir_lower_form.specs.Pats as forms
 use Rattle.hir_lower_form.specs.Pats.{Table, no_names, Elements, no_elements}
 use Rattle.hir_steps.proofs.Frames.{Frame}
 use Rattle.hir_steps.proofs.Steps.{Mark, Correct, correct_bind, correct_as, correct_pure, correct_in_store, correct_report}
+use Rattle.hir_steps.proofs.Calls.{correct_told}
 use Rattle.hir_steps.proofs.PatAny.{settle_any}
 use Rattle.hir_steps.proofs.PatSteps.{correct_alloc_pat}
 use Rattle.hir_data.specs.Data as datum
@@ -94,11 +95,11 @@ mutual
   pat_reads (tree.tuple_pat at comma ps) = parts.tuple_reads at comma (elements_read ps no_elements)
   pat_reads (tree.record_pat at p fs dots) =
       parts.record_reads (path_of p) at dots (path_reads p) (λ t. all_named (fields_read fs [] t))
-  pat_reads (tree.or_pat at tree.no_pats) = kinds.plain_reads at (pat.Or []) (λ final r. refl)
-  pat_reads (tree.or_pat at (tree.more_pats p ps)) = parts.or_reads at (pat_reads p) (later_read ps)
+  pat_reads (tree.or_pat at ps) = alternatives_read at ps
   pat_reads (tree.paren_pat at p) = pat_part_reads p
   pat_reads (tree.macro_pat at c tree.no_pat) = kinds.alone_reads (calls.uncalled_pat_reads at c)
   pat_reads (tree.macro_pat at c (tree.some_pat p)) = calls.called_pat_reads at c (pat_reads p)
+  pat_reads (tree.barred_pat at) = kinds.alone_reads (calls.barred_pat_reads at)
   pat_reads (tree.slice_pat at before middle behind) = parts.slice_reads at (λ t. all_named (pats_read before [] t))
       (subpattern_reads middle) (λ t. all_named (pats_read behind [] t))
   pat_reads (tree.over_pat at form p) = kinds.over_reads at form (pat_part_reads p)
@@ -113,20 +114,35 @@ mutual
   subpattern_reads tree.no_pat = kinds.no_pat_reads
   subpattern_reads (tree.some_pat p) = kinds.some_pat_reads (pat_reads p)
 
+  alternatives_read : (at : Pointer) (ps : Pats) → PatFine a_pat (lower.lower_alternatives at ps)
+      (λ us. written.alternatives_data at (written.patterns_data ps us)) (written.uses_after_each ps)
+  alternatives_read at tree.no_pats = kinds.plain_reads at (pat.Or []) (λ final r. refl)
+  alternatives_read at (tree.more_pats p ps) = parts.or_reads at (pat_reads p) (later_read ps)
+  alternatives_read at (tree.noted_pats called ps) = λ t. calls.told_is called (alternatives_read at ps t)
+
   pats_read : (ps : Pats) (done : List PatId) (t : Table) → Correct (lower.lower_pats done ps t)
       (PushedNamed done many_pats (written.patterns_data ps) (written.uses_after_each ps) t)
   pats_read tree.no_pats done t = none_named many_pats datum.no_patterns (λ final r. refl) done t
   pats_read (tree.more_pats p ps) done t = kinds.more_named (pat_reads p) (pats_read ps) done t
+  pats_read (tree.noted_pats called ps) done t = calls.told_named called (pats_read ps done t)
 
   later_read : (ps : Pats) (done : List PatId) (t : Table) → Correct (lower.lower_later ps done t)
       (PushedNamed done many_pats (written.patterns_data ps) (written.uses_after_each ps) t)
   later_read tree.no_pats done t = none_named many_pats datum.no_patterns (λ final r. refl) done t
   later_read (tree.more_pats p ps) done t = parts.later_named (pat_reads p) (later_read ps) done t
+  later_read (tree.noted_pats called ps) done t = calls.told_named called (later_read ps done t)
 
   elements_read : (ps : Pats) (done : Elements) (t : Table) → Correct (lower.lower_elements done ps t)
       (ElementsAre done (written.tuple_parts_data ps) (written.dots_among ps) (written.uses_after_each ps) t)
   elements_read tree.no_pats done t = parts.no_elements_are done t
   elements_read (tree.more_pats p ps) done t = element_before p ps (dots_or_part p) (pat_reads p) (elements_read ps) done t
+  elements_read (tree.noted_pats called ps) done t = correct_as (correct_bind (correct_told called) (λ u. elements_read ps done t))
+      (λ final ps' m m' r g row. let s = row.second in record {
+        new = s.new;
+        ids = s.ids;
+        place = s.place;
+        rel = record { uses = s.rel.uses; reads = s.rel.reads };
+      })
 
   fields_read : (fs : PatFields) (done : List RecordFieldPat) (t : Table) → Correct (lower.lower_pat_fields done fs t)
       (PushedNamed done many_fields (written.fields_data fs) (written.uses_after_fields fs) t)

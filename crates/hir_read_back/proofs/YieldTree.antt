@@ -42,6 +42,7 @@ use Rattle.hir_data.specs.Yields.{arms_yields, block_part_yields, block_yields, 
 use Rattle.hir_data.specs.Yields.{spread_yields, stmts_yields, target_fields_yields, target_yields, targets_yields, yields_if_read}
 use Rattle.hir_data.specs.Yields.{yields_in}
 use Rattle.hir_read_back.proofs.Calls as calls
+use Rattle.hir_read_back.proofs.Definitions.{behind_raises, define_off}
 use Rattle.hir_read_back.proofs.Now.{answered}
 use Rattle.hir_read_back.proofs.Tree.{path_reads}
 use Rattle.hir_read_back.proofs.Walk.{Answers}
@@ -244,6 +245,8 @@ mutual
   stmts_raise done (tree.more_stmts tree.item_stmt ss) h = stmts_raise (done ++ statement.Item ∷ []) ss h
   stmts_raise done (tree.more_stmts (tree.call_stmt c) ss) h =
       raises_begin (raises_begin (raises_only (only_note c)) (λ u. raises_pure None)) (λ x. stmts_raise _ ss h)
+  stmts_raise done (tree.more_stmts (tree.macro_stmt k d) ss) h =
+      raises_begin (define_off k d) (λ x. behind_raises (tree.macro_stmt k d) (stmts_raise _ ss h))
   stmts_raise done (tree.more_stmts (tree.let_stmt p t e b) ss) {y = y} h =
       raises_as (sym (or_assoc (yields_in e || block_part_yields b) (stmts_yields ss) y))
       (raises_then (forms.let_stmt_raises (top_off p) (present_type_off t) (present_raises e) (present_block_raises b))

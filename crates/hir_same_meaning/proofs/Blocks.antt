@@ -1,10 +1,11 @@
 -- The statements and the tail of a block, as lowering settles them and as the block is run.
-use Rattle.std.proofs.Common.{◌≡◌, ℕ, ◌≤◌, Bool, true, false, not, ◌&&◌, if◌then◌else◌, List, [], ◌∷◌, Option, Some, None, refl, sym}
+use Rattle.std.proofs.Common.{◌≡◌, ℕ, ◌≤◌, Bool, true, false, not, ◌&&◌, if◌then◌else◌, List, [], ◌∷◌, Option, Some, None, refl, sym, subst}
 use Rattle.std.proofs.Common.{arith, true≢false}
 use Rattle.hir_store.specs.Stored.{Stored, store_of, map_of}
 use Rattle.hir_store.specs.declared.hir.Statement.{Statement}
 use Rattle.hir_store.specs.declared.hir.Statement.TheVariants as statement
 use Rattle.hir_store.specs.declared.ids.ExprId.{ExprId}
+use Rattle.hir_store.specs.declared.ids.MacroDefId.{MacroDefId}
 use Rattle.hir_store.specs.declared.ids.PatId.{PatId}
 use Rattle.hir_store.specs.declared.ids.TypeRefId.{TypeRefId}
 use Rattle.hir_env.specs.Answered as tree
@@ -12,17 +13,18 @@ use Rattle.hir_env.specs.Answered.{Expr, OptionExpr, OptionBlock, OptionPat, Opt
 use Rattle.hir_data.specs.Patterns.{written_pat}
 use Rattle.hir_data.specs.Reading.{stored_pat, stored_option_type}
 use Rattle.hir_data.specs.Written.{written_option_type}
+use Rattle.hir_lower_form.specs.Calls.{defined}
 use Rattle.hir_lower_form.specs.Lower.{settled}
 use Rattle.hir_meaning.specs.Run.{Value, unit, leave, unmatched, pure, ◌>>=◌, ◌>>◌, binds}
-use Rattle.hir_scope.specs.Scopes.{Scope}
-use Rattle.hir_meaning.specs.Syntax.{SyntaxRun, as_it_is, run_expr, run_part, run_present, run_else, run_block, run_stmts, run_tail}
+use Rattle.hir_scope.specs.Scopes.{Scope, macro_scope}
+use Rattle.hir_meaning.specs.Syntax.{SyntaxRun, as_it_is, behind_def, run_expr, run_part, run_present, run_else, run_block, run_stmts, run_tail}
 use Rattle.hir_meaning.specs.Left.{is_kept, is_left, none_left}
 use Rattle.hir_meaning.specs.Store.{StoreRun, bound_to, run_or_unit, run_statements, run_present as stored_present, run_else as stored_else}
 use Rattle.hir_scope.specs.Each.{IfPresent}
 use Rattle.hir_meaning.specs.Jumps.{EachStatement, EnclosedTo}
 use Rattle.hir_steps.proofs.Frames.{Frame, scopes, Falls}
-use Rattle.hir_same_meaning.proofs.Views.{numbers}
-use Rattle.hir_same_meaning.proofs.Relation.{SameWhere, same_ends, same_pure, same_bind}
+use Rattle.hir_same_meaning.proofs.Views.{frames_behind, numbers}
+use Rattle.hir_same_meaning.proofs.Relation.{SameWhere, same_ends, same_inside, same_outside, same_pure, same_bind}
 use Rattle.hir_same_meaning.proofs.Senses.{Base}
 use Rattle.hir_same_meaning.proofs.Senses.{Walk, run_in, one, optional, present, contents, Goes, Wider, goes_within}
 use Rattle.hir_same_meaning.proofs.Unmade.{binds_same, written_is_unmade}
@@ -51,12 +53,10 @@ Stored1 base nodes final ps true x semi Rest (statement.Let p t e b ∷ new) = �
 Stored1 base nodes final ps true x semi Rest (statement.Expr i semi' ∷ new) =
     (semi' ≡ semi) × Goes base nodes one x final ps i × Rest new
 
-abbrev pub Item1 : (List Statement → Type 0) → List Statement → Type 0
-Item1 Rest [] = ⊥
-Item1 Rest (statement.Item ∷ new) = Rest new
-Item1 Rest (statement.MacroDef def ∷ new) = ⊥
-Item1 Rest (statement.Expr i semi ∷ new) = ⊥
-Item1 Rest (statement.Let p t e b ∷ new) = ⊥
+-- a statement that does nothing
+abbrev pub Silent1 : Statement → (List Statement → Type 0) → List Statement → Type 0
+Silent1 s Rest [] = ⊥
+Silent1 s Rest (s' ∷ new) = (s' ≡ s) × Rest new
 
 -- a `let` statement that is stored
 pub record StoredLet : Type 0 where
@@ -117,7 +117,9 @@ module _ (base : Base) (nodes : ℕ) (final : Stored) (kept : Bool) (x : Walk Va
   ContentsAre ps tree.no_stmts new o = None1 new × KeptIs base nodes final ps kept x o
   ContentsAre ps (tree.more_stmts (tree.disabled_stmt at by s) ss) new o = ContentsAre ps ss new o
   ContentsAre ps (tree.more_stmts (tree.call_stmt call) ss) new o = ContentsAre ps ss new o
-  ContentsAre ps (tree.more_stmts tree.item_stmt ss) new o = Item1 (λ more. ContentsAre ps ss more o) new
+  ContentsAre ps (tree.more_stmts tree.item_stmt ss) new o = Silent1 statement.Item (λ more. ContentsAre ps ss more o) new
+  ContentsAre ps (tree.more_stmts (tree.macro_stmt k d) ss) new o =
+      Silent1 (defined d) (λ more. ContentsAre (frames_behind d ps) ss more o) new
   ContentsAre ps (tree.more_stmts (tree.let_stmt p t e b) ss) new o =
       Let1 (LetIs base nodes final ps p t e b) (λ more. ContentsAre ps ss more o) new
   ContentsAre ps (tree.more_stmts (tree.expr_stmt e semi) ss) new o =
@@ -137,10 +139,9 @@ module _ (base : Base) (nodes : ℕ) (final : Stored) (kept : Bool) (x : Walk Va
   none_left_is ps (tree.more_stmts (tree.disabled_stmt at by s) ss) new o h = none_left_is ps ss new o h
   none_left_is ps (tree.more_stmts (tree.call_stmt call) ss) new o h = none_left_is ps ss new o h
   none_left_is ps (tree.more_stmts tree.item_stmt ss) [] o h = absurd h
-  none_left_is ps (tree.more_stmts tree.item_stmt ss) (statement.Item ∷ new) o h = refl
-  none_left_is ps (tree.more_stmts tree.item_stmt ss) (statement.MacroDef def ∷ new) o h = absurd h
-  none_left_is ps (tree.more_stmts tree.item_stmt ss) (statement.Expr i semi ∷ new) o h = absurd h
-  none_left_is ps (tree.more_stmts tree.item_stmt ss) (statement.Let p t e b ∷ new) o h = absurd h
+  none_left_is ps (tree.more_stmts tree.item_stmt ss) (s ∷ new) o h = refl
+  none_left_is ps (tree.more_stmts (tree.macro_stmt k d) ss) [] o h = absurd h
+  none_left_is ps (tree.more_stmts (tree.macro_stmt k d) ss) (s ∷ new) o h = refl
   none_left_is ps (tree.more_stmts (tree.let_stmt p t e b) ss) [] o h = absurd h
   none_left_is ps (tree.more_stmts (tree.let_stmt p t e b) ss) (statement.Item ∷ new) o h = absurd h
   none_left_is ps (tree.more_stmts (tree.let_stmt p t e b) ss) (statement.MacroDef def ∷ new) o h = absurd h
@@ -214,6 +215,26 @@ abbrev Ends : Base → ℕ → Stored → ℕ → ℕ → (SyntaxRun Value → S
 Ends base nodes final turns d out ps tail o = (y : Walk Value) → Goes base nodes optional y final ps tail
     → SameWhere base.names ps (run_or_unit turns (run_in final d turns) o) (out (y turns (scopes ps)))
 
+-- behind the definition of a macro, which catches no jump
+
+falls_behind : (b : ℕ) (def : Option MacroDefId) (ps : List Frame) → Falls b ps → Falls b (frames_behind def ps)
+falls_behind b None ps f = f
+falls_behind b (Some def) ps f = f
+
+ends_behind : (base : Base) (nodes : ℕ) (final : Stored) (turns d : ℕ) (out : SyntaxRun Value → SyntaxRun Value) (o : Option ExprId)
+    (def : Option MacroDefId) (ps : List Frame) (tail : Option ExprId) → Ends base nodes final turns d out ps tail o
+    → Ends base nodes final turns d out (frames_behind def ps) tail o
+ends_behind base nodes final turns d out o None ps tail k = k
+ends_behind base nodes final turns d out o (Some def) ps tail k = λ y goes. same_inside (Some def) (k (λ turns qs. y turns (macro_scope def ∷ qs))
+    (record { same = λ turns d le f. same_outside (Some def) (goes.same turns d le f); jumps = goes.jumps }))
+
+module _ (final : Stored) (turns d : ℕ) (o : Option ExprId) where
+  same_behind : {names : ℕ} (def : Option MacroDefId) (ps : List Frame) (new : List Statement) (n : List Scope → SyntaxRun Value)
+      → SameWhere names (frames_behind def ps) (stored_run final turns d (new, o)) (n (scopes (frames_behind def ps)))
+      → SameWhere names ps (stored_run final turns d (defined def ∷ new, o)) (n (behind_def def (scopes ps)))
+  same_behind None ps new n h = h
+  same_behind (Some def) ps new n h = same_outside (Some def) h
+
 module _ (base : Base) (nodes : ℕ) (final : Stored) (turns d : ℕ) (deep : nodes ≤ d) (x : Walk Value)
     (out : SyntaxRun Value → SyntaxRun Value)
     (o : Option ExprId) where
@@ -226,10 +247,12 @@ module _ (base : Base) (nodes : ℕ) (final : Stored) (turns d : ℕ) (deep : no
   with_tail ps f (tree.more_stmts (tree.disabled_stmt at by s) ss) new i k h = with_tail ps f ss new i k h
   with_tail ps f (tree.more_stmts (tree.call_stmt call) ss) new i k h = with_tail ps f ss new i k h
   with_tail ps f (tree.more_stmts tree.item_stmt ss) [] i k h = absurd h
-  with_tail ps f (tree.more_stmts tree.item_stmt ss) (statement.Item ∷ new) i k h = with_tail ps f ss new i k h
-  with_tail ps f (tree.more_stmts tree.item_stmt ss) (statement.MacroDef def ∷ new) i k h = absurd h
-  with_tail ps f (tree.more_stmts tree.item_stmt ss) (statement.Expr j semi ∷ new) i k h = absurd h
-  with_tail ps f (tree.more_stmts tree.item_stmt ss) (statement.Let p t e b ∷ new) i k h = absurd h
+  with_tail ps f (tree.more_stmts tree.item_stmt ss) (s ∷ new) i k h = rw h.0 (with_tail ps f ss new i k h.1)
+  with_tail ps f (tree.more_stmts (tree.macro_stmt n def) ss) [] i k h = absurd h
+  with_tail ps f (tree.more_stmts (tree.macro_stmt n def) ss) (s ∷ new) i k h = rw h.0
+      (same_behind final turns d o def ps new (run_stmts turns ss true out (x turns))
+      (with_tail (frames_behind def ps) (falls_behind base.labels def ps f) ss new i
+      (ends_behind base nodes final turns d out o def ps (Some i) k) h.1))
   with_tail ps f (tree.more_stmts (tree.let_stmt p t e b) ss) [] i k h = absurd h
   with_tail ps f (tree.more_stmts (tree.let_stmt p t e b) ss) (statement.Item ∷ new) i k h = absurd h
   with_tail ps f (tree.more_stmts (tree.let_stmt p t e b) ss) (statement.MacroDef def ∷ new) i k h = absurd h
@@ -253,6 +276,24 @@ module _ (base : Base) (nodes : ℕ) (final : Stored) (turns d : ℕ) (deep : no
       go true y (statement.Expr j semi' ∷ new) more h =
           rw (and_false (not semi) (none_left ss)) (same_bind (h.1.same turns d deep f) (λ v. more new h.2))
 
+  -- what does nothing is no tail
+  silent_first : (ps : List Frame) (n : SyntaxRun Value) (def : Option MacroDefId) (new : List Statement) (s : Statement)
+      → s ≡ defined def
+      → (Ends base nodes final turns d out ps (settled new None).1 o
+      → SameWhere base.names ps (stored_run final turns d (defined def ∷ (settled new None).0, o)) n)
+      → Ends base nodes final turns d out ps (settled (s ∷ new) None).1 o
+      → SameWhere base.names ps (stored_run final turns d ((settled (s ∷ new) None).0, o)) n
+  silent_first ps n def new s e h = subst (λ s. Ends base nodes final turns d out ps (settled (s ∷ new) None).1 o
+      → SameWhere base.names ps (stored_run final turns d ((settled (s ∷ new) None).0, o)) n) (sym e) (by def h)
+    where
+      by : (def : Option MacroDefId)
+          → (Ends base nodes final turns d out ps (settled new None).1 o
+          → SameWhere base.names ps (stored_run final turns d (defined def ∷ (settled new None).0, o)) n)
+          → Ends base nodes final turns d out ps (settled (defined def ∷ new) None).1 o
+          → SameWhere base.names ps (stored_run final turns d ((settled (defined def ∷ new) None).0, o)) n
+      by None h = h
+      by (Some def) h = h
+
   -- without one, the last statement may become it
   without_tail : (ps : List Frame) → Falls base.labels ps → (ss : Stmts) (new : List Statement)
       → Ends base nodes final turns d out ps (settled new None).1 o → ContentsAre base nodes final false x ps ss new None
@@ -263,10 +304,14 @@ module _ (base : Base) (nodes : ℕ) (final : Stored) (turns d : ℕ) (deep : no
   without_tail ps f (tree.more_stmts (tree.disabled_stmt at by s) ss) new k h = without_tail ps f ss new k h
   without_tail ps f (tree.more_stmts (tree.call_stmt call) ss) new k h = without_tail ps f ss new k h
   without_tail ps f (tree.more_stmts tree.item_stmt ss) [] k h = absurd h
-  without_tail ps f (tree.more_stmts tree.item_stmt ss) (statement.Item ∷ new) k h = without_tail ps f ss new k h
-  without_tail ps f (tree.more_stmts tree.item_stmt ss) (statement.MacroDef def ∷ new) k h = absurd h
-  without_tail ps f (tree.more_stmts tree.item_stmt ss) (statement.Expr j semi ∷ new) k h = absurd h
-  without_tail ps f (tree.more_stmts tree.item_stmt ss) (statement.Let p t e b ∷ new) k h = absurd h
+  without_tail ps f (tree.more_stmts tree.item_stmt ss) (s ∷ new) k h =
+      silent_first ps (run_stmts turns ss false out (λ qs. pure unit) (scopes ps)) None new s h.0 (λ k'. without_tail ps f ss new k' h.1) k
+  without_tail ps f (tree.more_stmts (tree.macro_stmt n def) ss) [] k h = absurd h
+  without_tail ps f (tree.more_stmts (tree.macro_stmt n def) ss) (s ∷ new) k h =
+      silent_first ps (run_stmts turns ss false out (λ qs. pure unit) (behind_def def (scopes ps))) def new s h.0
+      (λ k'. same_behind final turns d o def ps (settled new None).0 (run_stmts turns ss false out (λ qs. pure unit))
+      (without_tail (frames_behind def ps) (falls_behind base.labels def ps f) ss new
+      (ends_behind base nodes final turns d out o def ps (settled new None).1 k') h.1)) k
   without_tail ps f (tree.more_stmts (tree.let_stmt p t e b) ss) [] k h = absurd h
   without_tail ps f (tree.more_stmts (tree.let_stmt p t e b) ss) (statement.Item ∷ new) k h = absurd h
   without_tail ps f (tree.more_stmts (tree.let_stmt p t e b) ss) (statement.MacroDef def ∷ new) k h = absurd h
@@ -306,6 +351,12 @@ module _ (base : Base) (nodes : ℕ) (final : Stored) (turns d : ℕ) (deep : no
 abbrev AllEnclosed : (ExprId → Type 0) → List Statement → Option ExprId → Type 0
 AllEnclosed P ss o = EachStatement P ss × IfPresent P o
 
+jumps_behind : (final : Stored) (d : ℕ) (def : Option MacroDefId) (ps : List Frame) (new : List Statement) (o : Option ExprId)
+    → AllEnclosed (EnclosedTo (store_of final) d (numbers (frames_behind def ps))) new o
+    → AllEnclosed (EnclosedTo (store_of final) d (numbers ps)) (defined def ∷ new) o
+jumps_behind final d None ps new o h = h
+jumps_behind final d (Some def) ps new o h = h
+
 module _ (base : Base) (nodes : ℕ) (final : Stored) (d : ℕ) (deep : nodes ≤ d) (kept : Bool) (x : Walk Value) where
   kept_jumps : (ps : List Frame) (t : Bool) (y : Walk Value) (o : Option ExprId) → KeptIs base nodes final ps t y o
       → IfPresent (EnclosedTo (store_of final) d (numbers ps)) o
@@ -328,10 +379,10 @@ module _ (base : Base) (nodes : ℕ) (final : Stored) (d : ℕ) (deep : nodes �
   all_jumps ps (tree.more_stmts (tree.disabled_stmt at by s) ss) new o h = all_jumps ps ss new o h
   all_jumps ps (tree.more_stmts (tree.call_stmt call) ss) new o h = all_jumps ps ss new o h
   all_jumps ps (tree.more_stmts tree.item_stmt ss) [] o h = absurd h
-  all_jumps ps (tree.more_stmts tree.item_stmt ss) (statement.Item ∷ new) o h = all_jumps ps ss new o h
-  all_jumps ps (tree.more_stmts tree.item_stmt ss) (statement.MacroDef def ∷ new) o h = absurd h
-  all_jumps ps (tree.more_stmts tree.item_stmt ss) (statement.Expr j semi ∷ new) o h = absurd h
-  all_jumps ps (tree.more_stmts tree.item_stmt ss) (statement.Let p t e b ∷ new) o h = absurd h
+  all_jumps ps (tree.more_stmts tree.item_stmt ss) (s ∷ new) o h = rw h.0 (all_jumps ps ss new o h.1)
+  all_jumps ps (tree.more_stmts (tree.macro_stmt n def) ss) [] o h = absurd h
+  all_jumps ps (tree.more_stmts (tree.macro_stmt n def) ss) (s ∷ new) o h =
+      rw h.0 (jumps_behind final d def ps new o (all_jumps (frames_behind def ps) ss new o h.1))
   all_jumps ps (tree.more_stmts (tree.let_stmt p t e b) ss) [] o h = absurd h
   all_jumps ps (tree.more_stmts (tree.let_stmt p t e b) ss) (statement.Item ∷ new) o h = absurd h
   all_jumps ps (tree.more_stmts (tree.let_stmt p t e b) ss) (statement.MacroDef def ∷ new) o h = absurd h
@@ -374,10 +425,9 @@ module _ (base : Base) (nodes : ℕ) (final : Stored) (x : Walk Value) where
   no_tail ps (tree.more_stmts (tree.disabled_stmt at by s) ss) new h = no_tail ps ss new h
   no_tail ps (tree.more_stmts (tree.call_stmt call) ss) new h = no_tail ps ss new h
   no_tail ps (tree.more_stmts tree.item_stmt ss) [] h = h
-  no_tail ps (tree.more_stmts tree.item_stmt ss) (statement.Item ∷ new) h = no_tail ps ss new h
-  no_tail ps (tree.more_stmts tree.item_stmt ss) (statement.MacroDef def ∷ new) h = h
-  no_tail ps (tree.more_stmts tree.item_stmt ss) (statement.Expr j semi ∷ new) h = h
-  no_tail ps (tree.more_stmts tree.item_stmt ss) (statement.Let p t e b ∷ new) h = h
+  no_tail ps (tree.more_stmts tree.item_stmt ss) (s ∷ new) h = no_tail ps ss new h.1
+  no_tail ps (tree.more_stmts (tree.macro_stmt n def) ss) [] h = h
+  no_tail ps (tree.more_stmts (tree.macro_stmt n def) ss) (s ∷ new) h = no_tail (frames_behind def ps) ss new h.1
   no_tail ps (tree.more_stmts (tree.let_stmt p t e b) ss) [] h = h
   no_tail ps (tree.more_stmts (tree.let_stmt p t e b) ss) (statement.Item ∷ new) h = h
   no_tail ps (tree.more_stmts (tree.let_stmt p t e b) ss) (statement.MacroDef def ∷ new) h = h
@@ -401,10 +451,9 @@ module _ (base : Base) (nodes : ℕ) (final : Stored) (x : Walk Value) (i : Expr
   a_tail ps (tree.more_stmts (tree.disabled_stmt at by s) ss) new h = a_tail ps ss new h
   a_tail ps (tree.more_stmts (tree.call_stmt call) ss) new h = a_tail ps ss new h
   a_tail ps (tree.more_stmts tree.item_stmt ss) [] h = h
-  a_tail ps (tree.more_stmts tree.item_stmt ss) (statement.Item ∷ new) h = a_tail ps ss new h
-  a_tail ps (tree.more_stmts tree.item_stmt ss) (statement.MacroDef def ∷ new) h = h
-  a_tail ps (tree.more_stmts tree.item_stmt ss) (statement.Expr j semi ∷ new) h = h
-  a_tail ps (tree.more_stmts tree.item_stmt ss) (statement.Let p t e b ∷ new) h = h
+  a_tail ps (tree.more_stmts tree.item_stmt ss) (s ∷ new) h = a_tail ps ss new h.1
+  a_tail ps (tree.more_stmts (tree.macro_stmt n def) ss) [] h = h
+  a_tail ps (tree.more_stmts (tree.macro_stmt n def) ss) (s ∷ new) h = a_tail (frames_behind def ps) ss new h.1
   a_tail ps (tree.more_stmts (tree.let_stmt p t e b) ss) [] h = h
   a_tail ps (tree.more_stmts (tree.let_stmt p t e b) ss) (statement.Item ∷ new) h = h
   a_tail ps (tree.more_stmts (tree.let_stmt p t e b) ss) (statement.MacroDef def ∷ new) h = h

@@ -11,6 +11,7 @@ use Rattle.hir_store.specs.declared.hir.Statement.TheVariants as statement
 use Rattle.hir_store.specs.declared.path.Path.{Path}
 use Rattle.hir_store.specs.declared.ids.ExprId.{ExprId}
 use Rattle.hir_store.specs.declared.ids.LabelId.{LabelId}
+use Rattle.hir_store.specs.declared.ids.MacroDefId.{MacroDefId}
 use Rattle.hir_store.specs.declared.ids.BlockId.{BlockId}
 use Rattle.hir_store.specs.declared.ids.HygieneId.{HygieneId}
 use Rattle.hir_env.specs.Answered as tree
@@ -18,7 +19,7 @@ use Rattle.hir_env.specs.Answered.{OptionPath, OptionPat, OptionType, OptionBloc
 use Rattle.hir_env.specs.NodeMap.{Site}
 use Rattle.hir_env.specs.Answering.{site_of}
 use Rattle.hir_lower_form.specs.Builder.{Builder}
-use Rattle.hir_lower_form.specs.Calls.{note_gone}
+use Rattle.hir_lower_form.specs.Calls.{defined, note_gone}
 use Rattle.hir_lower_form.specs.Lowering.{Checked, Lowering, ◌>>=◌, pure, alloc_expr}
 use Rattle.hir_lower_form.specs.Lower.{ExprSteps, StoredContents, push_some, missing, some, if_form, loop_form, turn_form, call_form}
 use Rattle.hir_lower_form.specs.Lower.{continue_form, break_form}
@@ -47,6 +48,7 @@ use Rattle.hir_steps.proofs.Calls.{correct_told, correct_note_gone}
 use Rattle.hir_steps.proofs.Steps.{correct_point, correct_enter_block, correct_alloc, correct_opened, correct_target}
 use Rattle.hir_same_meaning.proofs.Targets.{break_meets, continue_meets, among}
 use Rattle.hir_same_meaning.proofs.Relation.{SameWhere, TurnsAlike, same_read_path}
+use Rattle.hir_same_meaning.proofs.Views.{frames_behind}
 use Rattle.hir_same_meaning.proofs.Turns.{alike_same, branched, while_alike}
 use Rattle.hir_same_meaning.proofs.Senses.{Base, Under, base_of}
 use Rattle.hir_same_meaning.proofs.Senses.{Walk, one, optional, many, contents, Goes, Runs, Wider, goes_within, goes_at}
@@ -316,7 +318,17 @@ pub filled_item : {final : Stored} {ps : List Frame} {m m' : Mark} {r : StoredCo
 filled_item t x ss done p = record {
   new = statement.Item ∷ p.new;
   is = pushed_one done statement.Item p.new p.is;
-  rel = λ base nodes le le'. p.rel base nodes le le';
+  rel = λ base nodes le le'. (refl, p.rel base nodes le le');
+}
+
+pub filled_def : {final : Stored} {ps : List Frame} {m m' : Mark} {r : StoredContents} (t : Bool) (x : Walk Value) (k : ℕ)
+    (def : Option MacroDefId) (ss : Stmts) (done : List Statement)
+    → Filled (done ++ defined def ∷ []) (ContentsRel t x ss) final (frames_behind def ps) m m' r
+    → Filled done (ContentsRel t x (tree.more_stmts (tree.macro_stmt k def) ss)) final ps m m' r
+filled_def t x k def ss done p = record {
+  new = defined def ∷ p.new;
+  is = pushed_one done (defined def) p.new p.is;
+  rel = λ base nodes le le'. (refl, p.rel base nodes le le');
 }
 
 -- nothing of a statement

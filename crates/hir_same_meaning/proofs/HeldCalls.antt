@@ -12,7 +12,7 @@ use Rattle.hir_lower_form.specs.Pats as forms
 use Rattle.hir_lower_form.specs.Types.{TypeSteps, called_type_form, uncalled_type}
 use Rattle.hir_meaning.specs.Inner.{Bodies}
 use Rattle.hir_steps.proofs.Calls.{correct_told, correct_point_pat, correct_point_type}
-use Rattle.hir_steps.proofs.Steps.{Correct}
+use Rattle.hir_steps.proofs.Steps.{Correct, correct_report}
 use Rattle.hir_same_meaning.proofs.Holding.{Ids, an_expr, a_type, a_pat, a_type_pat, Holds, holds_behind, holds_before, expr0, type0}
 use Rattle.hir_same_meaning.proofs.HeldForms.{paren_held}
 use Rattle.hir_same_meaning.proofs.HeldTypes.{error_held}
@@ -47,6 +47,9 @@ module _ (at : Pointer) where
   pub uncalled_pat_held : (c : Called) → Correct (forms.uncalled_pat at c) (Holds a_pat [])
   uncalled_pat_held tree.callless = absent_held
   uncalled_pat_held c = called_pat_held c (λ i. i) absent_held
+
+  pub barred_pat_held : Correct (forms.barred_pat_form at) (Holds a_pat [])
+  barred_pat_held = holds_behind (correct_report _) (λ u. absent_held)
 
   pub uncalled_type_pat_held : (c : Called) → Correct (forms.uncalled_pat at c) (Holds a_type_pat [])
   uncalled_type_pat_held tree.callless = missing_type_pat_held

@@ -16,14 +16,16 @@ use Rattle.hir_store.specs.declared.ids.BlockId.{BlockId}
 use Rattle.hir_store.specs.declared.ids.ExprId.{ExprId}
 use Rattle.hir_store.specs.declared.ids.HygieneId.{HygieneId}
 use Rattle.hir_store.specs.declared.ids.LabelId.{LabelId}
+use Rattle.hir_store.specs.declared.ids.MacroDefId.{MacroDefId}
 use Rattle.hir_store.specs.declared.name.Name.{Name}
 use Rattle.hir_store.specs.declared.path.GenericArgs.{GenericArgs}
 use Rattle.hir_store.specs.declared.path.Path.{Path as HirPath}
 use Rattle.hir_store.specs.declared.type_ref.ConstRef.{ConstRef}
 use Rattle.hir_env.specs.Answered as tree
-use Rattle.hir_env.specs.Answered.{Leaf, Unary, Binary, Listing, Leaving, Label, Jump, Expr}
+use Rattle.hir_env.specs.Answered.{Leaf, Unary, Binary, Listing, Leaving, Label, Jump, Expr, Stmt}
 use Rattle.hir_data.specs.Rule.{PathRead}
 use Rattle.hir_lower_form.specs.Lowering.{Lowering, ◌>>=◌, pure, alloc_expr}
+use Rattle.hir_lower_form.specs.Calls.{behind, define_form, defined}
 use Rattle.hir_lower_form.specs.Types.{TypeSteps}
 use Rattle.hir_lower_form.specs.Lower.{ExprSteps, StoredContents, StoredFields, push_some, missing, some, if_form, loop_form, call_form}
 use Rattle.hir_lower_form.specs.Lower.{turn_form, continue_form, break_form, operand_form, operands_form, value_form, list_form}
@@ -39,6 +41,7 @@ use Rattle.hir_read_back.proofs.Walk.{Answers}
 use Rattle.hir_steps.proofs.Frames.{Frame, loop_at, block_at}
 use Rattle.hir_steps.proofs.Barriers.{correct_yield}
 use Rattle.hir_steps.proofs.Calls.{correct_note_gone}
+use Rattle.hir_steps.proofs.Definitions.{correct_define, correct_inside_macro}
 use Rattle.hir_steps.proofs.Steps.{Allocated, Grows, Mark, Rel, Correct, correct_bind, correct_as, correct_both, correct_pure}
 use Rattle.hir_steps.proofs.Steps.{correct_alloc, correct_report_await, correct_point, correct_point_field}
 use Rattle.hir_steps.proofs.Steps.{correct_enter_block, correct_opened, correct_target}
@@ -397,6 +400,22 @@ filled_more {es = es} {fs = fs} {gs = gs} h k done = correct_as (correct_bind h 
       held = one;
       rest = others;
     }
+
+-- the definition of a macro holds nothing, and what is behind it what it holds elsewhere
+
+nothing_of : (r : Inners) (def : Option MacroDefId) → of_statement r (defined def) ≡ []
+nothing_of r None = refl
+nothing_of r (Some def) = refl
+
+pub define_held : (k : ℕ) (def : Option MacroDefId) → Correct (define_form k def) (Holds (maybe a_statement) [])
+define_held k def = correct_as (correct_define k def) (λ final ps m m' o g row. rw row.is
+    (record { same = λ d le. same_ids final [] (nothing_of (inners_in final d) def) tt }))
+
+pub behind_held : {es fs : Bodies} {done : List Statement} {p : Lowering StoredContents} (s : Stmt) → Correct p (Filled done es fs)
+    → Correct (behind s p) (Filled done es fs)
+behind_held (tree.macro_stmt k (Some def)) h = correct_as (correct_inside_macro def h)
+    (λ final ps m m' r g row. record { new = row.new; is = row.is; held = row.held })
+behind_held s h = h
 
 statement_is : (semi : Bool) (r : Inners) (o : Option ExprId)
     → of_present (of_statement r) (option_map (λ i. statement.Expr i semi) o) ≡ of_present r.expr o

@@ -155,6 +155,12 @@ added_all {ids = ids} {es = es} h = correct_as h (λ final ps m m' r g row. reco
   same = λ d le. same_ids final es (ap (all_of (ids (inners_in final d))) row.is) (row.rel.same d le);
 })
 
+-- behind steps that hold nothing
+pub added_behind : {A B C : Type 0} {R : Rel C} {ids : Ids B} {list : A → List B} {done : List B} {es : Bodies} {q : Lowering C}
+    {p : C → Lowering A} → Correct q R → ((c : C) → Correct (p c) (Added ids list done es)) → Correct (q >>= p) (Added ids list done es)
+added_behind h k = correct_as (correct_bind h k) (λ final ps m m' r g row. let s = row.second in
+    record { new = s.new; is = s.is; rel = record { same = s.rel.same } })
+
 -- ---- parts of a tuple
 
 abbrev pub parts : Elements × Table → List PatId

@@ -1,5 +1,6 @@
 -- Each constant inside what is lowered runs as its own written body: one induction over types, paths, arguments and expressions.
 use Rattle.std.proofs.Common.{◌≡◌, refl, sym, false, true, true≢false, List, [], ◌∷◌, ◌++◌, Option, Some, None, arith}
+use Rattle.hir_store.specs.Pointers.{Pointer}
 use Rattle.hir_store.specs.declared.diagnostics.ExpressionStoreDiagnostics.TheVariants.{InactiveCode}
 use Rattle.hir_store.specs.declared.hir.MatchArm.{MatchArm}
 use Rattle.hir_store.specs.declared.hir.RecordLitField.{RecordLitField}
@@ -52,7 +53,7 @@ use Rattle.hir_same_meaning.proofs.HeldCoroutineClosures as coroutines
 use Rattle.hir_same_meaning.proofs.HeldCoroutineClosures.{ParamsApart, coroutine_closure_held}
 use Rattle.hir_same_meaning.proofs.HeldLimits as limits
 use Rattle.hir_same_meaning.proofs.HeldPats as pats
-use Rattle.hir_same_meaning.proofs.HeldPats.{PatHeld, Added, added_none, added_more, added_some, added_all}
+use Rattle.hir_same_meaning.proofs.HeldPats.{PatHeld, Added, added_behind, added_none, added_more, added_some, added_all}
 use Rattle.hir_same_meaning.proofs.HeldPatterned as patterned
 use Rattle.hir_same_meaning.proofs.HeldTypes as types
 use Rattle.hir_same_meaning.proofs.HeldTypes.{a_constant, a_path, some_args, a_bound, Grown}
@@ -88,6 +89,7 @@ dots_hold_nothing (tree.record_pat at p fs dots) e = absurd (true≢false (sym e
 dots_hold_nothing (tree.or_pat at ps) e = absurd (true≢false (sym e))
 dots_hold_nothing (tree.paren_pat at p) e = absurd (true≢false (sym e))
 dots_hold_nothing (tree.macro_pat at called p) e = absurd (true≢false (sym e))
+dots_hold_nothing (tree.barred_pat at) e = refl
 dots_hold_nothing (tree.slice_pat at before middle behind) e = absurd (true≢false (sym e))
 dots_hold_nothing (tree.over_pat at form p) e = absurd (true≢false (sym e))
 dots_hold_nothing (tree.literal_pat at own l) e = refl
@@ -325,12 +327,13 @@ mutual
   stmts_hold : {fs : Bodies} {q : Lowering (Option ExprId)} → Correct q (Holds (maybe an_expr) fs) → (ss : Stmts)
       (done : List Statement) → Correct (lower.lower_stmts done ss q) (Filled done (inner.stmts_bodies ss) fs)
   stmts_hold hq tree.no_stmts done = forms.filled_end done hq
-  stmts_hold hq (tree.more_stmts s ss) done = forms.filled_more (stmt_holds s) (stmts_hold hq ss) done
+  stmts_hold hq (tree.more_stmts s ss) done = forms.filled_more (stmt_holds s) (λ more. forms.behind_held s (stmts_hold hq ss more)) done
 
   stmt_holds : (s : Stmt) → Correct (lower.lower_stmt s) (Holds (maybe a_statement) (inner.stmt_bodies s))
   stmt_holds (tree.expr_stmt e semi) = forms.statement_held semi (kept_part_holds e)
   stmt_holds tree.item_stmt = holds_none (Some statement.Item) (λ r. refl)
   stmt_holds (tree.call_stmt c) = holds_behind (correct_note c) (λ u. holds_none None (λ r. refl))
+  stmt_holds (tree.macro_stmt k d) = forms.define_held k d
   stmt_holds (tree.let_stmt p t e b) =
       patterned.let_stmt_held (top_holds p) (maybe_type_holds t) (present_holds e) (present_block_holds b)
   stmt_holds (tree.disabled_stmt at by s) = holds_behind (correct_report (InactiveCode at by)) (λ u. holds_none None (λ r. refl))
@@ -368,11 +371,11 @@ mutual
   pat_holds (tree.tuple_pat at comma ps) = pats.tuple_held at comma (elements_hold ps no_elements)
   pat_holds (tree.record_pat at p fs dots) = pats.record_held at (path_of p) (path_reads p)
       (paths.path_held p (outer_holds p)) dots (pat_fields_hold fs [])
-  pat_holds (tree.or_pat at tree.no_pats) = pats.alone_held (pat0 (pat.Or []) (Some at) (λ r. refl))
-  pat_holds (tree.or_pat at (tree.more_pats p ps)) = pats.or_held at (pat_holds p) (later_hold ps)
+  pat_holds (tree.or_pat at ps) = alternatives_hold at ps
   pat_holds (tree.paren_pat at p) = pat_part_holds p
   pat_holds (tree.macro_pat at called tree.no_pat) = pats.alone_held (calls.uncalled_pat_held at called)
   pat_holds (tree.macro_pat at called (tree.some_pat p)) = λ t. calls.called_pat_held at called (λ r. r.0) (pat_holds p t)
+  pat_holds (tree.barred_pat at) = pats.alone_held (calls.barred_pat_held at)
   pat_holds (tree.slice_pat at before p behind) = pats.slice_held at
       (λ t. added_all (pats_hold before [] t)) (subpattern_holds p) (λ t. added_all (pats_hold behind [] t))
   pat_holds (tree.over_pat at form p) = pats.over_held at form (pat_part_holds p)
@@ -387,23 +390,31 @@ mutual
   subpattern_holds tree.no_pat t = holds_none (None, t) (λ r. refl)
   subpattern_holds (tree.some_pat p) t = holds_one (λ x. (Some x.0, x.1)) (λ r x. refl) (pat_holds p t)
 
+  alternatives_hold : (at : Pointer) (ps : Pats) → PatHeld a_pat (lower.lower_alternatives at ps) (inner.pats_bodies ps)
+  alternatives_hold at tree.no_pats = pats.alone_held (pat0 (pat.Or []) (Some at) (λ r. refl))
+  alternatives_hold at (tree.more_pats p ps) = pats.or_held at (pat_holds p) (later_hold ps)
+  alternatives_hold at (tree.noted_pats called ps) = λ t. holds_behind (correct_told called) (λ u. alternatives_hold at ps t)
+
   pats_hold : (ps : Pats) (done : List PatId) (t : Table)
       → Correct (lower.lower_pats done ps t) (Added a_pat (λ r. r.0) done (inner.pats_bodies ps))
   pats_hold tree.no_pats done t = added_none (λ r. r.0) (done, t)
   pats_hold (tree.more_pats p ps) done t =
       added_more {part = λ r. r.0} done (pat_holds p t) (λ r. pats_hold ps (done ++ r.0 ∷ []) r.1)
+  pats_hold (tree.noted_pats called ps) done t = added_behind (correct_told called) (λ u. pats_hold ps done t)
 
   later_hold : (ps : Pats) (done : List PatId) (t : Table)
       → Correct (lower.lower_later ps done t) (Added a_pat (λ r. r.0) done (inner.pats_bodies ps))
   later_hold tree.no_pats done t = added_none (λ r. r.0) (done, t)
   later_hold (tree.more_pats p ps) done t = added_more {part = λ r. r.0} done (pat_holds p (next_alternative t))
       (λ r. later_hold ps (done ++ r.0 ∷ []) r.1)
+  later_hold (tree.noted_pats called ps) done t = added_behind (correct_told called) (λ u. later_hold ps done t)
 
   elements_hold : (ps : Pats) (done : Elements) (t : Table)
       → Correct (lower.lower_elements done ps t) (Added a_pat pats.parts done.0 (inner.pats_bodies ps))
   elements_hold tree.no_pats done t = added_none pats.parts (done, t)
   elements_hold (tree.more_pats p ps) done t =
       pats.element_held (is_dots p) (dots_hold_nothing p) (pat_holds p) (elements_hold ps) done t
+  elements_hold (tree.noted_pats called ps) done t = added_behind (correct_told called) (λ u. elements_hold ps done t)
 
   pat_fields_hold : (fs : PatFields) (done : List RecordFieldPat) (t : Table)
       → Correct (lower.lower_pat_fields done fs t) (Added a_field_pat (λ r. r.0) done (inner.pat_fields_bodies fs))

@@ -24,6 +24,7 @@ use Rattle.hir_meaning.specs.Syntax.{run_present, run_arms, run_places, run_each
 use Rattle.hir_data.specs.Written.{path_of}
 use Rattle.hir_read_back.proofs.Tree.{path_reads}
 use Rattle.hir_steps.proofs.Calls.{correct_note}
+use Rattle.hir_steps.proofs.Definitions.{correct_define, correct_inside_macro}
 use Rattle.hir_steps.proofs.Keeping.{constant_any, contents_part_any, part_any, rooted_any}
 use Rattle.hir_steps.proofs.Steps.{Correct, correct_bind, correct_as, correct_pure, correct_report}
 use Rattle.hir_steps.proofs.TypeAny.{any}
@@ -242,6 +243,14 @@ mutual
   stmts_fine t x hq (tree.more_stmts tree.item_stmt ss) done =
       correct_as (stmts_fine t x hq ss (done ++ statement.Item ∷ []))
       (λ final ps m m' r g p. Forms.filled_item t x ss done p)
+  stmts_fine t x hq (tree.more_stmts (tree.macro_stmt k None) ss) done =
+      correct_as (correct_bind (correct_define k None) (λ o. stmts_fine t x hq ss (push_some done o)))
+      (λ final ps m m' r g row. let others = row.second in
+      Forms.filled_def t x k None ss done (rw (row.first.is, row.first.still) at others))
+  stmts_fine t x hq (tree.more_stmts (tree.macro_stmt k (Some def)) ss) done = correct_as
+      (correct_bind (correct_define k (Some def)) (λ o. correct_inside_macro def (stmts_fine t x hq ss (push_some done o))))
+      (λ final ps m m' r g row. let others = row.second in
+      Forms.filled_def t x k (Some def) ss done (rw (row.first.is, row.first.still) at others))
 
 -- what is in a block
 pub contents_fine : (ss : Stmts) (e : OptionExpr) → Correct (lower_stmts [] ss (kept_part e)) (Forms.BlockRel ss e)

@@ -21,6 +21,8 @@ use Rattle.hir_lower_form.specs.Lower.{stored_leaf, stored_unary, stored_binary,
 use Rattle.hir_lower_form.specs.Pats.{Elements, no_elements}
 use Rattle.hir_same_meaning.specs.Reached.{of_each, of_fields, of_others, of_arms}
 use Rattle.hir_steps.proofs.Calls.{correct_note}
+use Rattle.hir_steps.proofs.Definitions.{correct_define, correct_inside_macro}
+use Rattle.hir_steps.proofs.Frames.{macro_at}
 use Rattle.hir_steps.proofs.Keeping.{constant_any, contents_part_any, lower_path_any, params_any, part_any, present_type_any}
 use Rattle.hir_steps.proofs.Keeping.{rooted_any}
 use Rattle.hir_steps.proofs.Steps.{Correct, correct_bind, correct_as, correct_pure, correct_report}
@@ -211,3 +213,11 @@ mutual
       filled_held done s.held row.before row.after s.rel (rw s.is at others))
   stmts_owns hq (tree.more_stmts tree.item_stmt ss) done = correct_as (stmts_owns hq ss (done ++ statement.Item ∷ []))
       (λ final ps m m' r g p. filled_silent {qs = ps} statement.Item done (λ f. refl) g p)
+  stmts_owns hq (tree.more_stmts (tree.macro_stmt k None) ss) done = correct_as
+      (correct_bind (correct_define k None) (λ o. stmts_owns hq ss (push_some done o)))
+      (λ final ps m m' r g row. let others = row.second in
+      filled_silent {qs = ps} statement.Item done (λ f. refl) g (rw (row.first.is, row.first.still) at others))
+  stmts_owns hq (tree.more_stmts (tree.macro_stmt k (Some def)) ss) done = correct_as
+      (correct_bind (correct_define k (Some def)) (λ o. correct_inside_macro def (stmts_owns hq ss (push_some done o))))
+      (λ final ps m m' r g row. let others = row.second in
+      filled_silent {qs = macro_at def ∷ ps} (statement.MacroDef def) done (λ f. refl) g (rw (row.first.is, row.first.still) at others))

@@ -6,6 +6,7 @@ use Rattle.hir_base.specs.declared.op.LogicOp.TheVariants as logic
 use Rattle.hir_store.specs.declared.ids.BlockId.{BlockId}
 use Rattle.hir_store.specs.declared.ids.HygieneId.{HygieneId}
 use Rattle.hir_store.specs.declared.ids.LabelId.{LabelId}
+use Rattle.hir_store.specs.declared.ids.MacroDefId.{MacroDefId}
 use Rattle.hir_env.specs.NodeMap.{Site}
 use Rattle.hir_data.specs.Data.{PathData, path_data, item_path, OptionTypeData, PatData, pattern_site}
 use Rattle.hir_meaning.specs.Run.{Value, answered, unit, truth, Operation, enter, tuple, Test, test, Outcome, value, break, continue}
@@ -17,7 +18,7 @@ use Rattle.hir_meaning.specs.Syntax.{SyntaxRun}
 use Rattle.hir_meaning.specs.Store.{JumpLabel, RunTable, StoreRun, past_loop, past_block}
 use Rattle.hir_steps.proofs.Frames.{Frame, block_at, try_at}
 use Rattle.hir_same_meaning.proofs.Views.{Numbered, number, view, view_step, turn_ends, block_ends, plain_block_ends}
-use Rattle.hir_same_meaning.proofs.Views.{loop_frame, try_ends}
+use Rattle.hir_same_meaning.proofs.Views.{frames_behind, loop_frame, try_ends, view_behind}
 use Rattle.hir_same_meaning.proofs.NamesKept.{KeepsBelow, keeps_ends, keeps_event, keeps_bind, keeps_loop, keeps_block, keeps_fewer}
 
 -- without the values of names that lowering made up
@@ -239,4 +240,18 @@ module _ {names : ℕ} {ps : List Frame} where
       world = a.world;
     };
     keeps = keeps_block _ _ h.keeps;
+  }
+
+-- The definition of a macro catches nothing.
+module _ {A : Type 0} {names : ℕ} {ps : List Frame} (def : Option MacroDefId) {m : StoreRun A} {n : SyntaxRun A} where
+  pub same_outside : SameWhere names (frames_behind def ps) m n → SameWhere names ps m n
+  same_outside h = record {
+    same = λ w. let a = h.same w in record { outcome = sym (view_behind def ps (m w).0) ∙ a.outcome; world = a.world };
+    keeps = h.keeps;
+  }
+
+  pub same_inside : SameWhere names ps m n → SameWhere names (frames_behind def ps) m n
+  same_inside h = record {
+    same = λ w. let a = h.same w in record { outcome = view_behind def ps (m w).0 ∙ a.outcome; world = a.world };
+    keeps = h.keeps;
   }

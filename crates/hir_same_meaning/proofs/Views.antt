@@ -1,6 +1,7 @@
 -- A jump by number, told by how many of the enclosing scopes it leaves before its target.
 use Rattle.std.proofs.Common.{◌≡◌, Bool, true, false, nat_eq, if◌then◌else◌, List, [], ◌∷◌, Option, Some, None, refl, sym, ap, ◌∙◌}
 use Rattle.hir_store.specs.declared.ids.LabelId.{LabelId}
+use Rattle.hir_store.specs.declared.ids.MacroDefId.{MacroDefId}
 use Rattle.hir_env.specs.Answered.{Label}
 use Rattle.hir_scope.specs.Scopes.{Count, further, outward, continue_past_block}
 use Rattle.hir_steps.proofs.Frames.{Frame, plain_loop, loop_at, block_at, try_at, macro_at, barrier_at}
@@ -174,6 +175,21 @@ plain_block_ends (break None v) = refl
 plain_block_ends (break (Some k) v) = refl
 plain_block_ends (continue j) = refl
 plain_block_ends (leave x) = refl
+
+-- going behind the definition of a macro
+
+abbrev pub frames_behind : Option MacroDefId → List Frame → List Frame
+frames_behind None ps = ps
+frames_behind (Some def) ps = macro_at def ∷ ps
+
+-- It catches nothing.
+pub view_behind : {A : Type 0} (def : Option MacroDefId) (ps : List Frame) (o : Outcome JumpLabel A)
+    → view (frames_behind def ps) o ≡ view ps o
+view_behind None ps o = refl
+view_behind (Some def) ps (value a) = refl
+view_behind (Some def) ps (break j v) = refl
+view_behind (Some def) ps (continue j) = refl
+view_behind (Some def) ps (leave x) = refl
 
 -- labels around
 

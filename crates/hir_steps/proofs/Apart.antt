@@ -110,7 +110,7 @@ module _ {A : Type 0} {final : Stored} {ps : List Frame} {a : A} where
       → ((s : Stored) (k : ℕ) → times k (f s) ≡ times k s) → Apart final ps m m' a
   apart_stored f m m' e stored h = apart_same m m' e (λ k. ap (times k) stored ∙ h m.stored k)
 
-  apart_still : (m m' : Mark) → m' ≡ m → Apart final ps m m' a
+  pub apart_still : (m m' : Mark) → m' ≡ m → Apart final ps m m' a
   apart_still m m' e = apart_same m m' (ap (λ x. x.names) e) (λ k. ap (λ x. times k x.stored) e)
 
 pub pure_apart : {A : Type 0} (a : A) → Correct (pure a) Apart

@@ -52,6 +52,7 @@ use Rattle.hir_steps.proofs.ApartTypes.{uses_apart, whole_apart, with_trait_apar
 use Rattle.hir_steps.proofs.ApartPreludes.{coroutine_closure_apart}
 use Rattle.hir_steps.proofs.CallForms.{called_apart, called_pat_apart, called_type_apart, gone_apart, note_apart, told_apart}
 use Rattle.hir_steps.proofs.CallForms.{uncalled_apart, uncalled_pat_apart, uncalled_type_apart}
+use Rattle.hir_steps.proofs.Definitions.{behind_apart, define_apart}
 use Rattle.hir_steps.proofs.Steps.{Correct}
 use Rattle.hir_steps.proofs.ApartForms.{missing_apart, stored_apart, some_apart, if_apart, loop_apart, turn_apart, call_apart}
 use Rattle.hir_steps.proofs.ApartForms.{continue_apart, break_apart, paren_apart, path_apart, operand_apart, operands_apart, value_apart}
@@ -273,13 +274,14 @@ mutual
   pub stmts_apart : (done : List Statement) (ss : Stmts) {tail : Lowering (Option ExprId)} → Correct tail Apart
       → Correct (lower_stmts done ss tail) Apart
   stmts_apart done tree.no_stmts h = then_apart h (λ t. pure_apart (done, t))
-  stmts_apart done (tree.more_stmts s ss) h = then_apart (stmt_apart s) (λ x. stmts_apart _ ss h)
+  stmts_apart done (tree.more_stmts s ss) h = then_apart (stmt_apart s) (λ x. behind_apart s (stmts_apart _ ss h))
 
   pub stmt_apart : (s : Stmt) → Correct (lower_stmt s) Apart
   stmt_apart (tree.expr_stmt e semi) = then_apart (kept_part_apart e) (λ x. pure_apart _)
   stmt_apart (tree.disabled_stmt at by s) = then_apart (report_apart _) (λ u. pure_apart None)
   stmt_apart tree.item_stmt = pure_apart _
   stmt_apart (tree.call_stmt c) = then_apart (note_apart c) (λ u. pure_apart None)
+  stmt_apart (tree.macro_stmt k d) = define_apart k d
   stmt_apart (tree.let_stmt p t e b) = let_stmt_apart (top_apart p) (present_type_apart t) (present_apart e) (present_block_apart b)
 
   pub present_block_apart : (b : OptionBlock) → Correct (present_block b) Apart
@@ -317,6 +319,7 @@ mutual
   pat_apart (tree.paren_pat at p) t = pat_part_apart p t
   pat_apart (tree.macro_pat at c tree.no_pat) t = alone_apart (uncalled_pat_apart at c) t
   pat_apart (tree.macro_pat at c (tree.some_pat p)) t = called_pat_apart at c (λ r. r.0) (pat_apart p t)
+  pat_apart (tree.barred_pat at) t = alone_apart (then_apart (report_apart _) (λ u. missing_pat_apart)) t
   pat_apart (tree.slice_pat at before p behind) t =
       slice_pat_apart at (pats_apart [] before) (present_pat_apart p) (pats_apart [] behind) t
   pat_apart (tree.over_pat at form p) t = over_pat_apart at form (pat_part_apart p) t
@@ -334,19 +337,23 @@ mutual
   pats_apart : (done : List PatId) (ps : Pats) (t : Table) → Correct (lower_pats done ps t) Apart
   pats_apart done tree.no_pats t = pure_apart _
   pats_apart done (tree.more_pats p ps) t = then_apart (pat_apart p t) (λ r. pats_apart _ ps r.1)
+  pats_apart done (tree.noted_pats called ps) t = then_apart (told_apart called) (λ u. pats_apart done ps t)
 
   elements_part_apart : (done : Elements) (ps : Pats) (t : Table) → Correct (lower_elements done ps t) Apart
   elements_part_apart done tree.no_pats t = pure_apart _
   elements_part_apart done (tree.more_pats p ps) t =
       then_apart (element_apart (is_dots p) done (pat_apart p) t) (λ r. elements_part_apart r.0 ps r.1)
+  elements_part_apart done (tree.noted_pats called ps) t = then_apart (told_apart called) (λ u. elements_part_apart done ps t)
 
   alternatives_apart : (at : Pointer) (ps : Pats) (t : Table) → Correct (lower_alternatives at ps t) Apart
   alternatives_apart at tree.no_pats t = alone_apart (stored_pat_apart _ (Some at)) t
   alternatives_apart at (tree.more_pats p ps) t = or_apart at (pat_apart p) (later_apart ps) t
+  alternatives_apart at (tree.noted_pats called ps) t = then_apart (told_apart called) (λ u. alternatives_apart at ps t)
 
   later_apart : (ps : Pats) (done : List PatId) (t : Table) → Correct (lower_later ps done t) Apart
   later_apart tree.no_pats done t = pure_apart _
   later_apart (tree.more_pats p ps) done t = then_apart (pat_apart p (next_alternative t)) (λ r. later_apart ps _ r.1)
+  later_apart (tree.noted_pats called ps) done t = then_apart (told_apart called) (λ u. later_apart ps done t)
 
   pat_fields_apart : (done : List RecordFieldPat) (fs : PatFields) (t : Table) → Correct (lower_pat_fields done fs t) Apart
   pat_fields_apart done tree.no_pat_fields t = pure_apart _

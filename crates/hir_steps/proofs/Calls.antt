@@ -155,6 +155,9 @@ correct_note_gone why = writes_only (only_gone why)
 pub still_only : {es : Expansions} {ds : Faults} {p : Lowering (Unit {0})} → Only es ds p → Still p
 still_only h = record { still = λ b. subst (λ r. LeavesTo b r.0 r.1) (sym (h.is b)) refl }
 
+pub told_still : (c : Called) → Still (told c)
+told_still c = still_only (only_told c)
+
 pub raises_only : {es : Expansions} {ds : Faults} {p : Lowering (Unit {0})} → Only es ds p → Raises false p
 raises_only h = raises_still (correct_only h) (still_only h)
 

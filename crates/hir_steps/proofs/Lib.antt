@@ -25,6 +25,7 @@ pub mod ApartPats
 pub mod ApartForms
 pub mod Calls
 pub mod CallForms
+pub mod Definitions
 pub mod ApartTree
 pub mod TypeAny
 pub mod PatAny

@@ -24,6 +24,7 @@ use Rattle.hir_lower_form.specs.Lower.{lower_type_pats, lower_limit, lower_param
 use Rattle.hir_lower_form.specs.Pats.{Table, no_names, next_alternative, Elements, no_elements, is_dots}
 use Rattle.hir_steps.proofs.Barriers.{still_constant, still_inner, param_still}
 use Rattle.hir_steps.proofs.CallForms.{called_pat_still, called_type_still, uncalled_pat_still, uncalled_type_still}
+use Rattle.hir_steps.proofs.Calls.{told_still}
 use Rattle.hir_steps.proofs.Owning.{still_owning}
 use Rattle.hir_steps.proofs.StillPats.{alone_still, bind_still, element_still, limits_still, literal_pat_still, literal_side_still}
 use Rattle.hir_steps.proofs.StillPats.{missing_pat_still, name_side_still, or_still, over_pat_still, pat_field_still, path_pat_still}
@@ -168,6 +169,7 @@ mutual
   pat_still (tree.paren_pat at p) t = pat_part_still p t
   pat_still (tree.macro_pat at c tree.no_pat) t = alone_still (uncalled_pat_still at c) t
   pat_still (tree.macro_pat at c (tree.some_pat p)) t = called_pat_still at c (λ r. r.0) (pat_still p t)
+  pat_still (tree.barred_pat at) t = alone_still (still_then (still_report _) (λ u. missing_pat_still)) t
   pat_still (tree.slice_pat at before p behind) t =
       slice_pat_still at (pats_still [] before) (present_pat_still p) (pats_still [] behind) t
   pat_still (tree.over_pat at form p) t = over_pat_still at form (pat_part_still p) t
@@ -185,19 +187,23 @@ mutual
   pats_still : (done : List PatId) (ps : Pats) (t : Table) → Still (lower_pats done ps t)
   pats_still done tree.no_pats t = still_pure _
   pats_still done (tree.more_pats p ps) t = still_then (pat_still p t) (λ r. pats_still _ ps r.1)
+  pats_still done (tree.noted_pats called ps) t = still_then (told_still called) (λ u. pats_still done ps t)
 
   elements_part_still : (done : Elements) (ps : Pats) (t : Table) → Still (lower_elements done ps t)
   elements_part_still done tree.no_pats t = still_pure _
   elements_part_still done (tree.more_pats p ps) t =
       still_then (element_still (is_dots p) done (pat_still p) t) (λ r. elements_part_still r.0 ps r.1)
+  elements_part_still done (tree.noted_pats called ps) t = still_then (told_still called) (λ u. elements_part_still done ps t)
 
   alternatives_still : (at : Pointer) (ps : Pats) (t : Table) → Still (lower_alternatives at ps t)
   alternatives_still at tree.no_pats t = alone_still (still_pat _ (Some at)) t
   alternatives_still at (tree.more_pats p ps) t = or_still at (pat_still p) (later_still ps) t
+  alternatives_still at (tree.noted_pats called ps) t = still_then (told_still called) (λ u. alternatives_still at ps t)
 
   later_still : (ps : Pats) (done : List PatId) (t : Table) → Still (lower_later ps done t)
   later_still tree.no_pats done t = still_pure _
   later_still (tree.more_pats p ps) done t = still_then (pat_still p (next_alternative t)) (λ r. later_still ps _ r.1)
+  later_still (tree.noted_pats called ps) done t = still_then (told_still called) (λ u. later_still ps done t)
 
   pat_fields_still : (done : List RecordFieldPat) (fs : PatFields) (t : Table) → Still (lower_pat_fields done fs t)
   pat_fields_still done tree.no_pat_fields t = still_pure _

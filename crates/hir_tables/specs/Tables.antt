@@ -1,5 +1,5 @@
 -- The answers of tables.
-use Rattle.std.specs.Prelude.{ℕ, Bool, false, List, [], Option, Some, None, Result, Ok, Err, unwrap_or}
+use Rattle.std.specs.Prelude.{ℕ, Bool, false, ◌&&◌, List, [], Option, Some, None, Result, Ok, Err, is_some, unwrap_or}
 use Rattle.std.specs.Ordering.{nat_cmp, ordering_then}
 use Rattle.std.specs.declared.cmp.Ordering.{Ordering}
 use Rattle.hir_base.specs.declared.node.PredId.{PredId}
@@ -114,7 +114,11 @@ enabled (Some by) = Err by
 -- its crate has no root
 abbrev pub context_in : List (ℕ × Context) → CtxId → Context
 context_in es c = unwrap_or (number_found es c.0)
-    (record { parent = record { 0 = 0 }; opaque = record { 0 = c.0 }; outer_macro = None; crate_root = None })
+    (record { parent = record { 0 = 0 }; opaque = record { 0 = c.0 }; outer_macro = None; local_inner = false; crate_root = None })
+
+-- where it came from a macro
+abbrev pub local_in : List (ℕ × Context) → CtxId → Bool
+local_in es c = let of = context_in es c in is_some of.outer_macro && of.local_inner
 
 abbrev pub contexts_of : List (ℕ × Context) → Contexts
 contexts_of es = record {
@@ -154,6 +158,7 @@ answers_of t = record {
   context = λ s. record { 0 = (hygiene_in t.hygiene s).0 };
   contexts = contexts_of t.contexts;
   crate_root = λ c. (context_in t.contexts c).crate_root;
+  local_inner = local_in t.contexts;
   cfg_pred = λ pred. decided t.preds pred;
   block = λ s inside. found t.blocks s;
   skip = λ _. t.skip;

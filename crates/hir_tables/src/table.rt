@@ -9,7 +9,7 @@ use crate::first_of::FirstOf;
 use hir_base::Seq;
 use hir_base::node::{HirFileId, InFile, NodeId, PredId};
 use hir_env::env::LowerEnv;
-use hir_env::expand::{Expansion, FragmentKind};
+use hir_env::expand::{Expansion, FragmentKind, OuterMacro};
 use hir_env::lang::LangItems;
 use hir_env::resolved::{Resolved, Shadow};
 use hir_store::ids::{
@@ -22,12 +22,13 @@ use std::alloc::{AllocError, Global};
 use std::marker::Model;
 
 /// What is said of a context: the one that it was made in, the hygiene of a name of it, the definition of the macro that
-/// it came from, and the root of its crate.
+/// it came from and whether that is local to its crate, and the root of its crate.
 #[derive(Clone, Copy, PartialEq, Eq)]
 pub struct Context {
     pub parent: CtxId,
     pub opaque: HygieneId,
     pub outer_macro: Option<MacroDefId>,
+    pub local_inner: bool,
     pub crate_root: Option<CrateId>,
 }
 
@@ -199,6 +200,7 @@ impl TableEnv {
             parent: CtxId(0),
             opaque: HygieneId(context.0),
             outer_macro: None,
+            local_inner: false,
             crate_root: None,
         };
         self.contexts.get(context.0).copied().unwrap_or(unsaid)
@@ -346,8 +348,15 @@ impl LowerEnv for TableEnv {
         self.context_of(context).opaque
     }
 
-    fn outer_macro(&self, context: CtxId) -> Option<MacroDefId> {
-        self.context_of(context).outer_macro
+    fn outer_macro(&self, context: CtxId) -> Option<OuterMacro> {
+        let of = self.context_of(context);
+        match of.outer_macro {
+            Some(def) => Some(OuterMacro {
+                def,
+                local_inner: of.local_inner,
+            }),
+            None => None,
+        }
     }
 
     fn block(&self, node: InFile<NodeId>, _inside: ModuleId) -> Option<(BlockId, ModuleId)> {

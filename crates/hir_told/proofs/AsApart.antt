@@ -1,6 +1,7 @@
 -- Made names stay apart: an instance.
-use Rattle.std.proofs.Common.{refl}
+use Rattle.std.proofs.Common.{refl, Some}
 use Rattle.hir_env.specs.Answered.{OptionExpr}
+use Rattle.hir_env.specs.Answered as tree
 use Rattle.hir_lower_form.specs.Lower.{lower_part}
 use Rattle.hir_lower_form.specs.Lowering.{Lowering, ◌>>=◌, pure}
 use Rattle.hir_lower_form.specs.Pats.{new_binding}
@@ -17,6 +18,7 @@ use Rattle.hir_steps.proofs.ApartPats.{dots_apart, settle_apart}
 use Rattle.hir_steps.proofs.ApartPreludes.{coroutine_closure_apart}
 use Rattle.hir_steps.proofs.ApartTypes.{counted_apart}
 use Rattle.hir_steps.proofs.Barriers.{correct_yield}
+use Rattle.hir_steps.proofs.Definitions as definitions
 use Rattle.hir_steps.proofs.Frames.{block_at, loop_at}
 use Rattle.hir_steps.proofs.Steps.{Correct, correct_as}
 use Rattle.hir_told.specs.Silent.{silent}
@@ -66,6 +68,7 @@ apart_graded = record {
   hands_call_is = λ at t l h. then_apart h (λ r. then_apart (point_pat_apart at r.0) (λ u. pure_apart r));
   super_is = λ w. counted_apart (super_read w);
   dots_is = λ comma place. dots_apart comma place;
+  def_is = λ k d. definitions.define_apart k d;
   block_is = λ n. enter_block_apart n;
   jump_is = λ j. jump_apart j;
   yield_is = λ at e h. correct_yield at e h;
@@ -76,6 +79,7 @@ apart_graded = record {
   bare_is = λ h k. then_apart h k;
   loop_is = λ l is p h k. opened_apart loop_at l is (λ n ps. refl) (λ n. h) k;
   labelled_is = λ l is k. opened_apart block_at l is (λ n ps. refl) k (λ n i. pure_apart i);
+  defined_is = λ d h. definitions.behind_apart (tree.macro_stmt 0 (Some d)) h;
   try_is = λ at typed k of b hs hp t f. opened_try_apart at typed hs hp f;
   inner_is = λ l h. inner_apart h;
   constant_is = λ e h. owning_apart (λ c. c.expr) (constant_apart h);

@@ -81,6 +81,7 @@ expansions_graded = let all = tells_graded expanded in record {
   hands_call_is = λ at t l h. all.hands_call_is at t l h;
   super_is = λ w. all.super_is w;
   dots_is = λ comma place. all.dots_is comma place;
+  def_is = λ k d. all.def_is k d;
   block_is = λ n. all.block_is n;
   jump_is = λ j. all.jump_is j;
   yield_is = λ at e h. all.yield_is at e h;
@@ -91,6 +92,7 @@ expansions_graded = let all = tells_graded expanded in record {
   bare_is = λ h k. all.bare_is h k;
   loop_is = λ l is p h k. all.loop_is l is p h k;
   labelled_is = λ l is k. all.labelled_is l is k;
+  defined_is = λ d h. all.defined_is d h;
   try_is = λ at typed k of b hs hp t more. all.try_is at typed (λ x ss. k x) of b hs hp t more;
   inner_is = λ l h. all.inner_is l h;
   constant_is = λ e h. all.constant_is e h;

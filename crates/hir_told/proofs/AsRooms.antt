@@ -28,6 +28,7 @@ use Rattle.hir_one_result.specs.Size.{Size, dots_behind, nothing, a_label, a_mad
 use Rattle.hir_one_result.specs.Laws.{GrownUnless}
 use Rattle.hir_steps.proofs.Calls.{only_note}
 use Rattle.hir_one_result.proofs.CallRooms.{takes_called_type, takes_gone, takes_told, tells_called}
+use Rattle.hir_one_result.proofs.DefRooms.{define_takes, inside_takes}
 use Rattle.hir_one_result.proofs.FunctionRooms.{coroutine_body_takes}
 use Rattle.hir_one_result.proofs.ClosureRooms.{closure_takes, coroutine_takes, takes_owned, takes_owning}
 use Rattle.hir_one_result.proofs.CoroutineRooms.{coroutine_closure_takes}
@@ -204,6 +205,7 @@ rooms_graded = record {
   hands_call_is = λ at t l h. takes_of (tells_called at (λ r. r.0) l (tells_any h));
   super_is = λ w. takes_of (counted_tells w);
   dots_is = λ comma place. dots_take comma place;
+  def_is = λ k d. define_takes k d;
   block_is = λ n. takes_block n;
   jump_is = λ j. takes_jump j;
   yield_is = λ at e h. (yield_takes at e h.0, yield_last at e h.1);
@@ -226,6 +228,7 @@ rooms_graded = record {
     takes_then (takes_open l) (λ n. takes_end (k n).0 (λ i. takes_end takes_close (λ u. takes_pure i))),
     labelled_last l (λ n. (k n).1),
   );
+  defined_is = λ d h. inside_takes d h;
   try_is = λ at typed k of b hs hp t more. try_takes at typed k of b hs hp t more;
   inner_is = λ l h. takes_inner (limit_body l) h.0;
   constant_is = λ e h. takes_owned (constant_body e) h.1 h.0;

@@ -28,6 +28,7 @@ use Rattle.hir_one_result.proofs.Around.{block_is_rib, in_loop, loop_is_rib, try
 use Rattle.hir_one_result.proofs.CallTelling.{gone_tells, note_tells, tells_point_pat, tells_point_type, told_tells}
 use Rattle.hir_one_result.proofs.ClosureTelling.{closure_tells, coroutine_tells}
 use Rattle.hir_one_result.proofs.CoroutineTelling.{coroutine_body_tells, coroutine_closure_tells}
+use Rattle.hir_one_result.proofs.DefTelling.{define_tells, inside_tells}
 use Rattle.hir_one_result.proofs.MadeTelling.{tells_number}
 use Rattle.hir_one_result.proofs.PatTelling.{settle_tells, tells_binding, tells_define, tells_pat}
 use Rattle.hir_one_result.proofs.Telling.{Added, Listing, Tells, added_none, added_then, constant_tells, inner_tells, nothing, opened_tells}
@@ -141,6 +142,7 @@ module _ {X : Type 0} (L : Listing X) where
     hands_call_is = λ at t l h. tells_bind L h (λ r. tells_end L (tells_point_pat L at r.0) (λ u. tells_pure L r));
     super_is = λ w. tells_aside L (counted_aside (super_read w));
     dots_is = λ comma place. dots_tell comma place;
+    def_is = λ k d. define_tells L k d;
     block_is = λ n. tells_enter_block L n;
     jump_is = λ j. tells_target L j;
     yield_is = λ at e h. correct_yield at e h;
@@ -154,6 +156,7 @@ module _ {X : Type 0} (L : Listing X) where
     loop_is = λ l is p h k. opened_tells L loop_at l (loop_scope (Some l)) (λ n ps. refl) (λ n. loop_is_rib l n) (λ n. h) k;
     labelled_is = λ l is k.
         opened_tells L block_at l (block_scope l) (λ n ps. refl) (λ n. block_is_rib l n) k (λ n i. tells_pure L i);
+    defined_is = λ d h. inside_tells L d h;
     try_is = λ at typed k of b hs hp t more. try_tells at typed k of b hs hp t more;
     inner_is = λ l h. inner_tells L h;
     constant_is = λ e h. constant_tells L h;

@@ -1,14 +1,16 @@
 -- Whether a `yield` stands in it: an instance, beside that made names stay apart.
-use Rattle.std.proofs.Common.{◌≡◌, ◌∙◌, ap, subst, ◌||◌, ℕ, Bool, false, None, Ok, Err}
+use Rattle.std.proofs.Common.{◌≡◌, ◌∙◌, ap, subst, ◌||◌, ℕ, Bool, false, Some, None, Ok, Err}
 use Rattle.hir_binding.specs.declared.binding.BindingAnnotation.{BindingAnnotation}
 use Rattle.hir_store.specs.Pointers.{Pointer}
 use Rattle.hir_store.specs.declared.ids.LabelId.{LabelId}
+use Rattle.hir_env.specs.Answered as tree
 use Rattle.hir_lower_form.specs.Builder.{Builder}
 use Rattle.hir_lower_form.specs.Forms.{ExprSteps, StoredContents}
 use Rattle.hir_lower_form.specs.Lowering.{Checked, go_on, Lowering, ◌>>=◌, close, made_number, open_try}
 use Rattle.hir_lower_form.specs.Made.{made_bind_form}
 use Rattle.hir_lower_form.specs.Pats.{new_binding}
 use Rattle.hir_lower_form.specs.Walks.{super_read}
+use Rattle.hir_read_back.proofs.Definitions.{behind_raises, define_off}
 use Rattle.hir_steps.specs.Keeps.{Paired}
 use Rattle.hir_steps.proofs.Calls.{only_gone, only_note, only_told, point_pat_apart, point_type_apart, still_only, still_point_pat}
 use Rattle.hir_steps.proofs.Calls.{still_point_type}
@@ -130,6 +132,7 @@ yields_graded = let apart = apart_graded in record {
   );
   super_is = λ w. off (apart.super_is w) (counted_still (super_read w));
   dots_is = λ comma place. off (apart.dots_is comma place) (dots_still comma place);
+  def_is = λ k d. (apart.def_is k d, define_off k d);
   block_is = λ n. off (apart.block_is n) (still_enter_block n);
   jump_is = λ j. off (apart.jump_is j) (still_jump_target j);
   yield_is = λ at e h. (apart.yield_is at e h.0, raises_yield at e h.1);
@@ -155,6 +158,7 @@ yields_graded = let apart = apart_graded in record {
     apart.labelled_is l is (λ n. (k n).0),
     raises_begin (raises_open_label l) (λ n. raises_end (k n).1 (λ i. raises_begin raises_close (λ u. raises_pure i))),
   );
+  defined_is = λ d h. (apart.defined_is d h.0, behind_raises (tree.macro_stmt 0 (Some d)) h.1);
   try_is = λ at typed k of b hs hp t more. (
     apart.try_is at typed (λ x. tt) of b hs.0 hp.0 t (λ n r. (more n r).0),
     try_raises at typed k of b hs.1 hp.1 t (λ n r. (more n r).1),

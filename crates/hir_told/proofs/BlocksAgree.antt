@@ -19,7 +19,7 @@ use Rattle.hir_data.specs.Patterns.{is_dots}
 use Rattle.hir_data.specs.Uses.{FirstUses}
 use Rattle.hir_data.specs.Written.{written_path}
 use Rattle.hir_meaning.specs.Left.{gives_value, is_left}
-use Rattle.hir_scope.specs.Scopes.{Scope, barrier, block_scope, loop_scope, try_scope}
+use Rattle.hir_scope.specs.Scopes.{Scope, barrier, block_scope, loop_scope, macro_scope, try_scope}
 use Rattle.hir_one_result.specs.Blocks as now
 use Rattle.hir_one_result.specs.Laws.{BlocksAre}
 use Rattle.hir_one_result.specs.PatRoom.{names_after, names_after_each, names_after_field, names_after_part}
@@ -101,6 +101,13 @@ comma_none true ss = refl
 or_none : (at : Pointer) (ps : Pats) (ss : List Scope) → p.grade_or blocks at ps ss ≡ []
 or_none at tree.no_pats ss = refl
 or_none at (tree.more_pats q ps) ss = refl
+or_none at (tree.noted_pats c ps) ss = or_none at ps ss
+
+-- behind a statement, where it is the same in all scopes
+behind_is : (s : Stmt) {D : List Scope → List BlockId} {ns : List BlockId} → ((ss : List Scope) → D ss ≡ ns) → (ss : List Scope)
+    → p.grade_behind blocks s D ss ≡ ns
+behind_is (tree.macro_stmt k (Some d)) h ss = h (macro_scope d ∷ ss)
+behind_is s h ss = h ss
 
 name_none : (n : Name) (ss : List Scope) → p.grade_name_side blocks n ss ≡ []
 name_none name.Missing ss = refl
@@ -328,6 +335,7 @@ mutual
   pat_is (tree.paren_pat at q) us ss = pat_part_is q us ss
   pat_is (tree.macro_pat at c tree.no_pat) us ss = uncalled_pat_is at c ss
   pat_is (tree.macro_pat at c (tree.some_pat q)) us ss = behind (pat_is q us ss)
+  pat_is (tree.barred_pat at) us ss = refl
   pat_is (tree.slice_pat at before middle after) us ss =
       both (pats_are before us ss) (both (subpat_is middle (names_after_each before us) ss)
       (behind (pats_are after (names_after_part middle (names_after_each before us)) ss)))
@@ -340,6 +348,7 @@ mutual
   alternatives_are at tree.no_pats us ss = refl
   alternatives_are at (tree.more_pats q ps) us ss =
       both (pat_is q us ss) (first (pats_are ps (names_after q us) ss) (or_none at ps ss))
+  alternatives_are at (tree.noted_pats c ps) us ss = alternatives_are at ps us ss
 
   pat_part_is : (q : OptionPat) (us : FirstUses) (ss : List Scope) → g.grade_pat_part blocks q us ss ≡ now.blocks_of_top q
   pat_part_is tree.no_pat us ss = refl
@@ -356,10 +365,12 @@ mutual
   pats_are : (ps : Pats) (us : FirstUses) (ss : List Scope) → g.grade_pats blocks ps us ss ≡ now.blocks_of_pats ps
   pats_are tree.no_pats us ss = refl
   pats_are (tree.more_pats q ps) us ss = both (pat_is q us ss) (pats_are ps (names_after q us) ss)
+  pats_are (tree.noted_pats c ps) us ss = pats_are ps us ss
 
   elements_are : (ps : Pats) (us : FirstUses) (ss : List Scope) → g.grade_elements blocks ps us ss ≡ now.blocks_of_pats ps
   elements_are tree.no_pats us ss = refl
   elements_are (tree.more_pats q ps) us ss = both (element_is q _ ss (pat_is q us ss)) (elements_are ps (names_after q us) ss)
+  elements_are (tree.noted_pats c ps) us ss = elements_are ps us ss
 
   pat_fields_are : (fs : PatFields) (us : FirstUses) (ss : List Scope) → g.grade_pat_fields blocks fs us ss ≡ now.blocks_of_pat_fields fs
   pat_fields_are tree.no_pat_fields us ss = refl
@@ -517,7 +528,7 @@ mutual
   stmts_are : (st : Stmts) (e : OptionExpr) → ((ss : List Scope) → g.grade_kept blocks e ss ≡ now.blocks_of_part e) → (ss : List Scope)
       → g.grade_stmts blocks st (g.grade_kept blocks e) ss ≡ now.blocks_of_stmts st ++ now.blocks_of_part e
   stmts_are tree.no_stmts e h ss = h ss
-  stmts_are (tree.more_stmts s st) e h ss = both (stmt_is s ss) (stmts_are st e h ss)
+  stmts_are (tree.more_stmts s st) e h ss = both (stmt_is s ss) (behind_is s (λ at. stmts_are st e h at) ss)
       ∙ sym (append_assoc (now.blocks_of_stmt s) (now.blocks_of_stmts st) (now.blocks_of_part e))
 
   stmt_is : (s : Stmt) (ss : List Scope) → g.grade_stmt blocks s ss ≡ now.blocks_of_stmt s
@@ -525,6 +536,7 @@ mutual
   stmt_is (tree.disabled_stmt at by s) ss = refl
   stmt_is tree.item_stmt ss = refl
   stmt_is (tree.call_stmt c) ss = refl
+  stmt_is (tree.macro_stmt k d) ss = refl
   stmt_is (tree.let_stmt q t e b) ss =
       both (top_is q ss) (both (present_is t ss) (both (expr_present_is e ss) (block_present_is b ss)))
 

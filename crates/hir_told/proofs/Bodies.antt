@@ -29,9 +29,7 @@ module _ {ℓ} {S : Grading {ℓ}} (L : Graded S) where
   formal_graded false (tree.disabled_formal at by) = map_is L _ (L.fault_is _)
   formal_graded true (tree.disabled_formal at by) = map_is L _ (L.fault_is _)
   formal_graded true (tree.formal p) = map_is L _ (missing_pat_graded L)
-  formal_graded true (tree.fault_formal at) = map_is L _ (missing_pat_graded L)
   formal_graded false (tree.formal p) = map_is L _ (top_graded L p)
-  formal_graded false (tree.fault_formal at) = next L (L.fault_is _) (λ u. map_is L _ (missing_pat_graded L))
 
   formals_graded : (skipped : Bool) (done : List PatId) (fs : List Formal)
       → L.Claim (grade_formals S skipped fs) (each_formal skipped done fs)

@@ -22,6 +22,11 @@ module _ {ℓ} {S : Grading {ℓ}} (L : Graded S) where
   pub told_target_graded : (c : Called) {g : S.G} {p : Lowering PatId} → L.Claim g p → L.Claim (S.then' (S.told c) g) (told c >> p)
   told_target_graded c h = next L (L.told_is c) (λ u. h)
 
+  -- before steps that hand names on
+  pub told_hands : (c : Called) {A : Type 0} {t : Table} {g : S.G} {P : A × Table → Type 0} {p : Lowering (A × Table)}
+      → HandsTold L t g P p → HandsTold L t (S.then' (S.told c) g) P (told c >> p)
+  told_hands c h = hand_beside L (told_any L (L.told_is c)) (λ u x. h)
+
   module _ (at : Pointer) where
     pub uncalled_graded : (c : Called) → L.Made (S.then' (S.told c) S.expr) (uncalled_form at c)
     unfolding uncalled_form

@@ -1,6 +1,13 @@
 -- Small trees with calls of macros, worked out.
-use Rattle.std.proofs.Common.{refl}
+use Rattle.std.proofs.Common.{refl, ◌≡◌, [], ◌∷◌, Option, Some, None, true}
+use Rattle.hir_base.specs.declared.node.HirFileId.{HirFileId}
+use Rattle.hir_store.specs.Pointers.{Pointer}
+use Rattle.hir_store.specs.declared.ids.MacroDefId.{MacroDefId}
+use Rattle.hir_env.specs.Answered as tree
+use Rattle.hir_told.specs.Expanded.{expansions}
+use Rattle.hir_told.specs.Grades.{grade_stmts}
 use Rattle.hir_told.specs.Worked.{SmallCalls}
+use Rattle.hir_told.specs.WorkedOrders.{AllSmallOrders, call_alone, expr_call, recorded}
 
 pub small_calls : SmallCalls
 small_calls = record {
@@ -9,4 +16,24 @@ small_calls = record {
   unknown = λ at path. refl;
   unentered = λ at. refl;
   gone = λ c condition e. refl;
+}
+
+order_behind : (a b : Pointer) (f g : HirFileId) (d : Option MacroDefId) → grade_stmts expansions
+    (tree.more_stmts (tree.call_stmt (call_alone a f)) (tree.more_stmts (tree.macro_stmt 0 d)
+    (tree.more_stmts (tree.expr_stmt (tree.some_expr (expr_call b g)) true) tree.no_stmts))) []
+    ≡ recorded a f ∷ recorded b g ∷ []
+order_behind a b f g None = refl
+order_behind a b f g (Some d) = refl
+
+pub small_orders : AllSmallOrders
+small_orders a b f g = record {
+  types = refl;
+  patterns = refl;
+  lengths = λ at. refl;
+  paths = λ n k is also. refl;
+  dots = λ at. refl;
+  statements = order_behind a b f g;
+  bodies = refl;
+  coroutines = λ kind. refl;
+  skipped = refl;
 }

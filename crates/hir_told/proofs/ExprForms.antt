@@ -19,8 +19,9 @@ use Rattle.hir_store.specs.declared.path.GenericArgs.{GenericArgs}
 use Rattle.hir_store.specs.declared.path.Path.{Path as HirPath}
 use Rattle.hir_store.specs.declared.type_ref.ConstRef.{ConstRef}
 use Rattle.hir_env.specs.Answered as tree
-use Rattle.hir_env.specs.Answered.{Expr, IsWrittenLabel, Jump, Label, Listing, RangeForm}
+use Rattle.hir_env.specs.Answered.{Expr, IsWrittenLabel, Jump, Label, Listing, RangeForm, Stmt}
 use Rattle.hir_lower_form.specs.declared.closures.ClosureParams.{ClosureParams}
+use Rattle.hir_lower_form.specs.Calls.{behind}
 use Rattle.hir_lower_form.specs.Forms as forms
 use Rattle.hir_lower_form.specs.Forms.{ExprSteps, StoredContents, StoredFields, missing, kept, some}
 use Rattle.hir_lower_form.specs.Lowering.{Lowering, report_await}
@@ -28,7 +29,7 @@ use Rattle.hir_lower_form.specs.Ranges as ranges
 use Rattle.hir_lower_form.specs.Types.{TypeSteps}
 use Rattle.hir_one_result.specs.PathRoom.{Seen}
 use Rattle.hir_one_result.proofs.PathRooms.{GivesPath, option_seen}
-use Rattle.hir_told.specs.Grading.{Grading, grade_await, grade_front, grade_range, kept_of, labelled_of, record_of}
+use Rattle.hir_told.specs.Grading.{Grading, grade_await, grade_behind, grade_front, grade_range, kept_of, labelled_of, record_of}
 use Rattle.hir_told.proofs.Graded.{Graded, Told, next, made_next, map_is}
 use Rattle.hir_told.proofs.TypeForms.{made_by_path}
 
@@ -202,6 +203,11 @@ module _ {ℓ} {S : Grading {ℓ}} (L : Graded S) where
       → L.Claim (S.then' g h) (forms.record_contents fs s)
   unfolding forms.record_contents
   contents_graded hf hs = next L hf (λ fs. map_is L _ hs)
+
+  -- what comes behind a statement
+  pub behind_graded : (s : Stmt) {A : Type 0} {g : S.G} {p : Lowering A} → L.Claim g p → L.Claim (grade_behind S s g) (behind s p)
+  behind_graded (tree.macro_stmt k (Some d)) h = L.defined_is d h
+  behind_graded s h = h
 
   pub arm_graded : {g h k : S.G} {p : Lowering PatId} {e : ExprSteps} {guard : Lowering (Option ExprId)} → L.Claim g p → L.Made h e
       → L.Claim k guard → L.Claim (S.then' g (S.then' h k)) (forms.arm_form p e guard)

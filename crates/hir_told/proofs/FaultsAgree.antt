@@ -19,7 +19,7 @@ use Rattle.hir_data.specs.Patterns.{is_dots}
 use Rattle.hir_data.specs.Uses.{FirstUses}
 use Rattle.hir_data.specs.Written.{written_path}
 use Rattle.hir_meaning.specs.Left.{gives_value, is_left}
-use Rattle.hir_scope.specs.Scopes.{Scope, barrier, block_scope, loop_scope, scopes_in_block, try_scope}
+use Rattle.hir_scope.specs.Scopes.{Scope, barrier, block_scope, loop_scope, macro_scope, scopes_in_block, try_scope}
 use Rattle.hir_steps.specs.Calls.{called_faults}
 use Rattle.hir_one_result.specs.Blocks.{unless, where_goes_on, where_some}
 use Rattle.hir_one_result.specs.Diagnostics as now
@@ -127,6 +127,13 @@ comma_none true ss = refl
 or_none : (at : Pointer) (ps : Pats) (ss : List Scope) → p.grade_or faults at ps ss ≡ []
 or_none at tree.no_pats ss = refl
 or_none at (tree.more_pats q ps) ss = refl
+or_none at (tree.noted_pats c ps) ss = or_none at ps ss
+
+-- behind a statement
+behind_is : (s : Stmt) (D E : Told) → ((ss : List Scope) → Like (D ss) (E ss)) → (ss : List Scope)
+    → Like (p.grade_behind faults s D ss) (E (now.behind_stmt s ss))
+behind_is (tree.macro_stmt k (Some d)) D E h ss = h (macro_scope d ∷ ss)
+behind_is s D E h ss = h ss
 
 name_none : (n : Name) (ss : List Scope) → p.grade_name_side faults n ss ≡ []
 name_none name.Missing ss = refl
@@ -355,6 +362,7 @@ mutual
   pat_is (tree.paren_pat at q) us ss = pat_part_is q us ss
   pat_is (tree.macro_pat at c tree.no_pat) us ss = uncalled_pat_is at c ss
   pat_is (tree.macro_pat at c (tree.some_pat q)) us ss = both (same _) (behind (pat_is q us ss))
+  pat_is (tree.barred_pat at) us ss = same _
   pat_is (tree.slice_pat at before middle after) us ss =
       both (pats_are before us ss) (both (subpat_is middle (names_after_each before us) ss)
       (behind (pats_are after (names_after_part middle (names_after_each before us)) ss)))
@@ -367,6 +375,7 @@ mutual
   alternatives_are at tree.no_pats us ss = same _
   alternatives_are at (tree.more_pats q ps) us ss =
       both (pat_is q us ss) (first (pats_are ps (names_after q us) ss) (or_none at ps ss))
+  alternatives_are at (tree.noted_pats c ps) us ss = both (same _) (alternatives_are at ps us ss)
 
   pat_part_is : (q : OptionPat) (us : FirstUses) (ss : List Scope) → Like (g.grade_pat_part faults q us ss) (now.top_faults ss q)
   pat_part_is tree.no_pat us ss = same _
@@ -383,10 +392,12 @@ mutual
   pats_are : (ps : Pats) (us : FirstUses) (ss : List Scope) → Like (g.grade_pats faults ps us ss) (now.pats_faults ss ps)
   pats_are tree.no_pats us ss = same _
   pats_are (tree.more_pats q ps) us ss = both (pat_is q us ss) (pats_are ps (names_after q us) ss)
+  pats_are (tree.noted_pats c ps) us ss = both (same _) (pats_are ps us ss)
 
   elements_are : (ps : Pats) (us : FirstUses) (ss : List Scope) → Like (g.grade_elements faults ps us ss) (now.pats_faults ss ps)
   elements_are tree.no_pats us ss = same _
   elements_are (tree.more_pats q ps) us ss = both (element_is q _ ss (pat_is q us ss)) (elements_are ps (names_after q us) ss)
+  elements_are (tree.noted_pats c ps) us ss = both (same _) (elements_are ps us ss)
 
   pat_fields_are : (fs : PatFields) (us : FirstUses) (ss : List Scope) → Like (g.grade_pat_fields faults fs us ss)
       (now.pat_fields_faults ss fs)
@@ -552,13 +563,15 @@ mutual
       → (ss : List Scope) → Like (g.grade_stmts faults st (g.grade_kept faults e) ss)
       (now.contents_diagnostics ss st (λ inner. now.part_diagnostics inner e))
   stmts_are tree.no_stmts e h ss = h ss
-  stmts_are (tree.more_stmts s st) e h ss = both (stmt_is s ss) (stmts_are st e h ss)
+  stmts_are (tree.more_stmts s st) e h ss = both (stmt_is s ss) (behind_is s (g.grade_stmts faults st (g.grade_kept faults e))
+      (λ at. now.contents_diagnostics at st (λ inner. now.part_diagnostics inner e)) (λ at. stmts_are st e h at) ss)
 
   stmt_is : (s : Stmt) (ss : List Scope) → Like (g.grade_stmt faults s ss) (now.stmt_diagnostics ss s)
   stmt_is (tree.expr_stmt e semi) ss = kept_part_is e ss
   stmt_is (tree.disabled_stmt at by s) ss = same _
   stmt_is tree.item_stmt ss = same _
   stmt_is (tree.call_stmt c) ss = same _
+  stmt_is (tree.macro_stmt k d) ss = same _
   stmt_is (tree.let_stmt q t e b) ss =
       both (top_is q ss) (both (present_is t ss) (both (expr_present_is e ss) (block_present_is b ss)))
 

@@ -11,6 +11,7 @@ use Rattle.hir_store.specs.declared.ids.BindingId.{BindingId}
 use Rattle.hir_store.specs.declared.ids.BlockId.{BlockId}
 use Rattle.hir_store.specs.declared.ids.ExprId.{ExprId}
 use Rattle.hir_store.specs.declared.ids.LabelId.{LabelId}
+use Rattle.hir_store.specs.declared.ids.MacroDefId.{MacroDefId}
 use Rattle.hir_store.specs.declared.ids.PatId.{PatId}
 use Rattle.hir_store.specs.declared.ids.TypeRefId.{TypeRefId}
 use Rattle.hir_store.specs.declared.pat.Pat.{Pat as HirPat}
@@ -21,7 +22,7 @@ use Rattle.hir_data.specs.Patterns.{moved_by}
 use Rattle.hir_scope.specs.Ribs.{Try}
 use Rattle.hir_lower_form.specs.declared.closures.ClosureParams.{ClosureParams}
 use Rattle.hir_lower_form.specs.declared.walk.PathWalk.{PathWalk}
-use Rattle.hir_lower_form.specs.Calls.{note, note_gone, told}
+use Rattle.hir_lower_form.specs.Calls.{define_form, inside_macro, note, note_gone, told}
 use Rattle.hir_lower_form.specs.Forms.{ExprSteps, StoredContents, closure_form, constant_form, coroutine_block_form}
 use Rattle.hir_lower_form.specs.Forms.{coroutine_form, no_closure_params, value_form, yield_form}
 use Rattle.hir_lower_form.specs.Lower.{lower_params, lower_part, present_type}
@@ -101,6 +102,7 @@ pub record Graded {ℓ} (S : Grading {ℓ}) : Type (ℓ ⊔ 1) where
       → Hands t (S.then' g (S.pat_call at)) (p >>= (λ r. point_pat at r.0 >>= (λ _. pure r)))
   pub super_is : (w : PathWalk) → Claim (S.super (supers w.kind)) (counted (super_read w))
   pub dots_is : (comma : Bool) (place : Option ℕ) → Claim (S.dots (moved_by comma place)) (counted_dots comma place)
+  pub def_is : (k : ℕ) (d : Option MacroDefId) → Claim (S.def k) (define_form k d)
   pub block_is : (n : Option BlockId) → Claim (S.block n) (enter_block n)
   pub jump_is : (j : Option Jump) → Claim (S.jump j) (jump_target j)
   pub yield_is : (at : Pointer) (e : Lowering (Option ExprId)) {g : S.G} → Made g (value_form at hir.Yield e)
@@ -124,6 +126,8 @@ pub record Graded {ℓ} (S : Grading {ℓ}) : Type (ℓ ⊔ 1) where
       → Made (S.looped (Some l) g) (open_label l >>= (λ n. p >>= (λ i. close >>= (λ _. f n i))))
   pub labelled_is : (l : Label) → IsWritten l.name → {g : S.G} {f : LabelId → ExprSteps} → ((n : LabelId) → Made g (f n))
       → Made (S.labelled l g) (open_label l >>= (λ n. f n >>= (λ i. close >>= (λ _. pure i))))
+  -- behind the definition of a macro
+  pub defined_is : (d : MacroDefId) {A : Type 0} {g : S.G} {p : Lowering A} → Claim g p → Claim (S.defined d g) (inside_macro d p)
   -- what comes behind a `try` goes by something of what is in it, of which it is known that it is this
   pub try_is : (at : Pointer) (typed : Bool) {g h : S.G} (k : Bool → S.G) (of : StoredContents → Bool) (b : Bool)
       {s : Lowering (Unit {0})} {p : Lowering StoredContents} {f : LabelId → StoredContents → ExprSteps} → Claim g s → Claim h p

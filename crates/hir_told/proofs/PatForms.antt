@@ -126,6 +126,7 @@ module _ {ℓ} {S : Grading {ℓ}} (L : Graded S) where
   or_of_graded at tree.no_pats i (j ∷ is) h = absurd h
   or_of_graded at (tree.more_pats p ps) i [] h = absurd h
   or_of_graded at (tree.more_pats p ps) i (j ∷ is) h = L.pat_is _ (Some at)
+  or_of_graded at (tree.noted_pats c ps) i is h = or_of_graded at ps i is h
 
   pub or_graded : (at : Pointer) (ps : Pats) {g h : S.G} {us vs ws : FirstUses} {first : PatSteps}
       {later : List PatId → Table → Lowering (List PatId × Table)} → PatTold g us vs first → LaterTold h vs ws ps later

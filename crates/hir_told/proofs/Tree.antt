@@ -274,6 +274,7 @@ module _ {ℓ} {S : Grading {ℓ}} (L : Graded S) where
     pat_graded (tree.paren_pat at p) us = pat_part_graded p us
     pat_graded (tree.macro_pat at c tree.no_pat) us = pats.alone_graded L us (calls.uncalled_pat_graded L at c)
     pat_graded (tree.macro_pat at c (tree.some_pat p)) us = calls.called_pat_graded L at c (lower_pat_last p) (pat_graded p us)
+    pat_graded (tree.barred_pat at) us = pats.alone_graded L us (next L (L.fault_is _) (λ u. pats.missing_pat_graded L))
     pat_graded (tree.slice_pat at before middle behind) us =
         pats.slice_graded L at (pats_graded before us []) (subpat_graded middle (names_after_each before us))
         (pats_graded behind (names_after_part middle (names_after_each before us)) [])
@@ -287,6 +288,7 @@ module _ {ℓ} {S : Grading {ℓ}} (L : Graded S) where
     alternatives_graded at tree.no_pats us = pats.alone_graded L us (L.pat_is _ _)
     alternatives_graded at (tree.more_pats p ps) us =
         pats.or_graded L at ps (pat_graded p us) (later_graded ps (names_after p us))
+    alternatives_graded at (tree.noted_pats c ps) us = λ t k. calls.told_hands L c (alternatives_graded at ps us t k)
 
     later_graded : (ps : Pats) (us : FirstUses)
         → LaterTold L (g.grade_pats S ps us) us (names_after_each ps us) ps (λ done t. lower_later ps done t)
@@ -295,6 +297,7 @@ module _ {ℓ} {S : Grading {ℓ}} (L : Graded S) where
         hand_then L (hand_as L (next_alternative t) refl (pat_graded p us (next_alternative t) (record { each = k.each }))) (λ r e.
         hand_less L (λ s x. (x.0, (r.0 ∷ x.1.0, x.1.1 ∙ append_assoc done (r.0 ∷ []) x.1.0, x.1.2)))
         (later_graded ps (names_after p us) (done ++ r.0 ∷ []) r.1 e))
+    later_graded (tree.noted_pats c ps) us done t k = calls.told_hands L c (later_graded ps us done t k)
 
     pat_part_graded : (p : OptionPat) (us : FirstUses) → PatTold L (g.grade_pat_part S p us) us (names_after_part p us) (pat_part p)
     pat_part_graded tree.no_pat us t k = pats.alone_graded L us (pats.missing_pat_graded L) t k
@@ -309,12 +312,14 @@ module _ {ℓ} {S : Grading {ℓ}} (L : Graded S) where
     pats_graded tree.no_pats us done t k = hand_pure L done t refl k
     pats_graded (tree.more_pats p ps) us done t k =
         hand_then L (pat_graded p us t k) (λ r e. pats_graded ps (names_after p us) _ r.1 e)
+    pats_graded (tree.noted_pats c ps) us done t k = calls.told_hands L c (pats_graded ps us done t k)
 
     elements_graded : (ps : Pats) (us : FirstUses)
         → PartsTold L (g.grade_elements S ps us) us (names_after_each ps us) (dots_among ps) (λ done t. lower_elements done ps t)
     elements_graded tree.no_pats us done t k = hand_pure L done t refl (k, no_dots (length done.0) done.1)
     elements_graded (tree.more_pats p ps) us done t k =
         pats.element_graded L p (pat_graded p us) (elements_graded ps (names_after p us)) done t k
+    elements_graded (tree.noted_pats c ps) us done t k = calls.told_hands L c (elements_graded ps us done t k)
 
     pat_fields_graded : (fs : PatFields) (us : FirstUses) (done : List RecordFieldPat)
         → PatTold L (g.grade_pat_fields S fs us) us (names_after_fields fs us) (lower_pat_fields done fs)
@@ -502,12 +507,13 @@ module _ {ℓ} {S : Grading {ℓ}} (L : Graded S) where
     stmts_graded : (done : List Statement) (ss : Stmts) (e : OptionExpr) → L.Claim (g.grade_kept S e) (kept_part e)
         → L.Claim (g.grade_stmts S ss (g.grade_kept S e)) (lower_stmts done ss (kept_part e))
     stmts_graded done tree.no_stmts e h = map_is L _ h
-    stmts_graded done (tree.more_stmts s ss) e h = next L (stmt_graded s) (λ x. stmts_graded _ ss e h)
+    stmts_graded done (tree.more_stmts s ss) e h = next L (stmt_graded s) (λ x. exprs.behind_graded L s (stmts_graded _ ss e h))
 
     stmt_graded : (s : Stmt) → L.Claim (g.grade_stmt S s) (lower_stmt s)
     stmt_graded (tree.expr_stmt e semi) = map_is L _ (kept_part_graded e)
     stmt_graded (tree.disabled_stmt at by s) = map_is L _ (L.fault_is _)
     stmt_graded tree.item_stmt = L.pure_is _
     stmt_graded (tree.call_stmt c) = map_is L _ (L.noted_is c)
+    stmt_graded (tree.macro_stmt k d) = L.def_is k d
     stmt_graded (tree.let_stmt p t e b) =
         exprs.let_stmt_graded L (top_graded p) (present_graded t) (expr_present_graded e) (block_present_graded b)

@@ -1,6 +1,6 @@
 -- What is told of a body behind its parameters, which may be one of a function that is a coroutine.
 use Rattle.std.specs.Prelude.{Bool, true, false, List, [], ◌∷◌, Option, Some, None}
-use Rattle.hir_store.specs.declared.diagnostics.ExpressionStoreDiagnostics.TheVariants.{InactiveCode, PatternArgInExternFn}
+use Rattle.hir_store.specs.declared.diagnostics.ExpressionStoreDiagnostics.TheVariants.{InactiveCode}
 use Rattle.hir_store.specs.declared.hir.CoroutineKind.{CoroutineKind}
 use Rattle.hir_env.specs.Answered as tree
 use Rattle.hir_env.specs.Answered.{Formal, Formals, OptionExpr, SelfFormal}
@@ -21,9 +21,7 @@ module _ {ℓ} (S : Grading {ℓ}) where
   abbrev pub grade_formal : Bool → Formal → S.G
   grade_formal skipped (tree.disabled_formal at by) = S.fault (InactiveCode at by)
   grade_formal true (tree.formal p) = S.pat_at None
-  grade_formal true (tree.fault_formal at) = S.pat_at None
   grade_formal false (tree.formal p) = grade_top S p
-  grade_formal false (tree.fault_formal at) = S.then' (S.fault (PatternArgInExternFn at)) (S.pat_at None)
 
   abbrev pub grade_formals : Bool → List Formal → S.G
   grade_formals skipped [] = S.none

@@ -1,7 +1,7 @@
 -- What is told of a tree, by its parts in the order of lowering.
 use Rattle.std.specs.Prelude.{Bool, true, false, not, [], Some, None, is_some}
 use Rattle.hir_store.specs.Pointers.{Pointer}
-use Rattle.hir_store.specs.declared.diagnostics.ExpressionStoreDiagnostics.TheVariants.{InactiveCode}
+use Rattle.hir_store.specs.declared.diagnostics.ExpressionStoreDiagnostics.TheVariants.{InactiveCode, PatternArgInExternFn}
 use Rattle.hir_env.specs.Answered as tree
 use Rattle.hir_env.specs.Answered.{Type_, OptionType, Parts, Path, OptionPath, Segments, Segment, SegmentArgs, OptionParens, OptionRet}
 use Rattle.hir_env.specs.Answered.{OptionArgs, Args, Arg, Bounds, Bound, Side, TypePat, OptionTypePat, TypePats, Limit}
@@ -15,7 +15,7 @@ use Rattle.hir_one_result.specs.PathRoom.{Seen, nothing_seen, at_first, segments
 use Rattle.hir_one_result.specs.PatRoom.{names_after, names_after_part, names_after_each, names_after_field}
 use Rattle.hir_told.specs.Grading.{Grading, if_so, before, grade_lifetime, grade_uses, or_missing, grade_name, behind_comma, grade_or}
 use Rattle.hir_told.specs.Grading.{grade_name_side, grade_rest, grade_spread, kept_of, labelled_of, grade_front, record_of, grade_await}
-use Rattle.hir_told.specs.Grading.{grade_uncalled_pat, grade_uncalled_type}
+use Rattle.hir_told.specs.Grading.{grade_behind, grade_uncalled_pat, grade_uncalled_type}
 use Rattle.hir_told.specs.Grading.{grade_range, made_bind, item_call, flow_arm, residual, for_turn, grade_try}
 
 module _ {ℓ} (S : Grading {ℓ}) where
@@ -174,6 +174,7 @@ module _ {ℓ} (S : Grading {ℓ}) where
     grade_pat (tree.paren_pat at p) us = grade_pat_part p us
     grade_pat (tree.macro_pat at called tree.no_pat) us = grade_uncalled_pat S at called
     grade_pat (tree.macro_pat at called (tree.some_pat p)) us = S.then' (S.told called) (S.then' (grade_pat p us) (S.pat_call at))
+    grade_pat (tree.barred_pat at) us = S.then' (S.fault (PatternArgInExternFn at)) (S.pat_at None)
     grade_pat (tree.slice_pat at before middle behind) us =
         let between = names_after_each before us in
         let past = names_after_part middle between in
@@ -195,17 +196,20 @@ module _ {ℓ} (S : Grading {ℓ}) where
     pub grade_pats : Pats → FirstUses → S.G
     grade_pats tree.no_pats us = S.none
     grade_pats (tree.more_pats p ps) us = S.then' (grade_pat p us) (grade_pats ps (names_after p us))
+    grade_pats (tree.noted_pats called ps) us = S.then' (S.told called) (grade_pats ps us)
 
     pub grade_alternatives : Pointer → Pats → FirstUses → S.G
     grade_alternatives at tree.no_pats us = S.pat_at (Some at)
     grade_alternatives at (tree.more_pats p ps) us =
         S.then' (grade_pat p us) (S.then' (grade_pats ps (names_after p us)) (grade_or S at ps))
+    grade_alternatives at (tree.noted_pats called ps) us = S.then' (S.told called) (grade_alternatives at ps us)
 
     -- two dots are no part of a tuple
     pub grade_elements : Pats → FirstUses → S.G
     grade_elements tree.no_pats us = S.none
     grade_elements (tree.more_pats p ps) us =
         S.then' (if_so S (not (is_dots p)) (grade_pat p us)) (grade_elements ps (names_after p us))
+    grade_elements (tree.noted_pats called ps) us = S.then' (S.told called) (grade_elements ps us)
 
     pub grade_pat_fields : PatFields → FirstUses → S.G
     grade_pat_fields tree.no_pat_fields us = S.none
@@ -400,12 +404,13 @@ module _ {ℓ} (S : Grading {ℓ}) where
     -- with what is told of the tail
     pub grade_stmts : Stmts → S.G → S.G
     grade_stmts tree.no_stmts tail = tail
-    grade_stmts (tree.more_stmts s ss) tail = S.then' (grade_stmt s) (grade_stmts ss tail)
+    grade_stmts (tree.more_stmts s ss) tail = S.then' (grade_stmt s) (grade_behind S s (grade_stmts ss tail))
 
     pub grade_stmt : Stmt → S.G
     grade_stmt (tree.expr_stmt e semi) = grade_kept e
     grade_stmt (tree.disabled_stmt at by s) = S.fault (InactiveCode at by)
     grade_stmt tree.item_stmt = S.none
     grade_stmt (tree.call_stmt c) = S.noted c
+    grade_stmt (tree.macro_stmt k d) = S.def k
     grade_stmt (tree.let_stmt p t e b) =
         S.then' (grade_top p) (S.then' (grade_present t) (S.then' (grade_expr_present e) (grade_block_present b)))

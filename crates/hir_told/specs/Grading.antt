@@ -6,11 +6,12 @@ use Rattle.hir_store.specs.declared.diagnostics.ExpressionStoreDiagnostics.TheVa
 use Rattle.hir_store.specs.declared.diagnostics.ExpressionStoreDiagnostics.TheVariants.{FruInDestructuringAssignment}
 use Rattle.hir_store.specs.declared.diagnostics.AwaitLocation.{AwaitLocation}
 use Rattle.hir_store.specs.declared.ids.BlockId.{BlockId}
+use Rattle.hir_store.specs.declared.ids.MacroDefId.{MacroDefId}
 use Rattle.hir_store.specs.declared.name.Name.{Name}
 use Rattle.hir_store.specs.declared.name.Name.TheVariants as name
 use Rattle.hir_env.specs.Answered as tree
 use Rattle.hir_env.specs.Answered.{Called, Entered, Expr, Gone, Jump, Label, Lifetime, Limit, Listing, OptionExpr, Params, Pats, RangeForm}
-use Rattle.hir_env.specs.Answered.{Stmts, Use, UseRead}
+use Rattle.hir_env.specs.Answered.{Stmt, Stmts, Use, UseRead}
 use Rattle.hir_data.specs.Uses.{FirstUses}
 use Rattle.hir_meaning.specs.Left.{is_left, gives_value}
 use Rattle.hir_one_result.specs.PathRoom.{Seen, Read, goes_on}
@@ -36,17 +37,20 @@ pub record Grading {ℓ} : Type (ℓ + 1) where
   pub gone : Gone → G
   pub pat_call : Pointer → G
   pub type_call : Pointer → G
-  -- ---- what is counted: a `super` where so many stand behind it, and the parts in front of two dots
+  -- ---- what is counted: a `super` where so many stand behind it, the parts in front of two dots, and the definition of a macro where so
+  -- many of its name were counted
   pub super : ℕ → G
   pub dots : Option ℕ → G
+  pub def : ℕ → G
   -- ---- what is asked and noted: a jump for its target, a block that is entered, a name that is made up
   pub jump : Option Jump → G
   pub block : Option BlockId → G
   pub made_name : G
-  -- ---- what is in a `yield`, in a loop, which is stored behind it, and in a block with a label
+  -- ---- what is in a `yield`, in a loop, which is stored behind it, in a block with a label, and behind the definition of a macro
   pub yielding : G → G
   pub looped : Option Label → G → G
   pub labelled : Label → G → G
+  pub defined : MacroDefId → G → G
   -- a `try`: what is done first in it, what is in it, and what comes behind it
   pub tried : Bool → G → G → G → G
   -- ---- bodies inside: the end of a range in a type, a length or an argument, what is in a `const` block
@@ -103,7 +107,8 @@ module _ {ℓ} (S : Grading {ℓ}) where
   -- one alternative is that pattern; these stand behind it
   abbrev pub grade_or : Pointer → Pats → S.G
   grade_or at tree.no_pats = S.none
-  grade_or at ps = S.pat_at (Some at)
+  grade_or at (tree.more_pats p ps) = S.pat_at (Some at)
+  grade_or at (tree.noted_pats called ps) = grade_or at ps
 
   -- a plain name without name is no side
   abbrev pub grade_name_side : Name → S.G
@@ -140,6 +145,11 @@ module _ {ℓ} (S : Grading {ℓ}) where
   abbrev pub kept_of : Expr → S.G → S.G
   kept_of (tree.disabled_expr why e) g = S.gone why
   kept_of e g = g
+
+  -- what is told of what stands behind a statement
+  abbrev pub grade_behind : Stmt → S.G → S.G
+  grade_behind (tree.macro_stmt k (Some d)) g = S.defined d g
+  grade_behind s g = g
 
   abbrev pub labelled_of : Option Label → S.G → S.G
   labelled_of None g = g

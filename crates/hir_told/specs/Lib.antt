@@ -8,3 +8,4 @@ pub mod Expanded
 pub mod Sizes
 pub mod Laws
 pub mod Worked
+pub mod WorkedOrders

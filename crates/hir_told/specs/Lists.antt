@@ -2,7 +2,7 @@
 use Rattle.std.specs.Prelude.{List, [], ◌∷◌, ◌++◌, Option}
 use Rattle.hir_store.specs.declared.diagnostics.ExpressionStoreDiagnostics.{ExpressionStoreDiagnostics}
 use Rattle.hir_store.specs.declared.ids.BlockId.{BlockId}
-use Rattle.hir_scope.specs.Scopes.{Scope, barrier, block_scope, loop_scope, try_scope}
+use Rattle.hir_scope.specs.Scopes.{Scope, barrier, block_scope, loop_scope, macro_scope, try_scope}
 use Rattle.hir_one_result.specs.Diagnostics.{jump_faults}
 use Rattle.hir_steps.specs.Calls.{Expansions, called_faults, condition_faults, expansions_of_called, expansions_of_entered}
 use Rattle.hir_steps.specs.Calls.{expansions_of_gone}
@@ -32,12 +32,14 @@ module _ {X : Type 0} (of_faults : List ExpressionStoreDiagnostics → List X) (
     type_call = λ at. nothing;
     super = λ n. nothing;
     dots = λ n. nothing;
+    def = λ k. nothing;
     jump = λ j. λ ss. of_faults (jump_faults ss j);
     block = λ n. λ ss. of_block n;
     made_name = nothing;
     yielding = λ D. D;
     looped = λ label D. λ ss. D (loop_scope label ∷ ss);
     labelled = λ l D. λ ss. D (block_scope l ∷ ss);
+    defined = λ d D. λ ss. D (macro_scope d ∷ ss);
     tried = λ typed D E F. λ ss. (D (try_scope typed ∷ ss) ++ E (try_scope typed ∷ ss)) ++ F ss;
     inner = λ l D. λ ss. D (barrier ∷ ss);
     constant = λ e D. λ ss. D (barrier ∷ ss);

@@ -7,7 +7,7 @@ use Rattle.hir_one_result.specs.PreludeRoom.{handed_size, prelude_size, self_let
 use Rattle.hir_one_result.specs.Room.{formals_data, label_size}
 use Rattle.hir_one_result.specs.Size as size
 use Rattle.hir_one_result.specs.Size.{Size, a_binding, a_body, a_label, a_lifetime, a_made_name, a_pat, a_super, a_type}
-use Rattle.hir_one_result.specs.Size.{a_pat_call, a_type_call}
+use Rattle.hir_one_result.specs.Size.{a_def, a_pat_call, a_type_call}
 use Rattle.hir_one_result.specs.Size.{an_expr, dots_behind, nothing, ◌∪◌}
 use Rattle.hir_told.specs.Bodies.{GradingBodies}
 use Rattle.hir_told.specs.Grading.{Grading}
@@ -30,12 +30,14 @@ sizes = record {
   type_call = λ at. a_type_call at;
   super = λ n. a_super n;
   dots = λ n. dots_behind n;
+  def = λ k. a_def k;
   jump = λ j. nothing;
   block = λ n. nothing;
   made_name = a_made_name;
   yielding = λ n. n;
   looped = λ label n. label_size label ∪ (n ∪ an_expr);
   labelled = λ l n. a_label ∪ n;
+  defined = λ d n. n;
   tried = λ typed n k j. (a_made_name ∪ a_label) ∪ (n ∪ (k ∪ j));
   inner = λ l n. a_body (limit_body l) n;
   constant = λ e n. a_body (constant_body e) (size.owned n);

@@ -6,6 +6,7 @@ ghost use Rattle.hir_told.specs.Laws.{BodiesEnter, BodiesExpand, BodiesFit, Bodi
 ghost use Rattle.hir_told.specs.Laws.{ExprsEnter, ExprsExpand, ExprsFit, ExprsNote, ExprsReport};
 ghost use Rattle.hir_told.specs.Laws.{PathsExpand, PatsNote, TargetsNote, TypesExpand, TypesNote};
 ghost use Rattle.hir_told.specs.Worked.{SmallCalls};
+ghost use Rattle.hir_told.specs.WorkedOrders.{AllSmallOrders};
 
 /// A `yield` is noted where one is told of an expression, and nowhere else.
 pub fn exprs_note()
@@ -89,4 +90,11 @@ pub fn faults_follow()
 /// gone those are told that were entered to find that out.
 pub fn small_calls()
     ensures { SmallCalls }
+{}
+
+/// Small types, paths, patterns, statements and bodies with calls of macros: a call is entered before those in what it stands for, a length
+/// before elements, the last segment of a path before the first, a call that stands for two dots or for statements before what follows,
+/// and parameters before their body.
+pub fn small_orders()
+    ensures { AllSmallOrders }
 {}

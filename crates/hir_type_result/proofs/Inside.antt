@@ -68,6 +68,7 @@ use Rattle.hir_type_result.proofs.InsideTargets as aims
 use Rattle.hir_type_result.proofs.InsideClosures as closures
 use Rattle.hir_type_result.proofs.InsideForms as forms
 use Rattle.hir_type_result.proofs.InsideMade as made
+use Rattle.hir_type_result.proofs.DefInside.{behind_adds, behind_contains, define_adds}
 use Rattle.hir_type_result.proofs.InsideFors.{for_adds}
 use Rattle.hir_type_result.proofs.InsideForms.{maybe, each, a_field, a_spread, a_statement, contents, some_more, missing_adds, some_adds}
 use Rattle.hir_type_result.proofs.InsideForms.{kept_adds}
@@ -331,18 +332,19 @@ mutual
   stmts_add : (done : List Statement) (ss : Stmts) {tail : Lowering (Option ExprId)} → Correct tail (Adds free (maybe an_expr))
       → Correct (lower_stmts done ss tail) (Adds (each a_statement done) contents)
   stmts_add done tree.no_stmts h = adds_then (adds_beside (each a_statement done) h) (λ t. adds_pure _ (λ v. omega arith))
-  stmts_add done (tree.more_stmts s ss) h = some_more {cost = a_statement} (stmt_adds s) (λ xs. stmts_add xs ss h) done
+  stmts_add done (tree.more_stmts s ss) h = some_more {cost = a_statement} (stmt_adds s) (λ xs. behind_adds s (stmts_add xs ss h)) done
 
   stmts_apart : (done : List Statement) (ss : Stmts) {tail : Lowering (Option ExprId)} → Correct tail (Adds free (maybe an_expr))
       → Correct (lower_stmts done ss tail) (made.Contains done)
   stmts_apart done tree.no_stmts h = made.contains_tail done h
-  stmts_apart done (tree.more_stmts s ss) h = made.contains_more done (stmt_adds s) (λ xs. stmts_apart xs ss h)
+  stmts_apart done (tree.more_stmts s ss) h = made.contains_more done (stmt_adds s) (λ xs. behind_contains s (stmts_apart xs ss h))
 
   stmt_adds : (s : Stmt) → Correct (lower_stmt s) (Adds free (maybe a_statement))
   stmt_adds (tree.expr_stmt e semi) = forms.statement_adds semi (kept_part_adds e)
   stmt_adds (tree.disabled_stmt at by s) = adds_then (adds_any (correct_report _)) (λ u. adds_pure None (λ v. omega arith))
   stmt_adds tree.item_stmt = adds_pure _ (λ v. omega arith)
   stmt_adds (tree.call_stmt c) = adds_then (adds_any (correct_note c)) (λ u. adds_pure None (λ v. omega arith))
+  stmt_adds (tree.macro_stmt k d) = define_adds k d
   stmt_adds (tree.let_stmt p t e b) = pats.let_stmt_adds (top_adds p) (present_adds t) (present_expr_adds e) (present_block_adds b)
 
   present_block_adds : (b : OptionBlock) → Correct (present_block b) (Adds free (maybe an_expr))
@@ -380,6 +382,7 @@ mutual
   pat_adds (tree.paren_pat at p) t = pat_part_adds p t
   pat_adds (tree.macro_pat at c tree.no_pat) t = pats.alone_adds (pats.uncalled_pat_adds at c) t
   pat_adds (tree.macro_pat at c (tree.some_pat p)) t = pats.called_adds at c (λ r. r.0) (pat_adds p t)
+  pat_adds (tree.barred_pat at) t = pats.alone_adds (pats.barred_pat_adds at) t
   pat_adds (tree.slice_pat at before p behind) t =
       pats.slice_pat_adds at (pats_add [] before) (subpat_adds p) (pats_add [] behind) t
   pat_adds (tree.over_pat at form p) t = pats.over_pat_adds at form (pat_part_adds p) t
@@ -398,20 +401,24 @@ mutual
   pats_add done tree.no_pats t = adds_pure (done, t) (λ v. omega arith)
   pats_add done (tree.more_pats p ps) t = adds_then (adds_beside (pats.pats done) (pat_adds p t))
       (λ r. adds_from (pats.pushed done r.0) (pats_add (done ++ r.0 ∷ []) ps r.1))
+  pats_add done (tree.noted_pats c ps) t = adds_then (adds_any (correct_told c)) (λ u. pats_add done ps t)
 
   elements_add : (done : Elements) (ps : Pats) → pats.Each (pats.elements done) pats.elements (lower_elements done ps)
   elements_add done tree.no_pats t = adds_pure (done, t) (λ v. omega arith)
   elements_add done (tree.more_pats p ps) t =
       adds_then (pats.element_adds (is_dots p) done (pat_adds p) t) (λ r. elements_add r.0 ps r.1)
+  elements_add done (tree.noted_pats c ps) t = adds_then (adds_any (correct_told c)) (λ u. elements_add done ps t)
 
   alternatives_add : (at : Pointer) (ps : Pats) → pats.Each free a_pat (lower_alternatives at ps)
   alternatives_add at tree.no_pats t = pats.alone_adds (adds_pat _ (Some at) (λ v. omega arith)) t
   alternatives_add at (tree.more_pats p ps) t = pats.or_adds at (pat_adds p) (λ done. later_add ps done) t
+  alternatives_add at (tree.noted_pats c ps) t = adds_then (adds_any (correct_told c)) (λ u. alternatives_add at ps t)
 
   later_add : (ps : Pats) (done : List PatId) → pats.Each (pats.pats done) pats.pats (lower_later ps done)
   later_add tree.no_pats done t = adds_pure (done, t) (λ v. omega arith)
   later_add (tree.more_pats p ps) done t = adds_then (adds_beside (pats.pats done) (pat_adds p (next_alternative t)))
       (λ r. adds_from (pats.pushed done r.0) (later_add ps (done ++ r.0 ∷ []) r.1))
+  later_add (tree.noted_pats c ps) done t = adds_then (adds_any (correct_told c)) (λ u. later_add ps done t)
 
   pat_fields_add : (done : List RecordFieldPat) (fs : PatFields) → pats.Each (pats.fields done) pats.fields (lower_pat_fields done fs)
   pat_fields_add done tree.no_pat_fields t = adds_pure (done, t) (λ v. omega arith)

@@ -40,9 +40,7 @@ present_adds h = adds_then h (λ i. adds_pure (Some i) (λ v. omega arith))
 formal_adds : (skipped : Bool) (f : Formal) → Correct (lower_formal skipped f) (Adds free maybe_pat)
 formal_adds skipped (tree.disabled_formal at by) = adds_then (adds_any (correct_report _)) (λ u. adds_pure None (λ v. omega arith))
 formal_adds true (tree.formal p) = present_adds missing_pat_adds
-formal_adds true (tree.fault_formal at) = present_adds missing_pat_adds
 formal_adds false (tree.formal p) = present_adds (top_adds p)
-formal_adds false (tree.fault_formal at) = adds_then (adds_any (correct_report _)) (λ u. present_adds missing_pat_adds)
 
 -- one more, where there is one
 pushed_if : (done : List PatId) (o : Option PatId) (v : View) → pats (push_some done o) v ≤ beside (pats done) (maybe_pat o) v

@@ -30,7 +30,7 @@ use Rattle.hir_meaning.specs.Inner.{all_of, of_limit, of_path, of_pat_field, of_
 use Rattle.hir_steps.proofs.Calls.{correct_point_pat, correct_told}
 use Rattle.hir_steps.proofs.PatAny.{dots_any, name_any}
 use Rattle.hir_steps.proofs.PatSteps.{correct_define, correct_point_pat_field}
-use Rattle.hir_steps.proofs.Steps.{Correct}
+use Rattle.hir_steps.proofs.Steps.{Correct, correct_report}
 use Rattle.hir_same_meaning.specs.Reached.{of_arms, of_some}
 use Rattle.hir_type_result.proofs.Counted.{times, times_append}
 use Rattle.hir_type_result.proofs.Weights as weights
@@ -322,6 +322,9 @@ missing_type_pat_adds = adds_type_pat pat.Missing None (λ v. omega arith)
 pub uncalled_pat_adds : (at : Pointer) (c : Called) → Correct (forms.uncalled_pat at c) (Adds free a_pat)
 uncalled_pat_adds at tree.callless = missing_pat_adds
 uncalled_pat_adds at c = called_adds at c (λ i. i) missing_pat_adds
+
+pub barred_pat_adds : (at : Pointer) → Correct (forms.barred_pat_form at) (Adds free a_pat)
+barred_pat_adds at = adds_then (adds_any (correct_report _)) (λ u. missing_pat_adds)
 
 pub uncalled_type_pat_adds : (at : Pointer) (c : Called) → Correct (forms.uncalled_pat at c) (Adds free a_type_pat)
 uncalled_type_pat_adds at tree.callless = missing_type_pat_adds

@@ -10,6 +10,7 @@ pub mod NamingPreludes
 pub mod ClosureNaming
 pub mod NamingMade
 pub mod NamingFors
+pub mod DefNaming
 pub mod TreeNamed
 pub mod Named
 pub mod Ranges
@@ -32,5 +33,6 @@ pub mod InsideClosures
 pub mod InsideTargets
 pub mod InsideMade
 pub mod InsideFors
+pub mod DefInside
 pub mod Inside
 pub mod InsideBody

@@ -144,9 +144,7 @@ formal_adds : (skipped : Bool) (f : Formal) → Correct (lower_formal skipped f)
 formal_adds true (tree.disabled_formal at by) = adds_then (quiet_report _) (λ u. adds_pure None (λ l k. omega arith))
 formal_adds false (tree.disabled_formal at by) = adds_then (quiet_report _) (λ u. adds_pure None (λ l k. omega arith))
 formal_adds true (tree.formal p) = present_adds missing_named
-formal_adds true (tree.fault_formal at) = present_adds missing_named
 formal_adds false (tree.formal p) = present_adds (top_adds p)
-formal_adds false (tree.fault_formal at) = adds_then (quiet_report _) (λ u. present_adds missing_named)
 
 each_formal_adds : (skipped : Bool) (done : List PatId) (fs : List Formal) → Correct (each_formal skipped done fs) (Adds (pats done) pats)
 each_formal_adds skipped done [] = adds_pure done (λ l k. omega arith)

@@ -95,6 +95,9 @@ pub uncalled_pat_names : (at : Pointer) (c : Called) → Correct (forms.uncalled
 uncalled_pat_names at tree.callless = missing_named
 uncalled_pat_names at c = called_names at c (λ i. i) missing_named
 
+pub barred_pat_names : (at : Pointer) → Correct (forms.barred_pat_form at) (Adds none a_pat)
+barred_pat_names at = adds_then (quiet_report _) (λ u. missing_named)
+
 pub leaf_pat_adds : (at : Pointer) (form : PatLeaf) → Correct (alloc_pat (forms.stored_pat_leaf form) (Some at)) (Adds none a_pat)
 leaf_pat_adds at tree.wild_leaf = adds_pat _ (Some at) (λ l k. omega arith)
 leaf_pat_adds at tree.rest_leaf = adds_pat _ (Some at) (λ l k. omega arith)

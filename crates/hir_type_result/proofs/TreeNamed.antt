@@ -60,6 +60,7 @@ use Rattle.hir_type_result.proofs.NamingForms.{missing_quiet, leaf_quiet, unary_
 use Rattle.hir_type_result.proofs.NamingForms.{turn_quiet, repeat_quiet, const_quiet}
 use Rattle.hir_type_result.proofs.NamingMade.{question_quiet, try_block_quiet, typed_try_quiet}
 use Rattle.hir_type_result.proofs.NamingFors.{for_quiet}
+use Rattle.hir_type_result.proofs.DefNaming.{behind_named, define_named, told_named}
 use Rattle.hir_env.specs.Targets.{head_pointer}
 use Rattle.hir_type_result.proofs.NamingForms.{call_quiet, continue_quiet, break_quiet, paren_quiet, operand_quiet, operands_quiet}
 use Rattle.hir_type_result.proofs.ClosureNaming.{closure_quiet, coroutine_block_quiet, coroutine_closure_quiet, coroutine_quiet}
@@ -342,13 +343,14 @@ mutual
   stmts_add : (done : List Statement) (ss : Stmts) {tail : Lowering (Option ExprId)} → Correct tail Quiet
       → Correct (lower_stmts done ss tail) (Adds (pats.statements done) contents)
   stmts_add done tree.no_stmts h = adds_then (adds_quiet h) (λ t. adds_pure (done, t) (λ l k. omega arith))
-  stmts_add done (tree.more_stmts s ss) h = some_then of_statement (stmt_adds s) (λ xs. stmts_add xs ss h) done
+  stmts_add done (tree.more_stmts s ss) h = some_then of_statement (stmt_adds s) (λ xs. behind_named s (stmts_add xs ss h)) done
 
   stmt_adds : (s : Stmt) → Correct (lower_stmt s) (Adds none pats.maybe_statement)
   stmt_adds (tree.expr_stmt e semi) = adds_then (kept_part_quiet e) (expr_statement semi)
   stmt_adds (tree.disabled_stmt at by s) = adds_then (quiet_report _) (λ u. adds_pure None (λ l k. omega arith))
   stmt_adds tree.item_stmt = adds_pure _ (λ l k. omega arith)
   stmt_adds (tree.call_stmt c) = adds_then (quiet_only (only_note c)) (λ u. adds_pure None (λ l k. omega arith))
+  stmt_adds (tree.macro_stmt k d) = define_named k d
   stmt_adds (tree.let_stmt p t e b) = pats.let_stmt_adds (top_adds p) (present_adds t) (present_quiet e) (present_block_quiet b)
 
   present_block_quiet : (b : OptionBlock) → Correct (present_block b) Quiet
@@ -386,6 +388,7 @@ mutual
   pat_adds (tree.paren_pat at p) t = pat_part_adds p t
   pat_adds (tree.macro_pat at c tree.no_pat) t = pats.alone_adds (uncalled_pat_names at c) t
   pat_adds (tree.macro_pat at c (tree.some_pat p)) t = pats.called_adds at c (pat_adds p) t
+  pat_adds (tree.barred_pat at) t = pats.alone_adds (pats.barred_pat_names at) t
   pat_adds (tree.slice_pat at before p behind) t =
       pats.slice_pat_adds at (pats_add [] before) (subpat_adds p) (pats_add [] behind) t
   pat_adds (tree.over_pat at form p) t = pats.over_pat_adds at form (pat_part_adds p) t
@@ -404,20 +407,24 @@ mutual
   pats_add done tree.no_pats t = adds_done (done, t) (λ l k. omega arith) (λ P x. x)
   pats_add done (tree.more_pats p ps) t = adds_then (adds_beside (pats.pats done) (pat_adds p t))
       (λ r. adds_from (λ l. pats.pushed done r.0 l) (pats_add (done ++ r.0 ∷ []) ps r.1))
+  pats_add done (tree.noted_pats c ps) t = adds_then (told_named c) (λ u. pats_add done ps t)
 
   elements_add : (done : Elements) (ps : Pats) → pats.Each (pats.elements done) pats.elements (lower_elements done ps)
   elements_add done tree.no_pats t = adds_done (done, t) (λ l k. omega arith) (λ P x. x)
   elements_add done (tree.more_pats p ps) t =
       adds_then (pats.element_adds (is_dots p) done (pat_adds p) t) (λ r. elements_add r.0 ps r.1)
+  elements_add done (tree.noted_pats c ps) t = adds_then (told_named c) (λ u. elements_add done ps t)
 
   alternatives_add : (at : Pointer) (ps : Pats) → pats.Each none a_pat (lower_alternatives at ps)
   alternatives_add at tree.no_pats t = pats.alone_adds (adds_pat _ (Some at) (λ l k. omega arith)) t
   alternatives_add at (tree.more_pats p ps) t = pats.or_adds at (pat_adds p) (λ done. later_add ps done) t
+  alternatives_add at (tree.noted_pats c ps) t = adds_then (told_named c) (λ u. alternatives_add at ps t)
 
   later_add : (ps : Pats) (done : List PatId) → pats.Each (pats.pats done) pats.pats (lower_later ps done)
   later_add tree.no_pats done t = adds_done (done, t) (λ l k. omega arith) (λ P x. x)
   later_add (tree.more_pats p ps) done t = adds_then (adds_beside (pats.pats done) (pat_adds p (next_alternative t)))
       (λ r. adds_from (λ l. pats.pushed done r.0 l) (later_add ps (done ++ r.0 ∷ []) r.1))
+  later_add (tree.noted_pats c ps) done t = adds_then (told_named c) (λ u. later_add ps done t)
 
   pat_fields_add : (done : List RecordFieldPat) (fs : PatFields) → pats.Each (pats.fields done) pats.fields (lower_pat_fields done fs)
   pat_fields_add done tree.no_pat_fields t = adds_done (done, t) (λ l k. omega arith) (λ P x. x)

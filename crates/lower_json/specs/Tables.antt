@@ -1,7 +1,7 @@
 -- The tables of a document. What is no entry of a table says nothing.
 use Rattle.std.specs.Prelude.{ℕ, codes, Bool, true, List, [], ◌∷◌, Option, Some, None, option_map, option_and_then}
 use Rattle.serde_json.specs.Data.{Data, null, boolean, number, string, array, object, Items, no_items, item}
-use Rattle.serde_json.specs.Find.{get, as_array, as_str}
+use Rattle.serde_json.specs.Find.{get, as_array, as_bool, as_str}
 use Rattle.hir_env.specs.NodeMap.{Site}
 use Rattle.hir_tables.specs.Tables as answered
 use Rattle.hir_env.specs.Tables.{numbered_items}
@@ -86,19 +86,20 @@ outer_macro_of n = option_map (λ m. option_map (λ n. record { 0 = n }) m) n
 abbrev pub crate_root_of : Option (Option ℕ) → Option (Option CrateId)
 crate_root_of n = option_map (λ m. option_map (λ n. record { 0 = n }) m) n
 
-abbrev pub frame_of : Option ℕ → Option ℕ → Option (Option MacroDefId) → Option (Option CrateId) → Option Context
-frame_of (Some parent) (Some opaque) (Some outer) (Some root) = Some (record {
+abbrev pub frame_of : Option ℕ → Option ℕ → Option (Option MacroDefId) → Option Bool → Option (Option CrateId) → Option Context
+frame_of (Some parent) (Some opaque) (Some outer) (Some local) (Some root) = Some (record {
   parent = record { 0 = parent };
   opaque = record { 0 = opaque };
   outer_macro = outer;
+  local_inner = local;
   crate_root = root;
 })
-frame_of _ _ _ _ = None
+frame_of _ _ _ _ _ = None
 
--- [context, parent, opaque, macro or null, whether its names are local to the macro, crate or null]
+-- [context, parent, opaque, macro or null, whether that is local to its crate, crate or null]
 abbrev pub context_of : Option Items → Option (CtxId × Context)
 context_of (Some (item c (item p (item o (item m (item l (item r no_items))))))) = both (context_id_of (small_of c))
-    (frame_of (small_of p) (small_of o) (outer_macro_of (number_or_null m)) (crate_root_of (number_or_null r)))
+    (frame_of (small_of p) (small_of o) (outer_macro_of (number_or_null m)) (as_bool l) (crate_root_of (number_or_null r)))
 context_of _ = None
 
 abbrev pub with_entry : {K T E : Type 0} → (List E → K → T → List E) → Option (K × T) → List E → List E

@@ -2,7 +2,7 @@
 
 ghost use Rattle.std.specs.Prelude.{◌≡◌, Some, IfOk, OnOk, codes};
 ghost use Rattle.serde_json.specs.View.{view, items_view};
-ghost use Rattle.serde_json.specs.Find.{as_array, get};
+ghost use Rattle.serde_json.specs.Find.{as_array, as_bool, get};
 ghost use Rattle.json_faults.specs.Documents.{nodes};
 ghost use Rattle.json_faults.specs.Values.{small_of};
 ghost use Rattle.hir_tables.specs.Tables.{with_context, with_first, with_pred};
@@ -143,27 +143,34 @@ fn crate_root(value: &Value) -> Option<Option<CrateId>>
     }
 }
 
-fn frame(parent: &Value, opaque: &Value, outer: &Value, root: &Value) -> Option<Context>
+fn frame(
+    parent: &Value,
+    opaque: &Value,
+    outer: &Value,
+    local: &Value,
+    root: &Value,
+) -> Option<Context>
     ensures { result ≡ frame_of (small_of (view parent.now)) (small_of (view opaque.now))
-        (outer_macro_of (number_or_null (view outer.now))) (crate_root_of (number_or_null (view root.now))) }
+        (outer_macro_of (number_or_null (view outer.now))) (as_bool (view local.now)) (crate_root_of (number_or_null (view root.now))) }
 {
     Some(Context {
         parent: CtxId(small(parent)?),
         opaque: HygieneId(small(opaque)?),
         outer_macro: outer_macro(outer)?,
+        local_inner: local.as_bool()?,
         crate_root: crate_root(root)?,
     })
 }
 
-/// What an entry says of a context. Whether its macro's names are local to the macro isn't asked yet.
+/// What an entry says of a context.
 #[tactic(auto, using(crate::proofs::Tuples::under_six, crate::proofs::Tuples::over_six))]
 fn context_with(items: &[Value]) -> Option<(CtxId, Context)>
     ensures { result ≡ context_of (Some (items_view items.now)) }
 {
     match items {
-        [context, parent, opaque, outer, _, root] => Some((
+        [context, parent, opaque, outer, local, root] => Some((
             context_id(context)?,
-            frame(parent, opaque, outer, root)?,
+            frame(parent, opaque, outer, local, root)?,
         )),
         _ => None,
     }

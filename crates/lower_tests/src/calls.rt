@@ -1,4 +1,4 @@
-//! Calls of macros without end, which an object answers, and what a collector answers to a call behind a refusal.
+//! Calls of macros that an object answers, without end and otherwise, and what a collector answers to a call behind a refusal.
 
 use crate::collectors::{collector, with_store};
 use crate::documents::{length_in, with_document};
@@ -47,7 +47,7 @@ const NONE_ENTERED: &str = r#"{
 }"#;
 
 /// How many expansions are recorded, and how many faults.
-fn counted(source_map: &ExpressionStoreSourceMap) -> (usize, usize) {
+pub fn counted(source_map: &ExpressionStoreSourceMap) -> (usize, usize) {
     (
         source_map.expansions().len(),
         source_map.diagnostics().len(),
@@ -67,6 +67,54 @@ fn calls_without_end_are_entered_up_to_the_limit(rt: HostRuntime) {
 fn no_call_is_entered_where_the_limit_is_zero(rt: HostRuntime) {
     assert!(rt;
         with_lowered_by_object(rt.alloc(), NONE_ENTERED, &counted_of_body) == Ok(Some((0, 0)))
+    );
+}
+
+/// `'a: loop { macro_rules! m {..} m!() }`, where m stands for `break 'a`, whose label's context was made in itself.
+const ITS_OWN_PARENT: &str = r#"{
+    "nodes": [
+        {"k": "Fn", "body": 1},
+        {"k": "BlockExpr", "tail": 2},
+        {"k": "LoopExpr", "label": 3, "body": 4},
+        {"k": "Label", "lifetime": "'a"},
+        {"k": "BlockExpr", "stmts": [5], "tail": 6},
+        {"k": "MacroRules", "name": "m"},
+        {"k": "MacroExpr", "call": 7},
+        {"k": "MacroCall"},
+        {"k": "MacroStmts", "expr": 9},
+        {"k": "BreakExpr", "lifetime": "'a"}
+    ],
+    "env": {
+        "hygiene": [[1, 9, 1]],
+        "contexts": [[1, 1, 1, 9, false, null]],
+        "macros": [[0, 7, "file", 1, 8]],
+        "legacy": [[0, "m", 0, 9]]
+    }
+}"#;
+
+#[test]
+fn a_search_ends_in_a_context_that_is_its_own_parent(rt: HostRuntime) {
+    assert!(rt;
+        with_lowered_by_object(rt.alloc(), ITS_OWN_PARENT, &counted_of_body) == Ok(Some((1, 1)))
+    );
+}
+
+/// `m!()` as an expression, which is expanded to a type.
+const OTHER_KIND: &str = r#"{
+    "owner": "const",
+    "nodes": [
+        {"k": "Fn", "body": 1},
+        {"k": "MacroExpr", "call": 2},
+        {"k": "MacroCall"},
+        {"k": "NeverType"}
+    ],
+    "env": {"macros": [[0, 2, "file", 1, 3]]}
+}"#;
+
+#[test]
+fn a_call_that_is_expanded_to_another_kind_is_recorded(rt: HostRuntime) {
+    assert!(rt;
+        with_lowered_by_object(rt.alloc(), OTHER_KIND, &counted_of_body) == Ok(Some((1, 0)))
     );
 }
 

@@ -18,6 +18,8 @@ mod definitions;
 #[cfg(test)]
 mod documents;
 #[cfg(test)]
+mod endless;
+#[cfg(test)]
 mod errors;
 #[cfg(test)]
 mod inner;
@@ -27,6 +29,8 @@ mod limits;
 mod listings;
 #[cfg(test)]
 mod lowered;
+#[cfg(test)]
+mod macros;
 #[cfg(test)]
 mod nodes;
 #[cfg(test)]

@@ -11,7 +11,7 @@ use lower_json::fault::ReadError;
 use std::alloc::Global;
 
 /// The lowered body of an item, none where lowering answers an error.
-fn lowered_item<E: LowerEnv>(
+pub fn lowered_item<E: LowerEnv>(
     alloc: Global,
     env: &E,
     owner: DefWithBodyId,
@@ -55,7 +55,7 @@ fn lowered_by_object(alloc: Global, document: &Document) -> Option<(Body, BodySo
 }
 
 /// What is answered of a body, if there is one. No other function owns a body.
-fn asked<R, F: Fn(&Body, &BodySourceMap) -> R>(
+pub fn asked<R, F: Fn(&Body, &BodySourceMap) -> R>(
     lowered: Option<(Body, BodySourceMap)>,
     ask: &F,
 ) -> Option<R>

@@ -122,3 +122,44 @@ if listed; then
 else
     echo "FAILED expansion_of_a_call_as_deep_as_allowed: $(head -c 200 "$work/err")"
 fi
+
+# A call in another place, behind five nodes, whose expansion is this many nodes inside one another: these five, the place of its root,
+# what each of the others is, and the innermost.
+fragment() {
+    awk -v "levels=$1" -v "front=$2" -v "root=$3" -v "kind=$4" -v "field=$5" -v "leaf=$6" 'BEGIN {
+        printf "{\"owner\":\"const\",\"nodes\":[%s", front
+        for (i = 5; i < levels + root - 1; i++) printf ",{\"k\":\"%s\",\"%s\":%d}", kind, field, i + 1
+        printf ",{%s}],\"env\":{\"macros\":[[0,3,\"file\",1,%d]]}}", leaf, root
+    }' >"$work/document"
+}
+
+# As deep as allowed it has this listing; one level more is too deep.
+deep_fragment() {
+    printf '%s\nexpansion @3 1\n' "$2" >"$work/listing"
+    name=$1
+    shift 2
+    fragment 256 "$@"
+    if listed; then
+        echo "passed ${name}_as_deep_as_allowed"
+    else
+        echo "FAILED ${name}_as_deep_as_allowed: $(head -c 200 "$work/err")"
+    fi
+    fragment 257 "$@"
+    echo "fault: node $((256 + $2)): too deep" >"$work/fault"
+    if refused; then
+        echo "passed ${name}_too_deep"
+    else
+        echo "FAILED ${name}_too_deep: $(head -c 200 "$work/err")"
+    fi
+}
+
+function='{"k":"Fn","body":1}'
+call='{"k":"MacroCall"}'
+one='{"k":"Literal","lit":"int","t":"1"}'
+deep_fragment statements_of_an_expansion "body r0=(Block - - - [] (Literal 1))" \
+    "$function,{\"k\":\"BlockExpr\",\"tail\":2},{\"k\":\"MacroExpr\",\"call\":3},$call,{\"k\":\"MacroStmts\",\"expr\":5}" 4 \
+    ParenExpr expr '"k":"Literal","lit":"int","t":"1"'
+deep_fragment pattern_of_an_expansion "body r0=(Let (Wild) (Literal 1))" \
+    "$function,{\"k\":\"LetExpr\",\"pat\":2,\"expr\":4},{\"k\":\"MacroPat\",\"call\":3},$call,$one" 5 ParenPat pat '"k":"WildcardPat"'
+deep_fragment type_of_an_expansion "body r0=(Cast (Literal 1) !)" \
+    "$function,{\"k\":\"CastExpr\",\"ty\":2,\"expr\":4},{\"k\":\"MacroType\",\"call\":3},$call,$one" 5 ParenType ty '"k":"NeverType"'

@@ -1,4 +1,5 @@
 use Rattle.hir_one_result.proofs.CallRows.{calls}
+use Rattle.hir_one_result.proofs.DefRows.{definitions}
 use Rattle.hir_one_result.proofs.PatRows.{patterned}
 use Rattle.hir_one_result.proofs.Rows.{jumps, statements, enters_in_order, leaves, plain_forms, tries, fors, consts, closures}
 use Rattle.hir_one_result.proofs.Rows.{coroutines, owners}
@@ -50,6 +51,9 @@ returns-clause-owners_of_coroutines c = owners_of_coroutines
 
 pub returns-clause-calls : goal.returns-clause-calls
 returns-clause-calls c = calls
+
+pub returns-clause-definitions : goal.returns-clause-definitions
+returns-clause-definitions c = definitions
 
 pub returns-clause-owners_stand : goal.returns-clause-owners_stand
 returns-clause-owners_stand c = owners_stand

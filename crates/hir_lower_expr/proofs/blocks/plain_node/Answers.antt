@@ -1,21 +1,17 @@
-use Rattle.std.proofs.Common.{arith, rules}
+use Rattle.std.proofs.Common.{rules}
 use Rattle.hir_lower_form.proofs.BlockLemmas.{settled_in_range}
 use Rattle.hir_lower_form.specs.Lower.{block_form}
 use Rattle.hir_lower_expr.proofs.blocks.plain_node.Goals as goal
 
-pub alloc_expr-requires : goal.alloc_expr-requires
-alloc_expr-requires g c =
-    let entered = c.in_ok-enter_block.ensures in
+pub store_block-requires-clause-statements : goal.store_block-requires-clause-statements
+store_block-requires-clause-statements g c =
     let inner = c.in_ok-statements.ensures in
-    let settled = settled_in_range c.contents.new.state.stored _ _ _ _ c.settle-tail.ensures inner.2.0 inner.2.1 in
-    let label = c.requires.label in
-    let has = settled.0 in (
-      omega (arith, has.0, settled.1),
-      omega (arith, entered, inner, label),
-      omega (arith, has.1),
-      omega (arith, has.2),
-      omega (arith, has.3),
-    )
+    (settled_in_range c.contents.new.state.stored _ _ _ _ c.settle-tail.ensures inner.2.0 inner.2.1).0
+
+pub store_block-requires-clause-tail : goal.store_block-requires-clause-tail
+store_block-requires-clause-tail g c =
+    let inner = c.in_ok-statements.ensures in
+    (settled_in_range c.contents.new.state.stored _ _ _ _ c.settle-tail.ensures inner.2.0 inner.2.1).1
 
 pub returns : goal.returns
 unfolding block_form

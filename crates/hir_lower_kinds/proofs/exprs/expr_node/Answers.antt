@@ -8,7 +8,7 @@ use Rattle.hir_lower_form.specs.Lowering.{go_on, pure}
 use Rattle.hir_lower_form.specs.Methods.{MaybeLowersExpr}
 use Rattle.hir_lower_form.proofs.Kept.{kept_is_some}
 use Rattle.hir_lower_expr.proofs.CallLemmas.{at_call, kids_call, no_call}
-use Rattle.hir_lower_expr.proofs.StatementLemmas.{refused}
+use Rattle.hir_lower_expr.proofs.RunLemmas.{refused}
 use Rattle.hir_lower_kinds.proofs.OfFamily.{disabled_on, enabled_is, nothing_kept}
 use Rattle.hir_lower_kinds.proofs.exprs.expr_node.Goals as goal
 

@@ -6,12 +6,11 @@ use Rattle.hir_syntax.specs.declared.types.TypeKind.{out-TypeKind}
 use Rattle.hir_env.specs.Answering.{inside, ptr, numbered}
 use Rattle.hir_env.specs.declared.place.Place.{Place}
 use Rattle.hir_env.specs.Count.{count_block, count_path, count_stmts, count_option_expr, count_type}
-use Rattle.hir_env.specs.Paths.{inside_constant}
-use Rattle.hir_env.specs.Whole.{answered_path, answered_plain, contents_part, pointer_at}
+use Rattle.hir_env.specs.Whole.{answered_path, answered_plain, answered_type, contents_part, pointer_at}
 use Rattle.hir_env.proofs.Levels.{expr_is_level, plain_is_level}
 use Rattle.hir_env.proofs.PathLevels.{path_is_level, type_is_level}
 use Rattle.hir_lower_handlers.specs.Nests.{HandlesArgs, HandlesBlock, HandlesConstant, HandlesExpr, HandlesPat, HandlesPath, HandlesType}
-use Rattle.hir_lower_handlers.specs.Nests.{HandlesCall, HandlesTarget}
+use Rattle.hir_lower_handlers.specs.Nests.{HandlesCall, HandlesPatCall, HandlesSplice, HandlesTarget, HandlesTypeCall}
 use Rattle.hir_lower_handlers.specs.Spots.{complete, spot_at}
 use Rattle.hir_lower_pat.proofs.AimLemmas.{kept_below}
 use Rattle.hir_lower_knot.proofs.Kids.{kids_expr, kids_block, in_inside, same_number}
@@ -128,6 +127,9 @@ read_path_segments-path_node-requires-clause-parts g t c =
       pat = λ p x. Unit {0};
       target = λ p e. Unit {0};
       call = λ p c. Unit {0};
+      pat_call = λ p c. Unit {0};
+      type_call = λ p c. Unit {0};
+      splice = λ p e. Unit {0};
     }) t
     (record {
       types = λ p x h. record {
@@ -140,6 +142,7 @@ read_path_segments-path_node-requires-clause-parts g t c =
       };
       constants = λ p e h. tt;
       no_constant = λ p. tt;
+      type_calls = λ p c h. tt;
       pats = λ p x h. tt;
       lists = λ p x h. record {
         callable = λ alloc v old b same is. (rw same (rw is h), λ a m. m);
@@ -169,6 +172,9 @@ lower_type_node-type_node-requires g t c =
       pat = HandlesPat g.E.LowerEnv.answers _ _ c.args.env.now;
       target = λ p e. Unit {0};
       call = λ p c. Unit {0};
+      pat_call = λ p c. Unit {0};
+      type_call = HandlesTypeCall g.E.LowerEnv.answers _ _ c.args.env.now;
+      splice = λ p e. Unit {0};
     }) t
     (record {
       types = λ p x h. record {
@@ -184,7 +190,11 @@ lower_type_node-type_node-requires g t c =
         lowers = λ alloc v old new b r same is q. rw (← is) (rw (← same) q.2);
       };
       no_constant = λ p. tt;
-      pats = λ p x h q less. let m : count_path (answered_path (spot_at env (inside_constant p)) q) < t = omega (arith, h, less) in record {
+      type_calls = λ p x h q y less. let m : count_type (answered_type (spot_at env q) y) < t = omega (arith, h, less) in record {
+        callable = λ alloc v old binder b same is. (rw same (rw is m), λ a m. m);
+        lowers = λ alloc v old new binder b r same is q. rw (← is) (rw (← same) q.2);
+      };
+      pats = λ p x h q y less. let m : count_path (answered_path (spot_at env q) y) < t = omega (arith, h, less) in record {
         callable = λ alloc v old walk b same is has. (rw same (rw is m), ((λ a m. m), has));
         reads = λ alloc v old new walk b r same is q. rw (← is) (rw (← same) q.3);
       };
@@ -210,6 +220,9 @@ lower_arg_list-args_node-requires g t c =
       pat = HandlesPat g.E.LowerEnv.answers _ _ c.args.env.now;
       target = HandlesTarget g.E.LowerEnv.answers _ _ _ _ c.args.env.now;
       call = HandlesCall g.E.LowerEnv.answers _ _ c.args.env.now;
+      pat_call = HandlesPatCall g.E.LowerEnv.answers _ _ c.args.env.now;
+      type_call = HandlesTypeCall g.E.LowerEnv.answers _ _ c.args.env.now;
+      splice = HandlesSplice g.E.LowerEnv.answers _ _ _ _ _ _ _ _ c.args.env.now;
     }) t
     (record {
       types = λ p x h. record {
@@ -225,7 +238,11 @@ lower_arg_list-args_node-requires g t c =
         lowers = λ alloc v old new b r same is q. rw (← is) (rw (← same) q.2);
       };
       no_constant = λ p. tt;
-      pats = λ p x h q less. let m : count_path (answered_path (spot_at env (inside_constant p)) q) < t = omega (arith, h, less) in record {
+      type_calls = λ p x h q y less. let m : count_type (answered_type (spot_at env q) y) < t = omega (arith, h, less) in record {
+        callable = λ alloc v old binder b same is. (rw same (rw is m), λ a m. m);
+        lowers = λ alloc v old new binder b r same is q. rw (← is) (rw (← same) q.2);
+      };
+      pats = λ p x h q y less. let m : count_path (answered_path (spot_at env q) y) < t = omega (arith, h, less) in record {
         callable = λ alloc v old walk b same is has. (rw same (rw is m), ((λ a m. m), has));
         reads = λ alloc v old new walk b r same is q. rw (← is) (rw (← same) q.3);
       };

@@ -6,16 +6,20 @@ use Rattle.hir_env.specs.Whole.{answered_pat, pats_part}
 use Rattle.hir_lower_form.specs.Lower.{lower_type_pats}
 use Rattle.hir_lower_form.specs.Methods.{at_place}
 use Rattle.hir_lower_form.specs.Nests.{Each}
+use Rattle.hir_lower_pat.specs.Calls.{written_call}
 use Rattle.hir_lower_pat.proofs.type_pats.+type_pat.Given as goal
 
 abbrev pub decreases-each_type_pat : goal.decreases-each_type_pat
-decreases-each_type_pat g l = 3 * count_pats (pats_part (at_place (g.P.LowerParts.spot l.lowerer.now.parts) l.place) l.left.now) + 1
+decreases-each_type_pat g l = 3 * count_pats (pats_part (at_place (g.P.LowerParts.spot l.lowerer.now.parts) l.place) l.left.now) + 2
 
 abbrev pub decreases-alternatives_form : goal.decreases-alternatives_form
-decreases-alternatives_form g l = 3 * count_pats (pats_part (at_place (g.P.LowerParts.spot l.lowerer.now.parts) l.place) l.all.now) + 2
+decreases-alternatives_form g l = 3 * count_pats (pats_part (at_place (g.P.LowerParts.spot l.lowerer.now.parts) l.place) l.all.now) + 3
 
 abbrev pub decreases-type_pat : goal.decreases-type_pat
-decreases-type_pat g l = 3 * count_pat (answered_pat (at_place (g.P.LowerParts.spot l.lowerer.now.parts) l.place) l.node.now)
+decreases-type_pat g l = 3 * count_pat (answered_pat (at_place (g.P.LowerParts.spot l.lowerer.now.parts) l.place) l.node.now) + 1
+
+abbrev pub decreases-called_form : goal.decreases-called_form
+decreases-called_form g l = 3 * count_pat (written_call (at_place (g.P.LowerParts.spot l.lowerer.now.parts) l.place) l.at l.call.now)
 
 -- what is left is no larger than all
 abbrev pub invariant-each_type_pat-loop-left : goal.invariant-each_type_pat-loop-left

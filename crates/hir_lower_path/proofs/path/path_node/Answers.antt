@@ -1,12 +1,16 @@
-use Rattle.std.proofs.Common.{arith}
-use Rattle.std.proofs.lemmas.Grind.{common_steps}
+use Rattle.std.proofs.Common.{subst, sym}
+use Rattle.hir_lower_form.specs.Methods.{ReadsPath}
+use Rattle.hir_lower_path.proofs.Rooted.{uncalled_level, used_level}
 use Rattle.hir_lower_path.proofs.path.path_node.Goals as goal
 
-pub returns : goal.returns
-returns g c = rw c.as_slice.ensures at c.whole_path.ensures
+pub returns-else-node : goal.returns-else-node
+returns-else-node g c =
+    subst (λ y. ReadsPath y c.args.walk c.args.state.now c.whole_path.result c.whole_path.new.state)
+    (sym (uncalled_level (g.P.LowerParts.spot c.args.lowerer.now.parts) c.args.node.now c.if-node.false))
+    (rw c.as_slice-all.ensures at c.whole_path.ensures)
 
-pub whole_path-requires-clause-outer : goal.whole_path-requires-clause-outer
-whole_path-requires-clause-outer g c = grind (arith, common_steps)
-
-pub whole_path-requires-clause-parts : goal.whole_path-requires-clause-parts
-whole_path-requires-clause-parts g c = grind (arith, common_steps)
+pub returns-in-Some : goal.returns-in-Some
+returns-in-Some g c =
+    subst (λ y. ReadsPath y c.args.walk c.args.state.now c.whole_path-in-Some.result c.whole_path-in-Some.new.state)
+    (sym (used_level (g.P.LowerParts.spot c.args.lowerer.now.parts) c.args.node.now c.in-Some.field-0 c.in-Some.is))
+    (rw c.as_slice-all.ensures at c.whole_path-in-Some.ensures)

@@ -1,4 +1,4 @@
-use Rattle.hir_lower.proofs.Ways.{stays_refl}
+use Rattle.hir_lower.proofs.Onward.{stays_refl}
 use Rattle.hir_lower.proofs.collector.ExprCollector.lower_const_arg.Goals as goal
 
 pub returns-clause-rooted : goal.returns-clause-rooted

@@ -1,0 +1,214 @@
+#!/usr/bin/env python3
+"""Measures how much stack lowering takes a level, for each form that nests.
+
+    bench/levels.py [--program PATH] [--form NAME]
+
+A document holds one tree in which a form nests as deep as a tree may be, and at
+the end a call of a macro that stands for another such tree, and so on. Of two
+documents with more and fewer such trees the least limit of stack is sought under
+which the program lowers them; what lies between, by the levels between, is what
+a level takes. What reading takes doesn't count so: one tree is read at a time.
+"""
+
+import argparse
+import json
+import os
+import resource
+import subprocess
+
+TOP = os.path.dirname(os.path.dirname(os.path.abspath(__file__)))
+BUILT = os.path.join(TOP, "crates", "lower_tool", "out", "lower_tool")
+# The levels that are nested in a tree: 256 without the function, the call with its node, and some room.
+LEVELS = 250
+# So many trees that what is taken to read one of them is less.
+FEW, MANY = 32, 64
+
+
+def path(*names):
+    return {"k": "Path", "segs": [{"k": "PathSegment", "seg": "name", "name": name} for name in names]}
+
+
+def generic(arg):
+    """A path with an argument."""
+    args = {"k": "GenericArgList", "args": [arg]}
+    return {"k": "Path", "segs": [{"k": "PathSegment", "seg": "name", "name": "A", "generics": args}]}
+
+
+def block(tail):
+    return {"k": "BlockExpr", "tail": tail}
+
+
+def record(kind, path_of, fields):
+    return {"k": kind, "path": path_of, **fields}
+
+
+ONE = {"k": "Literal", "lit": "int", "t": "1"}
+NAME = {"k": "IdentPat", "name": "x"}
+WILD = {"k": "WildcardPat"}
+PARAM = {"k": "Param", "pat": NAME}
+TYPE = {"k": "PathType", "path": path("T")}
+
+# Each form by the levels that it takes, and what it is around a part.
+EXPRS = {
+    "parentheses": (1, lambda e: {"k": "ParenExpr", "expr": e}),
+    "block": (1, block),
+    "statement": (2, lambda e: {"k": "BlockExpr", "stmts": [{"k": "ExprStmt", "expr": e, "semi": True}]}),
+    "let": (2, lambda e: {"k": "BlockExpr", "stmts": [{"k": "LetStmt", "pat": NAME, "init": e}]}),
+    "let else": (
+        4,
+        lambda e: {
+            "k": "BlockExpr",
+            "stmts": [{"k": "LetStmt", "pat": NAME, "init": ONE, "else": {"k": "LetElse", "block": block(e)}}],
+        },
+    ),
+    "const block": (1, lambda e: {**block(e), "mod": "const"}),
+    "async block": (1, lambda e: {**block(e), "mod": "async"}),
+    "try block": (1, lambda e: {**block(e), "mod": "try"}),
+    "labelled block": (1, lambda e: {**block(e), "label": {"k": "Label", "lifetime": "'a"}}),
+    "call": (1, lambda e: {"k": "CallExpr", "expr": ONE, "args": [e]}),
+    "method": (1, lambda e: {"k": "MethodCallExpr", "receiver": e, "name": "m"}),
+    "match": (2, lambda e: {"k": "MatchExpr", "expr": ONE, "arms": [{"k": "MatchArm", "pat": WILD, "expr": e}]}),
+    "if": (2, lambda e: {"k": "IfExpr", "condition": ONE, "then": block(e)}),
+    "condition": (1, lambda e: {"k": "IfExpr", "condition": e, "then": block(ONE)}),
+    "loop": (2, lambda e: {"k": "LoopExpr", "body": block(e)}),
+    "while": (2, lambda e: {"k": "WhileExpr", "condition": ONE, "body": block(e)}),
+    "condition of a while": (1, lambda e: {"k": "WhileExpr", "condition": e, "body": block(ONE)}),
+    "for": (2, lambda e: {"k": "ForExpr", "pat": NAME, "iterable": ONE, "body": block(e)}),
+    "head of a for": (1, lambda e: {"k": "ForExpr", "pat": NAME, "iterable": e, "body": block(ONE)}),
+    "question": (1, lambda e: {"k": "TryExpr", "expr": e}),
+    "closure": (1, lambda e: {"k": "ClosureExpr", "params": [PARAM], "body": e}),
+    "async closure": (1, lambda e: {"k": "ClosureExpr", "async": True, "params": [PARAM], "body": e}),
+    "operator": (1, lambda e: {"k": "BinExpr", "op": "+", "lhs": e, "rhs": ONE}),
+    "assignment": (1, lambda e: {"k": "BinExpr", "op": "=", "lhs": ONE, "rhs": e}),
+    "range": (1, lambda e: {"k": "RangeExpr", "op": "..=", "start": ONE, "end": e}),
+    "tuple": (1, lambda e: {"k": "TupleExpr", "fields": [e]}),
+    "array": (1, lambda e: {"k": "ArrayExpr", "elems": [e]}),
+    "length": (1, lambda e: {"k": "ArrayExpr", "semi": True, "init": ONE, "len": e}),
+    "return": (1, lambda e: {"k": "ReturnExpr", "expr": e}),
+    "cast": (1, lambda e: {"k": "CastExpr", "expr": e, "ty": TYPE}),
+    "record": (
+        3,
+        lambda e: {
+            "k": "RecordExpr",
+            "path": path("A"),
+            "list": {"k": "RecordExprFieldList", "fields": [{"k": "RecordExprField", "name": "f", "expr": e}]},
+        },
+    ),
+    "constant argument": (5, lambda e: {"k": "PathExpr", "path": generic({"k": "ConstArg", "expr": e})}),
+}
+PATS = {
+    "pattern in parentheses": (1, lambda p: {"k": "ParenPat", "pat": p}),
+    "reference pattern": (1, lambda p: {"k": "RefPat", "pat": p}),
+    "tuple pattern": (1, lambda p: {"k": "TuplePat", "fields": [p]}),
+    "call pattern": (1, lambda p: {"k": "TupleStructPat", "path": path("A"), "fields": [p]}),
+    "slice pattern": (1, lambda p: {"k": "SlicePat", "prefix": [p]}),
+    "or-pattern": (1, lambda p: {"k": "OrPat", "pats": [p, WILD]}),
+    "binding": (1, lambda p: {**NAME, "pat": p}),
+    "record pattern": (
+        2,
+        lambda p: {"k": "RecordPat", "path": path("A"), "fields": [{"k": "RecordPatField", "name": "f", "pat": p}]},
+    ),
+}
+TYPES = {
+    "reference": (1, lambda t: {"k": "RefType", "ty": t}),
+    "tuple type": (1, lambda t: {"k": "TupleType", "fields": [t]}),
+    "array type": (1, lambda t: {"k": "ArrayType", "ty": t, "len": {"k": "ConstArg", "expr": ONE}}),
+    "function pointer": (2, lambda t: {"k": "FnPtrType", "params": [{"k": "Param", "ty": t}]}),
+    "argument of a path": (5, lambda t: {"k": "PathType", "path": generic({"k": "TypeArg", "ty": t})}),
+    "binding of a path": (5, lambda t: {"k": "PathType", "path": generic({"k": "AssocTypeArg", "name": "B", "ty": t})}),
+    "qualified path": (
+        4,
+        lambda t: {"k": "PathType", "path": {"k": "Path", "segs": [{"k": "PathSegment", "seg": "type", "ty": t}]}},
+    ),
+}
+# The place of a call, what stands at the end, and what the outermost tree stands in.
+SORTS = [
+    (EXPRS, "MacroExpr", ONE, lambda e: e),
+    (PATS, "MacroPat", WILD, lambda p: {"k": "LetExpr", "pat": p, "expr": ONE}),
+    (TYPES, "MacroType", TYPE, lambda t: {"k": "CastExpr", "expr": ONE, "ty": t}),
+]
+
+
+class Document:
+    def __init__(self):
+        self.nodes = []
+
+    def put(self, tree):
+        """Adds a tree, each node in front of its parts, and answers its place."""
+        here = len(self.nodes)
+        self.nodes.append(node := {})
+        for field, part in tree.items():
+            if isinstance(part, dict):
+                part = self.put(part)
+            elif isinstance(part, list):
+                part = [self.put(one) for one in part]
+            node[field] = part
+        return here
+
+
+def nested(sort, form, trees):
+    """A document with so many trees of the form, each called by the one before it, and how many levels they have."""
+    forms, place, leaf, whole = sort
+    levels, around = forms[form]
+    document, macros, called = Document(), [], None
+    for number in range(trees):
+        last = number + 1 == trees
+        # A call behind parentheses is an expression, wherever they stand.
+        tree = leaf if last else {"k": place, "call": {"k": "MacroCall"}}
+        if not last and place == "MacroExpr":
+            tree = {"k": "ParenExpr", "expr": tree}
+        for _ in range(LEVELS // levels):
+            tree = around(tree)
+        first = len(document.nodes)
+        root = document.put(tree if number else {"k": "Fn", "body": whole(tree)})
+        if called is not None:
+            macros.append([number - 1, called, "file", number, root])
+        called = next((i for i in range(first, len(document.nodes)) if document.nodes[i]["k"] == "MacroCall"), None)
+    text = json.dumps({"owner": "const", "nodes": document.nodes, "env": {"limit": 64, "macros": macros}})
+    return text.encode(), trees * (LEVELS // levels) * levels
+
+
+def is_enough(program, document, kilobytes):
+    """Whether the program lowers the document under the limit of stack."""
+    hard = resource.getrlimit(resource.RLIMIT_STACK)[1]
+    limit = (kilobytes << 10, hard)
+    ran = subprocess.run(
+        [program, "body"], input=document, capture_output=True, preexec_fn=lambda: resource.setrlimit(resource.RLIMIT_STACK, limit)
+    )
+    return ran.returncode == 0
+
+
+def least(program, document):
+    """The least limit in kilobytes, to a hundredth."""
+    low, high = 64, 128
+    while not is_enough(program, document, high):
+        low, high = high, 2 * high
+        if high > 1 << 20:
+            raise SystemExit("a document isn't lowered under any limit")
+    while high - low > high // 100:
+        middle = (low + high) // 2
+        if is_enough(program, document, middle):
+            high = middle
+        else:
+            low = middle
+    return high
+
+
+def main():
+    parser = argparse.ArgumentParser(description=__doc__, formatter_class=argparse.RawDescriptionHelpFormatter)
+    parser.add_argument("--program", default=BUILT)
+    parser.add_argument("--form", help="one form alone")
+    options = parser.parse_args()
+    program = os.path.abspath(options.program)
+    for sort in SORTS:
+        for form in sort[0]:
+            if options.form not in (None, form):
+                continue
+            few, few_levels = nested(sort, form, FEW)
+            many, many_levels = nested(sort, form, MANY)
+            taken = (least(program, many) - least(program, few)) * 1024 / (many_levels - few_levels)
+            print(f"{form:24} {taken:6.0f} bytes a level", flush=True)
+
+
+if __name__ == "__main__":
+    main()

@@ -1,0 +1,52 @@
+-- A path that may stand directly in a call of a macro is read as no less than elsewhere.
+use Rattle.std.proofs.Common.{arith, ◌≤◌, Bool, true, false, Option, Some, None, List, [], ◌∷◌}
+use Rattle.std.specs.Prelude.{if◌then◌else◌}
+use Rattle.hir_store.specs.declared.ids.CrateId.{CrateId}
+use Rattle.hir_syntax.specs.declared.ast.Path.{Path as AstPath}
+use Rattle.hir_syntax.specs.declared.ast.PathSegment.{PathSegment as AstPathSegment}
+use Rattle.hir_env.specs.declared.place.Place.{Place}
+use Rattle.hir_env.specs.Answers.{Answers}
+use Rattle.hir_env.specs.Answered as tree
+use Rattle.hir_env.specs.Answered.{Segment, Segments}
+use Rattle.hir_env.specs.Count.{count_path}
+use Rattle.hir_env.specs.Folds.{reader}
+use Rattle.hir_env.specs.Layers.{Entering, Reader, written}
+use Rattle.hir_env.specs.LocalPaths.{at_local_root, behind_root, is_bare, local_root}
+use Rattle.hir_env.specs.PathNames.{mod_path_of}
+use Rattle.hir_env.specs.Paths as of
+use Rattle.hir_env.specs.TypeLayers.{PathLayer}
+
+one_counts : (b leading : Bool) (first : Segment) (rest : Segments) (root : Option CrateId)
+    → let y = tree.path leading first rest tree.no_path in
+    count_path y ≤ count_path (if b then behind_root root y else y)
+one_counts false leading first rest root = omega (arith)
+one_counts true leading first rest root = omega (arith)
+
+local_counts : (root : Option (Option CrateId)) (leading : Bool) (first : Segment) (rest : Segments)
+    → let y = tree.path leading first rest tree.no_path in count_path y ≤ count_path (at_local_root root y)
+local_counts None leading first rest = omega (arith)
+local_counts (Some root) leading first rest =
+    one_counts (is_bare (mod_path_of (tree.some_path (tree.path leading first rest tree.no_path)))) leading first rest root
+
+module _ (env : Answers) (into : Option Entering) where
+  abbrev rd : Reader written
+  rd = reader env into
+
+  called_counts : (in_macro leading : Bool) (ss : List (Option AstPathSegment)) (u : Option AstPath) (p : Place)
+      → let y = tree.path leading (of.first_of rd.segment ss p) (of.rest_of rd.segment ss p) (of.path_or_none rd.path u p) in
+      count_path y ≤ count_path (of.called_path env rd in_macro leading ss u p y)
+  called_counts false leading ss u p = omega (arith)
+  called_counts true true [] None p = omega (arith)
+  called_counts true false [] None p = omega (arith)
+  called_counts true leading [] (Some u) p = omega (arith)
+  called_counts true true (None ∷ []) None p = omega (arith)
+  called_counts true false (None ∷ []) None p = omega (arith)
+  called_counts true leading (None ∷ []) (Some u) p = omega (arith)
+  called_counts true leading (Some s ∷ []) None p =
+      local_counts (local_root env (of.context_at env p (rd.segment_node s))) leading (rd.segment s p) tree.no_segments
+  called_counts true leading (Some s ∷ []) (Some u) p = omega (arith)
+  called_counts true leading (None ∷ x ∷ ss) u p = omega (arith)
+  called_counts true leading (Some s ∷ x ∷ ss) u p = omega (arith)
+
+  pub path_counts : (x : PathLayer written) (p : Place) → count_path (of.plain_path env rd x p) ≤ count_path (of.path_step env rd x p)
+  path_counts x p = called_counts x.in_macro x.leading x.segs x.use_ p

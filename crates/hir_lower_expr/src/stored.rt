@@ -1,0 +1,102 @@
+//! Stores expressions whose parts are lowered. An `Expr` is large: one that is made here stands in no frame in which a part is lowered,
+//! of which there are as many as levels.
+
+ghost use Rattle.std.specs.Prelude.{None, Some};
+ghost use Rattle.hir_store.specs.declared.hir.Expr.TheVariants as hir;
+ghost use Rattle.hir_store.specs.Range.{HasExpr, HasExprOption, HasLabelOption, HasStatements};
+ghost use Rattle.hir_lower_form.specs.Forms as spec;
+ghost use Rattle.hir_lower_form.specs.Lowering.{Lowers};
+ghost use Rattle.hir_lower_form.specs.Lowering as step;
+
+use hir_base::node::{AstPtr, InFile};
+use hir_lower_form::builder::BodyBuilder;
+use hir_store::fault::StoreFault;
+use hir_store::hir::{Expr, LoopSource, Statement};
+use hir_store::ids::{BlockId, ExprId, LabelId};
+use hir_syntax::Seq;
+
+/// A loop.
+#[inline(never)]
+pub(crate) fn store_loop(
+    state: &mut BodyBuilder,
+    at: InFile<AstPtr>,
+    body: ExprId,
+    label: Option<LabelId>,
+    source: LoopSource,
+) -> Result<ExprId, StoreFault>
+    requires body { HasExpr state.old.stored body }
+    requires label { HasLabelOption state.old.stored label }
+    ensures { Lowers HasExpr (step.alloc_expr (hir.Loop body label source) (Some at)) state.old result state.new }
+{
+    state.alloc_expr(
+        Expr::Loop {
+            body,
+            label,
+            source,
+        },
+        Some(at),
+    )
+}
+
+/// A loop that lowering makes up.
+#[inline(never)]
+pub(crate) fn store_made_loop(
+    state: &mut BodyBuilder,
+    at: InFile<AstPtr>,
+    body: ExprId,
+    label: Option<LabelId>,
+    source: LoopSource,
+) -> Result<ExprId, StoreFault>
+    requires body { HasExpr state.old.stored body }
+    requires label { HasLabelOption state.old.stored label }
+    ensures { Lowers HasExpr (step.alloc_made (hir.Loop body label source) (Some at)) state.old result state.new }
+{
+    state.alloc_made(
+        Expr::Loop {
+            body,
+            label,
+            source,
+        },
+        Some(at),
+    )
+}
+
+/// A break that names no label and has no value.
+#[inline(never)]
+pub(crate) fn store_break(state: &mut BodyBuilder, at: InFile<AstPtr>) -> Result<ExprId, StoreFault>
+    ensures { Lowers HasExpr (step.alloc_expr (hir.Break None None) (Some at)) state.old result state.new }
+{
+    let out = Expr::Break {
+        label: None,
+        expr: None,
+    };
+    state.alloc_expr(out, Some(at))
+}
+
+/// A block with these statements and this tail, which comes from the node, if from any.
+#[inline(never)]
+pub(crate) fn store_block(
+    state: &mut BodyBuilder,
+    at: Option<InFile<AstPtr>>,
+    is_unsafe: bool,
+    label: Option<LabelId>,
+    id: Option<BlockId>,
+    statements: Seq<Statement>,
+    tail: Option<ExprId>,
+) -> Result<ExprId, StoreFault>
+    requires label { HasLabelOption state.old.stored label }
+    requires statements { HasStatements state.old.stored statements }
+    requires tail { HasExprOption state.old.stored tail }
+    ensures { Lowers HasExpr (step.alloc_expr (spec.settled_block is_unsafe label id (statements, tail)) at) state.old result state.new }
+{
+    state.alloc_expr(
+        Expr::Block {
+            is_unsafe,
+            label,
+            id,
+            statements,
+            tail,
+        },
+        at,
+    )
+}

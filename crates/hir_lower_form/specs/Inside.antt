@@ -1,0 +1,70 @@
+-- What calls of macros stand for where they are read, by itself, and how much it counts.
+use Rattle.std.specs.Prelude.{ℕ, ◌+◌, ◌<◌, ◌≤◌, List, Option, Some, None}
+use Rattle.hir_syntax.specs.declared.ast.BlockExpr.{BlockExpr as AstBlockExpr}
+use Rattle.hir_syntax.specs.declared.ast.Expr.{Expr as AstExpr}
+use Rattle.hir_syntax.specs.declared.ast.Path.{Path as AstPath}
+use Rattle.hir_syntax.specs.declared.ast.Stmt.{Stmt as AstStmt}
+use Rattle.hir_syntax.specs.declared.macros.MacroCall.{MacroCall as AstMacroCall}
+use Rattle.hir_syntax.specs.declared.types.Type_.{Type_ as AstType_}
+use Rattle.hir_env.specs.declared.expand.FragmentKind.TheVariants as kind
+use Rattle.hir_env.specs.declared.place.Place.{Place}
+use Rattle.hir_env.specs.Answers.{Answers}
+use Rattle.hir_env.specs.Answered as tree
+use Rattle.hir_env.specs.Answered.{OptionExpr, OptionPat, OptionType}
+use Rattle.hir_env.specs.Calls.{asked_call, expr_in, pat_in, splice_of, type_in}
+use Rattle.hir_env.specs.Count.{count_block, count_expr, count_option_expr, count_option_pat, count_option_type, count_path, count_stmts}
+use Rattle.hir_env.specs.Count.{count_type}
+use Rattle.hir_env.specs.Layers.{Defined, Entering, Spliced}
+use Rattle.hir_env.specs.Spot.{Spot}
+use Rattle.hir_env.specs.Whole.{answered, answered_path, answered_plain, answered_type, answered_value, entering, into, read_stmt}
+use Rattle.hir_env.specs.Whole.{read_value}
+
+abbrev pub read_at : Answers → Place → Spot
+read_at env p = record { answers = env; place = p }
+
+abbrev pub inside_call : Answers → Option Entering → Place → AstMacroCall → OptionExpr
+inside_call env None p c = tree.no_expr
+inside_call env (Some into) p c = expr_in into p (asked_call env kind.Expr c p)
+
+abbrev pub inside_pat_call : Answers → Option Entering → Place → AstMacroCall → OptionPat
+inside_pat_call env None p c = tree.no_pat
+inside_pat_call env (Some into) p c = pat_in into p (asked_call env kind.Pat c p)
+
+abbrev pub inside_type_call : Answers → Option Entering → Place → AstMacroCall → OptionType
+inside_type_call env None p c = tree.no_type
+inside_type_call env (Some into) p c = type_in into p (asked_call env kind.Type_ c p)
+
+-- Where what a call stands for may be handed in, as is all that counts no more, wherever that is read.
+abbrev pub InCall : Answers → (Place → AstExpr → Type 0) → Place → AstMacroCall → Type 0
+InCall env expr p c = (q : Place) (e : AstExpr)
+    → count_expr (answered (read_at env q) e) ≤ count_option_expr (inside_call env (entering env p.left) p c) → expr q e
+
+abbrev pub InTypeCall : Answers → (Place → AstType_ → Type 0) → Place → AstMacroCall → Type 0
+InTypeCall env type_ p c = (q : Place) (t : AstType_)
+    → count_type (answered_type (read_at env q) t) ≤ count_option_type (inside_type_call env (entering env p.left) p c) → type_ q t
+
+-- of a pattern the paths in it
+abbrev pub InPatCall : Answers → (Place → AstPath → Type 0) → Place → AstMacroCall → Type 0
+InPatCall env path p c = (q : Place) (y : AstPath)
+    → count_path (answered_path (read_at env q) y) < count_option_pat (inside_pat_call env (entering env p.left) p c) → path q y
+
+-- statements, and what stands behind them, read here where these macros are defined already
+abbrev pub answered_run : Spot → Defined → List AstStmt → Option AstExpr → Spliced
+answered_run at d ss e = splice_of (read_stmt at.answers (into at)) (read_value at.answers (into at)) ss e at.place d
+
+abbrev pub count_spliced : Spliced → ℕ
+count_spliced r = count_stmts r.stmts + count_option_expr r.last
+
+-- What counts less than an expression in statement or tail place may be handed in, wherever it is read. It counts the same whatever
+-- macros are defined in front of it, so that this is told where some are.
+pub record InSplice (env : Answers) (expr : Place → AstExpr → Type 0) (block : Place → AstBlockExpr → Type 0)
+    (path : Place → AstPath → Type 0) (type_ : Place → AstType_ → Type 0) (p : Place) (e : AstExpr) : Type 0 where
+  pub defined : Defined
+  pub exprs : (q : Place) (x : AstExpr)
+      → count_expr (answered (read_at env q) x) < count_spliced (answered_value (read_at env p) defined e) → expr q x
+  pub blocks : (q : Place) (b : AstBlockExpr)
+      → count_block (answered_plain (read_at env q) b) < count_spliced (answered_value (read_at env p) defined e) → block q b
+  pub paths : (q : Place) (y : AstPath)
+      → count_path (answered_path (read_at env q) y) < count_spliced (answered_value (read_at env p) defined e) → path q y
+  pub types : (q : Place) (t : AstType_)
+      → count_type (answered_type (read_at env q) t) < count_spliced (answered_value (read_at env p) defined e) → type_ q t

@@ -1,0 +1,67 @@
+-- A call of a macro as a pattern, as the code reads it.
+use Rattle.std.specs.Prelude.{Option, Some, None}
+use denote.Ref.{Bor}
+use Rattle.hir_syntax.specs.declared.macros.Fragment.{Fragment as AstFragment}
+use Rattle.hir_syntax.specs.declared.macros.Fragment.TheVariants as fragment
+use Rattle.hir_syntax.specs.declared.macros.MacroCall.{MacroCall as AstMacroCall}
+use Rattle.hir_syntax.specs.declared.pats.Pat.{Pat as AstPat}
+use Rattle.hir_store.specs.Pointers.{Pointer}
+use Rattle.hir_store.specs.declared.ids.PatId.{PatId}
+use Rattle.hir_env.specs.Answered.{Pat}
+use Rattle.hir_env.specs.Calls.{entered_pat}
+use Rattle.hir_env.specs.Spot.{Spot}
+use Rattle.hir_env.specs.TypePats.{type_pat_of}
+use Rattle.hir_env.specs.Whole.{answered_pat, into}
+use Rattle.hir_env.specs.declared.place.Place.{Place}
+use Rattle.hir_lower_form.specs.Calls.{Found}
+use Rattle.hir_lower_form.specs.Lower.{lower_pat, lower_type_pat}
+use Rattle.hir_lower_form.specs.Lowering.{Lowering, ◌>>=◌, ◌>>◌, point_pat, pure}
+use Rattle.hir_lower_form.specs.Methods.{at_place}
+use Rattle.hir_lower_form.specs.Pats.{Table, alone, missing_pat}
+use Rattle.hir_lower_pat.specs.Methods.{element_steps}
+
+abbrev pub written_call : Spot → Pointer → AstMacroCall → Pat
+written_call at s c = entered_pat at.answers (into at) c at.place s
+
+-- the pattern that is found, and where it is read
+abbrev pub There : Type 0
+There = Option (Place × AstPat)
+
+abbrev pub pat_in : Place → Option AstFragment → There
+pat_in q (Some (fragment.Pat x)) = Some (q, x)
+pat_in q _ = None
+
+abbrev pub pat_there : Found → There
+pat_there None = None
+pat_there (Some x) = pat_in x.0 x.1
+
+-- the same as it is lent
+abbrev pub pat_lent : Option (Place × Bor AstPat) → There
+pat_lent None = None
+pat_lent (Some x) = Some (x.0, x.1.now)
+
+-- ---- what the code does with it, which is missing where there is none
+
+abbrev pub lower_there : Spot → There → Table → Lowering (PatId × Table)
+lower_there at None t = alone missing_pat t
+lower_there at (Some x) t = lower_pat (answered_pat (at_place at x.0) x.1) t
+
+abbrev pub element_there : Spot → There → Table → Lowering (Option PatId × Table)
+element_there at None t = missing_pat >>= (λ i. pure (Some i, t))
+element_there at (Some x) t = element_steps (answered_pat (at_place at x.0) x.1) t
+
+abbrev pub type_pat_there : Spot → There → Lowering PatId
+type_pat_there at None = missing_pat
+type_pat_there at (Some x) =
+    let here = at_place at x.0 in lower_type_pat (type_pat_of here.answers.lang_items (answered_pat here x.1))
+
+-- the node leads to what is missing
+abbrev pub missing_led : Pointer → Lowering PatId
+missing_led s = missing_pat >>= (λ i. point_pat s i >> pure i)
+
+-- the node leads there
+abbrev pub point_named : Pointer → PatId × Table → Lowering (PatId × Table)
+point_named s r = point_pat s r.0 >> pure r
+
+abbrev pub point_lone : Pointer → PatId → Lowering PatId
+point_lone s i = point_pat s i >> pure i

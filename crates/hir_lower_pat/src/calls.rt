@@ -1,0 +1,66 @@
+//! Calls of macros as patterns.
+
+ghost use Rattle.std.specs.Prelude.{◌≡◌};
+ghost use Rattle.hir_store.specs.Range.{HasPat, HasPatOption};
+ghost use Rattle.hir_lower_form.specs.Calls.{found_of};
+ghost use Rattle.hir_lower_form.specs.Lowering.{Lowers};
+ghost use Rattle.hir_lower_pat.specs.Calls as spec;
+ghost use Rattle.hir_lower_pat.specs.Methods.{point_found};
+
+use hir_base::node::{AstPtr, InFile};
+use hir_env::place::Place;
+use hir_lower_form::builder::BodyBuilder;
+use hir_lower_form::calls::Entered;
+use hir_store::fault::StoreFault;
+use hir_store::ids::PatId;
+use hir_syntax::ast::{self, Fragment};
+
+/// The pattern that a call stands for, and where it is read.
+pub(crate) fn pat_of<'a>(entered: Entered<'a>) -> Option<(Place, &'a ast::Pat)>
+    ensures { spec.pat_lent result ≡ spec.pat_there (found_of entered.entry) }
+{
+    match entered {
+        Entered::Yes(place, Some(Fragment::Pat(node))) => Some((place, node.get())),
+        _ => None,
+    }
+}
+
+/// What stands for no pattern is missing, and its node leads there.
+pub(crate) fn missing_form(state: &mut BodyBuilder, at: InFile<AstPtr>) -> Result<PatId, StoreFault>
+    ensures { Lowers HasPat (spec.missing_led at) state.old result state.new }
+{
+    let id = state.missing_pat()?;
+    state.point_pat(at, id)?;
+    Ok(id)
+}
+
+/// The node of a call leads to what it stands for.
+pub(crate) fn pointed_form(
+    state: &mut BodyBuilder,
+    at: InFile<AstPtr>,
+    id: PatId,
+) -> Result<PatId, StoreFault>
+    requires { HasPat state.old.stored id }
+    ensures { Lowers HasPat (spec.point_lone at id) state.old result state.new }
+{
+    state.point_pat(at, id)?;
+    Ok(id)
+}
+
+/// The node of a call leads to the element that it stands for, unless that is two dots.
+pub(crate) fn point_element(
+    state: &mut BodyBuilder,
+    at: InFile<AstPtr>,
+    found: Option<PatId>,
+) -> Result<Option<PatId>, StoreFault>
+    requires { HasPatOption state.old.stored found }
+    ensures { Lowers HasPatOption (point_found at found) state.old result state.new }
+{
+    match found {
+        None => Ok(None),
+        Some(id) => {
+            state.point_pat(at, id)?;
+            Ok(Some(id))
+        }
+    }
+}

@@ -1,0 +1,51 @@
+//! Calls of macros as types.
+
+ghost use Rattle.std.specs.Prelude.{◌≡◌};
+ghost use Rattle.hir_lower_form.specs.Calls.{found_of};
+ghost use Rattle.hir_lower_form.specs.Methods.{LowersType};
+ghost use Rattle.hir_lower_type.specs.Calls as spec;
+
+use hir_base::node::{AstPtr, InFile};
+use hir_env::expand::FragmentKind;
+use hir_env::place::Place;
+use hir_lower_form::builder::BodyBuilder;
+use hir_lower_form::calls::{Entered, enter};
+use hir_lower_form::parts::{LowerParts, Lowerer};
+use hir_store::fault::StoreFault;
+use hir_store::ids::TypeRefId;
+use hir_store::name::Name;
+use hir_syntax::Seq;
+use hir_syntax::ast::{self, Fragment, MacroCall};
+
+/// The type that a call stands for, and where it is read.
+fn type_of<'a>(entered: Entered<'a>) -> Option<(Place, &'a ast::Type_)>
+    ensures { spec.type_lent result ≡ spec.type_there (found_of entered.entry) }
+{
+    match entered {
+        Entered::Yes(place, Some(Fragment::Type_(node))) => Some((place, node.get())),
+        _ => None,
+    }
+}
+
+/// A call that is written here, with the names of the `for<..>` directly around it: what it stands for, which is an error where it
+/// stands for no type. Its node leads there.
+#[tactic(auto, using(crate::proofs::CallLemmas::call_on))]
+#[inline(never)]
+pub(crate) fn call_form<P: LowerParts>(
+    lowerer: &Lowerer<P>,
+    state: &mut BodyBuilder,
+    at: InFile<AstPtr>,
+    binder: &Option<Seq<Name>>,
+    call: &MacroCall,
+) -> Result<TypeRefId, StoreFault>
+    requires { (P.can lowerer.now.parts).type_call (P.spot lowerer.now.parts).place call.now }
+    ensures { LowersType binder.now (spec.written_call (P.spot lowerer.now.parts) at call.now) state.old result state.new }
+{
+    let entered = enter(lowerer, state, FragmentKind::Type_, call)?;
+    let id = match type_of(entered) {
+        None => state.error_type()?,
+        Some((place, node)) => lowerer.parts.lower_type(state, place, binder, node)?,
+    };
+    state.point_type(at, id)?;
+    Ok(id)
+}

@@ -1,0 +1,34 @@
+//! Laws of small bodies with splices and with definitions of macros.
+
+ghost use Rattle.hir_meaning.specs.Macros.{SplicesItsTail, KeepsItsSemicolon, ReachesTheLabel, MissesTheLabel, EndsWithItsBlock};
+ghost use Rattle.hir_meaning.specs.Macros.{BeginsWhereItStands};
+
+/// `{ m!() }` where m stands for `1; 2` reads 1, and has the value of 2.
+pub fn splices_its_tail()
+    ensures { SplicesItsTail }
+{}
+
+/// `{ m!() }` where m stands for `1;` reads 1, and is unit.
+pub fn keeps_its_semicolon()
+    ensures { KeepsItsSemicolon }
+{}
+
+/// `'a: loop { macro_rules! m {..} loop { m!() }; break 2 }` where m stands for `break 'a 1` is 1.
+pub fn reaches_the_label()
+    ensures { ReachesTheLabel }
+{}
+
+/// The same where another macro wrote the jump is 2: the jump is for the loop around it.
+pub fn misses_the_label()
+    ensures { MissesTheLabel }
+{}
+
+/// `'a: loop { { macro_rules! m {..} } loop { m!() }; break 2 }` is 2: behind its block a definition is no more.
+pub fn ends_with_its_block()
+    ensures { EndsWithItsBlock }
+{}
+
+/// `'a: loop { loop { m!() }; macro_rules! m {..} break 2 }` is 2: in front of it a definition isn't yet.
+pub fn begins_where_it_stands()
+    ensures { BeginsWhereItStands }
+{}

@@ -1,0 +1,51 @@
+-- Definitions of macros: what stands for one, and what stands behind it inside of it.
+use Rattle.std.proofs.Common.{◌≡◌, ◌∙◌, refl, ap, ℕ, List, ◌∷◌, ◌++◌, Option, Some, None, option_to_list}
+use Rattle.hir_store.specs.Stored.{Stored}
+use Rattle.hir_store.specs.declared.hir.Statement.{Statement}
+use Rattle.hir_store.specs.declared.ids.MacroDefId.{MacroDefId}
+use Rattle.hir_scope.specs.Ribs.{macro_rib}
+use Rattle.hir_lower_form.specs.Calls.{define_form, defined, inside_macro}
+use Rattle.hir_lower_form.specs.Forms.{StoredContents, push_some}
+use Rattle.hir_lower_form.specs.Lowering.{Lowering, ◌>>=◌}
+use Rattle.hir_steps.proofs.Definitions as definitions
+use Rattle.hir_steps.proofs.Definitions.{InMacro, correct_define}
+use Rattle.hir_steps.proofs.Frames.{ribs}
+use Rattle.hir_steps.proofs.Steps as steps
+use Rattle.hir_steps.proofs.Steps.{Rel}
+use Rattle.hir_one_result.specs.Leads.{Way, Ways, ◌&◌}
+use Rattle.hir_one_result.specs.Stands.{Open}
+use Rattle.hir_one_result.proofs.Lasting.{Correct, correct_as, correct_bind, keeping, settled_as}
+use Rattle.hir_one_result.proofs.Leading.{Shown, shown_after, shown_as}
+use Rattle.hir_one_result.proofs.PatStanding.{Behind, push_append}
+use Rattle.hir_one_result.proofs.Standing.{Facts, Of, Shows, moved_pure}
+
+pub define_facts : (k : ℕ) (d : Option MacroDefId) → Correct (define_form k d) (Facts (λ final x. x ≡ Some (defined d)))
+define_facts k d = correct_as
+    (keeping (correct_define k d) (λ final ps m m' x row. settled_as m.stored m'.stored (ap (λ y. y.stored.bindings) row.still)))
+    (λ final ps m m' x g row. record { fact = row.is; moved = moved_pure row.still })
+
+correct_inside : {A : Type 0} {R : Rel A} (d : MacroDefId) {p : Lowering A} → Correct p R → Correct (inside_macro d p) (InMacro d R)
+correct_inside d h = steps.correct_as (definitions.correct_inside_macro d h)
+    (λ final ps m m' x g row. record { settled = row.settled; rel = λ s. row.rel s })
+
+pub inside_shows : {A : Type 0} (d : MacroDefId) {S : Of A} {p : Lowering A} → Correct p (Shows S)
+    → Correct (inside_macro d p) (Shows (λ final rs x. S final (macro_rib d ∷ rs) x))
+inside_shows d h = correct_as (correct_inside d h) (λ final ps m m' x g row. record { shown = row.shown })
+
+-- a statement that leads nowhere, before others
+pub first_stands : (s : Statement) (done : List Statement) {p : Lowering (Option Statement)}
+    {q : List Statement → Lowering StoredContents} (T : Stored → Open → List Statement → StoredContents → Ways)
+    → Correct p (Facts (λ final x. x ≡ Some s))
+    → ((ys : List Statement) → Correct (q ys) (Shows (λ final rs r. Behind ys (λ is. T final rs is r) r.0)))
+    → Correct (p >>= (λ x. q (push_some done x)))
+    (Shows (λ final rs r. Behind done (λ is ws. (others : List Statement) × (is ≡ s ∷ others) × T final rs others r ws) r.0))
+first_stands s done T hp hq = correct_as (correct_bind hp (λ x. hq (push_some done x))) (λ final ps m m' r g row.
+    let q = row.second.shown in
+    let is = q.shown.1 ∙ (push_append done row.one q.shown.0 ∙ ap (λ o. done ++ (option_to_list o ++ q.shown.0)) row.first.fact) in
+    let others : Shown (T final (ribs ps) q.shown.0 r) row.middle.stored m'.stored =
+    record { ways = q.ways; shown = q.shown.2; moved = q.moved } in
+    record { shown = shown_after row.first.moved (shown_as others (λ ws y. (s ∷ q.shown.0, is, (q.shown.0, refl, y)))) })
+
+-- what else is so of the same ways
+pub beside_ways : {P Q R S : Ways} {ws : List Way} (z : (P & Q) ws) → R z.left → S z.right → (R & S) ws
+beside_ways z r s = record { left = z.left; right = z.right; is = z.is; first = r; second = s }
