@@ -5,7 +5,8 @@ use Rattle.hir_store.specs.Arenas.{Sourced, Adding, Adds, Allocs, with_way}
 use Rattle.hir_store.specs.Stored.{Stored}
 use Rattle.hir_store.specs.FirstMap.{with_first_by}
 use Rattle.hir_store.specs.Storing.{Checked, Extends, same_expr, same_pat, expr_id, label_id, pat_id, type_id, lifetime_id}
-use Rattle.hir_store.specs.Pointers.{Pointer}
+use Rattle.indexmap.specs.IndexMap.{insert_entry}
+use Rattle.hir_store.specs.Pointers.{Pointer, same_pointer}
 use Rattle.hir_store.specs.Bindings.{Bindings, AddsBinding, with_definition, with_owner, with_problem}
 use Rattle.hir_store.specs.declared.ids.LabelId.{LabelId}
 use Rattle.hir_store.specs.declared.ids.TypeRefId.{TypeRefId}
@@ -24,7 +25,7 @@ use Rattle.hir_store.specs.declared.roots.ExprRoot.{ExprRoot}
 use Rattle.hir_store.specs.declared.ids.BlockId.{BlockId}
 use Rattle.hir_store.specs.declared.expansions.ExpandedCall.{ExpandedCall}
 use Rattle.hir_store.specs.declared.diagnostics.ExpressionStoreDiagnostics.{ExpressionStoreDiagnostics}
-use Rattle.hir_store.proofs.Arenas.{first_stays, prefix_refl, prefix_push, prefix_trans}
+use Rattle.hir_store.proofs.Arenas.{first_stays, nodes_insert, prefix_refl, prefix_push, prefix_trans}
 use Rattle.hir_store.proofs.Arenas.{continues_refl, continues_trans, continues_way}
 use Rattle.hir_store.proofs.BindingLemmas.{bindings_definition, bindings_owner, bindings_problem, bindings_refl, bindings_trans}
 
@@ -37,6 +38,7 @@ extends_refl s = record {
   types = continues_refl _;
   lifetimes = continues_refl _;
   roots = prefix_refl _;
+  target_nodes = prefix_refl _;
   field_map_back = prefix_refl _;
   pat_field_map_back = prefix_refl _;
   block_scopes = prefix_refl _;
@@ -53,6 +55,7 @@ extends_trans g h = record {
   types = continues_trans g.types h.types;
   lifetimes = continues_trans g.lifetimes h.lifetimes;
   roots = prefix_trans g.roots h.roots;
+  target_nodes = prefix_trans g.target_nodes h.target_nodes;
   field_map_back = prefix_trans g.field_map_back h.field_map_back;
   pat_field_map_back = prefix_trans g.pat_field_map_back h.pat_field_map_back;
   block_scopes = prefix_trans g.block_scopes h.block_scopes;
@@ -70,6 +73,7 @@ extends_expr s step e (Ok id) a h = record {
   types = continues_refl s.types;
   lifetimes = continues_refl s.lifetimes;
   roots = prefix_refl s.roots;
+  target_nodes = prefix_refl _;
   field_map_back = prefix_refl s.field_map_back;
   pat_field_map_back = prefix_refl s.pat_field_map_back;
   block_scopes = prefix_refl s.block_scopes;
@@ -88,6 +92,7 @@ extends_label s x source (Ok id) a h = record {
   types = continues_refl s.types;
   lifetimes = continues_refl s.lifetimes;
   roots = prefix_refl s.roots;
+  target_nodes = prefix_refl _;
   field_map_back = prefix_refl s.field_map_back;
   pat_field_map_back = prefix_refl s.pat_field_map_back;
   block_scopes = prefix_refl s.block_scopes;
@@ -106,6 +111,7 @@ extends_type s t source (Ok id) a h = record {
   types = h.1;
   lifetimes = continues_refl s.lifetimes;
   roots = prefix_refl s.roots;
+  target_nodes = prefix_refl _;
   field_map_back = prefix_refl s.field_map_back;
   pat_field_map_back = prefix_refl s.pat_field_map_back;
   block_scopes = prefix_refl s.block_scopes;
@@ -125,6 +131,7 @@ extends_lifetime s x source (Ok id) a h = record {
   types = continues_refl s.types;
   lifetimes = h.1;
   roots = prefix_refl s.roots;
+  target_nodes = prefix_refl _;
   field_map_back = prefix_refl s.field_map_back;
   pat_field_map_back = prefix_refl s.pat_field_map_back;
   block_scopes = prefix_refl s.block_scopes;
@@ -142,6 +149,7 @@ extends_point s p id = record {
   types = continues_refl s.types;
   lifetimes = continues_refl s.lifetimes;
   roots = prefix_refl s.roots;
+  target_nodes = prefix_refl _;
   field_map_back = prefix_refl s.field_map_back;
   pat_field_map_back = prefix_refl s.pat_field_map_back;
   block_scopes = prefix_refl s.block_scopes;
@@ -158,6 +166,7 @@ extends_report s d = record {
   types = continues_refl s.types;
   lifetimes = continues_refl s.lifetimes;
   roots = prefix_refl s.roots;
+  target_nodes = prefix_refl _;
   field_map_back = prefix_refl s.field_map_back;
   pat_field_map_back = prefix_refl s.pat_field_map_back;
   block_scopes = prefix_refl s.block_scopes;
@@ -174,6 +183,7 @@ extends_expansion s c = record {
   types = continues_refl s.types;
   lifetimes = continues_refl s.lifetimes;
   roots = prefix_refl s.roots;
+  target_nodes = prefix_refl _;
   field_map_back = prefix_refl s.field_map_back;
   pat_field_map_back = prefix_refl s.pat_field_map_back;
   block_scopes = prefix_refl s.block_scopes;
@@ -190,6 +200,7 @@ extends_block s b = record {
   types = continues_refl s.types;
   lifetimes = continues_refl s.lifetimes;
   roots = prefix_refl s.roots;
+  target_nodes = prefix_refl _;
   field_map_back = prefix_refl s.field_map_back;
   pat_field_map_back = prefix_refl s.pat_field_map_back;
   block_scopes = prefix_push s.block_scopes b;
@@ -206,6 +217,7 @@ extends_root s r = record {
   types = continues_refl s.types;
   lifetimes = continues_refl s.lifetimes;
   roots = prefix_push s.roots r;
+  target_nodes = prefix_refl _;
   field_map_back = prefix_refl s.field_map_back;
   pat_field_map_back = prefix_refl s.pat_field_map_back;
   block_scopes = prefix_refl s.block_scopes;
@@ -223,6 +235,7 @@ extends_field s id p = record {
   types = continues_refl s.types;
   lifetimes = continues_refl s.lifetimes;
   roots = prefix_refl s.roots;
+  target_nodes = prefix_refl _;
   field_map_back = first_stays same_expr s.field_map_back id p;
   pat_field_map_back = prefix_refl s.pat_field_map_back;
   block_scopes = prefix_refl s.block_scopes;
@@ -240,6 +253,7 @@ extends_pat s step x (Ok id) a h = record {
   types = continues_refl s.types;
   lifetimes = continues_refl s.lifetimes;
   roots = prefix_refl s.roots;
+  target_nodes = prefix_refl _;
   field_map_back = prefix_refl s.field_map_back;
   pat_field_map_back = prefix_refl s.pat_field_map_back;
   block_scopes = prefix_refl s.block_scopes;
@@ -258,6 +272,7 @@ extends_binding s x (Ok id) a h = record {
   types = continues_refl s.types;
   lifetimes = continues_refl s.lifetimes;
   roots = prefix_refl s.roots;
+  target_nodes = prefix_refl _;
   field_map_back = prefix_refl s.field_map_back;
   pat_field_map_back = prefix_refl s.pat_field_map_back;
   block_scopes = prefix_refl s.block_scopes;
@@ -276,6 +291,7 @@ extends_definition s id p = record {
   types = continues_refl s.types;
   lifetimes = continues_refl s.lifetimes;
   roots = prefix_refl s.roots;
+  target_nodes = prefix_refl _;
   field_map_back = prefix_refl s.field_map_back;
   pat_field_map_back = prefix_refl s.pat_field_map_back;
   block_scopes = prefix_refl s.block_scopes;
@@ -293,6 +309,7 @@ extends_problem s id problem = record {
   types = continues_refl s.types;
   lifetimes = continues_refl s.lifetimes;
   roots = prefix_refl s.roots;
+  target_nodes = prefix_refl _;
   field_map_back = prefix_refl s.field_map_back;
   pat_field_map_back = prefix_refl s.pat_field_map_back;
   block_scopes = prefix_refl s.block_scopes;
@@ -310,6 +327,7 @@ extends_owner s start id = record {
   types = continues_refl s.types;
   lifetimes = continues_refl s.lifetimes;
   roots = prefix_refl s.roots;
+  target_nodes = prefix_refl _;
   field_map_back = prefix_refl s.field_map_back;
   pat_field_map_back = prefix_refl s.pat_field_map_back;
   block_scopes = prefix_refl s.block_scopes;
@@ -326,6 +344,25 @@ extends_point_pat s p id = record {
   types = continues_refl s.types;
   lifetimes = continues_refl s.lifetimes;
   roots = prefix_refl s.roots;
+  target_nodes = prefix_refl _;
+  field_map_back = prefix_refl s.field_map_back;
+  pat_field_map_back = prefix_refl s.pat_field_map_back;
+  block_scopes = prefix_refl s.block_scopes;
+  expansions = prefix_refl s.expansions;
+  diagnostics = prefix_refl s.diagnostics;
+}
+
+pub extends_point_target : (s : Stored) (p : Pointer) (id : PatId)
+    → Extends s (record s { target_map = insert_entry same_pointer s.target_map p id })
+extends_point_target s p id = record {
+  exprs = continues_refl s.exprs;
+  labels = continues_refl s.labels;
+  pats = continues_refl s.pats;
+  bindings = bindings_refl s.bindings;
+  types = continues_refl s.types;
+  lifetimes = continues_refl s.lifetimes;
+  roots = prefix_refl s.roots;
+  target_nodes = nodes_insert s.target_map p id;
   field_map_back = prefix_refl s.field_map_back;
   pat_field_map_back = prefix_refl s.pat_field_map_back;
   block_scopes = prefix_refl s.block_scopes;
@@ -342,6 +379,7 @@ extends_point_type s p id = record {
   types = continues_way s.types p id;
   lifetimes = continues_refl s.lifetimes;
   roots = prefix_refl s.roots;
+  target_nodes = prefix_refl _;
   field_map_back = prefix_refl s.field_map_back;
   pat_field_map_back = prefix_refl s.pat_field_map_back;
   block_scopes = prefix_refl s.block_scopes;
@@ -359,6 +397,7 @@ extends_pat_field s id p = record {
   types = continues_refl s.types;
   lifetimes = continues_refl s.lifetimes;
   roots = prefix_refl s.roots;
+  target_nodes = prefix_refl _;
   field_map_back = prefix_refl s.field_map_back;
   pat_field_map_back = first_stays same_pat s.pat_field_map_back id p;
   block_scopes = prefix_refl s.block_scopes;

@@ -38,7 +38,8 @@ name_ties name.Missing name.Missing = refl
 name_ties name.Missing (name.Generated k) = refl
 name_ties (name.Generated i) (name.Text b) = refl
 name_ties (name.Generated i) name.Missing = refl
-name_ties (name.Generated i) (name.Generated k) = with_true (same.ghosts.eq (name.Generated i) (name.Generated k)) ∙ texts_ties (i ∷ []) (k ∷ [])
+name_ties (name.Generated i) (name.Generated k) =
+    with_true (same.ghosts.eq (name.Generated i) (name.Generated k)) ∙ texts_ties (i ∷ []) (k ∷ [])
 
 pub name_po : IsPartialOrder same.ghosts.eq (λ a b. Some (name_cmp a b))
 name_po = partial_order_from_agreeing_total name_cmp name_total (λ a b. refl) name_ties

@@ -281,6 +281,7 @@ InRangeSoFar s =
     × (past (λ e. past_expr e.0) s.field_map_back ≤ length s.exprs.entries)
     × (past (λ e. suc e.0.0) s.pat_field_map_back ≤ length s.pats.entries)
     × (past_definitions s.bindings.definitions ≤ length s.pats.entries)
+    × (past (λ way. suc way.1.0) s.target_map ≤ length s.pats.entries)
 
 -- every number in the source map is one of the store, and each entry has its source
 pub record MapInRange (s : Store) (m : SourceMap) : Type 0 where
@@ -292,6 +293,7 @@ pub record MapInRange (s : Store) (m : SourceMap) : Type 0 where
   pub exprs : past (λ way. past_expr way.1) m.expr_map ≤ length s.exprs
   pub labels : past (λ way. past_label way.1) m.label_map ≤ length s.labels
   pub pats : past (λ way. suc way.1.0) m.pat_map ≤ length s.pats
+  pub targets : past (λ way. suc way.1.0) m.target_map ≤ length s.pats
   pub fields : past (λ e. past_expr e.0) m.field_map_back ≤ length s.exprs
   pub pat_fields : past (λ e. suc e.0.0) m.pat_field_map_back ≤ length s.pats
   pub as_many_bindings : length m.binding_definitions ≡ length s.bindings

@@ -25,6 +25,7 @@ returns-clause-in_range c =
         exprs = exprs.ways;
         labels = labels.ways;
         pats = pats.ways;
+        targets = c.self.invariant.4;
         fields = c.self.invariant.1;
         pat_fields = c.self.invariant.2;
         as_many_bindings = bindings.as_many;
