@@ -4,3 +4,4 @@ mod Arguments
 mod Worked
 mod Trees
 mod PatternRows
+mod TargetRows

@@ -16,7 +16,8 @@ use Rattle.hir_data.specs.Data.{PathData, path_data, NamesData, OptionArgsData, 
 use Rattle.hir_data.specs.Data.{PatData, pat_at, absent_pattern, PatsData, OptionSideData}
 use Rattle.hir_data.specs.MadeNames.{made_name, is_made}
 use Rattle.hir_data.specs.Patterns.{leaf_pattern, unary_pattern, path_pattern_of, range_shape, if_path, is_dots, behind_comma}
-use Rattle.hir_data.specs.Patterns.{alternatives_data, patterns_data, uses_after, pattern_data, pattern_part_data, tuple_parts_data, written_pat}
+use Rattle.hir_data.specs.Patterns.{alternatives_data, patterns_data, uses_after, pattern_data, pattern_part_data, tuple_parts_data}
+use Rattle.hir_data.specs.Patterns.{written_pat}
 use Rattle.hir_data.specs.Rule as rule
 use Rattle.hir_data.specs.Rule.{Named, PathRead, Item, What, names_of, ended, read, refused, read_of, path_read, data_of, names_data}
 use Rattle.hir_data.specs.Rule.{anchor_data, first_without_self, first_behind_self}

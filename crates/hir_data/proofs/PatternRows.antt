@@ -1,7 +1,7 @@
 -- Worked patterns, computed.
 use Rattle.std.proofs.Common.{refl}
 use Rattle.hir_data.specs.PatternRows.{ModesOfFirstUses, NamelessFieldsBind, RefusedBindsNothing, DotsHaveAPlace, DotsElsewhere}
-use Rattle.hir_data.specs.PatternRows.{OneAlternative, SidesOfRanges, LimitsOfTypes, DataOfTargets, ProblemsOfPatterns}
+use Rattle.hir_data.specs.PatternRows.{OneAlternative, SidesOfRanges, LimitsOfTypes, DataOfTargets, DataOfElements, ProblemsOfPatterns}
 
 pub gives_the_first_mode : ModesOfFirstUses
 gives_the_first_mode at a b = (refl, refl, refl)
@@ -29,6 +29,9 @@ reads_limits_of_types at a b l i = (λ t. refl, λ t. refl, λ t. refl)
 
 pub reads_targets : DataOfTargets
 reads_targets at a b c e = (refl, refl, refl, refl, refl)
+
+pub reads_elements : DataOfElements
+reads_elements call at a e = (refl, refl, refl)
 
 pub finds_problems : ProblemsOfPatterns
 finds_problems at a b n = (refl, refl, refl, refl, refl, refl, refl)

@@ -15,6 +15,7 @@ pub mod BindingRule
 pub mod Lookup
 pub mod Worked
 pub mod PatternRows
+pub mod TargetRows
 pub mod Trees
 pub mod Segments
 pub mod Arguments

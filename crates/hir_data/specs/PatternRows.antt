@@ -16,6 +16,7 @@ use Rattle.hir_store.specs.declared.name.Name.{Name}
 use Rattle.hir_store.specs.declared.name.Name.TheVariants as name
 use Rattle.hir_env.specs.Answered as tree
 use Rattle.hir_env.specs.Answered.{Expr, OptionPath, Pat, Pats, PatFields, Side, Signed, Target, Targets, Type_, Use}
+use Rattle.hir_env.specs.Targets.{origin}
 use Rattle.hir_data.specs.Data as datum
 use Rattle.hir_data.specs.Data.{PathData, bare_path, PatData, pat_at, absent_pattern, PatShape, PatsData, OptionSideData, SideData}
 use Rattle.hir_data.specs.Patterns.{written_pat, first_uses, written_uses}
@@ -190,16 +191,26 @@ place_data at = pat_at (Some at) datum.place_pattern
 -- `(e, .., e)`, `(..)`, `[e, .., e]`, `crate::crate(e)`, and what is absent
 abbrev pub DataOfTargets : Type 0
 DataOfTargets = (at a b c : Pointer) (e : Expr)
-    → (target_data (tree.tuple_target at (tree.more_targets (tree.place_target a e)
+    → (target_data (tree.tuple_target (origin None at) (tree.more_targets (tree.place_target a e)
     (tree.dots_targets (targets (tree.place_target c e ∷ [])))))
     ≡ pat_at (Some at) (datum.tuple_pattern (Some 1) (patterns (place_data a ∷ place_data c ∷ []))))
-    × (target_data (tree.tuple_target at (tree.dots_targets tree.no_targets))
+    × (target_data (tree.tuple_target (origin None at) (tree.dots_targets tree.no_targets))
     ≡ pat_at (Some at) (datum.tuple_pattern (Some 0) datum.no_patterns))
-    × (target_data (tree.array_target at (targets (tree.place_target a e ∷ [])) (Some b) (targets (tree.place_target c e ∷ [])))
+    × (target_data (tree.array_target (origin None at) (targets (tree.place_target a e ∷ [])) (Some b)
+    (targets (tree.place_target c e ∷ [])))
     ≡ pat_at (Some at) (datum.slice_pattern (patterns (place_data a ∷ []))
     (datum.some_pattern (pat_at (Some b) datum.rest_pattern)) (patterns (place_data c ∷ []))))
-    × (target_data (tree.call_target at refused_path (targets (tree.place_target a e ∷ []))) ≡ absent_pattern)
-    × (target_data tree.absent_target ≡ absent_pattern)
+    × (target_data (tree.call_target (origin None at) refused_path (targets (tree.place_target a e ∷ []))) ≡ absent_pattern)
+    × (target_data (tree.absent_target None) ≡ absent_pattern)
+
+-- the same as elements that come out of a call: `crate::crate(e)`, `(e)` with a comma, and what is absent
+abbrev pub DataOfElements : Type 0
+DataOfElements = (call at a : Pointer) (e : Expr)
+    → (target_data (tree.call_target (origin (Some call) at) refused_path (targets (tree.place_target a e ∷ [])))
+    ≡ pat_at (Some call) datum.missing_pattern)
+    × (target_data (tree.tuple_target (origin (Some call) at) (targets (tree.place_target a e ∷ [])))
+    ≡ pat_at (Some call) (datum.tuple_pattern None (patterns (place_data a ∷ []))))
+    × (target_data (tree.absent_target (Some call)) ≡ pat_at (Some call) datum.missing_pattern)
 
 -- ---- problems
 

@@ -1,5 +1,5 @@
 -- How a coroutine of a closure or a function is handed its parameters. In front of its body stand `let`s of them, in order.
-use Rattle.std.specs.Prelude.{Bool, true, false, List, [], ◌∷◌, Option, Some, None}
+use Rattle.std.specs.Prelude.{List, [], ◌∷◌, Option}
 use Rattle.hir_binding.specs.declared.binding.BindingAnnotation.{BindingAnnotation}
 use Rattle.hir_binding.specs.declared.binding.BindingAnnotation.TheVariants.{Unannotated, Mutable}
 use Rattle.hir_store.specs.Pointers.{Pointer}

@@ -109,7 +109,7 @@ abbrev mutual
   stmts_tops (tree.more_stmts (tree.let_stmt p t e b) ss) = (p ∷ (tops_of e ++ block_part_tops b)) ++ stmts_tops ss
 
   pub target_tops : Target → Tops
-  target_tops tree.absent_target = []
+  target_tops (tree.absent_target call) = []
   target_tops (tree.place_target at e) = expr_tops e
   target_tops (tree.wild_target at) = []
   target_tops (tree.macro_target at called t) = target_tops t
@@ -123,6 +123,7 @@ abbrev mutual
   targets_tops tree.no_targets = []
   targets_tops (tree.more_targets t ts) = target_tops t ++ targets_tops ts
   targets_tops (tree.dots_targets ts) = targets_tops ts
+  targets_tops (tree.noted_targets called ts) = targets_tops ts
 
   pub target_fields_tops : TargetFields → Tops
   target_fields_tops tree.no_target_fields = []

@@ -100,7 +100,7 @@ abbrev mutual
   stmts_yields (tree.more_stmts (tree.let_stmt p t e b) ss) = (yields_in e || block_part_yields b) || stmts_yields ss
 
   pub target_yields : Target → Bool
-  target_yields tree.absent_target = false
+  target_yields (tree.absent_target call) = false
   target_yields (tree.place_target at e) = expr_yields e
   target_yields (tree.wild_target at) = false
   target_yields (tree.macro_target at called t) = target_yields t
@@ -114,6 +114,7 @@ abbrev mutual
   targets_yields tree.no_targets = false
   targets_yields (tree.more_targets t ts) = target_yields t || targets_yields ts
   targets_yields (tree.dots_targets ts) = targets_yields ts
+  targets_yields (tree.noted_targets called ts) = targets_yields ts
 
   pub target_fields_yields : TargetFields → Bool
   target_fields_yields tree.no_target_fields = false

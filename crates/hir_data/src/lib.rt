@@ -11,7 +11,9 @@ ghost use Rattle.hir_data.specs.Worked.{BoundsOfKinds, FirstOfLists, BindingsOfL
 ghost use Rattle.hir_data.specs.Trees.{ImplsInside, LifetimesOfTexts, AbisOfTexts, VarargsAtTheEnd};
 ghost use Rattle.hir_data.specs.PatternRows.{ModesOfFirstUses, NamelessFieldsBind, RefusedBindsNothing, DotsHaveAPlace};
 ghost use Rattle.hir_data.specs.PatternRows.{DotsElsewhere, OneAlternative, SidesOfRanges, LimitsOfTypes, DataOfTargets};
-ghost use Rattle.hir_data.specs.PatternRows.{ProblemsOfPatterns};
+ghost use Rattle.hir_data.specs.PatternRows.{DataOfElements, ProblemsOfPatterns};
+ghost use Rattle.hir_data.specs.TargetRows.{WholeCallsLead, ElementsComeFromCalls, LackingIsMissing, DisabledCalls};
+ghost use Rattle.hir_data.specs.TargetRows.{DotsThroughCalls, DotsInParentheses, CalleesThroughCalls};
 
 /// The names of a path are those of its named segments, where no use tree stands around it or its trait, no segment of
 /// either is missing, and the trait has no qualified type.
@@ -175,6 +177,47 @@ pub fn reads_limits_of_types()
 /// What is assigned to is read as a pattern, whose places only say that one is there; `(..)` is the tuple of no parts.
 pub fn reads_targets()
     ensures { DataOfTargets }
+{}
+
+/// An element that comes out of calls has the node of the outermost one, also where it is missing.
+pub fn reads_elements()
+    ensures { DataOfElements }
+{}
+
+/// A call that is all that is assigned to is what it stands for, through parentheses, and its node leads there.
+pub fn leads_from_whole_calls()
+    ensures { WholeCallsLead }
+{}
+
+/// An element that is a call is what that stands for, with the node of the outermost call, also in parentheses that a call stands for.
+pub fn reads_elements_by_calls()
+    ensures { ElementsComeFromCalls }
+{}
+
+/// A call that the text lacks is missing as an element, and its node leads there; as the whole it is a place.
+pub fn misses_lacking_calls()
+    ensures { LackingIsMissing }
+{}
+
+/// A disabled call is gone through as an element, where only what it stands for can be disabled; as the whole it is a place.
+pub fn goes_through_disabled_calls()
+    ensures { DisabledCalls }
+{}
+
+/// Two dots come out of calls: in a tuple with a note of these, in an array with the node of the outermost one. Parentheses are in
+/// the way.
+pub fn finds_dots_through_calls()
+    ensures { DotsThroughCalls }
+{}
+
+/// `(..)` is the tuple of no parts where the dots stand in the parentheses themselves, and no call of them does.
+pub fn keeps_dots_in_parentheses()
+    ensures { DotsInParentheses }
+{}
+
+/// A callee that calls stand for is its path; parentheses are in the way.
+pub fn finds_callees_through_calls()
+    ensures { CalleesThroughCalls }
 {}
 
 /// Small patterns and the problem that their name shows.

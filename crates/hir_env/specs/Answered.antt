@@ -180,6 +180,12 @@ pub data Called : Type 0 where
   -- one that stood for statements, of which this is what stands behind them
   spliced : Called
 
+-- Where a pattern of what is assigned to comes from: its node, which leads to it, and the node of the outermost call, where it is an
+-- element that comes out of calls.
+pub record Origin : Type 0 where
+  pub node : Pointer
+  pub call : Option Pointer
+
 -- Why nothing is left of an expression: the calls that were entered to find that out, outermost first, and the condition that disables
 -- it. A call that the text lacks is gone without one.
 pub record Gone : Type 0 where
@@ -510,26 +516,31 @@ mutual
 
   -- what is assigned to
   pub data Target : Type 0 where
-    absent_target : Target
-    -- any other expression, in its outermost parentheses, and the node of these
+    -- with the node of the outermost call, where it is an element that comes out of calls
+    absent_target : Option Pointer → Target
+    -- any other expression, and the node that its pattern comes from: that of its outermost parentheses inside of the nearest call, or,
+    -- where it is an element that comes out of calls, of the outermost one
     place_target : Pointer → Expr → Target
-    wild_target : Pointer → Target
-    -- a call that is a target whatever it stands for
-    macro_target : Pointer → Called → Target → Target
+    wild_target : Origin → Target
+    -- What a call stands for, and the node of the call, which leads there. One that is an element or leads to a callee leads nowhere, but
+    -- for one that the text lacks.
+    macro_target : Option Pointer → Called → Target → Target
     -- a path that stands for a constant, a variant, a struct, a union or an enum, with the hygiene of its node
-    path_target : Pointer → Path → HygieneId → Target
-    tuple_target : Pointer → Targets → Target
-    call_target : Pointer → OptionPath → Targets → Target
+    path_target : Origin → Path → HygieneId → Target
+    tuple_target : Origin → Targets → Target
+    call_target : Origin → OptionPath → Targets → Target
     -- those in front of the first two dots, the node of the dots, and those behind
-    array_target : Pointer → Targets → Option Pointer → Targets → Target
+    array_target : Origin → Targets → Option Pointer → Targets → Target
     -- with whether two dots stand behind the fields, and the node of an expression behind these
-    record_target : Pointer → OptionPath → TargetFields → Bool → Option Pointer → Target
+    record_target : Origin → OptionPath → TargetFields → Bool → Option Pointer → Target
 
   pub data Targets : Type 0 where
     no_targets : Targets
     more_targets : Target → Targets → Targets
     -- two dots stand in front of these
     dots_targets : Targets → Targets
+    -- a call in front of the two dots that it stands for
+    noted_targets : Called → Targets → Targets
 
   pub data TargetFields : Type 0 where
     no_target_fields : TargetFields

@@ -12,7 +12,7 @@ use Rattle.hir_env.specs.Answers.{Answers}
 use Rattle.hir_env.specs.PathNames.{mod_path_of}
 use Rattle.hir_env.specs.Answered as tree
 use Rattle.hir_env.specs.Answered.{Path, OptionPath, Expr, OptionExpr, Exprs, Fields, Field, Spread, Block, Target, Targets}
-use Rattle.hir_env.specs.Answered.{TargetFields, TargetField}
+use Rattle.hir_env.specs.Answered.{Called, Origin, TargetFields, TargetField}
 
 abbrev pub block_pointer : Block → Pointer
 block_pointer (tree.block at is_unsafe label _ number ss e) = at
@@ -96,76 +96,131 @@ is_dots (tree.disabled_expr why e) = is_dots e
 is_dots (tree.range_expr at form tree.no_expr tree.no_expr) = true
 is_dots _ = false
 
--- the path of a callee, where the callee is a path as it stands
+-- the same, itself or what a call stands for
+abbrev pub comes_to_dots : Expr → Bool
+comes_to_dots (tree.disabled_expr why e) = comes_to_dots e
+comes_to_dots (tree.macro_expr s c (tree.some_expr e)) = comes_to_dots e
+comes_to_dots (tree.range_expr at form tree.no_expr tree.no_expr) = true
+comes_to_dots _ = false
+
+-- the path of a callee, where the callee is a path as it stands, or a call stands for one
 abbrev pub callee_path : Expr → Option OptionPath
 callee_path (tree.disabled_expr why e) = callee_path e
+callee_path (tree.macro_expr s c (tree.some_expr e)) = callee_path e
 callee_path (tree.path_expr at p h) = Some p
 callee_path _ = None
-
--- a call without a list of arguments is a place
-abbrev pub called : OptionExpr → Bool → Option OptionPath
-called (tree.some_expr f) true = callee_path f
-called _ _ = None
 
 abbrev pub spread_pointer : Spread → Option Pointer
 spread_pointer tree.no_spread = None
 spread_pointer tree.field_defaults = None
 spread_pointer (tree.spread_of e) = Some (pointer_of e)
 
--- the first two dots
+-- the first two dots, or the outermost call that they come out of
 abbrev pub dots_pointer : Exprs → Option Pointer
 dots_pointer tree.no_exprs = None
-dots_pointer (tree.more_exprs e es) = if is_dots e then Some (pointer_of e) else dots_pointer es
+dots_pointer (tree.more_exprs e es) = if comes_to_dots e then Some (pointer_of e) else dots_pointer es
+
+-- the calls that two dots come out of, in front of these
+abbrev pub noted_in : Expr → Targets → Targets
+noted_in (tree.disabled_expr why e) ts = noted_in e ts
+noted_in (tree.macro_expr s c (tree.some_expr e)) ts = tree.noted_targets c (noted_in e ts)
+noted_in _ ts = ts
 
 -- ---- targets
 
-abbrev pub place_of : Expr → Target
-place_of e = tree.place_target (pointer_of e) e
+-- the outermost of some calls, the inner of which stands here
+abbrev pub outermost : Option Pointer → Pointer → Pointer
+outermost None at = at
+outermost (Some call) at = call
 
-abbrev pub call_or : Target → Pointer → Option OptionPath → Targets → Target
-call_or place at None ts = place
-call_or place at (Some p) ts = tree.call_target at p ts
+abbrev pub origin : Option Pointer → Pointer → Origin
+origin call at = record { node = at; call = call }
+
+-- the node that a pattern comes from
+abbrev pub source_of : Origin → Pointer
+source_of at = outermost at.call at.node
+
+abbrev pub place_of : Option Pointer → Expr → Target
+place_of call e = tree.place_target (outermost call (pointer_of e)) e
+
+-- A call that is an element leads nowhere, but for one that the text lacks: that leads to what is missing.
+abbrev pub node_of_lacking : Called → Pointer → Option Pointer
+node_of_lacking tree.callless at = Some at
+node_of_lacking _ at = None
+
+-- the calls that a callee comes out of, around the call of it
+abbrev pub around_callee : Expr → Target → Target
+around_callee (tree.disabled_expr why e) t = around_callee e t
+around_callee (tree.macro_expr s c (tree.some_expr e)) t = tree.macro_target None c (around_callee e t)
+around_callee _ t = t
+
+abbrev pub call_or : Target → Origin → Expr → Option OptionPath → Targets → Target
+call_or place at f None ts = place
+call_or place at f (Some p) ts = around_callee f (tree.call_target at p ts)
+
+-- a call without a list of arguments is a place
+abbrev pub called_or : Target → Origin → OptionExpr → Bool → Targets → Target
+called_or place at (tree.some_expr f) true ts = call_or place at f (callee_path f) ts
+called_or place at _ _ ts = place
 
 module _ (is_found : Path → Bool) where
-  abbrev pub path_or : Target → Pointer → OptionPath → HygieneId → Target
+  abbrev pub path_or : Target → Origin → OptionPath → HygieneId → Target
   path_or place at tree.no_path h = place
   path_or place at (tree.some_path p) h = if is_found p then tree.path_target at p h else place
 
   abbrev mutual
-    -- Parentheses are what stands in them. With what it is as a place: a disabled expression is one, and each that isn't named here.
-    -- So is a call so far, whatever it stands for.
-    pub target_or : Target → Expr → Target
-    target_or place (tree.leaf_expr at tree.underscore) = tree.wild_target at
-    target_or place (tree.paren_expr at tree.no_expr) = place
-    target_or place (tree.paren_expr at (tree.some_expr e)) =
-        if is_dots e then tree.tuple_target at (tree.dots_targets tree.no_targets) else target_or place e
-    target_or place (tree.list_expr at (tree.tuple_of comma) es) = tree.tuple_target at (elements es)
-    target_or place (tree.list_expr at tree.array_of es) = tree.array_target at (before_dots es) (dots_pointer es) (behind_dots es)
-    target_or place (tree.call_expr at f has_list es) = call_or place at (called f has_list) (elements es)
-    target_or place (tree.path_expr at p h) = path_or place at p h
-    target_or place (tree.record_expr at p head fs s) =
-        if head.has_list then tree.record_target at p (target_fields fs) head.has_dots (spread_pointer s) else place
-    target_or place _ = place
+    -- With the outermost call, where it is an element that comes out of calls, and what it is as a place: a disabled expression is
+    -- one, and each that isn't named here. Parentheses are what stands in them, and a call is what it stands for.
+    pub target_or : Option Pointer → Target → Expr → Target
+    target_or call place (tree.leaf_expr at tree.underscore) = tree.wild_target (origin call at)
+    target_or call place (tree.paren_expr at tree.no_expr) = place
+    target_or call place (tree.paren_expr at (tree.some_expr e)) =
+        if is_dots e then tree.tuple_target (origin call at) (tree.dots_targets tree.no_targets) else target_or call place e
+    target_or call place (tree.macro_expr s c e) = tree.macro_target (Some s) c (target_in call e)
+    target_or call place (tree.list_expr at (tree.tuple_of comma) es) = tree.tuple_target (origin call at) (elements es)
+    target_or call place (tree.list_expr at tree.array_of es) =
+        tree.array_target (origin call at) (before_dots es) (dots_pointer es) (behind_dots es)
+    target_or call place (tree.call_expr at f has_list es) = called_or place (origin call at) f has_list (elements es)
+    target_or call place (tree.path_expr at p h) = path_or place (origin call at) p h
+    target_or call place (tree.record_expr at p head fs s) =
+        if head.has_list then tree.record_target (origin call at) p (target_fields fs) head.has_dots (spread_pointer s) else place
+    target_or call place _ = place
+
+    pub target_in : Option Pointer → OptionExpr → Target
+    target_in call tree.no_expr = tree.absent_target call
+    target_in call (tree.some_expr e) = target_or call (place_of call e) e
+
+    -- An element of a tuple or a call, or in front of the two dots of an array, with what it is where it is no call. One that is a call
+    -- is what that stands for, whatever disables the call, and is missing at the outermost call where that is nothing.
+    pub element_or : Option Pointer → Target → Expr → Target
+    element_or call other (tree.disabled_expr why e) = element_or call other e
+    element_or call other (tree.macro_expr s c e) = tree.macro_target (node_of_lacking c s) c (element_in (outermost call s) e)
+    element_or call other _ = other
+
+    pub element_in : Pointer → OptionExpr → Target
+    element_in call tree.no_expr = tree.absent_target (Some call)
+    element_in call (tree.some_expr e) = element_or (Some call) (target_or (Some call) (place_of (Some call) e) e) e
 
     -- of a tuple or a call
     pub elements : Exprs → Targets
     elements tree.no_exprs = tree.no_targets
-    elements (tree.more_exprs e es) =
-        if is_dots e then tree.dots_targets (elements es) else tree.more_targets (target_or (place_of e) e) (elements es)
+    elements (tree.more_exprs e es) = if comes_to_dots e then noted_in e (tree.dots_targets (elements es))
+        else tree.more_targets (element_or None (target_or None (place_of None e) e) e) (elements es)
 
-    -- of an array, in front of its first two dots and behind them
+    -- of an array, in front of its first two dots, with the calls that these come out of, and behind them
     pub before_dots : Exprs → Targets
     before_dots tree.no_exprs = tree.no_targets
     before_dots (tree.more_exprs e es) =
-        if is_dots e then tree.no_targets else tree.more_targets (target_or (place_of e) e) (before_dots es)
+        if comes_to_dots e then noted_in e tree.no_targets
+        else tree.more_targets (element_or None (target_or None (place_of None e) e) e) (before_dots es)
 
     pub behind_dots : Exprs → Targets
     behind_dots tree.no_exprs = tree.no_targets
-    behind_dots (tree.more_exprs e es) = if is_dots e then each_target es else behind_dots es
+    behind_dots (tree.more_exprs e es) = if comes_to_dots e then each_target es else behind_dots es
 
     pub each_target : Exprs → Targets
     each_target tree.no_exprs = tree.no_targets
-    each_target (tree.more_exprs e es) = tree.more_targets (target_or (place_of e) e) (each_target es)
+    each_target (tree.more_exprs e es) = tree.more_targets (target_or None (place_of None e) e) (each_target es)
 
     pub target_fields : Fields → TargetFields
     target_fields tree.no_fields = tree.no_target_fields
@@ -174,10 +229,13 @@ module _ (is_found : Path → Bool) where
     pub target_field_of : Field → TargetField
     target_field_of (tree.disabled_field at by f) = tree.disabled_target_field at by
     target_field_of (tree.nameless_field at tree.no_expr) = tree.partless_target_field
-    target_field_of (tree.nameless_field at (tree.some_expr e)) = tree.target_field at None (target_or (place_of e) e)
+    target_field_of (tree.nameless_field at (tree.some_expr e)) = tree.target_field at None (target_or None (place_of None e) e)
     target_field_of (tree.named_field at n tree.no_expr) = tree.partless_target_field
-    target_field_of (tree.named_field at n (tree.some_expr e)) = tree.target_field at (Some n) (target_or (place_of e) e)
+    target_field_of (tree.named_field at n (tree.some_expr e)) = tree.target_field at (Some n) (target_or None (place_of None e) e)
+
+  -- an element, with the outermost call that it comes out of
+  abbrev pub element_of : Option Pointer → Expr → Target
+  element_of call e = element_or call (target_or call (place_of call e) e) e
 
   abbrev pub target_of : OptionExpr → Target
-  target_of tree.no_expr = tree.absent_target
-  target_of (tree.some_expr e) = target_or (place_of e) e
+  target_of e = target_in None e
