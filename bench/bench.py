@@ -27,7 +27,7 @@ SIZES = [1_000, 10_000, 100_000, 1_000_000]
 CHAIN = 252
 # A chain of types stands on the tuple around it, and has a type of one word at its end.
 TYPE_CHAIN = 254
-# So many names are bound by each alternative of an or-pattern.
+# So many names are bound by each alternative of an or-pattern, and so many labels there are.
 NAMES = 100
 # So many calls of macros are entered in one another, and no more may be.
 ENTERED = 64
@@ -104,6 +104,34 @@ def labels(size):
             nodes.all[loop]["body"] = inner
             nodes.all[inner]["tail"] = inner + 1
         nodes.add("BreakExpr", lifetime="'l0")
+    return nodes
+
+
+def scopes(size):
+    """One block of very many labelled loops, one behind the other, of few names: 250,000 labels that open and close at 1,000,000 nodes."""
+    nodes, block = body()
+    while len(nodes.all) + 4 <= size:
+        nodes.statement(block)
+        loop = nodes.add("LoopExpr")
+        nodes.all[loop]["label"] = nodes.add("Label", lifetime="'l%d" % (loop % NAMES))
+        nodes.all[loop]["body"] = nodes.add("BlockExpr", stmts=[])
+    return nodes
+
+
+def jumps(size):
+    """Many chains of 100 loops of different labels, each with a break to the outermost label in front of the next one."""
+    nodes, block = body()
+    while len(nodes.all) + 5 * NAMES + 1 <= size:
+        nodes.statement(block)
+        for level in range(NAMES):
+            loop = nodes.add("LoopExpr")
+            nodes.all[loop]["label"] = nodes.add("Label", lifetime="'l%d" % level)
+            inner = nodes.add("BlockExpr", stmts=[])
+            nodes.all[loop]["body"] = inner
+            nodes.statement(inner)
+            nodes.add("BreakExpr", lifetime="'l0")
+            if level + 1 < NAMES:
+                nodes.all[inner]["tail"] = len(nodes.all)
     return nodes
 
 
@@ -469,6 +497,8 @@ SHAPES = {
     "resolved": resolved,
     "deep": deep,
     "labels": labels,
+    "scopes": scopes,
+    "jumps": jumps,
     "turns": turns,
     "fors": fors,
     "visits": visits,
