@@ -17,16 +17,16 @@ use Rattle.hir_env.specs.Answers.{Answers, Eager, expanded}
 use Rattle.hir_env.specs.Answered as tree
 use Rattle.hir_env.specs.Answered.{Called, Entered, Gone, OptionExpr}
 use Rattle.hir_env.specs.Answering.{asked_splice, value_kind}
-use Rattle.hir_env.specs.Calls.{around, around_if, asked_call, call_pointer, called, entered_expr, entered_pat, entered_splice, entered_type}
-use Rattle.hir_env.specs.Calls.{expr_in, gone_in, inside_file, pat_in, splice_in, spliced_in, spliced_last, type_in}
+use Rattle.hir_env.specs.Calls.{around, around_if, asked_call, call_pointer, called, entered_expr, entered_pat, entered_splice}
+use Rattle.hir_env.specs.Calls.{entered_type, expr_in, gone_in, inside_file, pat_in, splice_in, spliced_in, spliced_last, type_in}
 use Rattle.hir_env.specs.Count.{count_expr, count_option_expr, count_option_pat, count_option_type, count_pat, count_path, count_type}
 use Rattle.hir_env.specs.Layers.{Defined, Entering, Spliced}
 use Rattle.hir_env.specs.Spot.{Spot, ptr, site_of}
 use Rattle.hir_env.specs.Whole.{answered, answered_pat, answered_path, answered_type, answered_value, entering, into, pointer_at, reader}
 use Rattle.hir_env.specs.Whole.{read_expr, read_pat, read_stmt, read_type, read_value}
 use Rattle.hir_env.proofs.Levels.{value_is_level}
-use Rattle.hir_lower_form.specs.Inside.{InCall, InPatCall, InTypeCall, answered_run, count_spliced, inside_call, inside_pat_call}
-use Rattle.hir_lower_form.specs.Inside.{inside_type_call, read_at}
+use Rattle.hir_lower_form.specs.Inside.{InCall, InPatCall, InTargetCall, InTypeCall, answered_run, count_spliced, inside_call}
+use Rattle.hir_lower_form.specs.Inside.{inside_pat_call, inside_type_call, read_at}
 use Rattle.hir_lower_form.specs.Methods.{at_place}
 
 -- how that is read which calls stand for where one of so many is entered
@@ -130,6 +130,15 @@ pat_call_less at c n f x es s left asked =
     let more = pat_call_more at.answers (into at) at.place c s in
     omega (arith, inside, more)
 
+-- the expression that a call stands for, of whatever is made of the call
+pub call_less : (at : Spot) (c : AstMacroCall) (n : ℕ) (f : HirFileId) (e : AstExpr) (es : List Eager) (s : Pointer)
+    → at.place.left ≡ suc n → asked_call at.answers kind.Expr c at.place ≡ expanded f (Some (fragment.Expr e)) es
+    → count_expr (answered (at_place at (inside_file f n at.place)) e) < count_expr (entered_expr at.answers (into at) c at.place s)
+call_less at c n f e es s left asked =
+    let inside = ap count_option_expr (expr_inside at c n f left e es asked) in
+    let more = call_more at.answers (into at) at.place c s in
+    omega (arith, inside, more)
+
 -- ---- so it may be handed in
 
 pub call_nests : (env : Answers) (expr : Place → AstExpr → Type 0) (p : Place) (c : AstMacroCall) (n : ℕ) (f : HirFileId)
@@ -146,6 +155,16 @@ pub pat_call_nests : (env : Answers) (path : Place → AstPath → Type 0) (p : 
     → count_path (answered_path (read_at env q) y) < count_pat (answered_pat (read_at env (inside_file f n p)) x) → path q y
 pat_call_nests env path p c n f x es can left asked q y less =
     let counts = ap count_option_pat (pat_inside (read_at env p) c n f left x es asked) in can q y (omega (arith, less, counts))
+
+pub target_call_nests : (env : Answers) (expr : Place → AstExpr → Type 0) (path : Place → AstPath → Type 0) (p : Place)
+    (c : AstMacroCall) (n : ℕ) (f : HirFileId) (e : AstExpr) (es : List Eager) → InTargetCall env expr path p c → p.left ≡ suc n
+    → asked_call env kind.Expr c p ≡ expanded f (Some (fragment.Expr e)) es
+    → let size = count_expr (answered (read_at env (inside_file f n p)) e) in
+    ((q : Place) (x : AstExpr) → count_expr (answered (read_at env q) x) ≤ size → expr q x)
+    × ((q : Place) (y : AstPath) → count_path (answered_path (read_at env q) y) < size → path q y)
+target_call_nests env expr path p c n f e es can left asked =
+    let counts = ap count_option_expr (expr_inside (read_at env p) c n f left e es asked) in
+    (λ q x less. can.0 q x (omega (arith, less, counts)), λ q y less. can.1 q y (omega (arith, less, counts)))
 
 pub type_call_nests : (env : Answers) (type_ : Place → AstType_ → Type 0) (p : Place) (c : AstMacroCall) (n : ℕ) (f : HirFileId)
     (t : AstType_) (es : List Eager) → InTypeCall env type_ p c → p.left ≡ suc n

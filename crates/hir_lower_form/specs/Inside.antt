@@ -48,6 +48,11 @@ abbrev pub InPatCall : Answers → (Place → AstPath → Type 0) → Place → 
 InPatCall env path p c = (q : Place) (y : AstPath)
     → count_path (answered_path (read_at env q) y) < count_option_pat (inside_pat_call env (entering env p.left) p c) → path q y
 
+-- of what is assigned to the expressions, each of which may be a place, and the paths in it
+abbrev pub InTargetCall : Answers → (Place → AstExpr → Type 0) → (Place → AstPath → Type 0) → Place → AstMacroCall → Type 0
+InTargetCall env expr path p c = InCall env expr p c × ((q : Place) (y : AstPath)
+    → count_path (answered_path (read_at env q) y) < count_option_expr (inside_call env (entering env p.left) p c) → path q y)
+
 -- statements, and what stands behind them, read here where these macros are defined already
 abbrev pub answered_run : Spot → Defined → List AstStmt → Option AstExpr → Spliced
 answered_run at d ss e = splice_of (read_stmt at.answers (into at)) (read_value at.answers (into at)) ss e at.place d

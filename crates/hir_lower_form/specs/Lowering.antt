@@ -116,6 +116,9 @@ point_field id node = stored (storing.point_field id node)
 unfoldable pub point_pat : Pointer → PatId → Lowering (Unit {0})
 point_pat node id = stored (storing.point_pat node id)
 
+unfoldable pub point_target : Pointer → PatId → Lowering (Unit {0})
+point_target node id = stored (storing.point_target node id)
+
 unfoldable pub point_pat_field : PatId → Pointer → Lowering (Unit {0})
 point_pat_field id node = stored (storing.point_pat_field id node)
 

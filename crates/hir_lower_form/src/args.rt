@@ -18,6 +18,7 @@ pub struct ArgLists {
 }
 
 impl ArgLists {
+    /// Of a list that yields nothing. It takes no memory.
     pub fn new(alloc: Global) -> ArgLists
         ensures { result ≡ spec.no_lists }
     {
@@ -27,6 +28,8 @@ impl ArgLists {
         }
     }
 
+    /// With one argument more, behind the others.
+    #[inline(never)]
     pub fn with_arg(self, arg: GenericArg) -> Result<ArgLists, AllocError>
         ensures value { IfOk result (λ l. l ≡ spec.add_arg self arg) }
         ensures past { IfOk result (λ l. spec.past_lists l ≡ join (spec.past_lists self) (past_arg arg)) }
@@ -36,6 +39,8 @@ impl ArgLists {
         Ok(ArgLists { args, bindings })
     }
 
+    /// With one binding more, behind the others.
+    #[inline(never)]
     pub fn with_binding(self, binding: AssociatedTypeBinding) -> Result<ArgLists, AllocError>
         ensures value { IfOk result (λ l. l ≡ spec.add_binding self binding) }
         ensures past { IfOk result (λ l. spec.past_lists l ≡ join (spec.past_lists self) (past_binding binding)) }
@@ -46,6 +51,7 @@ impl ArgLists {
     }
 
     /// The arguments, or none where the list yields nothing.
+    #[inline(never)]
     pub fn yielded(self) -> Option<GenericArgs>
         ensures value { result ≡ spec.yielded self }
         ensures past { past_present past_generic result ≡ spec.past_lists self }
@@ -60,6 +66,7 @@ impl ArgLists {
 }
 
 /// `(..)`, where it is written and nothing else was found.
+#[inline(never)]
 pub fn or_notation(alloc: Global, found: Option<GenericArgs>, written: bool) -> Option<GenericArgs>
     ensures value { result ≡ paths.or_notation found written }
     ensures past { past_present past_generic result ≡ past_present past_generic found }

@@ -9,13 +9,11 @@ ghost use Rattle.hir_lower_form.specs.Builder.{fresh};
 ghost use Rattle.hir_lower_form.specs.Lowering as spec;
 ghost use Rattle.hir_lower_scope.specs.Found.{try_of};
 ghost use Rattle.hir_lower_form.specs.Lowering.{HasFlag, HasNumber, HasStart, HasTry, Lowers};
-ghost use Rattle.hir_lower_form.specs.Lower.{missing};
-ghost use Rattle.hir_lower_form.specs.Pats.{missing_pat};
-ghost use Rattle.hir_lower_form.specs.Types.{error_type, unit_type};
 
 use crate::parts::LowerParts;
 use hir_base::node::{AstPtr, HirFileId, InFile, NodeId, TextRange};
-use hir_lower_scope::labels::{LabelScopes, NoTarget, TryLabel};
+use hir_lower_scope::labels::{NoTarget, TryLabel};
+use hir_lower_scope::stacks::LabelStacks;
 use hir_store::builder::ExpressionStoreBuilder;
 use hir_store::diagnostics::{AwaitLocation, ExpressionStoreDiagnostics};
 use hir_store::expansions::ExpandedCall;
@@ -26,7 +24,6 @@ use hir_store::ids::{
 };
 use hir_store::name::Name;
 use hir_store::type_ref::{LifetimeRef, TypeRef};
-use hir_syntax::Seq;
 use std::alloc::Global;
 use std::marker::Model;
 
@@ -36,7 +33,7 @@ use std::marker::Model;
 /// `Memory` where a growth was refused.
 pub struct BodyBuilder {
     store: ExpressionStoreBuilder,
-    scopes: LabelScopes,
+    scopes: LabelStacks,
     /// How many names were made up.
     names: u32,
     counted_out: bool,
@@ -103,7 +100,7 @@ impl BodyBuilder {
     {
         BodyBuilder {
             store: ExpressionStoreBuilder::new(alloc, limit),
-            scopes: LabelScopes::new(alloc),
+            scopes: LabelStacks::new(alloc),
             names: 0,
             counted_out: false,
             in_root: false,
@@ -113,6 +110,7 @@ impl BodyBuilder {
 
     /// Stores an expression, to which its node, where it came from one, leads from now on.
     #[tactic(auto, unfolding(crate::specs::Lowering::alloc_expr))]
+    #[inline(never)]
     pub fn alloc_expr(
         &mut self,
         expr: Expr,
@@ -126,6 +124,7 @@ impl BodyBuilder {
 
     /// Stores an expression that lowering makes up, with the node that it came from, which doesn't lead to it.
     #[tactic(auto, unfolding(crate::specs::Lowering::alloc_made))]
+    #[inline(never)]
     pub fn alloc_made(
         &mut self,
         expr: Expr,
@@ -139,6 +138,7 @@ impl BodyBuilder {
 
     /// Stores a pattern, to which its node, where it came from one, leads from now on.
     #[tactic(auto, unfolding(crate::specs::Lowering::alloc_pat))]
+    #[inline(never)]
     pub fn alloc_pat(
         &mut self,
         pat: Pat,
@@ -152,6 +152,7 @@ impl BodyBuilder {
 
     /// Stores a pattern that lowering makes up, with the node that it came from, which doesn't lead to it.
     #[tactic(auto, unfolding(crate::specs::Lowering::alloc_made_pat))]
+    #[inline(never)]
     pub fn alloc_made_pat(
         &mut self,
         pat: Pat,
@@ -163,16 +164,9 @@ impl BodyBuilder {
         self.store.alloc_made_pat(pat, source)
     }
 
-    /// Stores a pattern that is not there, which comes from no node.
-    #[tactic(auto, unfolding(crate::specs::Pats::missing_pat))]
-    pub fn missing_pat(&mut self) -> Result<PatId, StoreFault>
-        ensures { Lowers HasPat missing_pat self.old result self.new }
-    {
-        self.alloc_pat(Pat::Missing, None)
-    }
-
     /// Stores a binding, which no pattern makes yet.
     #[tactic(auto, unfolding(crate::specs::Lowering::alloc_binding))]
+    #[inline(never)]
     pub fn alloc_binding(&mut self, binding: Binding) -> Result<BindingId, StoreFault>
         ensures { Lowers HasBindingId (spec.alloc_binding binding) self.old result self.new }
     {
@@ -181,6 +175,7 @@ impl BodyBuilder {
 
     /// Says of a pattern that it makes a binding.
     #[tactic(auto, unfolding(crate::specs::Lowering::define))]
+    #[inline(never)]
     pub fn define(&mut self, binding: BindingId, pat: PatId) -> Result<(), StoreFault>
         requires { HasBindingId self.old.stored binding × HasPat self.old.stored pat }
         ensures { Lowers HasNone (spec.define binding pat) self.old result self.new }
@@ -190,6 +185,7 @@ impl BodyBuilder {
 
     /// Notes what is wrong with a binding, where something is.
     #[tactic(auto, using(hir_store::proofs::BindingLemmas::length_at), unfolding(crate::specs::Lowering::set_problem))]
+    #[inline(never)]
     pub fn set_problem(&mut self, binding: BindingId, problem: Option<BindingProblems>)
         requires { HasBindingId self.old.stored binding }
         ensures { Lowers HasNone (spec.set_problem binding problem) self.old (Ok tt) self.new }
@@ -207,6 +203,7 @@ impl BodyBuilder {
 
     /// From this binding on the expression owns each that nothing owned.
     #[tactic(auto, unfolding(crate::specs::Lowering::own))]
+    #[inline(never)]
     pub fn own(&mut self, start: BindingId, owner: ExprId)
         requires { HasExpr self.old.stored owner }
         ensures { Lowers HasNone (spec.own start owner) self.old (Ok tt) self.new }
@@ -216,6 +213,7 @@ impl BodyBuilder {
 
     /// Stores a type, to which its node, where it came from one, leads from now on.
     #[tactic(auto, unfolding(crate::specs::Lowering::alloc_type))]
+    #[inline(never)]
     pub fn alloc_type(
         &mut self,
         ty: TypeRef,
@@ -229,6 +227,7 @@ impl BodyBuilder {
 
     /// Stores a lifetime, to which its node, where it came from one, leads from now on.
     #[tactic(auto, unfolding(crate::specs::Lowering::alloc_lifetime))]
+    #[inline(never)]
     pub fn alloc_lifetime(
         &mut self,
         lifetime: LifetimeRef,
@@ -239,32 +238,9 @@ impl BodyBuilder {
         self.store.alloc_lifetime(lifetime, source)
     }
 
-    /// Stores the type that stands for one that is not there, which comes from no node.
-    #[tactic(auto, unfolding(crate::specs::Types::error_type))]
-    pub fn error_type(&mut self) -> Result<TypeRefId, StoreFault>
-        ensures { Lowers HasType error_type self.old result self.new }
-    {
-        self.alloc_type(TypeRef::Error, None)
-    }
-
-    /// Stores `()`, which comes from no node.
-    #[tactic(auto, unfolding(crate::specs::Types::unit_type))]
-    pub fn unit_type(&mut self, alloc: Global) -> Result<TypeRefId, StoreFault>
-        ensures { Lowers HasType unit_type self.old result self.new }
-    {
-        self.alloc_type(TypeRef::Tuple(Seq::new(alloc)), None)
-    }
-
-    /// Stores an expression that is not there, which comes from no node.
-    #[tactic(auto, unfolding(crate::specs::Lower::missing))]
-    pub fn missing_expr(&mut self) -> Result<ExprId, StoreFault>
-        ensures { Lowers HasExpr missing self.old result self.new }
-    {
-        self.alloc_expr(Expr::Missing, None)
-    }
-
     /// Lets a further node lead to an expression.
     #[tactic(auto, unfolding(crate::specs::Lowering::point))]
+    #[inline(never)]
     pub fn point(&mut self, node: InFile<AstPtr>, id: ExprId) -> Result<(), StoreFault>
         requires { HasExpr self.old.stored id }
         ensures { Lowers HasNone (spec.point node id) self.old result self.new }
@@ -274,6 +250,7 @@ impl BodyBuilder {
 
     /// Notes the field that an expression is the value of.
     #[tactic(auto, unfolding(crate::specs::Lowering::point_field))]
+    #[inline(never)]
     pub fn point_field(&mut self, id: ExprId, node: InFile<AstPtr>) -> Result<(), StoreFault>
         requires { HasExpr self.old.stored id }
         ensures { Lowers HasNone (spec.point_field id node) self.old result self.new }
@@ -283,6 +260,7 @@ impl BodyBuilder {
 
     /// Lets a further node lead to a pattern.
     #[tactic(auto, unfolding(crate::specs::Lowering::point_pat))]
+    #[inline(never)]
     pub fn point_pat(&mut self, node: InFile<AstPtr>, id: PatId) -> Result<(), StoreFault>
         requires { HasPat self.old.stored id }
         ensures { Lowers HasNone (spec.point_pat node id) self.old result self.new }
@@ -290,8 +268,19 @@ impl BodyBuilder {
         self.store.point_pat(node, id)
     }
 
+    /// Lets a further node lead to a pattern of what is assigned to.
+    #[tactic(auto, unfolding(crate::specs::Lowering::point_target))]
+    #[inline(never)]
+    pub fn point_target(&mut self, node: InFile<AstPtr>, id: PatId) -> Result<(), StoreFault>
+        requires { HasPat self.old.stored id }
+        ensures { Lowers HasNone (spec.point_target node id) self.old result self.new }
+    {
+        self.store.point_target(node, id)
+    }
+
     /// Lets a further node lead to a type.
     #[tactic(auto, unfolding(crate::specs::Lowering::point_type))]
+    #[inline(never)]
     pub fn point_type(&mut self, node: InFile<AstPtr>, id: TypeRefId) -> Result<(), StoreFault>
         requires { HasType self.old.stored id }
         ensures { Lowers HasNone (spec.point_type node id) self.old result self.new }
@@ -301,6 +290,7 @@ impl BodyBuilder {
 
     /// Notes the field that a pattern is the part of.
     #[tactic(auto, unfolding(crate::specs::Lowering::point_pat_field))]
+    #[inline(never)]
     pub fn point_pat_field(&mut self, id: PatId, node: InFile<AstPtr>) -> Result<(), StoreFault>
         requires { HasPat self.old.stored id }
         ensures { Lowers HasNone (spec.point_pat_field id node) self.old result self.new }
@@ -308,7 +298,9 @@ impl BodyBuilder {
         self.store.point_pat_field(id, node)
     }
 
+    /// Notes a fault, behind those before it.
     #[tactic(auto, unfolding(crate::specs::Lowering::report))]
+    #[inline(never)]
     pub fn report(&mut self, fault: ExpressionStoreDiagnostics) -> Result<(), StoreFault>
         ensures { Lowers HasNone (spec.report fault) self.old result self.new }
     {
@@ -317,6 +309,7 @@ impl BodyBuilder {
 
     /// Notes that the call was expanded to the file.
     #[tactic(auto, unfolding(crate::specs::Lowering::record_expansion))]
+    #[inline(never)]
     pub fn record_expansion(
         &mut self,
         call: InFile<NodeId>,
@@ -331,6 +324,7 @@ impl BodyBuilder {
 
     /// Reports that the node awaits in this, which isn't async.
     #[tactic(auto, unfolding(crate::specs::Lowering::report_await))]
+    #[inline(never)]
     pub fn report_await(
         &mut self,
         node: InFile<AstPtr>,
@@ -348,6 +342,7 @@ impl BodyBuilder {
 
     /// Notes the number of a block that lowering enters, where it has one.
     #[tactic(auto, unfolding(crate::specs::Lowering::enter_block))]
+    #[inline(never)]
     pub fn enter_block(&mut self, block: Option<BlockId>) -> Result<(), StoreFault>
         ensures { Lowers HasNone (spec.enter_block block) self.old result self.new }
     {
@@ -359,6 +354,7 @@ impl BodyBuilder {
 
     /// Records a root, to which all belongs that no root before it has.
     #[tactic(auto, unfolding(crate::specs::Lowering::record_root))]
+    #[inline(never)]
     pub fn record_root(&mut self, root: ExprId) -> Result<(), StoreFault>
         requires { HasExpr self.old.stored root }
         ensures { Lowers HasNone (spec.record_root root) self.old result self.new }
@@ -399,6 +395,7 @@ impl BodyBuilder {
     }
 
     /// Notes that a counter is at its end, and answers `Full`.
+    #[inline(never)]
     pub fn count_out(&mut self) -> StoreFault
         ensures fault { result ≡ Full }
         ensures noted { self.new ≡ record self.old { counted_out = true } }
@@ -409,6 +406,7 @@ impl BodyBuilder {
 
     /// The number of a name that was not made up before.
     #[tactic(auto, unfolding(crate::specs::Lowering::made_number, crate::specs::Lowering::count_out))]
+    #[inline(never)]
     pub fn made_number(&mut self) -> Result<u32, StoreFault>
         ensures { Lowers HasNumber spec.made_number self.old result self.new }
     {
@@ -422,8 +420,10 @@ impl BodyBuilder {
         }
     }
 
-    /// Counts the definition of a macro that so many of its name stand before.
+    /// Counts the definition of a macro behind so many of its name, and stores nothing. It answers `Full`, and notes that a counter is
+    /// at its end, where 4294967295 stand before it.
     #[tactic(auto, unfolding(crate::specs::Lowering::count_def, crate::specs::Lowering::count_out))]
+    #[inline(never)]
     pub fn count_def(&mut self, before: u32) -> Result<(), StoreFault>
         ensures { Lowers HasNone (spec.count_def before) self.old result self.new }
     {
@@ -435,6 +435,7 @@ impl BodyBuilder {
 
     /// Opens the definition of a macro, inside all that are open: what follows it stands in it.
     #[tactic(auto, unfolding(crate::specs::Lowering::open_macro))]
+    #[inline(never)]
     pub fn open_macro(&mut self, def: MacroDefId) -> Result<(), StoreFault>
         ensures { Lowers HasNone (spec.open_macro def) self.old result self.new }
     {
@@ -444,6 +445,7 @@ impl BodyBuilder {
 
     /// Stores a label and opens it inside all that are open.
     #[tactic(auto, unfolding(crate::specs::Lowering::open_label))]
+    #[inline(never)]
     pub fn open_label(
         &mut self,
         name: Name,
@@ -460,6 +462,7 @@ impl BodyBuilder {
     }
 
     /// Stores a label of the made name of this number for a `try`, and opens that inside all that are open.
+    #[inline(never)]
     fn open_try_named(
         &mut self,
         number: u32,
@@ -494,6 +497,7 @@ impl BodyBuilder {
     /// Opens the border of a constant, a closure or a coroutine: until it is closed no jump reaches what is open around it. It answers
     /// whether a `yield` stood around it, for `close_barrier`.
     #[tactic(auto, unfolding(crate::specs::Lowering::open_barrier))]
+    #[inline(never)]
     pub fn open_barrier(&mut self) -> Result<bool, StoreFault>
         ensures { Lowers HasFlag spec.open_barrier self.old result self.new }
     {
@@ -532,13 +536,15 @@ impl BodyBuilder {
 
     /// Closes all labels: a root is reached by no jump from outside.
     #[tactic(auto, unfolding(crate::specs::Lowering::close_labels))]
+    #[inline(never)]
     pub fn close_labels(&mut self, alloc: Global)
         ensures { Lowers HasNone spec.close_labels self.old (Ok tt) self.new }
     {
-        self.scopes = LabelScopes::new(alloc);
+        self.scopes = LabelStacks::new(alloc);
     }
 
     /// Reports that a jump of this name has no target.
+    #[inline(never)]
     fn no_target(
         &mut self,
         cause: NoTarget,
@@ -552,6 +558,7 @@ impl BodyBuilder {
     }
 
     /// The label that a jump of this name and this hygiene is for, or none and a fault at the node.
+    #[inline(never)]
     pub fn jump_target<P: LowerParts>(
         &mut self,
         parts: &P,

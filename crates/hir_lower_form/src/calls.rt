@@ -65,7 +65,9 @@ fn note(
     state.record_expansion(site(call), Some(call.value.range), file)
 }
 
-/// Tells of a call what it came to, and answers what it stands for.
+/// Tells of a call what it came to, and answers what it stands for. It notes one that is entered, and reports one whose macro isn't
+/// found; `Memory` where that is refused.
+#[inline(never)]
 fn told<'a>(
     state: &mut BodyBuilder,
     place: Place,
@@ -89,7 +91,9 @@ fn told<'a>(
     }
 }
 
-/// The same of a call in statement or tail place, where it is no fault that its macro isn't found.
+/// Tells of a call in statement or tail place what it came to, and answers what it stands for. One whose macro isn't found is none:
+/// no fault is told. What was expanded for one that is entered is noted, and then the call; `Memory` where that is refused.
+#[inline(never)]
 fn told_splice<'a>(
     state: &mut BodyBuilder,
     place: Place,
@@ -108,8 +112,9 @@ fn told_splice<'a>(
     }
 }
 
-/// Asks about a call that is read here as an expression, a pattern or a type, and tells what it came to. Where none may be entered
-/// nothing is asked.
+/// Asks about a call that is read here as an expression, a pattern or a type, tells what it came to, and answers what it stands for.
+/// Where none may be entered nothing is asked, nothing is told, and it is `No`. `Memory` where what is told can't be noted.
+#[inline(never)]
 pub fn enter<'a, P: LowerParts>(
     lowerer: &'a Lowerer<P>,
     state: &mut BodyBuilder,
@@ -127,7 +132,9 @@ pub fn enter<'a, P: LowerParts>(
     told(state, place, place.left - 1, at, expansion)
 }
 
-/// The same of a call in statement or tail place, which stands for statements.
+/// Asks about a call that stands here for statements, tells that it is entered, and answers what it stands for. One that isn't entered
+/// is `No` and is told nothing of, also where its macro isn't found. `Memory` where what is told can't be noted.
+#[inline(never)]
 pub fn enter_splice<'a, P: LowerParts>(
     lowerer: &'a Lowerer<P>,
     state: &mut BodyBuilder,

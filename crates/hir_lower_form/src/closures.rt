@@ -18,6 +18,7 @@ pub struct ClosureParams {
 }
 
 impl ClosureParams {
+    /// Of no parameters. It takes no memory.
     pub fn new(alloc: Global) -> ClosureParams
         ensures { result ≡ spec.no_closure_params }
     {
@@ -27,7 +28,9 @@ impl ClosureParams {
         }
     }
 
+    /// With one parameter more, behind the others.
     #[tactic(auto, using(hir_store::proofs::Past::join_across))]
+    #[inline(never)]
     pub fn with_param(self, pat: PatId, ty: Option<TypeRefId>) -> Result<ClosureParams, AllocError>
         ensures value { IfOk result (λ l. l ≡ spec.add_param self pat ty) }
         ensures past { IfOk result (λ l. past_params l

@@ -16,6 +16,7 @@ use hir_syntax::ast;
 
 impl<P: LowerParts> Lowerer<P> {
     /// Stores and opens a label, at whose node its hygiene is asked for.
+    #[inline(never)]
     pub fn open_label(
         &self,
         state: &mut BodyBuilder,
@@ -32,6 +33,7 @@ impl<P: LowerParts> Lowerer<P> {
 
     /// The label that a jump is for, or none; a lifetime that names none is a fault.
     #[tactic(auto, unfolding(crate::specs::Lowering::jump_target))]
+    #[inline(never)]
     pub fn jump_target(
         &self,
         state: &mut BodyBuilder,

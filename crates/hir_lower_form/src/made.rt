@@ -84,6 +84,7 @@ fn bound(
 impl BodyBuilder {
     /// Stores the made name of this number, as a path.
     #[tactic(auto, unfolding(crate::specs::Made::made_path_form))]
+    #[inline(never)]
     pub fn made_path(
         &mut self,
         alloc: Global,
@@ -99,6 +100,7 @@ impl BodyBuilder {
 
     /// Stores a pattern that binds the made name of this number.
     #[tactic(auto, unfolding(crate::specs::Made::made_bind_form))]
+    #[inline(never)]
     pub fn made_bind(&mut self, mode: BindingAnnotation, number: u32) -> Result<PatId, StoreFault>
         ensures { Lowers HasPat (spec.made_bind_form mode number) self.old result self.new }
     {
@@ -115,6 +117,7 @@ impl BodyBuilder {
     }
 
     /// Stores a pattern that the item fits which holds what this one fits.
+    #[inline(never)]
     pub fn item_pat(
         &mut self,
         alloc: Global,
@@ -138,6 +141,7 @@ impl BodyBuilder {
     }
 
     /// Stores the item.
+    #[inline(never)]
     pub fn made_item(
         &mut self,
         at: InFile<AstPtr>,
@@ -149,7 +153,12 @@ impl BodyBuilder {
     }
 
     /// Stores a mutable reference to what the made name of this number stands for.
+    ///
+    /// ```text
+    /// loop { match next(&mut made) { .. } }     // of `for`
+    /// ```
     #[tactic(auto, unfolding(crate::specs::Made::made_reference_form))]
+    #[inline(never)]
     pub fn made_reference(
         &mut self,
         alloc: Global,
@@ -172,6 +181,7 @@ impl BodyBuilder {
     }
 
     /// Stores a call with one argument.
+    #[inline(never)]
     pub fn made_call(
         &mut self,
         alloc: Global,
@@ -188,7 +198,13 @@ impl BodyBuilder {
     }
 
     /// Stores a call of the item with one argument.
+    ///
+    /// ```text
+    /// match into_iter(head) { .. }     // of `for`
+    /// match branch(e) { .. }           // of `e?`
+    /// ```
     #[tactic(auto, unfolding(crate::specs::Made::item_call_form))]
+    #[inline(never)]
     pub fn item_call(
         &mut self,
         alloc: Global,
@@ -205,6 +221,7 @@ impl BodyBuilder {
 
     /// The value of a block, which is `()` where it has no tail.
     #[tactic(auto, unfolding(crate::specs::Made::value_or_unit))]
+    #[inline(never)]
     fn value_or_unit(
         &mut self,
         alloc: Global,
@@ -224,7 +241,12 @@ impl BodyBuilder {
     }
 
     /// Stores a call of the item with the value of a block.
+    ///
+    /// ```text
+    /// 'made: { .. from_output(tail) }     // of `try { .. tail }`
+    /// ```
     #[tactic(auto, unfolding(crate::specs::Made::wrapped_form))]
+    #[inline(never)]
     pub fn wrapped(
         &mut self,
         alloc: Global,
@@ -241,6 +263,11 @@ impl BodyBuilder {
     }
 
     /// Stores a block that binds a value of this type by the pattern, and then is what stands behind it.
+    ///
+    /// ```text
+    /// { let made: T = 'made: { .. }; made }     // of `try bikeshed T { .. }`
+    /// ```
+    #[inline(never)]
     pub fn bound_block(
         &mut self,
         alloc: Global,

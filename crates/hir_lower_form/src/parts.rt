@@ -11,7 +11,7 @@ ghost use Rattle.hir_env.specs.Whole.{block_part, expr_part, pointer_at};
 ghost use Rattle.hir_scope.specs.Ribs.{search, sought_first};
 ghost use Rattle.hir_lower_scope.specs.Labels.{answer};
 ghost use Rattle.hir_lower_form.specs.Nests.{CallsNest, Claims, IfPresent, Moved, PatCallsNest, PatsNest, SplicesNest, TargetsArePlaces};
-ghost use Rattle.hir_lower_form.specs.Nests.{TargetsNest, TypeCallsNest};
+ghost use Rattle.hir_lower_form.specs.Nests.{TargetCallsNest, TargetsNest, TypeCallsNest};
 ghost use Rattle.hir_lower_form.specs.Methods.{HasRole, LowersBlock, LowersBlockOpt, LowersExpr, LowersExprOpt, LowersIfPresent};
 ghost use Rattle.hir_lower_form.specs.Methods.{LowersInside, MaybeLowersExpr, MaybeLowersExprOpt};
 ghost use Rattle.hir_lower_form.specs.Methods.{HasWalk, LowersArgs, LowersConstant, LowersType, ReadsPath, at_place, constant_at};
@@ -23,7 +23,8 @@ use hir_env::expand::{Expansion, FragmentKind};
 use hir_env::lang::LangItems;
 use hir_env::place::Place;
 use hir_env::resolved::{Resolved, Shadow};
-use hir_lower_scope::labels::{LabelScopes, NoTarget};
+use hir_lower_scope::labels::NoTarget;
+use hir_lower_scope::stacks::LabelStacks;
 use hir_store::fault::StoreFault;
 use hir_store::hir::CoroutineKind;
 use hir_store::ids::{
@@ -67,6 +68,7 @@ pub trait LowerParts: Copy {
         ensures spot { spot result ≡ at_place (spot self.now) place }
         ensures can { Moved (can self.now) (can result) place };
 
+    /// Where the parts are read.
     fn place(&self) -> Place
         ensures { result ≡ (spot self.now).place };
 
@@ -122,7 +124,7 @@ pub trait LowerParts: Copy {
     /// The label that a jump of this name and this hygiene is for. It asks about contexts.
     fn find_label(
         &self,
-        scopes: &LabelScopes,
+        scopes: &LabelStacks,
         name: &Name,
         hygiene: HygieneId,
     ) -> Result<LabelId, NoTarget>
@@ -216,6 +218,8 @@ pub trait LowerParts: Copy {
 
     ghost pat_call_kids: { PatCallsNest can spot };
 
+    ghost target_call_kids: { TargetCallsNest can spot };
+
     ghost type_call_kids: { TypeCallsNest can spot };
 
     ghost splice_kids: { SplicesNest can spot };
@@ -260,6 +264,7 @@ impl<P: LowerParts> Lowerer<P> {
         }
     }
 
+    /// A node of the file that the parts are read in.
     pub fn pointer(&self, node: NodeId, range: TextRange) -> InFile<AstPtr>
         ensures { result ≡ pointer_at (P.spot self.now.parts) node range }
     {

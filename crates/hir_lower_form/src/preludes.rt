@@ -66,6 +66,7 @@ impl Prelude {
     }
 
     /// One parameter more, handed in like this, with its `let`s.
+    #[inline(never)]
     fn with_handed(self, one: Handed, more: Seq<Statement>) -> Result<Prelude, AllocError>
         ensures value { IfOk result (λ l. l ≡ spec.add_handed self one more) }
         ensures past { IfOk result (λ l. past_statements l.lets ≡ join (past_statements self.lets) (past_statements more)) }
@@ -193,6 +194,7 @@ fn coroutine_of(alloc: Global, kind: CoroutineKind, source: CoroutineSource, bod
 impl BodyBuilder {
     /// Stores a path of this name, which comes from no node.
     #[tactic(auto, unfolding(crate::specs::Preludes::name_form))]
+    #[inline(never)]
     fn read_name(
         &mut self,
         alloc: Global,
@@ -225,6 +227,7 @@ impl BodyBuilder {
 
     /// Stores a pattern that binds the name by which a parameter is handed in.
     #[tactic(auto, unfolding(crate::specs::Preludes::handed_form))]
+    #[inline(never)]
     fn handed_pat(&mut self, handed: &Handed) -> Result<PatId, StoreFault>
         ensures { Lowers HasPat (spec.handed_form handed.now) self.old result self.new }
     {
@@ -294,6 +297,10 @@ impl BodyBuilder {
     }
 
     /// The parameter of this pattern is handed in by the name that the pattern is.
+    ///
+    /// ```text
+    /// |mut x| async { let x = x; .. }     // of `async |x| ..`
+    /// ```
     #[tactic(auto, unfolding(crate::specs::Preludes::handed_by_name))]
     fn handed_by_name(
         &mut self,
@@ -311,6 +318,10 @@ impl BodyBuilder {
     }
 
     /// The parameter of this pattern is handed in by a name in between.
+    ///
+    /// ```text
+    /// |mut made| async { let mut made = made; let (a, b) = made; .. }     // of `async |(a, b)| ..`
+    /// ```
     #[tactic(auto, unfolding(crate::specs::Preludes::handed_between))]
     fn handed_between(
         &mut self,
@@ -368,6 +379,7 @@ impl BodyBuilder {
 
     /// The prelude with what hands in the parameter of this pattern.
     #[tactic(auto, unfolding(crate::specs::Preludes::let_param))]
+    #[inline(never)]
     fn let_param(
         &mut self,
         alloc: Global,
@@ -383,7 +395,12 @@ impl BodyBuilder {
     }
 
     /// Stores a pattern that binds anew what this binds, and `let`s it be that.
+    ///
+    /// ```text
+    /// async { let self = self; .. }     // of `async fn f(self) { .. }`
+    /// ```
     #[tactic(auto, unfolding(crate::specs::Preludes::rebind_form))]
+    #[inline(never)]
     fn rebind(
         &mut self,
         alloc: Global,
@@ -433,6 +450,7 @@ impl BodyBuilder {
 
     /// Begins a prelude: what `self` is in the body, where there is one, with the `let` of it.
     #[tactic(auto, unfolding(crate::specs::Preludes::let_self))]
+    #[inline(never)]
     pub fn let_self(
         &mut self,
         alloc: Global,
@@ -451,7 +469,12 @@ impl BodyBuilder {
     }
 
     /// Stores the block with these `let`s in front of the body, and the coroutine around it, which both come from no node.
+    ///
+    /// ```text
+    /// async { let x = x; .. body }
+    /// ```
     #[tactic(auto, unfolding(crate::specs::Preludes::made_coroutine_form))]
+    #[inline(never)]
     pub fn made_coroutine(
         &mut self,
         alloc: Global,
@@ -477,6 +500,7 @@ impl BodyBuilder {
 }
 
 /// The prelude with what hands in the parameters of these patterns.
+#[inline(never)]
 pub fn let_params(
     alloc: Global,
     state: &mut BodyBuilder,
@@ -495,6 +519,7 @@ pub fn let_params(
 }
 
 /// Stores what the outside hands these parameters to.
+#[inline(never)]
 pub fn lower_handed(
     alloc: Global,
     state: &mut BodyBuilder,

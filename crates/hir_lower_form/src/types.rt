@@ -49,6 +49,7 @@ impl<P: LowerParts> Lowerer<P> {
     }
 
     /// The arguments, read at this place, or none where the list is absent or yields nothing.
+    #[inline(never)]
     pub fn args_if_present(
         &self,
         state: &mut BodyBuilder,
@@ -66,6 +67,7 @@ impl<P: LowerParts> Lowerer<P> {
 
     /// The path, read at this place, or none where it is absent or refused.
     #[tactic(auto, using(crate::proofs::Walked::path_read_has))]
+    #[inline(never)]
     pub fn path_if_present(
         &self,
         state: &mut BodyBuilder,

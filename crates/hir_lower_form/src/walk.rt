@@ -54,6 +54,7 @@ fn one_more_super(kind: PathKind) -> Option<PathKind>
     }
 }
 
+/// None beside each name.
 #[tactic(auto, using(crate::proofs::Walked::no_args_push))]
 fn absent_args(alloc: Global, names: &Seq<Name>) -> Result<Seq<Option<GenericArgs>>, AllocError>
     ensures { IfOk result (λ args. args ≡ map (λ n. None) names.now) }
@@ -128,6 +129,7 @@ impl PathWalk {
     }
 
     /// The walk at a first segment, which may bear a `::`.
+    #[inline(never)]
     pub fn at_first(self, leading: bool) -> PathWalk
         ensures value { result ≡ spec.at_first leading self }
         ensures past { spec.past_walk result ≡ spec.past_walk self }
@@ -144,6 +146,7 @@ impl PathWalk {
 
     /// A further name, before those that are read, with what stands beside it.
     #[tactic(auto, using(hir_store::proofs::Past::join_assoc))]
+    #[inline(never)]
     pub fn named(mut self, name: Name, args: Option<GenericArgs>) -> Result<Reading, AllocError>
         ensures value { IfOk result (λ r. r ≡ spec.named name args self) }
         ensures past { IfOk result (λ r. spec.past_reading r ≡ join (spec.past_walk self) (past_present past_generic args)) }
@@ -155,6 +158,7 @@ impl PathWalk {
     }
 
     /// The path begins here, with this kind.
+    #[inline(never)]
     pub fn ended(self, kind: PathKind) -> Reading
         ensures { result ≡ spec.ended kind self }
     {
@@ -162,6 +166,7 @@ impl PathWalk {
     }
 
     /// `self` as a first segment: it ends the path where a name was read.
+    #[inline(never)]
     pub fn self_read(self) -> Reading
         ensures { result ≡ spec.self_read self }
     {
@@ -176,6 +181,7 @@ impl PathWalk {
     }
 
     /// One `super` more, or none where there are as many as are counted.
+    #[inline(never)]
     pub fn super_read(self) -> Option<Reading>
         ensures { result ≡ spec.super_read self }
     {
@@ -186,6 +192,7 @@ impl PathWalk {
     }
 
     /// `<T>`.
+    #[inline(never)]
     pub fn anchored(self, ty: TypeRefId) -> Reading
         ensures { result ≡ spec.anchored ty self }
     {
@@ -197,6 +204,7 @@ impl PathWalk {
     }
 
     /// `<T as Trait>`: the trait's names, with `T` before the arguments of the last.
+    #[inline(never)]
     pub fn projected(
         mut self,
         alloc: Global,
@@ -218,6 +226,7 @@ impl PathWalk {
     }
 
     /// The path, all of whose segments are read.
+    #[inline(never)]
     pub fn finished(self) -> Path
         ensures { result ≡ spec.finished self }
     {
@@ -265,6 +274,7 @@ fn drop_last_self(args: &mut Seq<Option<GenericArgs>>)
 }
 
 /// The path that was read, or none where it is refused.
+#[inline(never)]
 pub fn path_read(reading: Reading) -> Option<Path>
     ensures { result ≡ spec.path_read reading }
 {
