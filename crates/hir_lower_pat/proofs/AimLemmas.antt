@@ -1,7 +1,7 @@
 -- What comes of targets: what their answered trees say of their kinds.
 use Rattle.std.proofs.Common.{◌≡◌, ◌∙◌, ap, refl, subst, sym, Bool, true, false, List, [], Option, Some, None, Result, Ok, Err}
-use Rattle.std.proofs.Common.{◌∷◌, ◌++◌, arith, ◌≤◌}
-use Rattle.std.specs.Prelude.{if◌then◌else◌, option_map}
+use Rattle.std.proofs.Common.{arith, ◌≤◌}
+use Rattle.std.specs.Prelude.{if◌then◌else◌}
 use Rattle.hir_base.specs.declared.op.BinaryOp.TheVariants as op
 use Rattle.hir_syntax.specs.declared.ast.BlockExpr.{out-BlockExpr}
 use Rattle.hir_syntax.specs.declared.ast.ElseBranch.TheOpen.{ExprKind-F}
@@ -11,6 +11,7 @@ use Rattle.hir_syntax.specs.declared.ast.ExprKind.{roll-out-ExprKind}
 use Rattle.hir_syntax.specs.declared.ast.ExprKind.TheVariants as kind
 use Rattle.hir_syntax.specs.declared.ast.Path.{Path as AstPath}
 use Rattle.hir_syntax.specs.declared.ast.RecordExprFieldList.{RecordExprFieldList as AstFieldList}
+use Rattle.hir_syntax.specs.declared.macros.MacroCall.{MacroCall as AstMacroCall}
 use Rattle.hir_store.specs.Pointers.{Pointer}
 use Rattle.hir_store.specs.declared.ids.CfgId.{CfgId}
 use Rattle.hir_store.specs.declared.ids.ExprId.{ExprId}
@@ -19,30 +20,31 @@ use Rattle.hir_store.specs.declared.ids.PatId.{PatId}
 use Rattle.hir_store.specs.declared.path.Path.{Path as HirPath}
 use Rattle.hir_env.specs.Spot.{Spot, site_of}
 use Rattle.hir_env.specs.Answered as tree
-use Rattle.hir_env.specs.Answered.{Expr, Exprs, OptionPath, Path, Target, Targets}
+use Rattle.hir_env.specs.Answered.{Expr, OptionExpr, OptionPath, Origin, Path, Target, Targets}
 use Rattle.hir_env.specs.Answering.{asked, coroutine_kind, expr_at, for_items, question_items}
 use Rattle.hir_env.specs.Count.{count_expr}
 use Rattle.hir_env.specs.Layers.{ExprKindLayer}
 use Rattle.hir_env.specs.PathNames.{mod_path_of}
-use Rattle.hir_env.specs.Targets.{before_dots, behind_dots, call_or, callee_path, called, dots_pointer, elements, is_dots, names_target}
-use Rattle.hir_env.specs.Targets.{each_target, path_or, place_of, pointer_of, target_of, target_or}
-use Rattle.hir_env.specs.Whole.{answered, into, kept_expr, path_part, pointer_at, reader, written}
+use Rattle.hir_env.specs.Targets.{around_callee, call_or, called_or, callee_path, elements, is_dots, names_target, origin, outermost}
+use Rattle.hir_env.specs.Targets.{path_or, place_of, pointer_of, target_in, target_or}
+use Rattle.hir_env.specs.Whole.{answered, into, kept_expr, pointer_at, reader, written}
 use Rattle.hir_env.proofs.Levels.{block_is_level, expr_is_level}
 use Rattle.hir_lower_form.specs.Builder.{Builder}
-use Rattle.hir_lower_form.specs.Forms.{paren_form, path_form, path_or_missing}
-use Rattle.hir_lower_form.specs.Lowering.{Checked, Lowering, ◌>>=◌, ◌>>◌, go_on, pure, alloc_expr, alloc_pat, point}
-use Rattle.hir_lower_form.specs.Lower.{lower, lower_path, lower_target, lower_targets}
-use Rattle.hir_lower_form.specs.Pats.{Elements, no_elements}
-use Rattle.hir_lower_form.specs.Targets.{add_target, add_target_dots, array_target_form, path_target_form, path_target_of, place_form}
-use Rattle.hir_lower_pat.specs.Aims.{Aims, ArrayParts, IsPlace, aim_of, aimed, array_rest, found_at, landed, names_read, path_aim}
-use Rattle.hir_lower_pat.specs.Aims.{path_aimed}
-use Rattle.hir_lower_pat.specs.Aims.{array_of, dots_kind, path_of_callee, placed, through}
+use Rattle.hir_lower_form.specs.Families.{IsNoCall}
+use Rattle.hir_lower_form.specs.Forms.{missing, paren_form, path_form, path_or_missing}
+use Rattle.hir_lower_form.specs.Lowering.{Checked, Lowering, ◌>>=◌, ◌>>◌, go_on, pure, alloc_expr, point}
+use Rattle.hir_lower_form.specs.Lower.{lower_kept, lower_path, lower_target}
+use Rattle.hir_lower_form.specs.Methods.{or_missing}
+use Rattle.hir_lower_form.specs.Targets.{alloc_target, path_target_form, path_target_of, place_form}
+use Rattle.hir_lower_form.proofs.Kept.{lower_on}
+use Rattle.hir_lower_pat.specs.Aims.{Aims, IsPlace, aim_of, aimed, dots_kind, dots_tuple, found_at, landed, names_read, path_aim}
+use Rattle.hir_lower_pat.specs.Aims.{path_aimed, patterned, place_left, place_pat, placed, through, through_place}
 use Rattle.hir_lower_pat.specs.declared.aims.Aim.{Aim}
 use Rattle.hir_lower_pat.specs.declared.aims.Aim.TheVariants as aim
 use Rattle.hir_lower_pat.proofs.OfKinds.{of_called, of_closure, of_for, of_own, of_question, through_asked}
 use Rattle.hir_lower_pat.proofs.PathNames.{lowered_names}
 
-abbrev level : Spot → ExprKindLayer written → Pointer → Expr
+abbrev pub level : Spot → ExprKindLayer written → Pointer → Expr
 level at k s = expr_at at.answers (reader at.answers (into at)) k at.place s
 
 -- ---- conditions
@@ -54,23 +56,23 @@ pub opened : {k : AstExprKind} {l : ExprKindLayer written} → roll-ExprKind l �
 opened {k} {l} h = ap out-ExprKind (sym h) ∙ out-roll-ExprKind l
 
 -- one of this kind, at this node
-pub aims_as : (at : Spot) (e : AstExpr) (k : ExprKindLayer written) (s : Pointer) (old : Builder) (r : Checked Aim) (new : Builder)
-    → s ≡ pointer_at at e.id e.range → answered at e ≡ kept_expr at e → out-ExprKind e.kind ≡ k → Aims at (level at k s) old r new
-    → Aims at (answered at e) old r new
-aims_as at e k s old r new here is h =
+pub aims_as : (at : Spot) (call : Option Pointer) (e : AstExpr) (k : ExprKindLayer written) (s : Pointer) (old : Builder)
+    (r : Checked Aim) (new : Builder) → s ≡ pointer_at at e.id e.range → answered at e ≡ kept_expr at e → out-ExprKind e.kind ≡ k
+    → Aims at call (level at k s) old r new → Aims at call (answered at e) old r new
+aims_as at call e k s old r new here is h =
     let same : level at k s ≡ answered at e =
     ap (λ t. level at k t) here ∙ (ap (λ l. level at l (pointer_at at e.id e.range)) (sym h) ∙ sym is) in
-    subst (λ x. Aims at x old r new) same
+    subst (λ x. Aims at call x old r new) same
 
 -- one that a condition disables is a place
-pub disabled_is : (at : Spot) (e : AstExpr) (by : CfgId) → at.answers.cfg (site_of (pointer_at at e.id e.range)) ≡ Err by
-    → aim_of (found_at at) (answered at e) ≡ placed (answered at e)
-disabled_is at e by h =
+pub disabled_is : (at : Spot) (call : Option Pointer) (e : AstExpr) (by : CfgId)
+    → at.answers.cfg (site_of (pointer_at at e.id e.range)) ≡ Err by → aim_of (found_at at) call (answered at e) ≡ placed (answered at e)
+disabled_is at call e by h =
     let s = pointer_at at e.id e.range in
     let is : answered at e ≡ asked s (Err by) (kept_expr at e) = expr_is_level at e ∙ ap (λ r. asked s r (kept_expr at e)) h in
-    ap (aim_of (found_at at)) is ∙ sym (ap placed is)
+    ap (aim_of (found_at at) call) is ∙ sym (ap placed is)
 
--- ---- two dots and callees
+-- ---- two dots
 
 dots_at : (at : Spot) (k : ExprKindLayer written) (s : Pointer) → is_dots (level at k s) ≡ dots_kind k
 dots_at at (ExprKind-F.BlockExpr b) s =
@@ -134,138 +136,82 @@ dots_are at e =
     ap is_dots (expr_is_level at e)
     ∙ (through_asked is_dots (λ why x. refl) s (at.answers.cfg (site_of s)) (kept_expr at e) ∙ dots_at at (out-ExprKind e.kind) s)
 
-callee_at : (at : Spot) (k : ExprKindLayer written) (s : Pointer)
-    → callee_path (level at k s) ≡ option_map (path_part at) (path_of_callee k)
-callee_at at (ExprKind-F.BlockExpr b) s =
-    ap callee_path (block_is_level at b)
-    ∙ of_own callee_path None (λ x. refl) (λ t item y number ss e. refl) (λ t c. refl) (λ t way moves number ss e. refl)
-    at (out-BlockExpr b).mod_ b
-callee_at at (ExprKind-F.TryExpr e) s = of_question callee_path None s _ (λ items. refl) refl (question_items at.answers.lang_items)
-callee_at at (ExprKind-F.RangeExpr o a b) s = refl
-callee_at at (ExprKind-F.IfExpr c t e) s = refl
-callee_at at (ExprKind-F.LoopExpr l b) s = refl
-callee_at at (ExprKind-F.WhileExpr l c b) s = refl
-callee_at at (ExprKind-F.ForExpr l q e b) s =
-    of_for callee_path None (λ t items x w p h y. refl) (λ t. refl) (for_items at.answers.lang_items) s _ _ _ _ _
-callee_at at (ExprKind-F.CallExpr f es) s = refl
-callee_at at (ExprKind-F.PathExpr x) s = refl
-callee_at at (ExprKind-F.ContinueExpr l) s = refl
-callee_at at (ExprKind-F.BreakExpr l e) s = refl
-callee_at at (ExprKind-F.ParenExpr e) s = refl
-callee_at at (ExprKind-F.MacroExpr None) s = refl
-callee_at at (ExprKind-F.MacroExpr (Some c)) s =
-    of_called callee_path None (λ t x e. refl) (λ why t x e. refl) at.answers (into at) c at.place s
-callee_at at (ExprKind-F.Literal l) s = refl
-callee_at at (ExprKind-F.MethodCallExpr e n as' es) s = refl
-callee_at at (ExprKind-F.FieldExpr e n) s = refl
-callee_at at (ExprKind-F.PrefixExpr None e) s = refl
-callee_at at (ExprKind-F.PrefixExpr (Some o) e) s = refl
-callee_at at (ExprKind-F.BinExpr None a b) s = refl
-callee_at at (ExprKind-F.BinExpr (Some (op.LogicOp o)) a b) s = refl
-callee_at at (ExprKind-F.BinExpr (Some (op.ArithOp o)) a b) s = refl
-callee_at at (ExprKind-F.BinExpr (Some (op.CmpOp o)) a b) s = refl
-callee_at at (ExprKind-F.BinExpr (Some (op.Assignment o)) a b) s = refl
-callee_at at (ExprKind-F.BinExpr (Some op.Assign) a b) s = refl
-callee_at at (ExprKind-F.IndexExpr a b) s = refl
-callee_at at (ExprKind-F.RefExpr r m e) s = refl
-callee_at at (ExprKind-F.TupleExpr comma es) s = refl
-callee_at at (ExprKind-F.ArrayExpr es) s = refl
-callee_at at (ExprKind-F.RepeatExpr e n) s = refl
-callee_at at (ExprKind-F.ClosureExpr ps r e is_async is_gen moves is_static) s =
-    of_closure callee_path None (λ t m st xs y b. refl) (λ t way m xs y b. refl) (coroutine_kind is_async is_gen) s moves is_static _ _ _
-callee_at at (ExprKind-F.ReturnExpr e) s = refl
-callee_at at (ExprKind-F.BecomeExpr e) s = refl
-callee_at at (ExprKind-F.YieldExpr e) s = refl
-callee_at at (ExprKind-F.YeetExpr e) s = refl
-callee_at at (ExprKind-F.AwaitExpr e) s = refl
-callee_at at (ExprKind-F.CastExpr e t) s = refl
-callee_at at (ExprKind-F.RecordExpr x l) s = refl
-callee_at at (ExprKind-F.OffsetOfExpr t ns) s = refl
-callee_at at (ExprKind-F.CfgPredExpr pred) s = refl
-callee_at at (ExprKind-F.LetExpr x e) s = refl
-callee_at at (ExprKind-F.MatchExpr e as') s = refl
-callee_at at ExprKind-F.UnderscoreExpr s = refl
-callee_at at ExprKind-F.IncludeBytesExpr s = refl
-callee_at at ExprKind-F.AsmExpr s = refl
-callee_at at ExprKind-F.FormatArgsExpr s = refl
-
-pub callee_is : (at : Spot) (e : AstExpr) → callee_path (answered at e) ≡ option_map (path_part at) (path_of_callee (out-ExprKind e.kind))
-callee_is at e =
-    let s = pointer_at at e.id e.range in
-    ap callee_path (expr_is_level at e)
-    ∙ (through_asked callee_path (λ why x. refl) s (at.answers.cfg (site_of s)) (kept_expr at e) ∙ callee_at at (out-ExprKind e.kind) s)
-
 -- ---- any other kind
 
-abbrev IsPlaced : (Path → Bool) → Expr → Type 0
-IsPlaced f e = target_or f tree.absent_target e ≡ tree.absent_target
+abbrev nowhere : Target
+nowhere = tree.absent_target None
 
-other_at : (f : Path → Bool) (at : Spot) (k : ExprKindLayer written) (s : Pointer) → IsPlace k → IsPlaced f (level at k s)
-other_at f at (ExprKind-F.BlockExpr b) s h =
-    ap (target_or f tree.absent_target) (block_is_level at b)
-    ∙ of_own (target_or f tree.absent_target) tree.absent_target (λ x. refl) (λ t item y number ss e. refl) (λ t c. refl)
+abbrev IsPlaced : (Path → Bool) → Option Pointer → Expr → Type 0
+IsPlaced f call e = target_or f call nowhere e ≡ nowhere
+
+other_at : (f : Path → Bool) (call : Option Pointer) (at : Spot) (k : ExprKindLayer written) (s : Pointer) → IsPlace k
+    → IsPlaced f call (level at k s)
+other_at f call at (ExprKind-F.BlockExpr b) s h =
+    ap (target_or f call nowhere) (block_is_level at b)
+    ∙ of_own (target_or f call nowhere) nowhere (λ x. refl) (λ t item y number ss e. refl) (λ t c. refl)
     (λ t way moves number ss e. refl) at (out-BlockExpr b).mod_ b
-other_at f at (ExprKind-F.TryExpr e) s h =
-    of_question (target_or f tree.absent_target) tree.absent_target s _ (λ items. refl) refl (question_items at.answers.lang_items)
-other_at f at (ExprKind-F.RangeExpr o a b) s h = refl
-other_at f at (ExprKind-F.IfExpr c t e) s h = refl
-other_at f at (ExprKind-F.LoopExpr l b) s h = refl
-other_at f at (ExprKind-F.WhileExpr l c b) s h = refl
-other_at f at (ExprKind-F.ForExpr l q e b) s h =
-    of_for (target_or f tree.absent_target) tree.absent_target (λ t items x w p j y. refl) (λ t. refl)
+other_at f call at (ExprKind-F.TryExpr e) s h =
+    of_question (target_or f call nowhere) nowhere s _ (λ items. refl) refl (question_items at.answers.lang_items)
+other_at f call at (ExprKind-F.RangeExpr o a b) s h = refl
+other_at f call at (ExprKind-F.IfExpr c t e) s h = refl
+other_at f call at (ExprKind-F.LoopExpr l b) s h = refl
+other_at f call at (ExprKind-F.WhileExpr l c b) s h = refl
+other_at f call at (ExprKind-F.ForExpr l q e b) s h =
+    of_for (target_or f call nowhere) nowhere (λ t items x w p j y. refl) (λ t. refl)
     (for_items at.answers.lang_items) s _ _ _ _ _
-other_at f at (ExprKind-F.ContinueExpr l) s h = refl
-other_at f at (ExprKind-F.BreakExpr l e) s h = refl
-other_at f at (ExprKind-F.MacroExpr None) s h = refl
-other_at f at (ExprKind-F.MacroExpr (Some c)) s h =
-    of_called (target_or f tree.absent_target) tree.absent_target (λ t x e. refl) (λ why t x e. refl) at.answers (into at) c at.place s
-other_at f at (ExprKind-F.Literal l) s h = refl
-other_at f at (ExprKind-F.MethodCallExpr e n as' es) s h = refl
-other_at f at (ExprKind-F.FieldExpr e n) s h = refl
-other_at f at (ExprKind-F.PrefixExpr None e) s h = refl
-other_at f at (ExprKind-F.PrefixExpr (Some o) e) s h = refl
-other_at f at (ExprKind-F.BinExpr None a b) s h = refl
-other_at f at (ExprKind-F.BinExpr (Some (op.LogicOp o)) a b) s h = refl
-other_at f at (ExprKind-F.BinExpr (Some (op.ArithOp o)) a b) s h = refl
-other_at f at (ExprKind-F.BinExpr (Some (op.CmpOp o)) a b) s h = refl
-other_at f at (ExprKind-F.BinExpr (Some (op.Assignment o)) a b) s h = refl
-other_at f at (ExprKind-F.BinExpr (Some op.Assign) a b) s h = refl
-other_at f at (ExprKind-F.IndexExpr a b) s h = refl
-other_at f at (ExprKind-F.RefExpr r m e) s h = refl
-other_at f at (ExprKind-F.RepeatExpr e n) s h = refl
-other_at f at (ExprKind-F.ClosureExpr ps r e is_async is_gen moves is_static) s h =
-    of_closure (target_or f tree.absent_target) tree.absent_target (λ t m st xs y b. refl) (λ t way m xs y b. refl)
+other_at f call at (ExprKind-F.ContinueExpr l) s h = refl
+other_at f call at (ExprKind-F.BreakExpr l e) s h = refl
+other_at f call at (ExprKind-F.MacroExpr c) s h = absurd h
+other_at f call at (ExprKind-F.Literal l) s h = refl
+other_at f call at (ExprKind-F.MethodCallExpr e n as' es) s h = refl
+other_at f call at (ExprKind-F.FieldExpr e n) s h = refl
+other_at f call at (ExprKind-F.PrefixExpr None e) s h = refl
+other_at f call at (ExprKind-F.PrefixExpr (Some o) e) s h = refl
+other_at f call at (ExprKind-F.BinExpr None a b) s h = refl
+other_at f call at (ExprKind-F.BinExpr (Some (op.LogicOp o)) a b) s h = refl
+other_at f call at (ExprKind-F.BinExpr (Some (op.ArithOp o)) a b) s h = refl
+other_at f call at (ExprKind-F.BinExpr (Some (op.CmpOp o)) a b) s h = refl
+other_at f call at (ExprKind-F.BinExpr (Some (op.Assignment o)) a b) s h = refl
+other_at f call at (ExprKind-F.BinExpr (Some op.Assign) a b) s h = refl
+other_at f call at (ExprKind-F.IndexExpr a b) s h = refl
+other_at f call at (ExprKind-F.RefExpr r m e) s h = refl
+other_at f call at (ExprKind-F.RepeatExpr e n) s h = refl
+other_at f call at (ExprKind-F.ClosureExpr ps r e is_async is_gen moves is_static) s h =
+    of_closure (target_or f call nowhere) nowhere (λ t m st xs y b. refl) (λ t way m xs y b. refl)
     (coroutine_kind is_async is_gen) s moves is_static _ _ _
-other_at f at (ExprKind-F.ReturnExpr e) s h = refl
-other_at f at (ExprKind-F.BecomeExpr e) s h = refl
-other_at f at (ExprKind-F.YieldExpr e) s h = refl
-other_at f at (ExprKind-F.YeetExpr e) s h = refl
-other_at f at (ExprKind-F.AwaitExpr e) s h = refl
-other_at f at (ExprKind-F.CastExpr e t) s h = refl
-other_at f at (ExprKind-F.OffsetOfExpr t ns) s h = refl
-other_at f at (ExprKind-F.CfgPredExpr pred) s h = refl
-other_at f at (ExprKind-F.LetExpr x e) s h = refl
-other_at f at (ExprKind-F.MatchExpr e as') s h = refl
-other_at f at ExprKind-F.IncludeBytesExpr s h = refl
-other_at f at ExprKind-F.AsmExpr s h = refl
-other_at f at ExprKind-F.FormatArgsExpr s h = refl
-other_at f at ExprKind-F.UnderscoreExpr s h = absurd h
-other_at f at (ExprKind-F.PathExpr x) s h = absurd h
-other_at f at (ExprKind-F.ParenExpr e) s h = absurd h
-other_at f at (ExprKind-F.TupleExpr comma es) s h = absurd h
-other_at f at (ExprKind-F.ArrayExpr es) s h = absurd h
-other_at f at (ExprKind-F.CallExpr g es) s h = absurd h
-other_at f at (ExprKind-F.RecordExpr x l) s h = absurd h
+other_at f call at (ExprKind-F.ReturnExpr e) s h = refl
+other_at f call at (ExprKind-F.BecomeExpr e) s h = refl
+other_at f call at (ExprKind-F.YieldExpr e) s h = refl
+other_at f call at (ExprKind-F.YeetExpr e) s h = refl
+other_at f call at (ExprKind-F.AwaitExpr e) s h = refl
+other_at f call at (ExprKind-F.CastExpr e t) s h = refl
+other_at f call at (ExprKind-F.OffsetOfExpr t ns) s h = refl
+other_at f call at (ExprKind-F.CfgPredExpr pred) s h = refl
+other_at f call at (ExprKind-F.LetExpr x e) s h = refl
+other_at f call at (ExprKind-F.MatchExpr e as') s h = refl
+other_at f call at ExprKind-F.IncludeBytesExpr s h = refl
+other_at f call at ExprKind-F.AsmExpr s h = refl
+other_at f call at ExprKind-F.FormatArgsExpr s h = refl
+other_at f call at ExprKind-F.UnderscoreExpr s h = absurd h
+other_at f call at (ExprKind-F.PathExpr x) s h = absurd h
+other_at f call at (ExprKind-F.ParenExpr e) s h = absurd h
+other_at f call at (ExprKind-F.TupleExpr comma es) s h = absurd h
+other_at f call at (ExprKind-F.ArrayExpr es) s h = absurd h
+other_at f call at (ExprKind-F.CallExpr g es) s h = absurd h
+other_at f call at (ExprKind-F.RecordExpr x l) s h = absurd h
 
-asked_placed : (f : Path → Bool) (s : Pointer) (r : Result (Unit {0}) CfgId) (e : Expr) → IsPlaced f e → IsPlaced f (asked s r e)
-asked_placed f s (Ok _) e h = h
-asked_placed f s (Err by) e h = refl
+asked_placed : (f : Path → Bool) (call : Option Pointer) (s : Pointer) (r : Result (Unit {0}) CfgId) (e : Expr) → IsPlaced f call e
+    → IsPlaced f call (asked s r e)
+asked_placed f call s (Ok _) e h = h
+asked_placed f call s (Err by) e h = refl
 
-pub other_is : (at : Spot) (e : AstExpr) → IsPlace (out-ExprKind e.kind) → aim_of (found_at at) (answered at e) ≡ placed (answered at e)
-other_is at e h =
+pub other_is : (at : Spot) (call : Option Pointer) (e : AstExpr) → IsPlace (out-ExprKind e.kind)
+    → aim_of (found_at at) call (answered at e) ≡ placed (answered at e)
+other_is at call e h =
     let s = pointer_at at e.id e.range in
-    let is : IsPlaced (found_at at) (answered at e) = subst (IsPlaced (found_at at)) (sym (expr_is_level at e))
-    (asked_placed (found_at at) s (at.answers.cfg (site_of s)) (kept_expr at e) (other_at (found_at at) at (out-ExprKind e.kind) s h)) in
+    let f = found_at at in
+    let is : IsPlaced f call (answered at e) = subst (IsPlaced f call) (sym (expr_is_level at e))
+    (asked_placed f call s (at.answers.cfg (site_of s)) (kept_expr at e) (other_at f call at (out-ExprKind e.kind) s h)) in
     ap (λ t. aimed t (answered at e)) is
 
 -- no kind that isn't always a place is left where each was taken
@@ -279,8 +225,9 @@ pub only_places : (k : AstExprKind)
     → ((comma : Bool) (es : List AstExpr) → k ≡ kind.TupleExpr comma es → ⊥)
     → ((es : List AstExpr) → k ≡ kind.ArrayExpr es → ⊥)
     → ((f : Option AstExpr) (es : Option (List AstExpr)) → k ≡ kind.CallExpr f es → ⊥)
-    → ((x : Option AstPath) (l : Option AstFieldList) → k ≡ kind.RecordExpr x l → ⊥) → IsPlace (out-ExprKind k)
-only_places k no_underscore no_path no_paren no_tuple no_array no_call no_record = by (out-ExprKind k) refl
+    → ((x : Option AstPath) (l : Option AstFieldList) → k ≡ kind.RecordExpr x l → ⊥)
+    → ((c : Option AstMacroCall) → k ≡ kind.MacroExpr c → ⊥) → IsPlace (out-ExprKind k)
+only_places k no_underscore no_path no_paren no_tuple no_array no_call no_record no_macro = by (out-ExprKind k) refl
   where
     by : (l : ExprKindLayer written) → out-ExprKind k ≡ l → IsPlace l
     by ExprKind-F.UnderscoreExpr h = no_underscore (made k _ h ∙ kind.rolls-UnderscoreExpr)
@@ -290,6 +237,15 @@ only_places k no_underscore no_path no_paren no_tuple no_array no_call no_record
     by (ExprKind-F.ArrayExpr es) h = no_array es (made k _ h ∙ kind.rolls-ArrayExpr es)
     by (ExprKind-F.CallExpr f es) h = no_call f es (made k _ h ∙ kind.rolls-CallExpr f es)
     by (ExprKind-F.RecordExpr x l) h = no_record x l (made k _ h ∙ kind.rolls-RecordExpr x l)
+    by (ExprKind-F.MacroExpr c) h = no_macro c (made k _ h ∙ kind.rolls-MacroExpr c)
+    by _ h = tt
+
+-- a call was taken before
+pub no_call_left : (k : AstExprKind) → ((c : Option AstMacroCall) → k ≡ kind.MacroExpr c → ⊥) → IsNoCall (out-ExprKind k)
+no_call_left k no_call = by (out-ExprKind k) refl
+  where
+    by : (l : ExprKindLayer written) → out-ExprKind k ≡ l → IsNoCall l
+    by (ExprKind-F.MacroExpr c) h = no_call c (made k _ h ∙ kind.rolls-MacroExpr c)
     by _ h = tt
 
 -- ---- what comes of a target
@@ -299,30 +255,44 @@ then_pat : (t : Target) (at : Pointer) (o : Checked PatId) (b : Builder)
 then_pat t at (Ok i) b = refl
 then_pat t at (Err x) b = refl
 
-then_place : (at : Pointer) (o : Checked ExprId) (b : Builder)
-    → go_on o b (λ e. landed at (aim.Place e))
-    ≡ go_on (go_on o b (λ i. pure (aim.Place i))).0 (go_on o b (λ i. pure (aim.Place i))).1 (landed at)
-then_place at (Ok i) b = refl
+-- by what is left of its expression
+then_place : (at : Pointer) (o : Checked (Option ExprId)) (b : Builder)
+    → go_on (go_on o b or_missing).0 (go_on o b or_missing).1 (place_pat at)
+    ≡ go_on (go_on o b (λ x. pure (place_left x))).0 (go_on o b (λ x. pure (place_left x))).1 (landed at)
+then_place at (Ok None) b = refl
+then_place at (Ok (Some i)) b = refl
 then_place at (Err x) b = refl
 
 -- what a place stands for, where it is one
-abbrev put : Target → Target → Target
-put place tree.absent_target = place
+abbrev pub put : Target → Target → Target
+put place (tree.absent_target call) = place
 put place t = t
 
-put_call : (place : Target) (at : Pointer) (o : Option OptionPath) (ts : Targets)
-    → call_or place at o ts ≡ put place (call_or tree.absent_target at o ts)
-put_call place at None ts = refl
-put_call place at (Some p) ts = refl
+put_around : (place : Target) (e : Expr) (t : Target) → t ≡ put place t → around_callee e t ≡ put place (around_callee e t)
+put_around place (tree.disabled_expr why e) t h = put_around place e t h
+put_around place (tree.macro_expr s c (tree.some_expr e)) t h = refl
+put_around place _ t h = h
 
-module _ (f : Path → Bool) where
-  put_path : (place : Target) (at : Pointer) (o : OptionPath) (h : HygieneId)
-      → path_or f place at o h ≡ put place (path_or f tree.absent_target at o h)
+put_callee : (place : Target) (at : Origin) (e : Expr) (o : Option OptionPath) (ts : Targets)
+    → call_or place at e o ts ≡ put place (call_or nowhere at e o ts)
+put_callee place at e None ts = refl
+put_callee place at e (Some p) ts = put_around place e (tree.call_target at p ts) refl
+
+put_call : (place : Target) (at : Origin) (o : OptionExpr) (has_list : Bool) (ts : Targets)
+    → called_or place at o has_list ts ≡ put place (called_or nowhere at o has_list ts)
+put_call place at tree.no_expr true ts = refl
+put_call place at tree.no_expr false ts = refl
+put_call place at (tree.some_expr e) true ts = put_callee place at e (callee_path e) ts
+put_call place at (tree.some_expr e) false ts = refl
+
+module _ (f : Path → Bool) (call : Option Pointer) where
+  put_path : (place : Target) (at : Origin) (o : OptionPath) (h : HygieneId)
+      → path_or f place at o h ≡ put place (path_or f nowhere at o h)
   put_path place at tree.no_path h = refl
   put_path place at (tree.some_path p) h = by (f p)
     where
       by : (b : Bool) → (if b then tree.path_target at p h else place)
-          ≡ put place (if b then tree.path_target at p h else tree.absent_target)
+          ≡ put place (if b then tree.path_target at p h else nowhere)
       by true = refl
       by false = refl
 
@@ -331,19 +301,18 @@ module _ (f : Path → Bool) where
   put_if place true t x y h k = h
   put_if place false t x y h k = k
 
-  put_is : (place : Target) (e : Expr) → target_or f place e ≡ put place (target_or f tree.absent_target e)
+  pub put_is : (place : Target) (e : Expr) → target_or f call place e ≡ put place (target_or f call nowhere e)
   put_is place (tree.leaf_expr at tree.underscore) = refl
   put_is place (tree.leaf_expr at tree.include_bytes) = refl
   put_is place (tree.leaf_expr at tree.left_out) = refl
   put_is place (tree.paren_expr at tree.no_expr) = refl
   put_is place (tree.paren_expr at (tree.some_expr e)) =
-      put_if place (is_dots e) (tree.tuple_target at (tree.dots_targets tree.no_targets)) (target_or f place e)
-      (target_or f tree.absent_target e) refl (put_is place e)
+      put_if place (is_dots e) (dots_tuple (origin call at)) (target_or f call place e) (target_or f call nowhere e) refl (put_is place e)
   put_is place (tree.list_expr at (tree.tuple_of comma) es) = refl
   put_is place (tree.list_expr at tree.array_of es) = refl
-  put_is place (tree.call_expr at g has_list es) = put_call place at (called g has_list) (elements f es)
-  put_is place (tree.path_expr at p h) = put_path place at p h
-  put_is place (tree.record_expr at p head fs s) = put_if place head.has_list _ place tree.absent_target refl refl
+  put_is place (tree.call_expr at g has_list es) = put_call place (origin call at) g has_list (elements f es)
+  put_is place (tree.path_expr at p h) = put_path place (origin call at) p h
+  put_is place (tree.record_expr at p head fs s) = put_if place head.has_list _ place nowhere refl refl
   put_is place (tree.macro_expr at called e) = refl
   put_is place (tree.disabled_expr why e) = refl
   put_is place (tree.if_expr at c t e) = refl
@@ -383,7 +352,8 @@ module _ (f : Path → Bool) where
 
   put_lands : (t : Target) (e : Expr) (at : Pointer) (b : Builder) → Lands t e at b
   unfolding place_form
-  put_lands tree.absent_target e at b = then_place at (lower e b).0 (lower e b).1
+  put_lands (tree.absent_target s) e at b =
+      ap (λ r. go_on r.0 r.1 (place_pat at)) (lower_on e b) ∙ then_place at (lower_kept e b).0 (lower_kept e b).1
   put_lands (tree.place_target s x) e at b = then_pat (tree.place_target s x) at _ _
   put_lands (tree.macro_target s c t) e at b = then_pat (tree.macro_target s c t) at _ _
   put_lands (tree.wild_target s) e at b = then_pat (tree.wild_target s) at _ _
@@ -394,25 +364,36 @@ module _ (f : Path → Bool) where
   put_lands (tree.record_target s p fs dots spread) e at b = then_pat (tree.record_target s p fs dots spread) at _ _
 
   pub lands : (e : Expr) (b : Builder)
-      → lower_target (target_of f (tree.some_expr e)) b ≡ go_on (aim_of f e b).0 (aim_of f e b).1 (landed (pointer_of e))
+      → lower_target (target_in f call (tree.some_expr e)) b
+      ≡ go_on (aim_of f call e b).0 (aim_of f call e b).1 (landed (outermost call (pointer_of e)))
   lands e b =
-      ap (λ t. lower_target t b) (put_is (place_of e) e) ∙ put_lands (target_or f tree.absent_target e) e (pointer_of e) b
+      ap (λ t. lower_target t b) (put_is (place_of call e) e)
+      ∙ put_lands (target_or f call nowhere e) e (outermost call (pointer_of e)) b
 
   -- ---- parentheses
-
-  pointed : (i : ExprId) (o : Checked (Unit {0})) (b : Builder)
-      → go_on (go_on o b (λ _. pure i)).0 (go_on o b (λ _. pure i)).1 (λ j. pure (aim.Place j)) ≡ go_on o b (λ _. pure (aim.Place i))
-  pointed i (Ok u) b = refl
-  pointed i (Err x) b = refl
 
   abbrev lead : Pointer → ExprId → Lowering ExprId
   lead at i = point at i >> pure i
 
-  through_place : (at : Pointer) (o : Checked ExprId) (b : Builder)
-      → go_on (go_on o b (lead at)).0 (go_on o b (lead at)).1 (λ i. pure (aim.Place i))
-      ≡ go_on (go_on o b (λ i. pure (aim.Place i))).0 (go_on o b (λ i. pure (aim.Place i))).1 (through at)
-  through_place at (Ok i) b = pointed i (point at i b).0 (point at i b).1
-  through_place at (Err x) b = refl
+  -- what is left of it, as a place
+  abbrev as_place : Checked ExprId × Builder → Checked Aim × Builder
+  as_place r = let kept = go_on r.0 r.1 (λ i. pure (Some i)) in go_on kept.0 kept.1 (λ o. pure (place_left o))
+
+  pointed : (i : ExprId) (o : Checked (Unit {0})) (b : Builder)
+      → as_place (go_on o b (λ _. pure i)) ≡ go_on o b (λ _. pure (aim.Place i))
+  pointed i (Ok u) b = refl
+  pointed i (Err x) b = refl
+
+  leads : (at : Pointer) (o : Checked ExprId) (b : Builder) → as_place (go_on o b (lead at)) ≡ go_on o b (through_place at)
+  leads at (Ok i) b = pointed i (point at i b).0 (point at i b).1
+  leads at (Err x) b = refl
+
+  goes_as_place : (at : Pointer) (o : Checked (Option ExprId)) (b : Builder)
+      → as_place (go_on (go_on o b or_missing).0 (go_on o b or_missing).1 (lead at))
+      ≡ go_on (go_on o b (λ x. pure (place_left x))).0 (go_on o b (λ x. pure (place_left x))).1 (through at)
+  goes_as_place at (Ok None) b = leads at (missing b).0 (missing b).1
+  goes_as_place at (Ok (Some i)) b = leads at (Ok i) b
+  goes_as_place at (Err x) b = refl
 
   through_pat : (at : Pointer) (o : Checked PatId) (b : Builder)
       → go_on o b (λ i. pure (aim.Pat i)) ≡ go_on (go_on o b (λ i. pure (aim.Pat i))).0 (go_on o b (λ i. pure (aim.Pat i))).1 (through at)
@@ -424,7 +405,8 @@ module _ (f : Path → Bool) where
 
   goes_through : (at : Pointer) (e : Expr) (t : Target) (b : Builder) → Through at e t b
   unfolding paren_form
-  goes_through at e tree.absent_target b = through_place at (lower e b).0 (lower e b).1
+  goes_through at e (tree.absent_target s) b =
+      ap (λ r. as_place (go_on r.0 r.1 (lead at))) (lower_on e b) ∙ goes_as_place at (lower_kept e b).0 (lower_kept e b).1
   goes_through at e (tree.place_target s x) b = through_pat at _ _
   goes_through at e (tree.macro_target s c t) b = through_pat at _ _
   goes_through at e (tree.wild_target s) b = through_pat at _ _
@@ -435,149 +417,82 @@ module _ (f : Path → Bool) where
   goes_through at e (tree.record_target s p fs dots spread) b = through_pat at _ _
 
   pub paren_dots : (at : Pointer) (e : Expr) → is_dots e ≡ true
-      → aim_of f (tree.paren_expr at (tree.some_expr e))
-      ≡ aimed (tree.tuple_target at (tree.dots_targets tree.no_targets)) (tree.paren_expr at (tree.some_expr e))
+      → aim_of f call (tree.paren_expr at (tree.some_expr e)) ≡ patterned (dots_tuple (origin call at))
   paren_dots at e h =
-      let dots = tree.tuple_target at (tree.dots_targets tree.no_targets) in
-      ap (λ c. aimed (if c then dots else target_or f tree.absent_target e) (tree.paren_expr at (tree.some_expr e))) h
+      ap (λ c. aimed (if c then dots_tuple (origin call at) else target_or f call nowhere e) (tree.paren_expr at (tree.some_expr e))) h
 
   pub paren_aims : (at : Pointer) (e : Expr) (b : Builder) → is_dots e ≡ false
-      → aim_of f (tree.paren_expr at (tree.some_expr e)) b ≡ go_on (aim_of f e b).0 (aim_of f e b).1 (through at)
+      → aim_of f call (tree.paren_expr at (tree.some_expr e)) b ≡ go_on (aim_of f call e b).0 (aim_of f call e b).1 (through at)
   paren_aims at e b h =
-      let dots = tree.tuple_target at (tree.dots_targets tree.no_targets) in
-      ap (λ c. aimed (if c then dots else target_or f tree.absent_target e) (tree.paren_expr at (tree.some_expr e)) b) h
-      ∙ goes_through at e (target_or f tree.absent_target e) b
-
-  -- ---- parts one after another
-
-  pub elements_dots : (done : Elements) (e : Expr) (es : Exprs) (b : Builder) → is_dots e ≡ true
-      → lower_targets done (elements f (tree.more_exprs e es)) b ≡ lower_targets (add_target_dots done) (elements f es) b
-  elements_dots done e es b h =
-      let one = tree.more_targets (target_or f (place_of e) e) (elements f es) in
-      ap (λ c. lower_targets done (if c then tree.dots_targets (elements f es) else one) b) h
-
-  pub elements_more : (done : Elements) (e : Expr) (es : Exprs) (b : Builder) → is_dots e ≡ false
-      → lower_targets done (elements f (tree.more_exprs e es)) b
-      ≡ go_on (lower_target (target_of f (tree.some_expr e)) b).0 (lower_target (target_of f (tree.some_expr e)) b).1
-      (λ i. lower_targets (add_target done i) (elements f es))
-  elements_more done e es b h =
-      let one = tree.more_targets (target_or f (place_of e) e) (elements f es) in
-      ap (λ c. lower_targets done (if c then tree.dots_targets (elements f es) else one) b) h
-
-  -- ---- arrays
-
-  abbrev behind_steps : List PatId → List PatId → Exprs → Option Pointer → Elements → Lowering ArrayParts
-  behind_steps before behind es at r = lower_targets (behind, None) (behind_dots f es) >>= (λ a. pure (r.0, at, a.0))
-
-  in_front : (done : Elements) (rest : Targets) (last : Elements → Lowering ArrayParts) (o : Checked PatId) (b : Builder)
-      → go_on (go_on o b (λ i. lower_targets (add_target done i) rest)).0 (go_on o b (λ i. lower_targets (add_target done i) rest)).1 last
-      ≡ go_on o b (λ i. lower_targets (add_target done i) rest >>= last)
-  in_front done rest last (Ok i) b = refl
-  in_front done rest last (Err x) b = refl
-
-  -- the first two dots
-  pub array_dots : (before behind : List PatId) (e : Expr) (es : Exprs) (b : Builder) → is_dots e ≡ true
-      → array_rest f before None behind (tree.more_exprs e es) b ≡ array_rest f before (Some (pointer_of e)) behind es b
-  array_dots before behind e es b h =
-      let one = tree.more_targets (target_or f (place_of e) e) (before_dots f es) in
-      ap (λ c. (lower_targets (before, None) (if c then tree.no_targets else one) >>= (λ r.
-      lower_targets (behind, None) (if c then each_target f es else behind_dots f es) >>= (λ a.
-      pure (r.0, (if c then Some (pointer_of e) else dots_pointer es), a.0)))) b) h
-
-  pub array_before : (before behind : List PatId) (e : Expr) (es : Exprs) (b : Builder) → is_dots e ≡ false
-      → array_rest f before None behind (tree.more_exprs e es) b
-      ≡ go_on (lower_target (target_of f (tree.some_expr e)) b).0 (lower_target (target_of f (tree.some_expr e)) b).1
-      (λ i. array_rest f (before ++ i ∷ []) None behind es)
-  array_before before behind e es b h =
-      let one = tree.more_targets (target_or f (place_of e) e) (before_dots f es) in
-      ap (λ c. (lower_targets (before, None) (if c then tree.no_targets else one) >>= (λ r.
-      lower_targets (behind, None) (if c then each_target f es else behind_dots f es) >>= (λ a.
-      pure (r.0, (if c then Some (pointer_of e) else dots_pointer es), a.0)))) b) h
-      ∙ in_front (before, None) (before_dots f es) (behind_steps before behind es (dots_pointer es))
-      (lower_target (target_of f (tree.some_expr e)) b).0 (lower_target (target_of f (tree.some_expr e)) b).1
-
-  pub array_behind : (before behind : List PatId) (at : Pointer) (e : Expr) (es : Exprs) (b : Builder)
-      → array_rest f before (Some at) behind (tree.more_exprs e es) b
-      ≡ go_on (lower_target (target_of f (tree.some_expr e)) b).0 (lower_target (target_of f (tree.some_expr e)) b).1
-      (λ i. array_rest f before (Some at) (behind ++ i ∷ []) es)
-  array_behind before behind at e es b = in_front (behind, None) (each_target f es) (λ a. pure (before, Some at, a.0))
-      (lower_target (target_of f (tree.some_expr e)) b).0 (lower_target (target_of f (tree.some_expr e)) b).1
-
-  behind_of : (at : Pointer) (before : Elements) (dots : Option Pointer) (o : Checked Elements) (b : Builder)
-      → go_on o b (λ a. array_of at (before.0, dots, a.0))
-      ≡ go_on (go_on {B = ArrayParts} o b (λ a. pure (before.0, dots, a.0))).0
-      (go_on {B = ArrayParts} o b (λ a. pure (before.0, dots, a.0))).1 (array_of at)
-  behind_of at before dots (Ok a) b = refl
-  behind_of at before dots (Err x) b = refl
-
-  parts_of : (at : Pointer) (dots : Option Pointer) (us : Targets) (o : Checked Elements) (b : Builder)
-      → go_on o b (λ r. lower_targets no_elements us >>= (λ a. array_of at (r.0, dots, a.0)))
-      ≡ go_on (go_on {B = ArrayParts} o b (λ r. lower_targets no_elements us >>= (λ a. pure (r.0, dots, a.0)))).0
-      (go_on {B = ArrayParts} o b (λ r. lower_targets no_elements us >>= (λ a. pure (r.0, dots, a.0)))).1 (array_of at)
-  parts_of at dots us (Ok r) b = behind_of at r dots (lower_targets no_elements us b).0 (lower_targets no_elements us b).1
-  parts_of at dots us (Err x) b = refl
-
-  pub array_is : (at : Pointer) (es : Exprs) (b : Builder)
-      → lower_target (tree.array_target at (before_dots f es) (dots_pointer es) (behind_dots f es)) b
-      ≡ go_on (array_rest f [] None [] es b).0 (array_rest f [] None [] es b).1 (array_of at)
-  unfolding array_target_form
-  array_is at es b = parts_of at (dots_pointer es) (behind_dots f es)
-      (lower_targets no_elements (before_dots f es) b).0 (lower_targets no_elements (before_dots f es) b).1
+      ap (λ c. aimed (if c then dots_tuple (origin call at) else target_or f call nowhere e) (tree.paren_expr at (tree.some_expr e)) b) h
+      ∙ goes_through at e (target_or f call nowhere e) b
 
 -- ---- paths
 
-module _ (spot : Spot) (at : Pointer) (h : HygieneId) where
+kept_goes : (o : Checked ExprId) (b : Builder)
+    → go_on (go_on o b (λ i. pure (Some i))).0 (go_on o b (λ i. pure (Some i))).1 (λ x. pure (place_left x))
+    ≡ go_on o b (λ i. pure (aim.Place i))
+kept_goes (Ok i) b = refl
+kept_goes (Err x) b = refl
+
+module _ (spot : Spot) (call : Option Pointer) (at : Pointer) (h : HygieneId) where
+  abbrev reading : Option HirPath → Lowering Aim
+  reading = path_aim spot (origin call at) h
+
   -- as a place, whether it is read or not
-  abbrev as_place : Option HirPath → Lowering Aim
-  as_place r = alloc_expr (path_or_missing h r) (Some at) >>= (λ i. pure (aim.Place i))
+  abbrev stored_path : Option HirPath → Lowering ExprId
+  stored_path r = alloc_expr (path_or_missing h r) (Some at)
+
+  abbrev as_path : Option HirPath → Lowering Aim
+  as_path r = stored_path r >>= (λ i. pure (aim.Place i))
 
   abbrev as_pat : Option HirPath → Lowering Aim
-  as_pat r = alloc_pat (path_target_of h r) (Some at) >>= (λ i. pure (aim.Pat i))
+  as_pat r = alloc_target (path_target_of h r) (origin call at) >>= (λ i. pure (aim.Pat i))
 
   placed_goes : (o : Checked (Option HirPath)) (b : Builder)
-      → go_on (go_on o b (λ r. alloc_expr (path_or_missing h r) (Some at))).0
-      (go_on o b (λ r. alloc_expr (path_or_missing h r) (Some at))).1 (λ i. pure (aim.Place i)) ≡ go_on o b as_place
-  placed_goes (Ok r) b = refl
+      → let kept = go_on (go_on o b stored_path).0 (go_on o b stored_path).1 (λ i. pure (Some i)) in
+      go_on kept.0 kept.1 (λ x. pure (place_left x)) ≡ go_on o b as_path
+  placed_goes (Ok r) b = kept_goes (stored_path r b).0 (stored_path r b).1
   placed_goes (Err x) b = refl
 
   pat_goes : (o : Checked (Option HirPath)) (b : Builder)
-      → go_on (go_on o b (λ r. alloc_pat (path_target_of h r) (Some at))).0
-      (go_on o b (λ r. alloc_pat (path_target_of h r) (Some at))).1 (λ i. pure (aim.Pat i)) ≡ go_on o b as_pat
+      → let stored = go_on o b (λ r. alloc_target (path_target_of h r) (origin call at)) in
+      go_on stored.0 stored.1 (λ i. pure (aim.Pat i)) ≡ go_on o b as_pat
   pat_goes (Ok r) b = refl
   pat_goes (Err x) b = refl
 
   -- by what is found, it is one of both
   abbrev by_found : Bool → Option HirPath → Lowering Aim
   by_found true r = as_pat r
-  by_found false r = as_place r
+  by_found false r = as_path r
 
   read_goes : (c : Bool) (r : Option HirPath) (b : Builder) → c ≡ names_target spot.answers spot.place (names_read r)
-      → by_found c r b ≡ path_aim spot at h r b
+      → by_found c r b ≡ path_aim spot (origin call at) h r b
   read_goes true None b e = cc
   read_goes false None b e = refl
-  read_goes true (Some p) b e = ap (λ c. path_aimed c at h p b) e
-  read_goes false (Some p) b e = ap (λ c. path_aimed c at h p b) e
+  read_goes true (Some p) b e = ap (λ c. path_aimed c (origin call at) h p b) e
+  read_goes false (Some p) b e = ap (λ c. path_aimed c (origin call at) h p b) e
 
   all_go : (p : OptionPath) (c : Bool) (b : Builder) → c ≡ names_target spot.answers spot.place (mod_path_of p)
-      → go_on (lower_path p b).0 (lower_path p b).1 (by_found c) ≡ go_on (lower_path p b).0 (lower_path p b).1 (path_aim spot at h)
+      → go_on (lower_path p b).0 (lower_path p b).1 (by_found c) ≡ go_on (lower_path p b).0 (lower_path p b).1 reading
   all_go p c b e = by (lower_path p b).0 (lower_path p b).1 refl
     where
       by : (o : Checked (Option HirPath)) (d : Builder) → lower_path p b ≡ (o, d)
-          → go_on o d (by_found c) ≡ go_on o d (path_aim spot at h)
+          → go_on o d (by_found c) ≡ go_on o d reading
       by (Ok r) d is =
           let names : names_read r ≡ mod_path_of p = lowered_names p b d r is in
           read_goes c r d (e ∙ ap (names_target spot.answers spot.place) (sym names))
       by (Err x) d is = refl
 
   pub path_aims : (p : OptionPath) (b : Builder)
-      → aim_of (found_at spot) (tree.path_expr at p h) b ≡ go_on (lower_path p b).0 (lower_path p b).1 (path_aim spot at h)
+      → aim_of (found_at spot) call (tree.path_expr at p h) b ≡ go_on (lower_path p b).0 (lower_path p b).1 reading
   unfolding path_form path_target_form
-  path_aims tree.no_path b = refl
+  path_aims tree.no_path b = kept_goes (stored_path None b).0 (stored_path None b).1
   path_aims (tree.some_path p) b = by (found_at spot p) refl
     where
       by : (c : Bool) → c ≡ found_at spot p
-          → aimed (if c then tree.path_target at p h else tree.absent_target) (tree.path_expr at (tree.some_path p) h) b
-          ≡ go_on (lower_path (tree.some_path p) b).0 (lower_path (tree.some_path p) b).1 (path_aim spot at h)
+          → aimed (if c then tree.path_target (origin call at) p h else nowhere) (tree.path_expr at (tree.some_path p) h) b
+          ≡ go_on (lower_path (tree.some_path p) b).0 (lower_path (tree.some_path p) b).1 reading
       by true e = pat_goes _ _ ∙ all_go (tree.some_path p) true b e
       by false e = placed_goes _ _ ∙ all_go (tree.some_path p) false b e
 

@@ -1,7 +1,6 @@
 -- The lists of parts of targets, one part after another.
-use Rattle.std.proofs.Common.{◌≡◌, ◌∙◌, ap, arith, slice_index_or, sym, List, [], ◌∷◌, ◌++◌, Option, Some, Ok, Err}
+use Rattle.std.proofs.Common.{◌≡◌, ◌∙◌, ap, arith, slice_index_or, sym, List, [], ◌∷◌, ◌++◌, Option, Some, None, Ok, Err}
 use Rattle.std.specs.Prelude.{◌≤◌, ◌-◌, drop, length, take}
-use Rattle.hir_syntax.specs.declared.ast.Expr.{Expr as AstExpr}
 use Rattle.hir_syntax.specs.declared.ast.RecordExprField.{RecordExprField as AstField}
 use Rattle.hir_store.specs.Past.{Past, join, past_pat_field, past_pat_fields}
 use Rattle.hir_store.specs.Range.{Grows, HasPatFields}
@@ -9,14 +8,13 @@ use Rattle.hir_store.specs.Stored.{Stored}
 use Rattle.hir_store.specs.declared.fault.StoreFault.{StoreFault}
 use Rattle.hir_store.specs.declared.pat.RecordFieldPat.{RecordFieldPat}
 use Rattle.hir_env.specs.Spot.{Spot}
-use Rattle.hir_env.specs.Targets.{is_dots, pointer_of, target_field_of, target_fields}
-use Rattle.hir_env.specs.Whole.{answered, answered_field, exprs_part, fields_part, target_part}
+use Rattle.hir_env.specs.Targets.{target_field_of, target_fields}
+use Rattle.hir_env.specs.Whole.{answered_field, fields_part}
 use Rattle.hir_lower_form.specs.Builder.{Builder}
 use Rattle.hir_lower_form.specs.Forms.{push_some}
 use Rattle.hir_lower_form.specs.Lowering.{Checked, Lowering, Lowers, ◌>>=◌, go_on}
-use Rattle.hir_lower_form.specs.Lower.{lower_target, lower_target_field, lower_target_fields}
-use Rattle.hir_lower_form.specs.Pats.{Elements}
-use Rattle.hir_lower_pat.specs.Aims.{ArrayParts, array_read, array_steps, element_steps, elements_read, found_at, is_first}
+use Rattle.hir_lower_form.specs.Lower.{lower_target_field, lower_target_fields}
+use Rattle.hir_lower_pat.specs.Aims.{found_at}
 use Rattle.hir_lower_pat.specs.Methods.{HasPatField}
 use Rattle.hir_lower_pat.proofs.KindLemmas.{first_of}
 
@@ -50,24 +48,10 @@ fields_has old new done more x is g h k = (
   omega (arith, ap (λ (p : Past). p.pats) is, g.4, h.3, k.3),
 )
 
-module _ (spot : Spot) (xs : List AstExpr) (x : AstExpr) (b c : Builder) where
-  abbrev behind : List AstExpr
-  behind = take (length xs - 1) (drop 1 xs)
-
-  pub element_refused : (done : Elements) (e : StoreFault) → x ≡ slice_index_or xs 0 x → 1 ≤ length xs
-      → element_steps (is_dots (answered spot x)) done (lower_target (target_part spot (Some x))) b ≡ (Err e, c)
-      → elements_read (found_at spot) done (exprs_part spot xs) b ≡ (Err e, c)
-  element_refused done e h le is =
-      ap (λ ys. elements_read (found_at spot) done (exprs_part spot ys) b) (first_of xs x h le)
-      ∙ ap (λ (r : Checked Elements × Builder). go_on r.0 r.1 (λ d. elements_read (found_at spot) d (exprs_part spot behind))) is
-
-  pub array_refused : (done : ArrayParts) (e : StoreFault) → x ≡ slice_index_or xs 0 x → 1 ≤ length xs
-      → array_steps (is_first done.1 (is_dots (answered spot x))) done (pointer_of (answered spot x))
-      (lower_target (target_part spot (Some x))) b ≡ (Err e, c)
-      → array_read (found_at spot) done (exprs_part spot xs) b ≡ (Err e, c)
-  array_refused done e h le is =
-      ap (λ ys. array_read (found_at spot) done (exprs_part spot ys) b) (first_of xs x h le)
-      ∙ ap (λ (r : Checked ArrayParts × Builder). go_on r.0 r.1 (λ d. array_read (found_at spot) d (exprs_part spot behind))) is
+-- those that were there
+pub fields_stay : (old new : Stored) (done : List RecordFieldPat) → Grows old new → HasPatFields old done → HasPatFields new done
+fields_stay old new done g h =
+    (omega (arith, g.0, h.0), omega (arith, g.2, h.1), omega (arith, g.3, h.2), omega (arith, g.4, h.3))
 
 module _ (spot : Spot) (xs : List AstField) (x : AstField) (b c : Builder) (done : List RecordFieldPat) where
   abbrev fields_behind : List AstField
@@ -94,3 +78,8 @@ module _ (spot : Spot) (xs : List AstField) (x : AstField) (b c : Builder) (done
       turn h le
       ∙ (ap (λ (r : Checked (Option RecordFieldPat) × Builder). go_on r.0 r.1 (λ o. read fields_behind (push_some done o))) is
       ∙ ap (λ ds. read fields_behind ds c) (sym pushed))
+
+  pub field_left_out : x ≡ slice_index_or xs 0 x → 1 ≤ length xs → step b ≡ (Ok None, c) → read xs done b ≡ read fields_behind done c
+  field_left_out h le is =
+      turn h le
+      ∙ ap (λ (r : Checked (Option RecordFieldPat) × Builder). go_on r.0 r.1 (λ o. read fields_behind (push_some done o))) is

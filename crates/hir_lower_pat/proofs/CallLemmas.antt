@@ -29,7 +29,8 @@ use Rattle.hir_lower_form.specs.Lower.{lower_pat, lower_type_pat}
 use Rattle.hir_lower_form.specs.Lowering.{Checked, Lowering, ◌>>=◌, ◌>>◌, go_on, point_pat, pure}
 use Rattle.hir_lower_form.specs.Methods.{at_place}
 use Rattle.hir_lower_form.specs.Pats.{Table, called_pat_form, missing_pat}
-use Rattle.hir_lower_pat.specs.Calls.{There, element_there, lower_there, missing_led, pat_there, point_lone, point_named, type_pat_there, written_call}
+use Rattle.hir_lower_pat.specs.Calls.{There, element_there, lower_there, missing_led, pat_there, point_lone, point_named, type_pat_there}
+use Rattle.hir_lower_pat.specs.Calls.{written_call}
 use Rattle.hir_lower_pat.specs.Methods.{element_steps, point_element}
 
 -- how that is read which calls stand for where one of so many is entered

@@ -212,7 +212,8 @@ part_steps (tree.macro_pat s (tree.entered c) tree.no_pat) t b h = refl
 part_steps (tree.macro_pat s tree.spliced tree.no_pat) t b h = refl
 part_steps (tree.macro_pat s tree.callless (tree.some_pat p)) t b h = call_is_part s tree.callless p t b (λ d. part_steps p t d h)
 part_steps (tree.macro_pat s tree.unentered (tree.some_pat p)) t b h = call_is_part s tree.unentered p t b (λ d. part_steps p t d h)
-part_steps (tree.macro_pat s (tree.unresolved at x) (tree.some_pat p)) t b h = call_is_part s (tree.unresolved at x) p t b (λ d. part_steps p t d h)
+part_steps (tree.macro_pat s (tree.unresolved at x) (tree.some_pat p)) t b h =
+    call_is_part s (tree.unresolved at x) p t b (λ d. part_steps p t d h)
 part_steps (tree.macro_pat s (tree.entered c) (tree.some_pat p)) t b h = call_is_part s (tree.entered c) p t b (λ d. part_steps p t d h)
 part_steps (tree.macro_pat s tree.spliced (tree.some_pat p)) t b h = call_is_part s tree.spliced p t b (λ d. part_steps p t d h)
 part_steps (tree.bind_pat s u w q) t b h = refl

@@ -14,3 +14,8 @@ pub mod BarePats
 pub mod TypePats
 pub mod TargetKids
 pub mod Nested
+pub mod TargetElements
+pub mod TargetLists
+pub mod TargetCallees
+pub mod TargetSteps
+pub mod TargetCalls

@@ -20,7 +20,7 @@ use Rattle.hir_env.specs.Answers.{Answers}
 use Rattle.hir_env.specs.Answered as tree
 use Rattle.hir_env.specs.Answered.{Field, PatField, Use}
 use Rattle.hir_env.specs.Answering.{asked_field, expr_at, field_of, name_written}
-use Rattle.hir_env.specs.Calls.{entered_pat}
+use Rattle.hir_env.specs.Calls.{entered_expr, entered_pat}
 use Rattle.hir_env.specs.Count.{count_expr, count_exprs, count_field, count_fields, count_option_expr, count_option_path, count_path}
 use Rattle.hir_env.specs.Count.{count_option_pat, count_pat, count_pat_field, count_pat_fields, count_pats, count_side, count_spread}
 use Rattle.hir_env.specs.Layers.{Entering, ExprKindLayer}
@@ -34,9 +34,10 @@ use Rattle.hir_env.specs.Whole.{elements_part, record_part, written}
 use Rattle.hir_env.specs.declared.place.Place.{Place}
 use Rattle.hir_env.proofs.Levels.{field_is_level, record_is_level}
 use Rattle.hir_env.proofs.PatLevels.{pat_field_is_level, pat_is_level}
-use Rattle.hir_lower_form.specs.Nests.{Claims, Each, IfPresent, KidsCallee, KidsOfPat, KidsPatFields, KidsSide, KidsSidePart}
+use Rattle.hir_lower_form.specs.Nests.{Claims, Each, IfPresent, KidsOfPat, KidsPatFields, KidsSide, KidsSidePart}
 use Rattle.hir_lower_form.specs.Nests.{KidsTarget, KidsTargetFields}
-use Rattle.hir_lower_form.specs.Inside.{InPatCall, inside_pat_call}
+use Rattle.hir_lower_form.specs.Inside.{InPatCall, InTargetCall, inside_pat_call}
+use Rattle.hir_lower_form.proofs.Inside.{call_more}
 use Rattle.hir_lower_pat.specs.Nested.{InPat, InTarget, read_at}
 use Rattle.hir_lower_pat.proofs.AimLemmas.{kept_below}
 use Rattle.hir_lower_pat.proofs.Elements.{count_in}
@@ -174,17 +175,17 @@ pat_nests env Q p x c =
 
 -- the claims with these of paths and of what is assigned to
 abbrev claims : Claims → Answers → (Place → AstExpr → Type 0) → (Place → AstPath → Type 0) → Claims
-claims C env P Q = record C { path = Q; target = InTarget env P Q }
+claims C env P Q = record C { path = Q; target = InTarget env P Q; target_call = InTargetCall env P Q }
 
 module _ (C : Claims) (env : Answers) (P : Place → AstExpr → Type 0) (Q : Place → AstPath → Type 0) (p : Place) (n : ℕ)
-    (exprs : (x : AstExpr) → count_expr (answered (read_at env p) x) ≤ n → P p x)
-    (paths : (x : AstPath) → count_path (answered_path (read_at env p) x) < n → Q p x) where
+    (exprs : (q : Place) (x : AstExpr) → count_expr (answered (read_at env q) x) ≤ n → P q x)
+    (paths : (q : Place) (y : AstPath) → count_path (answered_path (read_at env q) y) < n → Q q y) where
   target_path : (o : Option AstPath) → count_option_path (path_part (read_at env p) o) < n → IfPresent (Q p) o
   target_path None h = tt
-  target_path (Some x) h = paths x h
+  target_path (Some x) h = paths p x h
 
   target : (e : AstExpr) → count_expr (answered (read_at env p) e) ≤ n → InTarget env P Q p e
-  target e h = (λ x less. exprs x (omega (arith, h, less)), λ x less. paths x (omega (arith, h, less)))
+  target e h = (λ q x less. exprs q x (omega (arith, h, less)), λ q y less. paths q y (omega (arith, h, less)))
 
   target_part : (o : Option AstExpr) → count_option_expr (expr_part (read_at env p) o) ≤ n → IfPresent (InTarget env P Q p) o
   target_part None h = tt
@@ -224,55 +225,12 @@ module _ (C : Claims) (env : Answers) (P : Place → AstExpr → Type 0) (Q : Pl
       let s = ap (λ r. count_fields r.fields + count_spread r.spread) (record_is_level (read_at env p) x) in
       target_fields (out-RecordExprFieldList x).fields (omega (arith, h, s))
 
-  in_callee : (s : Pointer) (k : ExprKindLayer written) → count_expr (expr_at env (reader env (into (read_at env p))) k p s) ≤ n
-      → KidsCallee (claims C env P Q) p k
-  in_callee s (ExprKind-F.IfExpr c t e) h = tt
-  in_callee s (ExprKind-F.BlockExpr b) h = tt
-  in_callee s (ExprKind-F.LoopExpr l b) h = tt
-  in_callee s (ExprKind-F.WhileExpr l c b) h = tt
-  in_callee s (ExprKind-F.ForExpr l q e b) h = tt
-  in_callee s (ExprKind-F.TryExpr e) h = tt
-  in_callee s (ExprKind-F.CallExpr f es) h = tt
-  in_callee s (ExprKind-F.PathExpr x) h = target_path x (omega (arith, h))
-  in_callee s (ExprKind-F.ContinueExpr l) h = tt
-  in_callee s (ExprKind-F.BreakExpr l e) h = tt
-  in_callee s (ExprKind-F.ParenExpr e) h = tt
-  in_callee s (ExprKind-F.MacroExpr call) h = tt
-  in_callee s (ExprKind-F.Literal l) h = tt
-  in_callee s (ExprKind-F.MethodCallExpr e x as' es) h = tt
-  in_callee s (ExprKind-F.FieldExpr e x) h = tt
-  in_callee s (ExprKind-F.PrefixExpr o e) h = tt
-  in_callee s (ExprKind-F.BinExpr o a b) h = tt
-  in_callee s (ExprKind-F.IndexExpr a b) h = tt
-  in_callee s (ExprKind-F.RefExpr r m e) h = tt
-  in_callee s (ExprKind-F.TupleExpr comma es) h = tt
-  in_callee s (ExprKind-F.ArrayExpr es) h = tt
-  in_callee s (ExprKind-F.RepeatExpr e m) h = tt
-  in_callee s (ExprKind-F.ClosureExpr ps r e is_async is_gen moves is_static) h = tt
-  in_callee s (ExprKind-F.ReturnExpr e) h = tt
-  in_callee s (ExprKind-F.BecomeExpr e) h = tt
-  in_callee s (ExprKind-F.YieldExpr e) h = tt
-  in_callee s (ExprKind-F.YeetExpr e) h = tt
-  in_callee s (ExprKind-F.AwaitExpr e) h = tt
-  in_callee s (ExprKind-F.CastExpr e t) h = tt
-  in_callee s (ExprKind-F.RecordExpr x l) h = tt
-  in_callee s (ExprKind-F.OffsetOfExpr t ns) h = tt
-  in_callee s (ExprKind-F.CfgPredExpr pred) h = tt
-  in_callee s (ExprKind-F.LetExpr q e) h = tt
-  in_callee s (ExprKind-F.MatchExpr e arms) h = tt
-  in_callee s (ExprKind-F.RangeExpr o a b) h = tt
-  in_callee s ExprKind-F.UnderscoreExpr h = tt
-  in_callee s ExprKind-F.IncludeBytesExpr h = tt
-  in_callee s ExprKind-F.AsmExpr h = tt
-  in_callee s ExprKind-F.FormatArgsExpr h = tt
-
-  callee : (o : Option AstExpr) → count_option_expr (expr_part (read_at env p) o) ≤ n
-      → IfPresent (λ x. KidsCallee (claims C env P Q) p (out-ExprKind x.kind)) o
-  callee None h = tt
-  callee (Some x) h =
-      let at = read_at env p in
-      let size = kept_below at x in
-      in_callee (pointer_at at x.id x.range) (out-ExprKind x.kind) (omega (arith, h, size))
+  -- what a call stands for is smaller than the call
+  in_target_call : (c : AstMacroCall) (s : Pointer) → count_expr (entered_expr env (into (read_at env p)) c p s) ≤ n
+      → InTargetCall env P Q p c
+  in_target_call c s h =
+      let more = call_more env (into (read_at env p)) p c s in
+      (λ q x less. exprs q x (omega (arith, h, more, less)), λ q y less. paths q y (omega (arith, h, more, less)))
 
   target_kids : (s : Pointer) (k : ExprKindLayer written) → count_expr (expr_at env (reader env (into (read_at env p))) k p s) ≤ n
       → KidsTarget (claims C env P Q) p k
@@ -282,13 +240,14 @@ module _ (C : Claims) (env : Answers) (P : Place → AstExpr → Type 0) (Q : Pl
   target_kids s (ExprKind-F.WhileExpr l c b) h = tt
   target_kids s (ExprKind-F.ForExpr l q e b) h = tt
   target_kids s (ExprKind-F.TryExpr e) h = tt
-  target_kids s (ExprKind-F.CallExpr f None) h = (callee f (omega (arith, h)), tt)
-  target_kids s (ExprKind-F.CallExpr f (Some es)) h = (callee f (omega (arith, h)), targets es (omega (arith, h)))
+  target_kids s (ExprKind-F.CallExpr f None) h = (target_part f (omega (arith, h)), tt)
+  target_kids s (ExprKind-F.CallExpr f (Some es)) h = (target_part f (omega (arith, h)), targets es (omega (arith, h)))
   target_kids s (ExprKind-F.PathExpr x) h = target_path x (omega (arith, h))
   target_kids s (ExprKind-F.ContinueExpr l) h = tt
   target_kids s (ExprKind-F.BreakExpr l e) h = tt
   target_kids s (ExprKind-F.ParenExpr e) h = target_part e (omega (arith, h))
-  target_kids s (ExprKind-F.MacroExpr call) h = tt
+  target_kids s (ExprKind-F.MacroExpr None) h = tt
+  target_kids s (ExprKind-F.MacroExpr (Some c)) h = in_target_call c s h
   target_kids s (ExprKind-F.Literal l) h = tt
   target_kids s (ExprKind-F.MethodCallExpr e x as' es) h = tt
   target_kids s (ExprKind-F.FieldExpr e x) h = tt
@@ -327,4 +286,4 @@ target_nests C env P Q p e c =
 -- what is assigned to may be a place
 pub target_is_place : (env : Answers) (P : Place → AstExpr → Type 0) (Q : Place → AstPath → Type 0) (p : Place) (e : AstExpr)
     → InTarget env P Q p e → P p e
-target_is_place env P Q p e c = c.0 e (omega (arith))
+target_is_place env P Q p e c = c.0 p e (omega arith)

@@ -18,8 +18,8 @@ use Rattle.hir_env.specs.Spot.{Spot, site_of}
 use Rattle.hir_env.specs.Whole.{answered, answered_field, expr_part, exprs_part, fields_part, into, pointer_at, reader, record_part}
 use Rattle.hir_env.specs.Whole.{written}
 use Rattle.hir_env.proofs.Levels.{field_is_level, record_is_level}
-use Rattle.hir_lower_form.specs.Nests.{Claims, Each, IfPresent, KidsCallee, KidsTarget, KidsTargetFields}
-use Rattle.hir_lower_pat.specs.Aims.{KidsOfCallee, KidsOfFields, KidsOfTarget}
+use Rattle.hir_lower_form.specs.Nests.{Claims, Each, IfPresent, KidsTarget, KidsTargetFields}
+use Rattle.hir_lower_pat.specs.Aims.{KidsOfFields, KidsOfTarget}
 
 -- a condition counts for nothing
 count_kept : (s : Pointer) (r : Result (Unit {0}) CfgId) (f : Field) → count_field (asked_field s r f) ≡ count_field f
@@ -66,62 +66,17 @@ module _ (at : Spot) (C : Claims) (inside : AstExpr → Type 0) (n : ℕ)
       let s = ap (λ r. count_fields r.fields + count_spread r.spread) (record_is_level at x) in
       fields (out-RecordExprFieldList x).fields c (omega (arith, h, s))
 
-  in_callee : (k : ExprKindLayer written) → KidsCallee C at.place k → KidsOfCallee (C.path at.place) k
-  in_callee (ExprKind-F.IfExpr e t b) c = tt
-  in_callee (ExprKind-F.BlockExpr b) c = tt
-  in_callee (ExprKind-F.LoopExpr l b) c = tt
-  in_callee (ExprKind-F.WhileExpr l e b) c = tt
-  in_callee (ExprKind-F.ForExpr l q e b) c = tt
-  in_callee (ExprKind-F.TryExpr e) c = tt
-  in_callee (ExprKind-F.CallExpr f es) c = tt
-  in_callee (ExprKind-F.PathExpr x) c = c
-  in_callee (ExprKind-F.ContinueExpr l) c = tt
-  in_callee (ExprKind-F.BreakExpr l e) c = tt
-  in_callee (ExprKind-F.ParenExpr e) c = tt
-  in_callee (ExprKind-F.MacroExpr call) c = tt
-  in_callee (ExprKind-F.Literal l) c = tt
-  in_callee (ExprKind-F.MethodCallExpr e x as' es) c = tt
-  in_callee (ExprKind-F.FieldExpr e x) c = tt
-  in_callee (ExprKind-F.PrefixExpr o e) c = tt
-  in_callee (ExprKind-F.BinExpr o a b) c = tt
-  in_callee (ExprKind-F.IndexExpr a b) c = tt
-  in_callee (ExprKind-F.RefExpr r m e) c = tt
-  in_callee (ExprKind-F.TupleExpr comma es) c = tt
-  in_callee (ExprKind-F.ArrayExpr es) c = tt
-  in_callee (ExprKind-F.RepeatExpr e m) c = tt
-  in_callee (ExprKind-F.ClosureExpr ps r e is_async is_gen moves is_static) c = tt
-  in_callee (ExprKind-F.ReturnExpr e) c = tt
-  in_callee (ExprKind-F.BecomeExpr e) c = tt
-  in_callee (ExprKind-F.YieldExpr e) c = tt
-  in_callee (ExprKind-F.YeetExpr e) c = tt
-  in_callee (ExprKind-F.AwaitExpr e) c = tt
-  in_callee (ExprKind-F.CastExpr e t) c = tt
-  in_callee (ExprKind-F.RecordExpr x l) c = tt
-  in_callee (ExprKind-F.OffsetOfExpr t ns) c = tt
-  in_callee (ExprKind-F.CfgPredExpr pred) c = tt
-  in_callee (ExprKind-F.LetExpr q e) c = tt
-  in_callee (ExprKind-F.MatchExpr e arms) c = tt
-  in_callee (ExprKind-F.RangeExpr o a b) c = tt
-  in_callee ExprKind-F.UnderscoreExpr c = tt
-  in_callee ExprKind-F.IncludeBytesExpr c = tt
-  in_callee ExprKind-F.AsmExpr c = tt
-  in_callee ExprKind-F.FormatArgsExpr c = tt
-
-  callee : (o : Option AstExpr) → IfPresent (λ x. KidsCallee C at.place (out-ExprKind x.kind)) o
-      → IfPresent (λ x. KidsOfCallee (C.path at.place) (out-ExprKind x.kind)) o
-  callee None c = tt
-  callee (Some x) c = in_callee (out-ExprKind x.kind) c
-
   pub kids : (s : Pointer) (k : ExprKindLayer written) → KidsTarget C at.place k
-      → count_expr (expr_at at.answers (reader at.answers (into at)) k at.place s) ≤ n → KidsOfTarget inside (C.path at.place) k
+      → count_expr (expr_at at.answers (reader at.answers (into at)) k at.place s) ≤ n
+      → KidsOfTarget inside (C.target at.place) (C.path at.place) k
   kids s (ExprKind-F.IfExpr e t b) c h = tt
   kids s (ExprKind-F.BlockExpr b) c h = tt
   kids s (ExprKind-F.LoopExpr l b) c h = tt
   kids s (ExprKind-F.WhileExpr l e b) c h = tt
   kids s (ExprKind-F.ForExpr l q e b) c h = tt
   kids s (ExprKind-F.TryExpr e) c h = tt
-  kids s (ExprKind-F.CallExpr f None) c h = (callee f c.0, tt)
-  kids s (ExprKind-F.CallExpr f (Some es)) c h = (callee f c.0, each es c.1 (omega (arith, h)))
+  kids s (ExprKind-F.CallExpr f None) c h = (c.0, tt)
+  kids s (ExprKind-F.CallExpr f (Some es)) c h = (c.0, each es c.1 (omega (arith, h)))
   kids s (ExprKind-F.PathExpr x) c h = c
   kids s (ExprKind-F.ContinueExpr l) c h = tt
   kids s (ExprKind-F.BreakExpr l e) c h = tt

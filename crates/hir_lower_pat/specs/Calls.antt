@@ -1,24 +1,30 @@
--- A call of a macro as a pattern, as the code reads it.
+-- A call of a macro as a pattern, and as what is assigned to, as the code reads it.
 use Rattle.std.specs.Prelude.{Option, Some, None}
 use denote.Ref.{Bor}
+use Rattle.hir_syntax.specs.declared.ast.Expr.{Expr as AstExpr}
 use Rattle.hir_syntax.specs.declared.macros.Fragment.{Fragment as AstFragment}
 use Rattle.hir_syntax.specs.declared.macros.Fragment.TheVariants as fragment
 use Rattle.hir_syntax.specs.declared.macros.MacroCall.{MacroCall as AstMacroCall}
 use Rattle.hir_syntax.specs.declared.pats.Pat.{Pat as AstPat}
 use Rattle.hir_store.specs.Pointers.{Pointer}
 use Rattle.hir_store.specs.declared.ids.PatId.{PatId}
-use Rattle.hir_env.specs.Answered.{Pat}
-use Rattle.hir_env.specs.Calls.{entered_pat}
+use Rattle.hir_env.specs.Answered.{Expr, Pat}
+use Rattle.hir_env.specs.Calls.{entered_expr, entered_pat}
 use Rattle.hir_env.specs.Spot.{Spot}
+use Rattle.hir_env.specs.Targets.{outermost}
 use Rattle.hir_env.specs.TypePats.{type_pat_of}
-use Rattle.hir_env.specs.Whole.{answered_pat, into}
+use Rattle.hir_env.specs.Whole.{answered, answered_pat, into, own_pointer}
 use Rattle.hir_env.specs.declared.place.Place.{Place}
 use Rattle.hir_lower_form.specs.Calls.{Found}
+use Rattle.hir_lower_form.specs.Forms.{some}
 use Rattle.hir_lower_form.specs.Lower.{lower_pat, lower_type_pat}
 use Rattle.hir_lower_form.specs.Lowering.{Lowering, ◌>>=◌, ◌>>◌, point_pat, pure}
 use Rattle.hir_lower_form.specs.Methods.{at_place}
 use Rattle.hir_lower_form.specs.Pats.{Table, alone, missing_pat}
+use Rattle.hir_lower_form.specs.Targets.{missing_target}
+use Rattle.hir_lower_pat.specs.Aims.{aim_of, called_aim, element_found, found_at, uncalled_aim}
 use Rattle.hir_lower_pat.specs.Methods.{element_steps}
+use Rattle.hir_lower_pat.specs.declared.aims.Aim.{Aim}
 
 abbrev pub written_call : Spot → Pointer → AstMacroCall → Pat
 written_call at s c = entered_pat at.answers (into at) c at.place s
@@ -65,3 +71,38 @@ point_named s r = point_pat s r.0 >> pure r
 
 abbrev pub point_lone : Pointer → PatId → Lowering PatId
 point_lone s i = point_pat s i >> pure i
+
+-- ---- as what is assigned to
+
+abbrev pub written_expr : Spot → Pointer → AstMacroCall → Expr
+written_expr at s c = entered_expr at.answers (into at) c at.place s
+
+-- the expression that is found, and where it is read
+abbrev pub ExprThere : Type 0
+ExprThere = Option (Place × AstExpr)
+
+abbrev pub expr_in : Place → Option AstFragment → ExprThere
+expr_in q (Some (fragment.Expr x)) = Some (q, x)
+expr_in q _ = None
+
+abbrev pub expr_there : Found → ExprThere
+expr_there None = None
+expr_there (Some x) = expr_in x.0 x.1
+
+-- the same as it is lent
+abbrev pub expr_lent : Option (Place × Bor AstExpr) → ExprThere
+expr_lent None = None
+expr_lent (Some x) = Some (x.0, x.1.now)
+
+-- what the code does with it, with the outermost call, where it is an element that comes out of calls
+abbrev pub aim_there : Spot → Option Pointer → Pointer → ExprThere → Lowering Aim
+aim_there at call s None = uncalled_aim call s
+aim_there at call s (Some x) = do
+  let here = at_place at x.0
+  a ← aim_of (found_at here) call (answered here x.1)
+  called_aim s (outermost call (own_pointer here x.1)) a
+
+-- as an element at this outermost call
+abbrev pub target_element_there : Spot → Pointer → ExprThere → Lowering (Option PatId)
+target_element_there at call None = some (missing_target (Some call))
+target_element_there at call (Some x) = let here = at_place at x.0 in element_found (found_at here) (Some call) (answered here x.1)

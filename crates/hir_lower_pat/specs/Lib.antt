@@ -6,3 +6,4 @@ pub mod Handlers
 pub mod Aims
 pub mod TypePats
 pub mod Nested
+pub mod TargetLists

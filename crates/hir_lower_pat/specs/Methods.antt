@@ -24,8 +24,8 @@ use Rattle.hir_lower_form.specs.Builder.{Builder}
 use Rattle.hir_lower_form.specs.Calls.{told}
 use Rattle.hir_lower_form.specs.Lowering.{Checked, Lowering, ◌>>=◌, ◌>>◌, alloc_pat, point_pat, pure}
 use Rattle.hir_lower_form.specs.Lower as spec
-use Rattle.hir_lower_form.specs.Pats.{Elements, Table, dots_after, no_elements, stored_pat_leaf, name_pat_of, path_pat_form, literal_pat_form}
-use Rattle.hir_lower_form.specs.Pats.{barred_pat_form, range_pat_form, missing_pat}
+use Rattle.hir_lower_form.specs.Pats.{Elements, Table, dots_after, no_elements, stored_pat_leaf, name_pat_of, path_pat_form}
+use Rattle.hir_lower_form.specs.Pats.{barred_pat_form, literal_pat_form, missing_pat, range_pat_form}
 use Rattle.hir_lower_pat.specs.Bindings.{LowersNamed}
 use Rattle.hir_lower_pat.specs.declared.bindings.Bindings.{Bindings}
 

@@ -14,9 +14,9 @@ abbrev pub InPat : Answers → (Place → AstPath → Type 0) → Place → AstP
 InPat env path p x = (q : Place) (y : AstPath)
     → count_path (answered_path (read_at env q) y) < count_pat (answered_pat (read_at env p) x) → path q y
 
--- so may what is assigned to be as an expression
+-- so may what is assigned to be as an expression, and each that counts no more, also behind calls
 abbrev pub InTarget : Answers → (Place → AstExpr → Type 0) → (Place → AstPath → Type 0) → Place → AstExpr → Type 0
 InTarget env expr path p e =
-    let at = read_at env p in
-    ((x : AstExpr) → count_expr (answered at x) ≤ count_expr (answered at e) → expr p x)
-    × ((q : AstPath) → count_path (answered_path at q) < count_expr (answered at e) → path p q)
+    let size = count_expr (answered (read_at env p) e) in
+    ((q : Place) (x : AstExpr) → count_expr (answered (read_at env q) x) ≤ size → expr q x)
+    × ((q : Place) (y : AstPath) → count_path (answered_path (read_at env q) y) < size → path q y)

@@ -1,9 +1,9 @@
 //! What comes of an expression that is assigned to: a pattern, or a place. It is decided before anything of the expression but its
 //! path is lowered, so that nothing is lowered twice.
 
-ghost use Rattle.std.specs.Prelude.{◌≡◌};
+ghost use Rattle.std.specs.Prelude.{◌≡◌, None};
 ghost use Rattle.hir_syntax.specs.declared.ast.Expr.{Expr as AstExpr};
-ghost use Rattle.hir_store.specs.Range.{HasPat, HasPath};
+ghost use Rattle.hir_store.specs.Range.{HasExpr, HasPat, HasPatParts, HasPath};
 ghost use Rattle.hir_env.specs.Answered as tree;
 ghost use Rattle.hir_env.specs.Answered.{Expr as AnsweredExpr};
 ghost use Rattle.hir_env.specs.Spot.{Spot, site_of};
@@ -12,9 +12,11 @@ ghost use Rattle.hir_env.specs.Whole.{answered, own_pointer};
 ghost use Rattle.hir_lower_form.specs.Forms.{path_hygiene};
 ghost use Rattle.hir_lower_form.specs.Lowering.{Lowers};
 ghost use Rattle.hir_lower_form.specs.Methods.{LowersTarget};
+ghost use Rattle.hir_lower_form.specs.Targets as steps;
 ghost use Rattle.hir_syntax.specs.declared.ast.ExprKind.{out-ExprKind};
-ghost use Rattle.hir_lower_pat.specs.Aims.{Aims, HasAim, dots_kind, found_at, is_no_place, landed, landing, no_ends};
-ghost use Rattle.hir_lower_pat.specs.Aims.{path_aimed, path_steps, through};
+ghost use Rattle.hir_lower_pat.specs.Aims.{Aims, AimsElement, HasAim, called_aim, dots_kind, found_at, gone_place, is_no_place, landed};
+ghost use Rattle.hir_lower_pat.specs.Aims.{landing, led, no_ends, path_aimed, path_steps, place_pat, through, through_place};
+ghost use Rattle.hir_lower_pat.specs.Aims.{uncalled_aim};
 
 use crate::parts::{Here, TargetParts};
 use crate::paths::PathPart;
@@ -23,17 +25,52 @@ use hir_env::resolved::{Resolution, Resolved, Shadow};
 use hir_lower_form::builder::BodyBuilder;
 use hir_lower_form::names::path_expr;
 use hir_lower_form::parts::site;
+use hir_lower_form::targets::Origin;
 use hir_store::fault::StoreFault;
 use hir_store::hir::{Expr, Pat};
 use hir_store::ids::{ExprId, HygieneId, PatId};
 use hir_store::path::Path;
 use hir_syntax::{Boxed, ast};
 
-/// What came of an expression that is assigned to: a pattern, or the expression of a place.
+/// What came of an expression that is assigned to: a pattern, or the expression of a place, of which nothing may be left.
 #[derive(Clone, Copy)]
 pub enum Aim {
     Pat(PatId),
     Place(ExprId),
+    Gone,
+}
+
+/// The outermost of some calls, the inner of which stands here.
+pub(crate) fn outermost(call: Option<InFile<AstPtr>>, at: InFile<AstPtr>) -> InFile<AstPtr>
+    ensures { result ≡ of.outermost call at }
+{
+    match call {
+        None => at,
+        Some(call) => call,
+    }
+}
+
+/// Stores a pattern, to which its node leads, and which comes from the outermost call, where it is an element that comes out of calls.
+pub(crate) fn alloc_target(
+    state: &mut BodyBuilder,
+    at: InFile<AstPtr>,
+    call: Option<InFile<AstPtr>>,
+    pat: Pat,
+) -> Result<PatId, StoreFault>
+    requires { HasPatParts state.old.stored pat }
+    ensures { Lowers HasPat (steps.alloc_target pat (of.origin call at)) state.old result state.new }
+{
+    state.alloc_target(pat, Origin { node: at, call })
+}
+
+/// What is missing, from no node but the outermost call, where it is an element that comes out of calls.
+pub(crate) fn missing_target(
+    state: &mut BodyBuilder,
+    call: Option<InFile<AstPtr>>,
+) -> Result<PatId, StoreFault>
+    ensures { Lowers HasPat (steps.missing_target call) state.old result state.new }
+{
+    state.alloc_made_pat(Pat::Missing, call)
 }
 
 /// What a path stands for that is found in full and is no place.
@@ -96,15 +133,17 @@ fn path_form<H: Here>(
     parts: &H,
     state: &mut BodyBuilder,
     at: InFile<AstPtr>,
+    call: Option<InFile<AstPtr>>,
     hygiene: HygieneId,
     path: Path,
 ) -> Result<Aim, StoreFault>
     requires { HasPath state.old.stored path }
-    ensures { Lowers HasAim (path_aimed (is_no_place (H.spot parts.now) path) at hygiene path) state.old result state.new }
+    ensures { let found = is_no_place (H.spot parts.now) path in
+        Lowers HasAim (path_aimed found (of.origin call at) hygiene path) state.old result state.new }
 {
     if is_found(parts, &path) {
         let hygiene = hygiene_of(&path, hygiene);
-        let id = state.alloc_pat(Pat::Path { path, hygiene }, Some(at))?;
+        let id = alloc_target(state, at, call, Pat::Path { path, hygiene })?;
         Ok(Aim::Pat(id))
     } else {
         let id = state.alloc_expr(path_expr(Some(path), hygiene), Some(at))?;
@@ -117,19 +156,20 @@ fn read_path<H: Here, W: PathPart>(
     parts: &H,
     state: &mut BodyBuilder,
     at: InFile<AstPtr>,
+    call: Option<InFile<AstPtr>>,
     hygiene: HygieneId,
     path: &W,
 ) -> Result<Aim, StoreFault>
     requires { W.can (H.can_path parts.now) path.now }
     ensures { let spot = H.spot parts.now in
-        Lowers HasAim (path_steps spot at hygiene (W.read spot path.now)) state.old result state.new }
+        Lowers HasAim (path_steps spot (of.origin call at) hygiene (W.read spot path.now)) state.old result state.new }
 {
     match parts.path(state, path)? {
         None => {
             let id = state.alloc_expr(Expr::Missing, Some(at))?;
             Ok(Aim::Place(id))
         }
-        Some(path) => path_form(parts, state, at, hygiene, path),
+        Some(path) => path_form(parts, state, at, call, hygiene, path),
     }
 }
 
@@ -138,17 +178,27 @@ pub(crate) fn path_aim<H: Here, W: PathPart>(
     parts: &H,
     state: &mut BodyBuilder,
     at: InFile<AstPtr>,
+    call: Option<InFile<AstPtr>>,
     path: &W,
 ) -> Result<Aim, StoreFault>
     requires { W.can (H.can_path parts.now) path.now }
     ensures { let spot = H.spot parts.now in
-        Aims spot (tree.path_expr at (W.read spot path.now) (spot.answers.hygiene (site_of at))) state.old result state.new }
+        Aims spot call (tree.path_expr at (W.read spot path.now) (spot.answers.hygiene (site_of at))) state.old result state.new }
 {
     let hygiene = parts.hygiene(site(at));
-    read_path(parts, state, at, hygiene, path)
+    read_path(parts, state, at, call, hygiene, path)
 }
 
 /// Parentheses lead to the expression of a place.
+fn through_place(state: &mut BodyBuilder, at: InFile<AstPtr>, id: ExprId) -> Result<Aim, StoreFault>
+    requires { HasExpr state.old.stored id }
+    ensures { Lowers HasAim (through_place at id) state.old result state.new }
+{
+    state.point(at, id)?;
+    Ok(Aim::Place(id))
+}
+
+/// Parentheses lead to the expression of a place, which is missing where nothing is left of it.
 pub(crate) fn parens(
     state: &mut BodyBuilder,
     at: InFile<AstPtr>,
@@ -157,10 +207,30 @@ pub(crate) fn parens(
     requires { HasAim state.old.stored inner }
     ensures { Lowers HasAim (through at inner) state.old result state.new }
 {
-    if let Aim::Place(id) = inner {
-        state.point(at, id)?;
+    match inner {
+        Aim::Pat(id) => Ok(Aim::Pat(id)),
+        Aim::Place(id) => through_place(state, at, id),
+        Aim::Gone => {
+            let id = state.missing_expr()?;
+            through_place(state, at, id)
+        }
     }
-    Ok(inner)
+}
+
+/// The pattern of a place.
+fn place_pat(state: &mut BodyBuilder, at: InFile<AstPtr>, id: ExprId) -> Result<PatId, StoreFault>
+    requires { HasExpr state.old.stored id }
+    ensures { Lowers HasPat (place_pat at id) state.old result state.new }
+{
+    state.alloc_made_pat(Pat::Expr(id), Some(at))
+}
+
+/// The same of a place of which nothing is left.
+fn gone_place(state: &mut BodyBuilder, at: InFile<AstPtr>) -> Result<PatId, StoreFault>
+    ensures { Lowers HasPat (gone_place at) state.old result state.new }
+{
+    let id = state.missing_expr()?;
+    place_pat(state, at, id)
 }
 
 /// The pattern, which a place becomes with the node of its outermost parentheses.
@@ -174,8 +244,51 @@ pub(crate) fn land(
 {
     match aim {
         Aim::Pat(id) => Ok(id),
-        Aim::Place(id) => state.alloc_pat(Pat::Expr(id), Some(at)),
+        Aim::Place(id) => place_pat(state, at, id),
+        Aim::Gone => gone_place(state, at),
     }
+}
+
+/// The node of a call leads to the pattern of what it stands for.
+fn led(state: &mut BodyBuilder, at: InFile<AstPtr>, id: PatId) -> Result<Aim, StoreFault>
+    requires { HasPat state.old.stored id }
+    ensures { Lowers HasAim (led at id) state.old result state.new }
+{
+    state.point_target(at, id)?;
+    Ok(Aim::Pat(id))
+}
+
+/// What comes of a call, by what comes of what it stands for, which as a place comes from the other node. Where nothing is left of
+/// that, nothing is left of the call.
+pub(crate) fn called_aim(
+    state: &mut BodyBuilder,
+    at: InFile<AstPtr>,
+    source: InFile<AstPtr>,
+    inner: Aim,
+) -> Result<Aim, StoreFault>
+    requires { HasAim state.old.stored inner }
+    ensures { Lowers HasAim (called_aim at source inner) state.old result state.new }
+{
+    match inner {
+        Aim::Pat(id) => led(state, at, id),
+        Aim::Place(id) => {
+            let id = place_pat(state, source, id)?;
+            led(state, at, id)
+        }
+        Aim::Gone => Ok(Aim::Gone),
+    }
+}
+
+/// What comes of a call that stands for no expression.
+pub(crate) fn uncalled_aim(
+    state: &mut BodyBuilder,
+    at: InFile<AstPtr>,
+    call: Option<InFile<AstPtr>>,
+) -> Result<Aim, StoreFault>
+    ensures { Lowers HasAim (uncalled_aim call at) state.old result state.new }
+{
+    let id = missing_target(state, call)?;
+    led(state, at, id)
 }
 
 /// The node of an expression, which of a block is the block's.
@@ -202,7 +315,7 @@ fn has_no_ends(start: &Option<Boxed<ast::Expr>>, end: &Option<Boxed<ast::Expr>>)
 }
 
 /// Whether it is `..` as it stands.
-fn is_dots_kind(node: &ast::Expr) -> bool
+pub(crate) fn is_dots_kind(node: &ast::Expr) -> bool
     ensures { result ≡ dots_kind (out-ExprKind node.now.kind) }
 {
     match &node.kind {
@@ -226,10 +339,25 @@ pub trait TargetNode {
     fn pointer<H: Here>(&self, parts: &H) -> InFile<AstPtr>
         ensures { result ≡ of.pointer_of (read (H.spot parts.now) self.now) };
 
-    /// What comes of the expression, in whatever parentheses it stands.
-    fn aim<T: TargetParts>(&self, parts: &T, state: &mut BodyBuilder) -> Result<Aim, StoreFault>
+    /// What comes of the expression, in whatever parentheses it stands, with the outermost call, where it is an element that comes
+    /// out of calls.
+    fn aim<T: TargetParts>(
+        &self,
+        parts: &T,
+        state: &mut BodyBuilder,
+        call: Option<InFile<AstPtr>>,
+    ) -> Result<Aim, StoreFault>
         requires { can (T.can_target parts.now) self.now }
-        ensures { Aims (T.spot parts.now) (read (T.spot parts.now) self.now) state.old result state.new };
+        ensures { Aims (T.spot parts.now) call (read (T.spot parts.now) self.now) state.old result state.new };
+
+    /// The pattern of an element, none where it comes to two dots.
+    fn element<T: TargetParts>(
+        &self,
+        parts: &T,
+        state: &mut BodyBuilder,
+    ) -> Result<Option<PatId>, StoreFault>
+        requires { can (T.can_target parts.now) self.now }
+        ensures { AimsElement (T.spot parts.now) None (read (T.spot parts.now) self.now) state.old result state.new };
 }
 
 impl TargetNode for ast::Expr {
@@ -246,8 +374,21 @@ impl TargetNode for ast::Expr {
         pointer_of(parts, self)
     }
 
-    fn aim<T: TargetParts>(&self, parts: &T, state: &mut BodyBuilder) -> Result<Aim, StoreFault> {
-        parts.aim(state, self)
+    fn aim<T: TargetParts>(
+        &self,
+        parts: &T,
+        state: &mut BodyBuilder,
+        call: Option<InFile<AstPtr>>,
+    ) -> Result<Aim, StoreFault> {
+        parts.aim(state, call, self)
+    }
+
+    fn element<T: TargetParts>(
+        &self,
+        parts: &T,
+        state: &mut BodyBuilder,
+    ) -> Result<Option<PatId>, StoreFault> {
+        parts.element(state, self)
     }
 }
 
@@ -260,9 +401,9 @@ fn landed_target<T: TargetParts, N: TargetNode>(
     requires { N.can (T.can_target parts.now) node.now }
     ensures { let spot = T.spot parts.now in
         let read = N.read spot node.now in
-        Lowers HasPat (landing (found_at spot) (of.pointer_of read) read) state.old result state.new }
+        Lowers HasPat (landing (found_at spot) None (of.pointer_of read) read) state.old result state.new }
 {
-    let aim = node.aim(parts, state)?;
+    let aim = node.aim(parts, state, None)?;
     land(state, node.pointer(parts), aim)
 }
 

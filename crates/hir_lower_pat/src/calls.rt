@@ -1,4 +1,4 @@
-//! Calls of macros as patterns.
+//! Calls of macros as patterns, and as what is assigned to.
 
 ghost use Rattle.std.specs.Prelude.{◌≡◌};
 ghost use Rattle.hir_store.specs.Range.{HasPat, HasPatOption};
@@ -14,6 +14,16 @@ use hir_lower_form::calls::Entered;
 use hir_store::fault::StoreFault;
 use hir_store::ids::PatId;
 use hir_syntax::ast::{self, Fragment};
+
+/// The expression that a call stands for, and where it is read.
+pub(crate) fn expr_of<'a>(entered: Entered<'a>) -> Option<(Place, &'a ast::Expr)>
+    ensures { spec.expr_lent result ≡ spec.expr_there (found_of entered.entry) }
+{
+    match entered {
+        Entered::Yes(place, Some(Fragment::Expr(node))) => Some((place, node.get())),
+        _ => None,
+    }
+}
 
 /// The pattern that a call stands for, and where it is read.
 pub(crate) fn pat_of<'a>(entered: Entered<'a>) -> Option<(Place, &'a ast::Pat)>

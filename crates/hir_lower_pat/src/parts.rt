@@ -1,21 +1,25 @@
 //! What a form of patterns or of targets needs: the questions, and what lowers the patterns, targets and paths inside of it. It is a
 //! parameter, so that each form is proved by itself.
 
-ghost use Rattle.std.specs.Prelude.{◌≡◌};
+ghost use Rattle.std.specs.Prelude.{◌≡◌, None, is_some};
 ghost use Rattle.hir_syntax.specs.declared.ast.Expr.{Expr as AstExpr};
 ghost use Rattle.hir_syntax.specs.declared.ast.Path.{Path as AstPath};
 ghost use Rattle.hir_syntax.specs.declared.pats.Pat.{Pat as AstPat};
+ghost use Rattle.hir_store.specs.Range.{HasPathOption};
 ghost use Rattle.hir_env.specs.Spot.{Spot};
+ghost use Rattle.hir_env.specs.Targets as of;
 ghost use Rattle.hir_env.specs.Whole.{answered, answered_pat, pointer_at};
 ghost use Rattle.hir_lower_form.specs.Lowering.{Lowers};
 ghost use Rattle.hir_lower_form.specs.Methods.{LowersPath};
-ghost use Rattle.hir_lower_pat.specs.Aims.{Aims, HandlesTarget, HasAim, placed};
+ghost use Rattle.hir_lower_pat.specs.Aims.{Aims, AimsElement, HandlesTarget, HandlesTargetElement, HasAim, placed};
 ghost use Rattle.hir_lower_pat.specs.Bindings.{HasNames};
 ghost use Rattle.hir_lower_pat.specs.Handlers.{HandlesElement, HandlesPat};
 ghost use Rattle.hir_lower_pat.specs.Methods.{LowersElement, LowersPat};
+ghost use Rattle.hir_lower_pat.specs.TargetLists.{callee_steps};
 
 use crate::aims::Aim;
 use crate::bindings::Bindings;
+use crate::callees::{callee, is_path};
 use crate::paths::PathPart;
 use hir_base::node::{AstPtr, InFile, NodeId, PredId, TextRange};
 use hir_env::resolved::{Resolved, Shadow};
@@ -95,20 +99,46 @@ pub trait PatParts: Here {
 
 /// What lowers the parts of what is assigned to at one place.
 pub trait TargetParts: Here {
-    /// What may be handed in as a target, and as a place.
+    /// What may be handed in as a target, as a place, and as a callee.
     ghost can_target: { Self → AstExpr → Type 0 };
 
     ghost can_place: { Self → AstExpr → Type 0 };
 
-    /// The expression as it stands.
+    ghost can_callee: { Self → AstExpr → Type 0 };
+
+    /// The expression as it stands, of which nothing may be left.
     fn place(&self, state: &mut BodyBuilder, node: &ast::Expr) -> Result<Aim, StoreFault>
         requires { can_place self.now node.now }
         ensures { Lowers HasAim (placed (answered (Self.spot self.now) node.now)) state.old result state.new };
 
-    /// What comes of an expression, in whatever parentheses it stands.
-    fn aim(&self, state: &mut BodyBuilder, node: &ast::Expr) -> Result<Aim, StoreFault>
+    /// What comes of an expression, in whatever parentheses it stands, with the outermost call, where it is an element that comes out
+    /// of calls.
+    fn aim(
+        &self,
+        state: &mut BodyBuilder,
+        call: Option<InFile<AstPtr>>,
+        node: &ast::Expr,
+    ) -> Result<Aim, StoreFault>
         requires { can_target self.now node.now }
-        ensures { Aims (Self.spot self.now) (answered (Self.spot self.now) node.now) state.old result state.new };
+        ensures { Aims (Self.spot self.now) call (answered (Self.spot self.now) node.now) state.old result state.new };
+
+    /// The pattern of an element, none where it comes to two dots.
+    fn element(
+        &self,
+        state: &mut BodyBuilder,
+        node: &ast::Expr,
+    ) -> Result<Option<PatId>, StoreFault>
+        requires { can_target self.now node.now }
+        ensures { AimsElement (Self.spot self.now) None (answered (Self.spot self.now) node.now) state.old result state.new };
+
+    /// Whether a callee is a path, be it through calls.
+    fn is_path(&self, node: &ast::Expr) -> bool
+        ensures { result ≡ is_some (of.callee_path (answered (Self.spot self.now) node.now)) };
+
+    /// The path of such a callee, or none where it is absent or refused.
+    fn callee(&self, state: &mut BodyBuilder, node: &ast::Expr) -> Result<Option<Path>, StoreFault>
+        requires { can_callee self.now node.now }
+        ensures { Lowers HasPathOption (callee_steps (answered (Self.spot self.now) node.now)) state.old result state.new };
 }
 
 /// The parts of a pattern or of a target are lowered by a function.
@@ -196,20 +226,81 @@ impl<
     }
 }
 
+/// The functions that aim at an expression as such, and that lower it as an element.
+#[derive(Clone, Copy)]
+pub struct TargetBy<F, G> {
+    pub aim: F,
+    pub element: G,
+}
+
 impl<
     'l,
     P: LowerParts,
-    F: Fn(&Lowerer<P>, &mut BodyBuilder, &ast::Expr) -> Result<Aim, StoreFault>,
-> TargetParts for Inside<'l, P, F> {
-    ghost can_target = { λ it. HandlesTarget P.spot (F.pre it.by) (F.post it.by) it.lowerer.now };
+    F: Fn(
+        &Lowerer<P>,
+        &mut BodyBuilder,
+        Option<InFile<AstPtr>>,
+        &ast::Expr,
+    ) -> Result<Aim, StoreFault>,
+    G: Fn(
+        &Lowerer<P>,
+        &mut BodyBuilder,
+        Option<InFile<AstPtr>>,
+        &ast::Expr,
+    ) -> Result<Option<PatId>, StoreFault>,
+> TargetParts for Inside<'l, P, TargetBy<F, G>> {
+    ghost can_target = { λ it e. HandlesTarget P.spot (F.pre it.by.aim) (F.post it.by.aim) it.lowerer.now e
+        × HandlesTargetElement P.spot (G.pre it.by.element) (G.post it.by.element) it.lowerer.now e };
 
     ghost can_place = { λ it. (P.can it.lowerer.now.parts).expr };
 
+    ghost can_callee = { λ it. (P.can it.lowerer.now.parts).target (P.spot it.lowerer.now.parts).place };
+
     fn place(&self, state: &mut BodyBuilder, node: &ast::Expr) -> Result<Aim, StoreFault> {
-        Ok(Aim::Place(self.lowerer.collect_expr(state, node)?))
+        place(self.lowerer, state, node)
     }
 
-    fn aim(&self, state: &mut BodyBuilder, node: &ast::Expr) -> Result<Aim, StoreFault> {
-        (self.by)(self.lowerer, state, node)
+    fn aim(
+        &self,
+        state: &mut BodyBuilder,
+        call: Option<InFile<AstPtr>>,
+        node: &ast::Expr,
+    ) -> Result<Aim, StoreFault> {
+        (self.by.aim)(self.lowerer, state, call, node)
+    }
+
+    fn element(
+        &self,
+        state: &mut BodyBuilder,
+        node: &ast::Expr,
+    ) -> Result<Option<PatId>, StoreFault> {
+        (self.by.element)(self.lowerer, state, None, node)
+    }
+
+    fn is_path(&self, node: &ast::Expr) -> bool {
+        is_path(self.lowerer, node)
+    }
+
+    fn callee(
+        &self,
+        state: &mut BodyBuilder,
+        node: &ast::Expr,
+    ) -> Result<Option<Path>, StoreFault> {
+        callee(self.lowerer, state, node)
+    }
+}
+
+/// An expression as a place, of which nothing may be left.
+pub(crate) fn place<P: LowerParts>(
+    lowerer: &Lowerer<P>,
+    state: &mut BodyBuilder,
+    node: &ast::Expr,
+) -> Result<Aim, StoreFault>
+    requires { (P.can lowerer.now.parts).expr node.now }
+    ensures { Lowers HasAim (placed (answered (P.spot lowerer.now.parts) node.now)) state.old result state.new }
+{
+    match lowerer.parts.maybe_collect_expr(state, node)? {
+        None => Ok(Aim::Gone),
+        Some(id) => Ok(Aim::Place(id)),
     }
 }

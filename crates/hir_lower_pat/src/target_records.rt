@@ -22,7 +22,7 @@ ghost use Rattle.hir_lower_form.specs.Targets as steps;
 ghost use Rattle.hir_lower_pat.specs.Aims.{Aims, HasAim, KidsOfFields, found_at, patterned};
 ghost use Rattle.hir_lower_pat.specs.Methods.{HasPatField, field_name};
 
-use crate::aims::{Aim, TargetNode, pointer_of, target};
+use crate::aims::{Aim, TargetNode, alloc_target, missing_target, pointer_of, target};
 use crate::parts::{Here, TargetParts};
 use crate::paths::PathPart;
 use hir_base::node::{AstPtr, InFile};
@@ -185,13 +185,14 @@ pub trait TargetRecord {
         parts: &T,
         state: &mut BodyBuilder,
         at: InFile<AstPtr>,
+        call: Option<InFile<AstPtr>>,
         path: Path,
     ) -> Result<PatId, StoreFault>
         requires path { HasPath state.old.stored path }
         requires list { can (T.can_target parts.now) self.now }
         ensures { let spot = T.spot parts.now in
             let read = spec.lower_target_fields [] (fields spot self.now) in
-            Lowers HasPat (steps.record_target_of at (has_dots self.now) (spread spot self.now) read (Some path))
+            Lowers HasPat (steps.record_target_of (of.origin call at) (has_dots self.now) (spread spot self.now) read (Some path))
             state.old result state.new };
 }
 
@@ -209,6 +210,7 @@ impl TargetRecord for ast::RecordExprFieldList {
         parts: &T,
         state: &mut BodyBuilder,
         at: InFile<AstPtr>,
+        call: Option<InFile<AstPtr>>,
         path: Path,
     ) -> Result<PatId, StoreFault> {
         report_spread(parts, state, &self.spread, self.dotdot)?;
@@ -218,7 +220,7 @@ impl TargetRecord for ast::RecordExprFieldList {
             args,
             ellipsis: self.dotdot,
         };
-        state.alloc_pat(pat, Some(at))
+        alloc_target(state, at, call, pat)
     }
 }
 
@@ -229,6 +231,7 @@ fn record_form<T: TargetParts, W: PathPart, L: TargetRecord>(
     parts: &T,
     state: &mut BodyBuilder,
     at: InFile<AstPtr>,
+    call: Option<InFile<AstPtr>>,
     path: &W,
     list: &L,
 ) -> Result<PatId, StoreFault>
@@ -236,12 +239,12 @@ fn record_form<T: TargetParts, W: PathPart, L: TargetRecord>(
     requires list { L.can (T.can_target parts.now) list.now }
     ensures { let spot = T.spot parts.now in
         let fields = L.fields spot list.now in
-        let read = tree.record_target at (W.read spot path.now) fields (L.has_dots list.now) (L.spread spot list.now) in
+        let read = tree.record_target (of.origin call at) (W.read spot path.now) fields (L.has_dots list.now) (L.spread spot list.now) in
         LowersTarget read state.old result state.new }
 {
     match parts.path(state, path)? {
-        None => state.missing_pat(),
-        Some(path) => list.record(parts, state, at, path),
+        None => missing_target(state, call),
+        Some(path) => list.record(parts, state, at, call, path),
     }
 }
 
@@ -250,6 +253,7 @@ fn listed_aim<T: TargetParts, W: PathPart, L: TargetRecord>(
     parts: &T,
     state: &mut BodyBuilder,
     at: InFile<AstPtr>,
+    call: Option<InFile<AstPtr>>,
     path: &W,
     list: &L,
 ) -> Result<Aim, StoreFault>
@@ -257,10 +261,10 @@ fn listed_aim<T: TargetParts, W: PathPart, L: TargetRecord>(
     requires list { L.can (T.can_target parts.now) list.now }
     ensures { let spot = T.spot parts.now in
         let fields = L.fields spot list.now in
-        let read = tree.record_target at (W.read spot path.now) fields (L.has_dots list.now) (L.spread spot list.now) in
+        let read = tree.record_target (of.origin call at) (W.read spot path.now) fields (L.has_dots list.now) (L.spread spot list.now) in
         Lowers HasAim (patterned read) state.old result state.new }
 {
-    Ok(Aim::Pat(record_form(parts, state, at, path, list)?))
+    Ok(Aim::Pat(record_form(parts, state, at, call, path, list)?))
 }
 
 /// A record without a list of fields is a place.
@@ -268,6 +272,7 @@ pub(crate) fn record_aim<T: TargetParts>(
     parts: &T,
     state: &mut BodyBuilder,
     at: InFile<AstPtr>,
+    call: Option<InFile<AstPtr>>,
     node: &ast::Expr,
     path: &Option<Boxed<ast::Path>>,
     list: &Option<ast::RecordExprFieldList>,
@@ -277,10 +282,10 @@ pub(crate) fn record_aim<T: TargetParts>(
     requires place { T.can_place parts.now node.now }
     requires is { let spot = T.spot parts.now in let read = record_part spot list.now in
         answered spot node.now ≡ tree.record_expr at (path_part spot path.now) read.head read.fields read.spread }
-    ensures { let spot = T.spot parts.now in Aims spot (answered spot node.now) state.old result state.new }
+    ensures { let spot = T.spot parts.now in Aims spot call (answered spot node.now) state.old result state.new }
 {
     match list {
         None => parts.place(state, node),
-        Some(list) => listed_aim(parts, state, at, path, list),
+        Some(list) => listed_aim(parts, state, at, call, path, list),
     }
 }

@@ -4,7 +4,7 @@ use Rattle.hir_env.specs.Targets.{target_fields}
 use Rattle.hir_env.specs.Whole.{fields_part}
 use Rattle.hir_lower_form.specs.Lower.{lower_target_fields}
 use Rattle.hir_lower_pat.specs.Aims.{found_at}
-use Rattle.hir_lower_pat.proofs.AimTurns.{field_more, field_refused, fields_has, grows_on}
+use Rattle.hir_lower_pat.proofs.AimTurns.{field_left_out, field_more, field_refused, fields_has, fields_stay, grows_on}
 use Rattle.hir_lower_pat.proofs.KindLemmas.{first_of}
 use Rattle.hir_lower_pat.proofs.TypePats.{handed_on}
 use Rattle.hir_lower_pat.proofs.target_records.fields.Goals as goal
@@ -39,5 +39,23 @@ loop-left-preserved-in_ok-push_pat_field g c =
         grows_on c.args.state.now.stored l.state.stored new.stored l.invariant.placed.0 put.1,
         fields_has l.state.stored new.stored l.done c.push_pat_field.new.fields c.in-Some.field
             pushed.past put.1 l.invariant.placed.1 put.2,
+      );
+    }
+
+pub loop-left-preserved : goal.loop-left-preserved
+loop-left-preserved g c =
+    let l = c.loop-left in
+    let new = c.field.new.state in
+    let spot = g.T.Here.spot c.args.parts.now in
+    let first = first_of l.left.now c.one-item.result c.one-item.is c.in-len1-up.len_at_least in
+    let may = rw first at l.invariant.may in
+    let left_out = rw c.in_default-2.is at c.in_ok-field.ensures in
+    let same = field_left_out spot l.left.now c.one-item.result l.state new l.done c.one-item.is c.in-len1-up.len_at_least left_out.0 in
+    record {
+      so_far = l.invariant.so_far ∙ same;
+      may = may.1;
+      placed = (
+        grows_on c.args.state.now.stored l.state.stored new.stored l.invariant.placed.0 left_out.1,
+        fields_stay l.state.stored new.stored l.done left_out.1 l.invariant.placed.1,
       );
     }

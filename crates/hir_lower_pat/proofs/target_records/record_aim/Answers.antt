@@ -7,13 +7,13 @@ use Rattle.hir_lower_pat.proofs.target_records.record_aim.Goals as goal
 pub returns-in-None : goal.returns-in-None
 returns-in-None g c =
     let spot = g.T.Here.spot c.args.parts.now in
-    listless_lowers spot c.args.at (answered spot c.args.node.now) c.args.path.now c.args.list.now c.args.state.now _ _
+    listless_lowers spot c.args.call c.args.at (answered spot c.args.node.now) c.args.path.now c.args.list.now c.args.state.now _ _
     c.requires.is c.in-None.is c.place.ensures
 
 pub returns-in-Some : goal.returns-in-Some
 returns-in-Some g c =
     let spot = g.T.Here.spot c.args.parts.now in
-    record_lowers spot c.args.at (answered spot c.args.node.now) c.args.path.now c.args.list.now _ c.args.state.now _ _
+    record_lowers spot c.args.call c.args.at (answered spot c.args.node.now) c.args.path.now c.args.list.now _ c.args.state.now _ _
     c.requires.is c.in-Some.is c.listed_aim.ensures
 
 pub listed_aim-requires-clause-path : goal.listed_aim-requires-clause-path

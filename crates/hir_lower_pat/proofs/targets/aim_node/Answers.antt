@@ -1,6 +1,10 @@
-use Rattle.std.proofs.Common.{arith}
+use Rattle.std.proofs.Common.{arith, ◌∙◌, ap, sym}
 use Rattle.std.proofs.lemmas.Grind.{common_steps}
+use Rattle.hir_env.specs.Spot.{site_of}
+use Rattle.hir_env.specs.Whole.{answered}
+use Rattle.hir_lower_pat.specs.Aims.{HasAim, aim_of, found_at, placed}
 use Rattle.hir_lower_pat.proofs.AimLemmas.{enabled_is, disabled_is}
+use Rattle.hir_lower_pat.proofs.AimSteps.{same_steps}
 use Rattle.hir_lower_pat.proofs.targets.aim_node.Goals as goal
 
 pub kept_aim-requires-clause-at : goal.kept_aim-requires-clause-at
@@ -22,4 +26,10 @@ pub returns-in-Ok : goal.returns-in-Ok
 returns-in-Ok g c = grind (arith, common_steps, enabled_is, disabled_is)
 
 pub returns-in-Err : goal.returns-in-Err
-returns-in-Err g c = grind (arith, common_steps, enabled_is, disabled_is)
+returns-in-Err g c =
+    let spot = g.T.Here.spot c.args.parts.now in
+    let read = answered spot c.args.node.now in
+    let old = c.args.state.now in
+    let asked = sym (c.cfg.ensures ∙ ap spot.answers.cfg (c.site.ensures ∙ ap site_of c.pointer-at.ensures)) ∙ c.in-Err.is in
+    same_steps HasAim (aim_of (found_at spot) c.args.call read) (placed read) old _ _
+    (ap (λ p. p old) (disabled_is spot c.args.call c.args.node.now _ asked)) c.place.ensures

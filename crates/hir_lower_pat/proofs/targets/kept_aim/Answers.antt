@@ -28,9 +28,11 @@ returns-in-RecordExpr g c = grind (arith, common_steps, only_places)
 pub returns-in-ParenExpr : goal.returns-in-ParenExpr
 returns-in-ParenExpr g c =
     let is = opened (kind.rolls-ParenExpr _ ∙ sym c.in-ParenExpr.is) in
-    aims_as (g.T.Here.spot c.args.parts.now) c.args.node.now _ c.args.at _ _ _ c.requires.at c.requires.enabled is c.paren_aim.ensures
+    aims_as (g.T.Here.spot c.args.parts.now) c.args.call c.args.node.now _ c.args.at _ _ _ c.requires.at c.requires.enabled is
+    c.paren_aim.ensures
 
 pub returns-in-TupleExpr : goal.returns-in-TupleExpr
 returns-in-TupleExpr g c =
     let is = opened (kind.rolls-TupleExpr _ _ ∙ sym c.in-TupleExpr.is) in
-    aims_as (g.T.Here.spot c.args.parts.now) c.args.node.now _ c.args.at _ _ _ c.requires.at c.requires.enabled is c.tuple_aim.ensures
+    aims_as (g.T.Here.spot c.args.parts.now) c.args.call c.args.node.now _ c.args.at _ _ _ c.requires.at c.requires.enabled is
+    c.tuple_aim.ensures

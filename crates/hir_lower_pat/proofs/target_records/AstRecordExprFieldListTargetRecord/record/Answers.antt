@@ -11,5 +11,5 @@ fields-requires g c = grind (arith, common_steps)
 pub returns-in_err-args : goal.returns-in_err-args
 returns-in_err-args g c = grind (arith, common_steps)
 
-pub alloc_pat-requires : goal.alloc_pat-requires
-alloc_pat-requires g c = grind (arith, common_steps)
+pub alloc_target-requires : goal.alloc_target-requires
+alloc_target-requires g c = grind (arith, common_steps)
