@@ -11,7 +11,7 @@ ghost use Rattle.hir_lower_form.specs.Methods.{HasContents, HasRole, LowersExpr,
 ghost use Rattle.hir_lower_form.specs.declared.parts.BlockRole.TheVariants as role;
 
 use crate::consts::const_form;
-use crate::coroutines::{coroutine, coroutine_form};
+use crate::coroutines::{coroutine_form, store_coroutine};
 use crate::definitions::close_definitions;
 use crate::runs::{Run, collect_run, collect_value_opt};
 use crate::stored::store_block;
@@ -43,6 +43,7 @@ fn value_at_end(statements: &[Statement]) -> Option<ExprId>
 
 /// Where no tail is left, a last expression statement without a semicolon becomes it.
 #[tactic(auto, using(hir_lower_form::proofs::BlockLemmas::settled_none))]
+#[inline(never)]
 fn settle(statements: &mut Seq<Statement>, tail: Option<ExprId>) -> Option<ExprId>
     ensures { spec.settled statements.old tail ≡ (statements.new, result) }
 {
@@ -80,6 +81,7 @@ pub(crate) fn flat_contents<P: LowerParts>(
 
 /// A block that is read here, as one that is unsafe or isn't, inside the label of this number.
 #[tactic(auto, unfolding(hir_lower_form::specs::Forms::block_form))]
+#[inline(never)]
 fn plain_node<P: LowerParts, N: WrittenBlock>(
     lowerer: &Lowerer<P>,
     state: &mut BodyBuilder,
@@ -153,7 +155,7 @@ fn coroutine_node<P: LowerParts, N: WrittenBlock>(
     let (mut statements, tail) = node.contents(lowerer, state)?;
     let tail = settle(&mut statements, tail);
     let body = store_block(state, None, false, None, number, statements, tail)?;
-    state.alloc_expr(coroutine(lowerer.alloc, kind, moves, body), Some(at))
+    store_coroutine(lowerer.alloc, state, at, kind, moves, body)
 }
 
 /// A block that is read here, of this role.

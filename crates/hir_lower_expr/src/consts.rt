@@ -9,6 +9,7 @@ ghost use Rattle.hir_lower_form.specs.Lowering.{Lowers};
 ghost use Rattle.hir_lower_form.specs.Methods.{LowersInside};
 ghost use Rattle.hir_lower_form.specs.declared.parts.BlockRole.TheVariants as role;
 
+use crate::stored::store_const;
 use crate::written::WrittenBlock;
 use hir_base::node::{AstPtr, InFile};
 use hir_env::place::Place;
@@ -16,7 +17,6 @@ use hir_lower_form::builder::BodyBuilder;
 use hir_lower_form::parts::{BlockRole, LowerParts, Lowerer};
 use hir_store::diagnostics::AwaitLocation;
 use hir_store::fault::StoreFault;
-use hir_store::hir::Expr;
 use hir_store::ids::ExprId;
 use hir_store::type_ref::ConstRef;
 
@@ -86,7 +86,7 @@ fn stored_const<P: LowerParts, N: WrittenBlock>(
         Lowers HasExpr (spec.const_form at (spec.constant_form inner)) state.old result state.new }
 {
     let constant = inner_constant(lowerer, state, node)?;
-    state.alloc_expr(Expr::Const(constant), Some(at))
+    store_const(state, at, constant)
 }
 
 /// A `const` block, of which neither a label nor a type counts. It owns the bindings that are made in it.

@@ -1,13 +1,14 @@
 //! Closures with `async`, `gen` or both, whose bodies are coroutines.
 
-ghost use Rattle.std.specs.Prelude.{[], ◌≡◌};
-ghost use Rattle.hir_store.specs.Range.{HasExpr, HasPats};
+ghost use Rattle.std.specs.Prelude.{[], ◌≡◌, Some};
+ghost use Rattle.hir_store.specs.Range.{HasExpr, HasParts, HasPats};
 ghost use Rattle.hir_env.specs.Answered as tree;
 ghost use Rattle.hir_env.specs.Paths as of;
 ghost use Rattle.hir_env.specs.Whole.{in_closure};
 ghost use Rattle.hir_lower_form.specs.Forms.{no_closure_params};
 ghost use Rattle.hir_lower_form.specs.Lower.{lower_params, lower_part, present_type};
 ghost use Rattle.hir_lower_form.specs.Lowering.{Lowers, owning};
+ghost use Rattle.hir_lower_form.specs.Lowering as step;
 ghost use Rattle.hir_lower_form.specs.Methods.{HasWithin, LowersExpr};
 ghost use Rattle.hir_lower_form.specs.Preludes as spec;
 
@@ -105,6 +106,23 @@ fn coroutine_closure(kind: CoroutineKind, moves: bool, args: Seq<PatId>, inner: 
     }
 }
 
+/// Stores it.
+#[inline(never)]
+fn store_coroutine_closure(
+    state: &mut BodyBuilder,
+    at: InFile<AstPtr>,
+    kind: CoroutineKind,
+    moves: bool,
+    args: Seq<PatId>,
+    inner: Within,
+) -> Result<ExprId, StoreFault>
+    requires { HasParts state.old.stored (spec.stored_coroutine_closure kind moves args inner) }
+    ensures { let node = spec.stored_coroutine_closure kind moves args inner in
+        Lowers HasExpr (step.alloc_expr node (Some at)) state.old result state.new }
+{
+    state.alloc_expr(coroutine_closure(kind, moves, args, inner), Some(at))
+}
+
 /// The coroutine, and what the outside hands its parameters to. No jump in it reaches what is open around it, and a `yield` in it is its
 /// own.
 #[tactic(auto, unfolding(hir_lower_form::specs::Preludes::coroutine_closure_form))]
@@ -133,7 +151,7 @@ fn bordered_coroutine_closure<P: LowerParts, A: ParamsPart, R: RetPart, E: ExprP
     let inner = owned_within(lowerer, state, params, ret, body, is_async, kind)?;
     let args = lower_handed(lowerer.alloc, state, inner.handed.as_slice())?;
     let _ = state.close_barrier(outside);
-    state.alloc_expr(coroutine_closure(kind, moves, args, inner), Some(at))
+    store_coroutine_closure(state, at, kind, moves, args, inner)
 }
 
 /// A closure with `async`, `gen` or both, which owns what the outside hands its parameters to.

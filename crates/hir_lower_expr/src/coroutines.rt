@@ -1,17 +1,19 @@
 //! `async`, `gen` and `async gen` blocks: coroutines, whose blocks are bodies of their own.
 
-ghost use Rattle.std.specs.Prelude.{◌≡◌};
+ghost use Rattle.std.specs.Prelude.{◌≡◌, Some};
 ghost use Rattle.hir_store.specs.Range.{HasExpr};
 ghost use Rattle.hir_env.specs.Paths as of;
 ghost use Rattle.hir_env.specs.Whole.{in_coroutine};
 ghost use Rattle.hir_lower_form.specs.Forms as form;
 ghost use Rattle.hir_lower_form.specs.Lower as spec;
 ghost use Rattle.hir_lower_form.specs.Lowering.{Lowers};
+ghost use Rattle.hir_lower_form.specs.Lowering as step;
 ghost use Rattle.hir_lower_form.specs.Methods.{LowersInside};
 ghost use Rattle.hir_lower_form.specs.declared.parts.BlockRole.TheVariants as role;
 
 use crate::closures::capture_by;
 use crate::written::WrittenBlock;
+use hir_base::node::{AstPtr, InFile};
 use hir_env::place::Place;
 use hir_lower_form::builder::BodyBuilder;
 use hir_lower_form::parts::{BlockRole, LowerParts, Lowerer};
@@ -37,7 +39,7 @@ fn inside_coroutine(kind: CoroutineKind, place: Place) -> Place
 }
 
 /// The coroutine around the block that is its body.
-pub(crate) fn coroutine(alloc: Global, kind: CoroutineKind, moves: bool, body: ExprId) -> Expr
+fn coroutine(alloc: Global, kind: CoroutineKind, moves: bool, body: ExprId) -> Expr
     ensures { result ≡ form.stored_coroutine kind moves body }
 {
     let source = CoroutineSource::Block;
@@ -49,6 +51,22 @@ pub(crate) fn coroutine(alloc: Global, kind: CoroutineKind, moves: bool, body: E
         closure_kind: ClosureKind::Coroutine { kind, source },
         capture_by: capture_by(moves),
     }
+}
+
+/// Stores it.
+#[inline(never)]
+pub(crate) fn store_coroutine(
+    alloc: Global,
+    state: &mut BodyBuilder,
+    at: InFile<AstPtr>,
+    kind: CoroutineKind,
+    moves: bool,
+    body: ExprId,
+) -> Result<ExprId, StoreFault>
+    requires { HasExpr state.old.stored body }
+    ensures { Lowers HasExpr (step.alloc_expr (form.stored_coroutine kind moves body) (Some at)) state.old result state.new }
+{
+    state.alloc_expr(coroutine(alloc, kind, moves, body), Some(at))
 }
 
 /// The block, read inside of it, and the coroutine around that.

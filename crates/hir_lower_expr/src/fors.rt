@@ -22,7 +22,7 @@ ghost use Rattle.hir_lower_expr.specs.Fors.{items_of};
 use crate::blocks::block_form;
 use crate::part::{ExprPart, PatPart};
 use crate::questions::two_arms;
-use crate::stored::store_made_loop;
+use crate::stored::{store_made_loop, store_made_match, store_match};
 use hir_base::node::{AstPtr, InFile};
 use hir_env::lang::LangItems;
 use hir_lower_form::builder::BodyBuilder;
@@ -227,7 +227,7 @@ fn turn<P: LowerParts, B: BodyPart>(
     let done = done_arm(state, at, items.is_done)?;
     let gives = gives_arm(lowerer, state, items.gives, pat, body)?;
     let arms = two_arms(lowerer.alloc, done, gives)?;
-    let value = state.alloc_made(Expr::Match { expr, arms }, Some(at))?;
+    let value = store_made_match(state, at, expr, arms)?;
     only_tail(lowerer.alloc, state, at, value)
 }
 
@@ -342,7 +342,7 @@ fn for_with<P: LowerParts, Q: PatPart, E: ExprPart, B: BodyPart>(
     let iterator = state.made_bind(BindingAnnotation::Mutable, number)?;
     let turns = turns(lowerer, state, at, items, label, number, pat, body)?;
     let arms = one_arm(lowerer.alloc, iterator, turns)?;
-    state.alloc_expr(Expr::Match { expr, arms }, Some(at))
+    store_match(state, at, expr, arms)
 }
 
 /// Where the language lacks one of the items, a `for` is missing, and nothing in it is lowered.

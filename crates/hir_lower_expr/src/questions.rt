@@ -13,6 +13,7 @@ ghost use Rattle.hir_lower_form.specs.Methods.{HasArm, LowersExpr};
 ghost use Rattle.hir_lower_expr.specs.Questions.{items_of};
 
 use crate::part::ExprPart;
+use crate::stored::store_match;
 use hir_base::node::{AstPtr, InFile};
 use hir_env::lang::LangItems;
 use hir_lower_form::builder::BodyBuilder;
@@ -170,7 +171,7 @@ fn question_with<P: LowerParts, E: ExprPart>(
     let value = value_arm(lowerer.alloc, state, at, items.goes_on)?;
     let residual = residual_arm(lowerer.alloc, state, at, items)?;
     let arms = two_arms(lowerer.alloc, value, residual)?;
-    state.alloc_expr(Expr::Match { expr, arms }, Some(at))
+    store_match(state, at, expr, arms)
 }
 
 /// Where the language lacks an item that a `?` can't do without, it is missing, and nothing in it is lowered.

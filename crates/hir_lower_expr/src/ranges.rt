@@ -193,6 +193,7 @@ fn called(
 }
 
 /// Without an item for its record a range is missing.
+#[inline(never)]
 fn made_of(
     alloc: Global,
     state: &mut BodyBuilder,

@@ -3,7 +3,7 @@
 
 ghost use Rattle.std.specs.Prelude.{None, Some};
 ghost use Rattle.hir_store.specs.declared.hir.Expr.TheVariants as hir;
-ghost use Rattle.hir_store.specs.Range.{HasExpr, HasExprOption, HasLabelOption, HasStatements};
+ghost use Rattle.hir_store.specs.Range.{HasConst, HasExpr, HasExprOption, HasLabelOption, HasParts, HasStatements};
 ghost use Rattle.hir_lower_form.specs.Forms as spec;
 ghost use Rattle.hir_lower_form.specs.Lowering.{Lowers};
 ghost use Rattle.hir_lower_form.specs.Lowering as step;
@@ -11,8 +11,9 @@ ghost use Rattle.hir_lower_form.specs.Lowering as step;
 use hir_base::node::{AstPtr, InFile};
 use hir_lower_form::builder::BodyBuilder;
 use hir_store::fault::StoreFault;
-use hir_store::hir::{Expr, LoopSource, Statement};
+use hir_store::hir::{Expr, LoopSource, MatchArm, Statement};
 use hir_store::ids::{BlockId, ExprId, LabelId};
+use hir_store::type_ref::ConstRef;
 use hir_syntax::Seq;
 
 /// A loop.
@@ -71,6 +72,47 @@ pub(crate) fn store_break(state: &mut BodyBuilder, at: InFile<AstPtr>) -> Result
         expr: None,
     };
     state.alloc_expr(out, Some(at))
+}
+
+/// A match with these arms.
+#[inline(never)]
+pub(crate) fn store_match(
+    state: &mut BodyBuilder,
+    at: InFile<AstPtr>,
+    expr: ExprId,
+    arms: Seq<MatchArm>,
+) -> Result<ExprId, StoreFault>
+    requires { HasParts state.old.stored (hir.Match expr arms) }
+    ensures { Lowers HasExpr (step.alloc_expr (hir.Match expr arms) (Some at)) state.old result state.new }
+{
+    state.alloc_expr(Expr::Match { expr, arms }, Some(at))
+}
+
+/// A match that lowering makes up.
+#[inline(never)]
+pub(crate) fn store_made_match(
+    state: &mut BodyBuilder,
+    at: InFile<AstPtr>,
+    expr: ExprId,
+    arms: Seq<MatchArm>,
+) -> Result<ExprId, StoreFault>
+    requires { HasParts state.old.stored (hir.Match expr arms) }
+    ensures { Lowers HasExpr (step.alloc_made (hir.Match expr arms) (Some at)) state.old result state.new }
+{
+    state.alloc_made(Expr::Match { expr, arms }, Some(at))
+}
+
+/// A constant.
+#[inline(never)]
+pub(crate) fn store_const(
+    state: &mut BodyBuilder,
+    at: InFile<AstPtr>,
+    constant: ConstRef,
+) -> Result<ExprId, StoreFault>
+    requires { HasConst state.old.stored constant }
+    ensures { Lowers HasExpr (step.alloc_expr (hir.Const constant) (Some at)) state.old result state.new }
+{
+    state.alloc_expr(Expr::Const(constant), Some(at))
 }
 
 /// A block with these statements and this tail, which comes from the node, if from any.

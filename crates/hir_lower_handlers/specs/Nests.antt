@@ -21,7 +21,7 @@ use Rattle.hir_env.specs.Paths.{inside_constant}
 use Rattle.hir_env.specs.Wrapped.{AstGenericArgList}
 use Rattle.hir_env.specs.Whole.{answered, answered_arg_list, answered_path, answered_plain, answered_type}
 use Rattle.hir_lower_form.specs.Builder.{Builder}
-use Rattle.hir_lower_form.specs.Inside.{InCall, InPatCall, InSplice, InTypeCall}
+use Rattle.hir_lower_form.specs.Inside.{InCall, InPatCall, InSplice, InTargetCall, InTypeCall}
 use Rattle.hir_lower_form.specs.Lowering.{Lowering, Checked, Lowers}
 use Rattle.hir_lower_form.specs.Lower.{lower_kept, lower_inside}
 use Rattle.hir_lower_form.specs.Methods.{HasRole, HasWalk, LowersArgs, LowersType, ReadsPath}
@@ -124,6 +124,10 @@ module _ {E : Type 0} (answers : E → Answers) where
   abbrev pub HandlesPatCall : PathPre E → PathPost E → E → Place → AstMacroCall → Type 0
   HandlesPatCall pre post env = InPatCall (complete (answers env)) (HandlesPath answers pre post env)
 
+  abbrev pub HandlesTargetCall : Pre E → Post E (Option ExprId) → PathPre E → PathPost E → E → Place → AstMacroCall → Type 0
+  HandlesTargetCall pre post path_pre path_post env =
+      InTargetCall (complete (answers env)) (HandlesExpr answers pre post env) (HandlesPath answers path_pre path_post env)
+
   abbrev pub HandlesTypeCall : TypePre E → TypePost E → E → Place → AstMacroCall → Type 0
   HandlesTypeCall pre post env = InTypeCall (complete (answers env)) (HandlesType answers pre post env)
 
@@ -153,6 +157,7 @@ module _ {E : Type 0} (answers : E → Answers) (pre : Pre E) (post : Post E (Op
     target = HandlesTarget answers pre post path_pre path_post env;
     call = HandlesCall answers pre post env;
     pat_call = HandlesPatCall answers path_pre path_post env;
+    target_call = HandlesTargetCall answers pre post path_pre path_post env;
     type_call = HandlesTypeCall answers type_pre type_post env;
     splice = HandlesSplice answers pre post block_pre block_post path_pre path_post type_pre type_post env;
   }

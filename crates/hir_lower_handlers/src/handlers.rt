@@ -1,6 +1,6 @@
 //! What lowers the parts of a form, of functions that are handed in.
 
-ghost use Rattle.hir_lower_form.proofs.Inside.{call_nests, pat_call_nests, type_call_nests};
+ghost use Rattle.hir_lower_form.proofs.Inside.{call_nests, pat_call_nests, target_call_nests, type_call_nests};
 ghost use Rattle.hir_lower_form.proofs.Runs.{splice_nests};
 ghost use Rattle.hir_lower_pat.proofs.Nested.{pat_nests, target_is_place, target_nests};
 ghost use Rattle.hir_lower_handlers.specs.Nests.{Handled, HandlesExpr, HandlesPath, HandlesType};
@@ -16,7 +16,8 @@ use hir_env::resolved::{Resolved, Shadow};
 use hir_lower_form::builder::BodyBuilder;
 use hir_lower_form::parts::{BlockRole, LowerParts};
 use hir_lower_form::walk::{PathWalk, Reading};
-use hir_lower_scope::labels::{LabelScopes, NoTarget};
+use hir_lower_scope::labels::NoTarget;
+use hir_lower_scope::stacks::LabelStacks;
 use hir_lower_type::places::inside_constant;
 use hir_store::fault::StoreFault;
 use hir_store::ids::{CfgId, CrateId, ExprId, HygieneId, LabelId, MacroDefId, TypeRefId};
@@ -102,6 +103,10 @@ impl<
     ghost pat_call_kids = { λ it. pat_call_nests (complete (E.answers it.env.now))
         (HandlesPath E.answers (Q.pre it.path) (Q.post it.path) it.env.now) it.place };
 
+    ghost target_call_kids = { λ it. target_call_nests (complete (E.answers it.env.now))
+        (HandlesExpr E.answers (F.pre it.expr) (F.post it.expr) it.env.now)
+        (HandlesPath E.answers (Q.pre it.path) (Q.post it.path) it.env.now) it.place };
+
     ghost type_call_kids = { λ it. type_call_nests (complete (E.answers it.env.now))
         (HandlesType E.answers (T.pre it.type_ref) (T.post it.type_ref) it.env.now) it.place };
 
@@ -175,7 +180,7 @@ impl<
 
     fn find_label(
         &self,
-        scopes: &LabelScopes,
+        scopes: &LabelStacks,
         name: &Name,
         hygiene: HygieneId,
     ) -> Result<LabelId, NoTarget> {

@@ -1,8 +1,12 @@
 //! An expression, by its kind.
 
 ghost use Rattle.hir_syntax.specs.declared.ast.ExprKind.{out-ExprKind};
+ghost use Rattle.hir_store.specs.Range.{HasNone};
+ghost use Rattle.hir_store.specs.declared.diagnostics.ExpressionStoreDiagnostics.TheVariants.{InactiveCode};
 ghost use Rattle.hir_env.specs.Whole.{asked_expr, kept_expr};
 ghost use Rattle.hir_lower_form.specs.Families.{IsNoCall};
+ghost use Rattle.hir_lower_form.specs.Lowering as step;
+ghost use Rattle.hir_lower_form.specs.Lowering.{Lowers};
 ghost use Rattle.hir_lower_form.specs.Nests.{KidsExpr};
 ghost use Rattle.hir_lower_form.specs.Methods.{LowersExpr, MaybeLowersExpr};
 
@@ -10,12 +14,13 @@ use crate::families::{
     access_kind, control_kind, leaf_kind, leaving_kind, listing_kind, matching_kind, operator_kind,
     typed_kind,
 };
+use hir_base::node::{AstPtr, InFile};
 use hir_lower_expr::macros::{call_of, macro_form};
 use hir_lower_form::builder::BodyBuilder;
 use hir_lower_form::parts::{LowerParts, Lowerer, site};
 use hir_store::diagnostics::ExpressionStoreDiagnostics;
 use hir_store::fault::StoreFault;
-use hir_store::ids::ExprId;
+use hir_store::ids::{CfgId, ExprId};
 use hir_syntax::ast;
 
 /// The form of an expression that no condition disables, and that is no call of a macro.
@@ -72,6 +77,18 @@ fn expr_form<P: LowerParts>(
     }
 }
 
+/// Tells the condition that disables the node. What is told is large, and stands in no frame in which a part is lowered.
+#[inline(never)]
+fn report_inactive(
+    state: &mut BodyBuilder,
+    at: InFile<AstPtr>,
+    cfg: CfgId,
+) -> Result<(), StoreFault>
+    ensures { Lowers HasNone (step.report (InactiveCode at cfg)) state.old result state.new }
+{
+    state.report(ExpressionStoreDiagnostics::InactiveCode { node: at, cfg })
+}
+
 /// The expression, none where a condition disables it.
 pub fn expr_node<P: LowerParts>(
     lowerer: &Lowerer<P>,
@@ -84,7 +101,7 @@ pub fn expr_node<P: LowerParts>(
     let at = lowerer.pointer(node.id, node.range);
     match lowerer.parts.cfg(site(at)) {
         Err(cfg) => {
-            state.report(ExpressionStoreDiagnostics::InactiveCode { node: at, cfg })?;
+            report_inactive(state, at, cfg)?;
             Ok(None)
         }
         Ok(()) => match call_of(node) {

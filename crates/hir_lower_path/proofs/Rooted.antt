@@ -69,9 +69,9 @@ rooted_lowers root bare p old (Ok r) new h =
 rooted_lowers root bare p old (Err e) new h = λ n. (ap (λ o. go_on o.0 o.1 (λ x. pure (at_root root bare x))) (h n).0, (h n).1)
 
 -- a trait's path that was lowered is one name as the written one is
-pub trait_is_bare : (o : OptionPath) (p : HirPath) (old new : Builder) → LowersPath o old (Ok (Some p)) new
+pub as_bare : (o : OptionPath) (p : HirPath) (old new : Builder) → LowersPath o old (Ok (Some p)) new
     → is_bare (names_in p) ≡ is_bare (mod_path_of o)
-trait_is_bare o p old new h = ap is_bare (lowered_names o old new (Some p) h.0)
+as_bare o p old new h = ap is_bare (lowered_names o old new (Some p) h.0)
 
 -- ---- the steps of one segment
 

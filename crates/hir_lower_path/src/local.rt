@@ -82,7 +82,7 @@ fn if_read(
 }
 
 /// `<T as Trait>`, which stands for the names of the trait.
-#[tactic(auto, using(crate::proofs::Rooted::root_has, crate::proofs::Rooted::trait_is_bare), unfolding(hir_lower_form::specs::Paths::with_trait))]
+#[tactic(auto, using(crate::proofs::Rooted::root_has, crate::proofs::Rooted::as_bare), unfolding(hir_lower_form::specs::Paths::with_trait))]
 fn local_trait<P: LowerParts>(
     lowerer: &Lowerer<P>,
     state: &mut BodyBuilder,
@@ -227,6 +227,7 @@ fn absent_path(
 }
 
 /// A path that stands directly in a call, where no use tree stands around it.
+#[inline(never)]
 pub(crate) fn called_path<P: LowerParts>(
     lowerer: &Lowerer<P>,
     state: &mut BodyBuilder,

@@ -1,9 +1,10 @@
 //! A path is read from its last segment to its first, then the path of the use tree around it.
 
-ghost use Rattle.std.specs.Prelude.{None, Some, false, true};
+ghost use Rattle.std.specs.Prelude.{◌≡◌, None, Some, false, true};
 ghost use Rattle.hir_syntax.specs.declared.ast.Path.{out-Path};
 ghost use Rattle.hir_syntax.specs.declared.ast.PathSegment.{out-PathSegment};
 ghost use Rattle.hir_store.specs.Range.{HasPath, HasType};
+ghost use Rattle.hir_env.specs.Answered as tree;
 ghost use Rattle.hir_env.specs.Paths.{named_segment, qualified_segment};
 ghost use Rattle.hir_env.specs.Whole.{first_part, path_level, path_part, path_type_level, path_type_part, rest_part};
 ghost use Rattle.hir_env.specs.Whole.{segment_args_level, segment_level, segment_part, segments_part, type_part};
@@ -14,6 +15,7 @@ ghost use Rattle.hir_lower_form.specs.Nests.{KidsSegments, KidsTrait};
 ghost use Rattle.hir_lower_form.specs.Lower as spec;
 ghost use Rattle.hir_lower_form.specs.Paths as forms;
 ghost use Rattle.hir_lower_form.specs.Walks.{super_read};
+ghost use Rattle.hir_lower_form.specs.declared.walk.Reading.TheVariants.{Refused};
 
 use crate::args::segment_args;
 use crate::local::called_path;
@@ -28,8 +30,18 @@ use hir_store::path::{Path, PathKind};
 use hir_store::type_ref::TypeRef;
 use hir_syntax::ast::SegmentKind;
 use hir_syntax::{Boxed, Text, ast};
+use std::alloc::Global;
+
+/// A path that is refused: what is read of it goes.
+#[inline(never)]
+pub(crate) fn refused(_walk: PathWalk) -> Reading
+    ensures { result ≡ Refused }
+{
+    Reading::Refused
+}
 
 /// A name with what stands behind it, or `$crate`, which may only be the first.
+#[inline(never)]
 fn name_form<P: LowerParts>(
     lowerer: &Lowerer<P>,
     state: &mut BodyBuilder,
@@ -45,11 +57,11 @@ fn name_form<P: LowerParts>(
         ReadsSegment first level walk state.old result state.new }
 {
     let Some(name) = &node.name else {
-        return Ok(Reading::Refused);
+        return Ok(refused(walk));
     };
     if name.t.as_str() == "$crate" {
         if !first {
-            return Ok(Reading::Refused);
+            return Ok(refused(walk));
         }
         let at = InFile {
             file_id: lowerer.parts.place().file_id,
@@ -95,6 +107,7 @@ pub(crate) fn projected_form<P: LowerParts>(
 
 /// `<T as Trait>`.
 #[tactic(auto, unfolding(hir_lower_form::specs::Paths::with_trait))]
+#[inline(never)]
 fn trait_form<P: LowerParts>(
     lowerer: &Lowerer<P>,
     state: &mut BodyBuilder,
@@ -109,13 +122,14 @@ fn trait_form<P: LowerParts>(
         Lowers HasReading (forms.with_trait (spec.lower_path level.path) ty level.pointer walk) state.old result state.new }
 {
     match trait_path(lowerer, state, node)? {
-        None => Ok(Reading::Refused),
+        None => Ok(refused(walk)),
         Some(path) => projected_form(lowerer, state, walk, ty, node, path),
     }
 }
 
 /// `<T>` or `<T as Trait>`, which may only be the first.
 #[tactic(auto, using(hir_env::proofs::PathLevels::path_type_is_level, hir_lower_form::proofs::Walked::anchored_has))]
+#[inline(never)]
 fn qualified_form<P: LowerParts>(
     lowerer: &Lowerer<P>,
     state: &mut BodyBuilder,
@@ -130,10 +144,10 @@ fn qualified_form<P: LowerParts>(
         ReadsSegment first (qualified_segment (type_part spot ty.now) (path_type_part spot trait_.now)) walk state.old result state.new }
 {
     let Some(ty) = ty else {
-        return Ok(Reading::Refused);
+        return Ok(refused(walk));
     };
     if !first {
-        return Ok(Reading::Refused);
+        return Ok(refused(walk));
     }
     let place = lowerer.parts.place();
     let id = lowerer.parts.lower_type(state, place, &None, ty.get())?;
@@ -145,6 +159,7 @@ fn qualified_form<P: LowerParts>(
 
 /// One `super` more, where one more is counted.
 #[tactic(auto, using(hir_lower_form::proofs::Walked::super_has), unfolding(hir_lower_form::specs::Lowering::count_out))]
+#[inline(never)]
 fn super_form(state: &mut BodyBuilder, walk: PathWalk) -> Result<Reading, StoreFault>
     requires { HasWalk state.old.stored walk }
     ensures { Lowers HasReading (forms.counted (super_read walk)) state.old result state.new }
@@ -155,7 +170,47 @@ fn super_form(state: &mut BodyBuilder, walk: PathWalk) -> Result<Reading, StoreF
     }
 }
 
+/// `Self`, which is a name.
+#[inline(never)]
+fn self_type_form(
+    alloc: Global,
+    state: &mut BodyBuilder,
+    walk: PathWalk,
+) -> Result<Reading, StoreFault>
+    requires { HasWalk state.old.stored walk }
+    ensures { ReadsSegment true tree.self_type_segment walk state.old result state.new }
+{
+    let name = Name::Text(Text::new(alloc, "Self")?);
+    Ok(walk.named(name, None)?)
+}
+
+/// `crate`, which may only be the first.
+#[inline(never)]
+fn crate_form(state: &mut BodyBuilder, walk: PathWalk, first: bool) -> Result<Reading, StoreFault>
+    requires { HasWalk state.old.stored walk }
+    ensures { ReadsSegment first tree.crate_segment walk state.old result state.new }
+{
+    if first {
+        Ok(walk.ended(PathKind::Crate))
+    } else {
+        Ok(refused(walk))
+    }
+}
+
+/// `self`, which may only be the first.
 #[tactic(auto, using(hir_lower_form::proofs::Walked::self_has))]
+#[inline(never)]
+fn self_form(state: &mut BodyBuilder, walk: PathWalk, first: bool) -> Result<Reading, StoreFault>
+    requires { HasWalk state.old.stored walk }
+    ensures { ReadsSegment first tree.self_segment walk state.old result state.new }
+{
+    if first {
+        Ok(walk.self_read())
+    } else {
+        Ok(refused(walk))
+    }
+}
+
 pub(crate) fn segment_form<P: LowerParts>(
     lowerer: &Lowerer<P>,
     state: &mut BodyBuilder,
@@ -168,26 +223,11 @@ pub(crate) fn segment_form<P: LowerParts>(
     ensures { ReadsSegment first (segment_level (P.spot lowerer.now.parts) node.now) walk state.old result state.new }
 {
     match node.seg {
-        None => Ok(Reading::Refused),
+        None => Ok(refused(walk)),
         Some(SegmentKind::Name) => name_form(lowerer, state, walk, first, node),
-        Some(SegmentKind::SelfTypeKw) => {
-            let name = Name::Text(Text::new(lowerer.alloc, "Self")?);
-            Ok(walk.named(name, None)?)
-        }
-        Some(SegmentKind::CrateKw) => {
-            if first {
-                Ok(walk.ended(PathKind::Crate))
-            } else {
-                Ok(Reading::Refused)
-            }
-        }
-        Some(SegmentKind::SelfKw) => {
-            if first {
-                Ok(walk.self_read())
-            } else {
-                Ok(Reading::Refused)
-            }
-        }
+        Some(SegmentKind::SelfTypeKw) => self_type_form(lowerer.alloc, state, walk),
+        Some(SegmentKind::CrateKw) => crate_form(state, walk, first),
+        Some(SegmentKind::SelfKw) => self_form(state, walk, first),
         Some(SegmentKind::SuperKw) => super_form(state, walk),
         Some(SegmentKind::Qualified) => {
             qualified_form(lowerer, state, walk, first, &node.ty, &node.trait_)
@@ -197,6 +237,7 @@ pub(crate) fn segment_form<P: LowerParts>(
 
 /// A segment, or the missing name where it is absent.
 #[tactic(auto, using(hir_env::proofs::PathLevels::segment_is_level))]
+#[inline(never)]
 fn segment<P: LowerParts>(
     lowerer: &Lowerer<P>,
     state: &mut BodyBuilder,
@@ -216,6 +257,7 @@ fn segment<P: LowerParts>(
 
 /// The segments behind the first, from the last.
 #[tactic(auto, using(crate::proofs::Ends::each_before, crate::proofs::Ends::each_last, crate::proofs::Ends::read_each_last))]
+#[inline(never)]
 fn segments<P: LowerParts>(
     lowerer: &Lowerer<P>,
     state: &mut BodyBuilder,

@@ -40,7 +40,8 @@ pub variadic_is : (env : Answers) (p : Place) (b : Bool) (xs : List AstParam)
 variadic_is env p b [] = refl
 variadic_is env p b (x ∷ xs) =
     let at : Spot = record { answers = env; place = p } in
-    ap (λ r. last_variadic (read_param env (entering env p.left)) r.variadic xs p) (param_is_level at x) ∙ variadic_is env p (out-Param x).variadic xs
+    ap (λ r. last_variadic (read_param env (entering env p.left)) r.variadic xs p) (param_is_level at x)
+    ∙ variadic_is env p (out-Param x).variadic xs
 
 typed : (done : List TypeRefId) (rest : Parts) (o : Checked TypeRefId) (c : Builder)
     → go_on o c (λ id. lower_parts (push_some done (Some id)) rest)

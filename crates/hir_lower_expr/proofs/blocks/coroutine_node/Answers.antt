@@ -19,6 +19,6 @@ pub returns : goal.returns
 unfolding coroutine_block_form
 returns g c = search rules
 
-pub alloc_expr-requires : goal.alloc_expr-requires
+pub store_coroutine-requires : goal.store_coroutine-requires
 unfolding coroutine_block_form
-alloc_expr-requires g c = grind (arith, common_steps)
+store_coroutine-requires g c = grind (arith, common_steps)

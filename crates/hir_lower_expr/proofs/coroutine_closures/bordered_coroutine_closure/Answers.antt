@@ -3,9 +3,9 @@ use Rattle.std.proofs.lemmas.Grind.{common_steps}
 use Rattle.hir_lower_form.specs.Preludes.{coroutine_closure_form}
 use Rattle.hir_lower_expr.proofs.coroutine_closures.bordered_coroutine_closure.Goals as goal
 
-pub alloc_expr-requires : goal.alloc_expr-requires
+pub store_coroutine_closure-requires : goal.store_coroutine_closure-requires
 unfolding coroutine_closure_form
-alloc_expr-requires g c = grind (arith, common_steps)
+store_coroutine_closure-requires g c = grind (arith, common_steps)
 
 pub returns-in_err-args : goal.returns-in_err-args
 unfolding coroutine_closure_form

@@ -27,6 +27,6 @@ pub returns-in_err-number : goal.returns-in_err-number
 unfolding for_form
 returns-in_err-number g c = grind (arith, common_steps)
 
-pub alloc_expr-requires : goal.alloc_expr-requires
+pub store_match-requires : goal.store_match-requires
 unfolding for_form
-alloc_expr-requires g c = grind (arith, common_steps)
+store_match-requires g c = grind (arith, common_steps)

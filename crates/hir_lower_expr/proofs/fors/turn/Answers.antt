@@ -7,9 +7,9 @@ pub returns : goal.returns
 unfolding for_turn_form
 returns g c = grind (arith, common_steps)
 
-pub alloc_made-requires : goal.alloc_made-requires
+pub store_made_match-requires : goal.store_made_match-requires
 unfolding for_turn_form
-alloc_made-requires g c = grind (arith, common_steps)
+store_made_match-requires g c = grind (arith, common_steps)
 
 pub returns-in_err-value : goal.returns-in_err-value
 unfolding for_turn_form

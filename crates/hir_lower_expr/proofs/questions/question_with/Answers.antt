@@ -3,9 +3,9 @@ use Rattle.std.proofs.lemmas.Grind.{common_steps}
 use Rattle.hir_lower_form.specs.Made.{question_form}
 use Rattle.hir_lower_expr.proofs.questions.question_with.Goals as goal
 
-pub alloc_expr-requires : goal.alloc_expr-requires
+pub store_match-requires : goal.store_match-requires
 unfolding question_form
-alloc_expr-requires g c = grind (arith, common_steps)
+store_match-requires g c = grind (arith, common_steps)
 
 pub returns : goal.returns
 unfolding question_form

@@ -56,19 +56,19 @@ returns-in_err-expr_form-in-None g c =
     (λ other. let h = c.in_err-expr_form-in-None.ensures other in
     ((λ i. kept i c.args.state.now) ∙ ap (λ z. go_on z.0 z.1 (λ id. pure (Some id))) h.0, h.1))
 
-pub returns-in_ok-report-in-Err : goal.returns-in_ok-report-in-Err
-returns-in_ok-report-in-Err g c =
+pub returns-in_ok-report_inactive-in-Err : goal.returns-in_ok-report_inactive-in-Err
+returns-in_ok-report_inactive-in-Err g c =
     let at = g.P.LowerParts.spot c.args.lowerer.now.parts in
     let err = rw (c.site.ensures, c.pointer-at.ensures) at (sym c.cfg.ensures ∙ c.in-Err.is) in
-    let h = rw c.pointer-at.ensures at c.in_ok-report-in-Err.ensures in
+    let h = rw c.pointer-at.ensures at c.in_ok-report_inactive-in-Err.ensures in
     (disabled_on at c.args.node.now _ c.args.state.now err ∙ ap (λ z. go_on z.0 z.1 nothing_kept) h.0, h.1, omega arith)
 
-pub returns-in_err-report-in-Err : goal.returns-in_err-report-in-Err
-returns-in_err-report-in-Err g c =
+pub returns-in_err-report_inactive-in-Err : goal.returns-in_err-report_inactive-in-Err
+returns-in_err-report_inactive-in-Err g c =
     let at = g.P.LowerParts.spot c.args.lowerer.now.parts in
     let err = rw (c.site.ensures, c.pointer-at.ensures) at (sym c.cfg.ensures ∙ c.in-Err.is) in
-    let told = rw c.pointer-at.ensures at c.in_err-report-in-Err.ensures in
-    refused HasExprOption (lower_kept (asked_expr at c.args.node.now)) c.args.state.now _ c.from_residual.result c.report.new.self
+    let told = rw c.pointer-at.ensures at c.in_err-report_inactive-in-Err.ensures in
+    refused HasExprOption (lower_kept (asked_expr at c.args.node.now)) c.args.state.now _ c.from_residual.result c.report_inactive.new.state
     c.from_residual.ensures.1
     (λ other. let h = told other in
     (disabled_on at c.args.node.now _ c.args.state.now err ∙ ap (λ z. go_on z.0 z.1 nothing_kept) h.0, h.1))

@@ -10,7 +10,7 @@ use Rattle.hir_env.specs.Whole.{answered_path, answered_plain, answered_type, co
 use Rattle.hir_env.proofs.Levels.{expr_is_level, plain_is_level}
 use Rattle.hir_env.proofs.PathLevels.{path_is_level, type_is_level}
 use Rattle.hir_lower_handlers.specs.Nests.{HandlesArgs, HandlesBlock, HandlesConstant, HandlesExpr, HandlesPat, HandlesPath, HandlesType}
-use Rattle.hir_lower_handlers.specs.Nests.{HandlesCall, HandlesPatCall, HandlesSplice, HandlesTarget, HandlesTypeCall}
+use Rattle.hir_lower_handlers.specs.Nests.{HandlesCall, HandlesPatCall, HandlesSplice, HandlesTarget, HandlesTargetCall, HandlesTypeCall}
 use Rattle.hir_lower_handlers.specs.Spots.{complete, spot_at}
 use Rattle.hir_lower_pat.proofs.AimLemmas.{kept_below}
 use Rattle.hir_lower_knot.proofs.Kids.{kids_expr, kids_block, in_inside, same_number}
@@ -128,6 +128,7 @@ read_path_segments-path_node-requires-clause-parts g t c =
       target = λ p e. Unit {0};
       call = λ p c. Unit {0};
       pat_call = λ p c. Unit {0};
+      target_call = λ p c. Unit {0};
       type_call = λ p c. Unit {0};
       splice = λ p e. Unit {0};
     }) t
@@ -173,6 +174,7 @@ lower_type_node-type_node-requires g t c =
       target = λ p e. Unit {0};
       call = λ p c. Unit {0};
       pat_call = λ p c. Unit {0};
+      target_call = λ p c. Unit {0};
       type_call = HandlesTypeCall g.E.LowerEnv.answers _ _ c.args.env.now;
       splice = λ p e. Unit {0};
     }) t
@@ -221,6 +223,7 @@ lower_arg_list-args_node-requires g t c =
       target = HandlesTarget g.E.LowerEnv.answers _ _ _ _ c.args.env.now;
       call = HandlesCall g.E.LowerEnv.answers _ _ c.args.env.now;
       pat_call = HandlesPatCall g.E.LowerEnv.answers _ _ c.args.env.now;
+      target_call = HandlesTargetCall g.E.LowerEnv.answers _ _ _ _ c.args.env.now;
       type_call = HandlesTypeCall g.E.LowerEnv.answers _ _ c.args.env.now;
       splice = HandlesSplice g.E.LowerEnv.answers _ _ _ _ _ _ _ _ c.args.env.now;
     }) t

@@ -14,7 +14,8 @@ returns-in_err-id g c =
     c.from_residual.ensures.1
     (λ other.
     let h = c.in_err-id.ensures other in
-    let is = params_refused (read_param at.answers (into at)) at.place l.done l.left.now _ _ _ _ c.one-item.is c.in-len1-up.len_at_least h.0 in
+    let read = read_param at.answers (into at) in
+    let is = params_refused read at.place l.done l.left.now _ _ _ _ c.one-item.is c.in-len1-up.len_at_least h.0 in
     (l.invariant.so_far ∙ is, h.1))
 
 pub loop-left-init : goal.loop-left-init
