@@ -136,7 +136,7 @@ module _ (turns : ℕ) (outer : List Scope) where
 
     places_alone : (t : Target) (inner : List Scope) (m n : SyntaxRun (List Value)) → m ≡ n
         → run_places turns t (inner ++ barrier ∷ outer) m ≡ run_places turns t inner n
-    places_alone tree.absent_target inner m n h = h
+    places_alone (tree.absent_target at) inner m n h = h
     places_alone (tree.place_target at e) inner m n h = λ i. expr_alone e inner i >>= (λ v. h i >>= (λ vs. pure (v ∷ vs)))
     places_alone (tree.wild_target at) inner m n h = h
     places_alone (tree.macro_target at called t) inner m n h = places_alone t inner m n h
@@ -152,6 +152,7 @@ module _ (turns : ℕ) (outer : List Scope) where
     each_place_alone tree.no_targets inner m n h = h
     each_place_alone (tree.more_targets t ts) inner m n h = places_alone t inner _ _ (each_place_alone ts inner m n h)
     each_place_alone (tree.dots_targets ts) inner m n h = each_place_alone ts inner m n h
+    each_place_alone (tree.noted_targets called ts) inner m n h = each_place_alone ts inner m n h
 
     field_places_alone : (fs : TargetFields) (inner : List Scope) (m n : SyntaxRun (List Value)) → m ≡ n
         → run_field_places turns fs (inner ++ barrier ∷ outer) m ≡ run_field_places turns fs inner n

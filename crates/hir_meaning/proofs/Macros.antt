@@ -6,7 +6,7 @@ use Rattle.hir_meaning.specs.Catching.{loop, block}
 use Rattle.hir_meaning.specs.Store.{run_store, run_to}
 use Rattle.hir_meaning.specs.Macros.{RunsWhatItStandsFor, CallsAreSilent, LeavesNoArgument, UnenteredIsMissing}
 use Rattle.hir_meaning.specs.Macros.{SplicesItsTail, KeepsItsSemicolon, ReachesTheLabel, MissesTheLabel, EndsWithItsBlock}
-use Rattle.hir_meaning.specs.Macros.{BeginsWhereItStands}
+use Rattle.hir_meaning.specs.Macros.{BeginsWhereItStands, KeepsTheCallsSemicolon}
 
 pub runs_what_it_stands_for : RunsWhatItStandsFor
 unfolding ends event ◌>>=◌ loop block run_store run_to stored_path
@@ -30,6 +30,10 @@ splices_its_tail = record { written = record { events = refl; ends = refl }; sto
 pub keeps_its_semicolon : KeepsItsSemicolon
 unfolding ends event ◌>>=◌ loop block run_store run_to stored_path
 keeps_its_semicolon = record { written = record { events = refl; ends = refl }; stored = record { events = refl; ends = refl } }
+
+pub keeps_the_calls_semicolon : KeepsTheCallsSemicolon
+unfolding ends event ◌>>=◌ loop block run_store run_to stored_path
+keeps_the_calls_semicolon = record { written = record { events = refl; ends = refl }; stored = record { events = refl; ends = refl } }
 
 pub reaches_the_label : ReachesTheLabel
 unfolding ends event ◌>>=◌ loop block run_store run_to stored_path

@@ -437,7 +437,7 @@ abbrev mutual
   -- ---- what is assigned to
 
   pub target_bodies : Target → Bodies
-  target_bodies tree.absent_target = []
+  target_bodies (tree.absent_target at) = []
   target_bodies (tree.place_target at e) = expr_bodies e
   target_bodies (tree.wild_target at) = []
   target_bodies (tree.macro_target at called t) = target_bodies t
@@ -451,6 +451,7 @@ abbrev mutual
   targets_bodies tree.no_targets = []
   targets_bodies (tree.more_targets t ts) = target_bodies t ++ targets_bodies ts
   targets_bodies (tree.dots_targets ts) = targets_bodies ts
+  targets_bodies (tree.noted_targets called ts) = targets_bodies ts
 
   pub target_fields_bodies : TargetFields → Bodies
   target_fields_bodies tree.no_target_fields = []

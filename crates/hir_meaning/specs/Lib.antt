@@ -36,3 +36,5 @@ pub mod Reading
 pub mod ReadCalls
 pub mod ReadBlocks
 pub mod ReadParts
+pub mod ReadTargets
+pub mod FormRows

@@ -110,6 +110,25 @@ one_alone = record {
 abbrev pub KeepsItsSemicolon : Type 0
 KeepsItsSemicolon = BothDo one_alone 0 (no 11 ∷ []) (literal_event one 4 ∷ []) (ended unit)
 
+-- `{ m!(); }`, where m!() stands for `1; 2`
+
+abbrev pub one_and_two : Example
+one_and_two = record {
+  written = tree.some_expr (tree.block_expr (tree.block (at 0) false None tt None
+      (tree.more_stmts (tree.call_stmt (entered_at 3)) (first (literal_at 4 one)
+      (first (tree.macro_expr (at 2) tree.spliced (tree.some_expr (literal_at 5 two))) tree.no_stmts)))
+      tree.no_expr));
+  nodes = (stored_one, Some 4)
+      ∷ (stored_two, Some 5)
+      ∷ (hir.Block false None None (statement.Expr (id 0) true ∷ statement.Expr (id 1) true ∷ []) None, Some 0)
+      ∷ [];
+  root = 2;
+}
+
+-- The semicolon of the call is that of the expression behind its statements: the block has no value.
+abbrev pub KeepsTheCallsSemicolon : Type 0
+KeepsTheCallsSemicolon = BothDo one_and_two 0 (no 11 ∷ no 12 ∷ []) (literal_event one 4 ∷ literal_event two 5 ∷ []) (ended unit)
+
 -- ---- definitions
 
 abbrev pub nine : MacroDefId

@@ -17,6 +17,7 @@ use Rattle.hir_store.specs.declared.pat.Pat.TheVariants as pat
 use Rattle.hir_store.specs.declared.path.Path.TheVariants.{LangItem}
 use Rattle.hir_env.specs.Answered as tree
 use Rattle.hir_env.specs.Answered.{OptionExpr, OptionPat, Path, RangeForm, Target}
+use Rattle.hir_env.specs.Targets.{origin}
 use Rattle.hir_data.specs.Data as datum
 use Rattle.hir_data.specs.Data.{PatData, pat_at, item_path}
 use Rattle.hir_meaning.specs.Inner.{InnerBody, limit_body}
@@ -95,8 +96,8 @@ abbrev pub path_s : Path
 path_s = tree.path false (tree.name_segment (name.Text (codes "S")) tt none_beside) tree.no_segments tree.no_path
 
 abbrev pub pair_target : Target
-pair_target = tree.tuple_target (at 1) (tree.more_targets (tree.place_target (at 2) (name_at 97 2))
-    (tree.dots_targets (tree.more_targets (tree.path_target (at 4) path_s root) tree.no_targets)))
+pair_target = tree.tuple_target (origin None (at 1)) (tree.more_targets (tree.place_target (at 2) (name_at 97 2))
+    (tree.dots_targets (tree.more_targets (tree.path_target (origin None (at 4)) path_s root) tree.no_targets)))
 
 abbrev pub assignment : OptionExpr → PatternExample
 assignment e = record {

@@ -129,6 +129,7 @@ from ns = record {
   expr_map = [];
   label_map = [];
   pat_map = [];
+  target_map = [];
   binding_definitions = [];
   types_map = [];
   lifetime_map = [];

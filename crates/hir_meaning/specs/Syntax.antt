@@ -417,7 +417,7 @@ module _ (turns : ℕ) where
 
     -- the places in what is assigned to, in their order, before others
     pub run_places : Target → List Scope → SyntaxRun (List Value) → SyntaxRun (List Value)
-    run_places tree.absent_target ss behind = behind
+    run_places (tree.absent_target at) ss behind = behind
     run_places (tree.place_target at e) ss behind = do
       v ← run_expr e ss
       vs ← behind
@@ -434,6 +434,7 @@ module _ (turns : ℕ) where
     run_each_place tree.no_targets ss behind = behind
     run_each_place (tree.more_targets t ts) ss behind = run_places t ss (run_each_place ts ss behind)
     run_each_place (tree.dots_targets ts) ss behind = run_each_place ts ss behind
+    run_each_place (tree.noted_targets called ts) ss behind = run_each_place ts ss behind
 
     -- a field without a name is no part of the record
     pub run_field_places : TargetFields → List Scope → SyntaxRun (List Value) → SyntaxRun (List Value)

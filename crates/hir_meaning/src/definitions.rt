@@ -1,7 +1,7 @@
 //! Laws of small bodies with splices and with definitions of macros.
 
 ghost use Rattle.hir_meaning.specs.Macros.{SplicesItsTail, KeepsItsSemicolon, ReachesTheLabel, MissesTheLabel, EndsWithItsBlock};
-ghost use Rattle.hir_meaning.specs.Macros.{BeginsWhereItStands};
+ghost use Rattle.hir_meaning.specs.Macros.{BeginsWhereItStands, KeepsTheCallsSemicolon};
 
 /// `{ m!() }` where m stands for `1; 2` reads 1, and has the value of 2.
 pub fn splices_its_tail()
@@ -11,6 +11,11 @@ pub fn splices_its_tail()
 /// `{ m!() }` where m stands for `1;` reads 1, and is unit.
 pub fn keeps_its_semicolon()
     ensures { KeepsItsSemicolon }
+{}
+
+/// `{ m!(); }` where m stands for `1; 2` reads both, and is unit: the semicolon is that of the 2.
+pub fn keeps_the_calls_semicolon()
+    ensures { KeepsTheCallsSemicolon }
 {}
 
 /// `'a: loop { macro_rules! m {..} loop { m!() }; break 2 }` where m stands for `break 'a 1` is 1.

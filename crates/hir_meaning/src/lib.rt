@@ -3,7 +3,9 @@
 #![tactic(auto)]
 
 pub mod definitions;
+pub mod listing;
 pub mod reading;
+pub mod targets;
 
 ghost use Rattle.hir_meaning.specs.Worked.{RunsAsWorked};
 ghost use Rattle.hir_meaning.specs.Rows.{LeavesTheLoop, LeavesTheBlock, HasNoTurn, StraysFromBlock, HasTwoSites, EntersItsNumber};

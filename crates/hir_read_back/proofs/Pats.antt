@@ -21,7 +21,7 @@ use Rattle.hir_lower_form.specs.Pats as forms
 use Rattle.hir_lower_form.specs.Pats.{Table}
 use Rattle.hir_steps.proofs.Frames.{Frame}
 use Rattle.hir_steps.proofs.Steps.{Mark, Rel, Correct, correct_bind, correct_as, correct_pure}
-use Rattle.hir_steps.proofs.PatSteps.{AllocatedPat, correct_alloc_pat, correct_define}
+use Rattle.hir_steps.proofs.PatSteps.{AllocatedPatBy, PutPat, correct_alloc_pat, correct_define}
 use Rattle.hir_data.specs.Data as datum
 use Rattle.hir_data.specs.Data.{PathData, PatData, pat_at, absent_pattern, PatShape, PatsData, OptionPatData, PatFieldsData}
 use Rattle.hir_data.specs.Data.{OptionSideData}
@@ -66,8 +66,8 @@ abbrev pub PatFine : {A D : Type 0} → Layer A D → (Table → Lowering (A × 
 PatFine l p x f = (t : Table) → Correct (p t) (PatIs l x f t)
 
 -- one that was stored under the number from the source
-pub pat_stored : {p : HirPat} {source : Option Pointer} {x : PatShape} {final : Stored} {ps : List Frame} {m m' : Mark} {i : PatId}
-    → AllocatedPat p source final ps m m' i → ((d : ℕ) → m.entries ≤ d → a_pattern final (within final d) p ≡ x)
+pub pat_stored : {put : PutPat} {p : HirPat} {source : Option Pointer} {x : PatShape} {final : Stored} {ps : List Frame} {m m' : Mark}
+    {i : PatId} → AllocatedPatBy put p source final ps m m' i → ((d : ℕ) → m.entries ≤ d → a_pattern final (within final d) p ≡ x)
     → (d : ℕ) → m'.entries ≤ d → (within final d).pat i ≡ pat_at source x
 unfolding readers
 pat_stored at h zero le = absurd (omega (arith, le, at.entries))

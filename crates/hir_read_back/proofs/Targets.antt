@@ -11,19 +11,24 @@ use Rattle.hir_store.specs.declared.pat.Pat.TheVariants as pat
 use Rattle.hir_store.specs.declared.pat.RecordFieldPat.{RecordFieldPat}
 use Rattle.hir_store.specs.declared.path.Path.{Path as HirPath}
 use Rattle.hir_env.specs.Answered as tree
-use Rattle.hir_env.specs.Answered.{Target, Targets, TargetFields}
+use Rattle.hir_env.specs.Answered.{Called, Origin, Target, Targets, TargetFields}
+use Rattle.hir_env.specs.Targets.{origin, source_of}
+use Rattle.hir_lower_form.specs.Calls.{told}
 use Rattle.hir_lower_form.specs.Forms.{ExprSteps, push_some}
 use Rattle.hir_lower_form.specs.Lower as lower
-use Rattle.hir_lower_form.specs.Lowering.{Lowering, ◌>>=◌, pure}
+use Rattle.hir_lower_form.specs.Lowering.{Lowering, ◌>>=◌, ◌>>◌, pure}
 use Rattle.hir_lower_form.specs.Pats.{Elements, no_elements}
 use Rattle.hir_lower_form.specs.Targets as forms
+use Rattle.hir_lower_form.specs.Targets.{alloc_target}
+use Rattle.hir_steps.proofs.Calls.{correct_told}
 use Rattle.hir_steps.proofs.Frames.{Frame}
 use Rattle.hir_steps.proofs.Keeping.{part_any}
-use Rattle.hir_steps.proofs.PatSteps.{correct_alloc_pat, correct_point_pat_field}
+use Rattle.hir_steps.proofs.PatSteps.{correct_alloc_made_pat, correct_point_pat_field}
 use Rattle.hir_steps.proofs.Steps.{Mark, Rel, Correct, correct_bind, correct_as, correct_in_store, correct_pure, correct_report}
+use Rattle.hir_steps.proofs.TargetSteps.{correct_alloc_target}
 use Rattle.hir_steps.proofs.TypeAny.{Any, any, pure_any}
 use Rattle.hir_data.specs.Data as datum
-use Rattle.hir_data.specs.Data.{PathData, PatData, pat_at, absent_pattern, PatsData, PatFieldsData}
+use Rattle.hir_data.specs.Data.{PathData, PatData, pat_at, PatsData, PatFieldsData}
 use Rattle.hir_data.specs.Lookup.{lookup_hygiene}
 use Rattle.hir_data.specs.Patterns.{if_path, put_field}
 use Rattle.hir_data.specs.Reading as reading
@@ -31,7 +36,7 @@ use Rattle.hir_data.specs.Reading.{stored_pat}
 use Rattle.hir_data.specs.Rule.{PathRead, data_of}
 use Rattle.hir_data.specs.Targets as written
 use Rattle.hir_data.specs.Written.{path_of}
-use Rattle.hir_read_back.proofs.Calls.{told_target_reads}
+use Rattle.hir_read_back.proofs.Calls.{called_target_reads}
 use Rattle.hir_read_back.proofs.Going.{PathIs}
 use Rattle.hir_read_back.proofs.Layers.{Reads, Pushed, pushed_all, within, a_path}
 use Rattle.hir_read_back.proofs.Lookup.{looked_up_by}
@@ -39,21 +44,28 @@ use Rattle.hir_read_back.proofs.PatParts.{dots_behind, no_dots, dots_here, one_f
 use Rattle.hir_read_back.proofs.PatTree.{PatNow}
 use Rattle.hir_read_back.proofs.Pats.{a_pat, maybe_pat, many_pats, a_pattern, many_fields, pat_stored}
 use Rattle.hir_read_back.proofs.Tree.{path_reads}
-use Rattle.hir_read_back.proofs.TypePats.{pattern0, missing_pattern_reads}
 use Rattle.hir_read_back.proofs.Walk.{Answers, matches_read}
 
 -- ---- forms
 
+missing_target_reads : (call : Option Pointer) → Correct (forms.missing_target call) (Reads a_pat (pat_at call datum.missing_pattern))
+missing_target_reads call = correct_as (correct_alloc_made_pat pat.Missing call)
+    (λ final ps m m' i g row. record { is = pat_stored row (λ d le. refl) })
+
+wild_target_reads : (at : Origin) → Correct (alloc_target pat.Wild at) (Reads a_pat (pat_at (Some (source_of at)) datum.wild_pattern))
+wild_target_reads at = correct_as (correct_alloc_target pat.Wild at)
+    (λ final ps m m' i g row. record { is = pat_stored row (λ d le. refl) })
+
 place_reads : {e : ExprSteps} (at : Pointer) → Correct e Any
     → Correct (forms.place_form at e) (Reads a_pat (pat_at (Some at) datum.place_pattern))
 unfolding forms.place_form
-place_reads at h = correct_as (correct_bind h (λ e. correct_alloc_pat (pat.Expr e) (Some at)))
+place_reads at h = correct_as (correct_bind h (λ e. correct_alloc_made_pat (pat.Expr e) (Some at)))
     (λ final ps m m' i g row. record { is = pat_stored row.second (λ d le. refl) })
 
-path_target_reads : (y : Option PathRead) {q : Lowering (Option HirPath)} (at : Pointer) (h : HygieneId) → Correct q (PathIs y)
-    → Correct (forms.path_target_form at h q) (Reads a_pat (pat_at (Some at) (written.path_target_of y h)))
+path_target_reads : (y : Option PathRead) {q : Lowering (Option HirPath)} (at : Origin) (h : HygieneId) → Correct q (PathIs y)
+    → Correct (forms.path_target_form at h q) (Reads a_pat (pat_at (Some (source_of at)) (written.path_target_of y h)))
 unfolding forms.path_target_form
-path_target_reads y at h hq = correct_as (correct_bind hq (λ o. correct_alloc_pat (forms.path_target_of h o) (Some at)))
+path_target_reads y at h hq = correct_as (correct_bind hq (λ o. correct_alloc_target (forms.path_target_of h o) at))
     (λ final ps m m' i g row. record {
       is = pat_stored row.second (λ d le. go final row.middle.entries y row.one row.first.is d le);
     })
@@ -73,14 +85,14 @@ WithTarget o x final ps m m' i =
     (z : PathData) → ((d : ℕ) → m.entries ≤ d → a_path final (within final d) o ≡ z) → (d : ℕ) → m'.entries ≤ d
     → (within final d).pat i ≡ x z
 
-found_target : (y : Option PathRead) {x : PathData → PatData} {q : Lowering (Option HirPath)} → Correct q (PathIs y)
-    → (g : Option HirPath → Lowering PatId) → Correct (g None) (Reads a_pat absent_pattern)
-    → ((o : HirPath) → Correct (g (Some o)) (WithTarget o x)) → Correct (q >>= g) (Reads a_pat (if_path y x absent_pattern))
-found_target y {x = x} hq g none' some' = correct_as (correct_bind hq found)
+found_target : (y : Option PathRead) {x : PathData → PatData} {absent : PatData} {q : Lowering (Option HirPath)} → Correct q (PathIs y)
+    → (g : Option HirPath → Lowering PatId) → Correct (g None) (Reads a_pat absent)
+    → ((o : HirPath) → Correct (g (Some o)) (WithTarget o x)) → Correct (q >>= g) (Reads a_pat (if_path y x absent))
+found_target y {x = x} {absent = absent} hq g none' some' = correct_as (correct_bind hq found)
     (λ final ps m m' i _ row. join final ps m row.middle m' y row.one i row.first.is row.second)
   where
     Found : Option HirPath → Rel PatId
-    Found None final ps m m' i = Reads a_pat absent_pattern final ps m m' i
+    Found None final ps m m' i = Reads a_pat absent final ps m m' i
     Found (Some o) final ps m m' i = WithTarget o x final ps m m' i
 
     found : (o : Option HirPath) → Correct (g o) (Found o)
@@ -88,7 +100,7 @@ found_target y {x = x} hq g none' some' = correct_as (correct_bind hq found)
     found (Some o) = some' o
 
     join : (final : Stored) (ps : List Frame) (m n m' : Mark) (y : Option PathRead) (o : Option HirPath) (i : PatId)
-        → Answers final n.entries y o → Found o final ps n m' i → Reads a_pat (if_path y x absent_pattern) final ps m m' i
+        → Answers final n.entries y o → Found o final ps n m' i → Reads a_pat (if_path y x absent) final ps m m' i
     join final ps m n m' None None i a h = record { is = h.is }
     join final ps m n m' None (Some o) i a h = absurd a
     join final ps m n m' (Some z) None i a h = absurd a
@@ -134,11 +146,16 @@ dots_before {d = d} hs done = correct_as (hs (forms.add_target_dots done)) (λ f
   reads = row.reads;
 })
 
-tuple_target_reads : {x : PatsData} {d : Option ℕ} {p : Lowering Elements} (at : Pointer) → Correct p (TargetsAre no_elements x d)
-    → Correct (forms.tuple_target_form at p) (Reads a_pat (pat_at (Some at) (datum.tuple_pattern d x)))
+noted_before : {x : PatsData} {d : Option ℕ} {done : Elements} {p : Lowering Elements} (c : Called) → Correct p (TargetsAre done x d)
+    → Correct (told c >> p) (TargetsAre done x d)
+noted_before c h = correct_as (correct_bind (correct_told c) (λ u. h)) (λ final ps m m' r g row. let s = row.second in
+    record { new = s.new; ids = s.ids; place = s.place; reads = s.reads })
+
+tuple_target_reads : {x : PatsData} {d : Option ℕ} {p : Lowering Elements} (at : Origin) → Correct p (TargetsAre no_elements x d)
+    → Correct (forms.tuple_target_form at p) (Reads a_pat (pat_at (Some (source_of at)) (datum.tuple_pattern d x)))
 unfolding forms.tuple_target_form
 tuple_target_reads {d = d} at h = correct_as (correct_bind h (λ r. correct_bind (list_is false r)
-    (λ es. correct_alloc_pat (pat.Tuple es.0 es.1) (Some at))))
+    (λ es. correct_alloc_target (pat.Tuple es.0 es.1) at)))
     (λ final ps m m' i g row. let e = row.first in let s = row.second in record {
       is = pat_stored s.second (λ n le.
           let ids = ap (many_pats final (within final n)) e.ids ∙ e.reads n (omega (le, s.before.entries, arith)) in
@@ -146,16 +163,16 @@ tuple_target_reads {d = d} at h = correct_as (correct_bind h (λ r. correct_bind
     })
 
 call_target_reads : {x : PatsData} {d : Option ℕ} {p : Lowering Elements} {q : Lowering (Option HirPath)} (y : Option PathRead)
-    (at : Pointer) → Correct q (PathIs y) → Correct p (TargetsAre no_elements x d)
+    (at : Origin) → Correct q (PathIs y) → Correct p (TargetsAre no_elements x d)
     → Correct (forms.call_target_form at p q)
-    (Reads a_pat (if_path y (λ z. pat_at (Some at) (datum.tuple_struct_pattern z d x)) absent_pattern))
+    (Reads a_pat (if_path y (λ z. pat_at (Some (source_of at)) (datum.tuple_struct_pattern z d x)) (pat_at at.call datum.missing_pattern)))
 unfolding forms.call_target_form
-call_target_reads {x = x} {d = d} {p = p} y at hq h = found_target y hq (forms.call_target_of at p) missing_pattern_reads there
+call_target_reads {x = x} {d = d} {p = p} y at hq h = found_target y hq (forms.call_target_of at p) (missing_target_reads at.call) there
   where
     there : (o : HirPath) → Correct (forms.call_target_of at p (Some o))
-        (WithTarget o (λ z. pat_at (Some at) (datum.tuple_struct_pattern z d x)))
+        (WithTarget o (λ z. pat_at (Some (source_of at)) (datum.tuple_struct_pattern z d x)))
     there o = correct_as (correct_bind h (λ r. correct_bind (list_is false r)
-        (λ es. correct_alloc_pat (pat.TupleStruct o es.0 es.1) (Some at))))
+        (λ es. correct_alloc_target (pat.TupleStruct o es.0 es.1) at)))
         (λ final ps m m' i g row z path. let e = row.first in let s = row.second in
         pat_stored s.second (λ n le.
         let ids = ap (many_pats final (within final n)) e.ids ∙ e.reads n (omega (le, s.before.entries, arith)) in
@@ -164,18 +181,18 @@ call_target_reads {x = x} {d = d} {p = p} y at hq h = found_target y hq (forms.c
 
 rest_reads : (dots : Option Pointer) → Correct (forms.rest_target dots) (Reads maybe_pat (written.dots_pattern dots))
 rest_reads None = correct_as (correct_pure None) (λ final ps m m' o g row. rw row.is (record { is = λ d le. refl }))
-rest_reads (Some at) = correct_as (correct_bind (correct_alloc_pat pat.Rest (Some at)) (λ i. correct_pure (Some i)))
+rest_reads (Some at) = correct_as (correct_bind (correct_alloc_target pat.Rest (origin None at)) (λ i. correct_pure (Some i)))
     (λ final ps m m' o g row. rw (row.second.is, row.second.still) (record {
       is = λ d le. ap datum.some_pattern (pat_stored row.first (λ n ge. refl) d le);
     }))
 
-array_target_reads : {x y : PatsData} {c d : Option ℕ} {p q : Lowering Elements} (at : Pointer) (dots : Option Pointer)
+array_target_reads : {x y : PatsData} {c d : Option ℕ} {p q : Lowering Elements} (at : Origin) (dots : Option Pointer)
     → Correct p (TargetsAre no_elements x c) → Correct q (TargetsAre no_elements y d)
     → Correct (forms.array_target_form at dots p q)
-    (Reads a_pat (pat_at (Some at) (datum.slice_pattern x (written.dots_pattern dots) y)))
+    (Reads a_pat (pat_at (Some (source_of at)) (datum.slice_pattern x (written.dots_pattern dots) y)))
 unfolding forms.array_target_form
 array_target_reads at dots h k = correct_as (correct_bind h (λ b. correct_bind k (λ a. correct_bind (rest_reads dots)
-    (λ m. correct_alloc_pat (pat.Slice b.0 m a.0) (Some at)))))
+    (λ m. correct_alloc_target (pat.Slice b.0 m a.0) at))))
     (λ final ps m m' i g row. let s = row.second in let u = s.second in record {
       is = pat_stored u.second (λ n le.
           let front = ap (many_pats final (within final n)) row.first.ids
@@ -229,17 +246,17 @@ spread_any None = pure_any tt
 spread_any (Some at) = any (correct_report _)
 
 record_target_reads : {x : PatFieldsData} {p : Lowering (List RecordFieldPat)} {q : Lowering (Option HirPath)} (y : Option PathRead)
-    (at : Pointer) (dots : Bool) (spread : Option Pointer) → Correct q (PathIs y) → Correct p (Reads many_fields x)
+    (at : Origin) (dots : Bool) (spread : Option Pointer) → Correct q (PathIs y) → Correct p (Reads many_fields x)
     → Correct (forms.record_target_form at dots spread p q)
-    (Reads a_pat (if_path y (λ z. pat_at (Some at) (datum.record_pattern z x dots)) absent_pattern))
+    (Reads a_pat (if_path y (λ z. pat_at (Some (source_of at)) (datum.record_pattern z x dots)) (pat_at at.call datum.missing_pattern)))
 unfolding forms.record_target_form
 record_target_reads {x = x} {p = p} y at dots spread hq h =
-    found_target y hq (forms.record_target_of at dots spread p) missing_pattern_reads there
+    found_target y hq (forms.record_target_of at dots spread p) (missing_target_reads at.call) there
   where
     there : (o : HirPath) → Correct (forms.record_target_of at dots spread p (Some o))
-        (WithTarget o (λ z. pat_at (Some at) (datum.record_pattern z x dots)))
+        (WithTarget o (λ z. pat_at (Some (source_of at)) (datum.record_pattern z x dots)))
     there o = correct_as (correct_bind (spread_any spread) (λ u. correct_bind h
-        (λ fs. correct_alloc_pat (pat.Record o fs dots) (Some at))))
+        (λ fs. correct_alloc_target (pat.Record o fs dots) at)))
         (λ final ps m m' i g row z path. let s = row.second in
         pat_stored s.second (λ n le. λ j.
         datum.record_pattern (path n (omega (le, row.before.entries, s.before.entries, arith)) j) (s.first.is n le j) dots))
@@ -248,10 +265,10 @@ record_target_reads {x = x} {p = p} y at dots spread hq h =
 
 mutual
   pub target_reads : (t : Target) → Correct (lower.lower_target t) (Reads a_pat (written.target_data t))
-  target_reads tree.absent_target = missing_pattern_reads
+  target_reads (tree.absent_target call) = missing_target_reads call
   target_reads (tree.place_target at e) = place_reads at (part_any (tree.some_expr e))
-  target_reads (tree.macro_target at c t) = told_target_reads c (target_reads t)
-  target_reads (tree.wild_target at) = pattern0 pat.Wild (Some at) (λ final r. refl)
+  target_reads (tree.macro_target at c t) = called_target_reads at c (target_reads t)
+  target_reads (tree.wild_target at) = wild_target_reads at
   target_reads (tree.path_target at p h) = path_target_reads (path_of (tree.some_path p)) at h (path_reads (tree.some_path p))
   target_reads (tree.tuple_target at ts) = tuple_target_reads at (targets_read ts no_elements)
   target_reads (tree.call_target at p ts) = call_target_reads (path_of p) at (path_reads p) (targets_read ts no_elements)
@@ -265,6 +282,7 @@ mutual
   targets_read tree.no_targets done = no_targets_are done
   targets_read (tree.more_targets t ts) done = target_before (target_reads t) (targets_read ts) done
   targets_read (tree.dots_targets ts) done = dots_before (targets_read ts) done
+  targets_read (tree.noted_targets called ts) done = noted_before called (targets_read ts done)
 
   fields_read : (fs : TargetFields) (done : List RecordFieldPat)
       → Correct (lower.lower_target_fields done fs) (Pushed done (Reads many_fields (written.target_fields_data fs)))

@@ -11,31 +11,35 @@ use Rattle.hir_store.specs.declared.ids.ExprId.{ExprId}
 use Rattle.hir_store.specs.declared.ids.HygieneId.{HygieneId}
 use Rattle.hir_store.specs.declared.ids.PatId.{PatId}
 use Rattle.hir_store.specs.declared.name.Name.{Name}
+use Rattle.hir_store.specs.declared.pat.Pat.{Pat}
 use Rattle.hir_store.specs.declared.pat.RecordFieldPat.{RecordFieldPat}
 use Rattle.hir_store.specs.declared.path.Path.{Path as HirPath}
 use Rattle.hir_store.proofs.Extending.{extends_refl}
 use Rattle.hir_env.specs.Answered as tree
 use Rattle.hir_env.specs.Answered.{Arms, Block, Expr, Exprs, Fields, Guard, OptionBlock, OptionExpr, OptionPat, OptionPath, OptionType}
-use Rattle.hir_env.specs.Answered.{Spread, Stmts, Target, TargetFields, Targets}
+use Rattle.hir_env.specs.Answered.{Origin, Spread, Stmts, Target, TargetFields, Targets}
+use Rattle.hir_env.specs.Targets.{origin}
 use Rattle.hir_lower_form.specs.Builder.{Builder}
 use Rattle.hir_lower_form.specs.Forms.{ExprSteps, StoredFields, kept, record_form, record_of}
 use Rattle.hir_lower_form.specs.Lower as lower
-use Rattle.hir_lower_form.specs.Lowering.{Lowering, ◌>>=◌}
+use Rattle.hir_lower_form.specs.Lowering.{Lowering, ◌>>=◌, alloc_made_pat}
 use Rattle.hir_lower_form.specs.Pats.{Elements, elements_form, no_elements}
 use Rattle.hir_lower_form.specs.Targets as targets
+use Rattle.hir_lower_form.specs.Targets.{alloc_target}
 use Rattle.hir_lower_form.specs.Walks.{path_read, start}
 use Rattle.hir_steps.specs.Keeps.{Paired}
-use Rattle.hir_steps.proofs.ApartPats.{elements_apart, missing_pat_apart, named_apart}
+use Rattle.hir_steps.proofs.ApartPats.{elements_apart, named_apart}
 use Rattle.hir_steps.proofs.ApartTree as apart
 use Rattle.hir_steps.proofs.Barriers.{raises_yield, still_closure, still_coroutine}
 use Rattle.hir_steps.proofs.CoroutineClosures.{still_coroutine_closure}
 use Rattle.hir_steps.proofs.Calls.{only_gone, only_note, only_told, raises_only}
 use Rattle.hir_steps.proofs.Logic.{mark}
 use Rattle.hir_steps.proofs.Owning.{raises_owning, still_owning}
-use Rattle.hir_steps.proofs.StillPats.{elements_still, missing_pat_still, named_still}
+use Rattle.hir_steps.proofs.StillPats.{elements_still, named_still}
 use Rattle.hir_steps.proofs.StillTree as still
+use Rattle.hir_steps.proofs.TargetSteps.{alloc_target_apart, alloc_target_still, made_pat_apart}
 use Rattle.hir_steps.proofs.Yields.{Raises, RaisedTo, or_assoc, raises_as, raises_by, raises_begin, raises_end, raises_pure, raises_still}
-use Rattle.hir_steps.proofs.Yields.{raises_then}
+use Rattle.hir_steps.proofs.Yields.{raises_then, still_made_pat}
 use Rattle.hir_data.specs.Rule.{PathRead}
 use Rattle.hir_data.specs.Written.{path_of}
 use Rattle.hir_data.specs.Yields.{arms_yields, block_part_yields, block_yields, each_yields, expr_yields, fields_yields, guard_yields}
@@ -67,9 +71,15 @@ top_off p = raises_still (apart.top_apart p) (still.top_still p)
 elements_off : (es : Elements) → Raises false (elements_form false es)
 elements_off es = raises_still (elements_apart false es) (elements_still false es)
 
+made_pat_off : (p : Pat) (source : Option Pointer) → Raises false (alloc_made_pat p source)
+made_pat_off p source = raises_still (made_pat_apart p source) (still_made_pat p source)
+
+target_off : (p : Pat) (at : Origin) → Raises false (alloc_target p at)
+target_off p at = raises_still (alloc_target_apart p at) (alloc_target_still p at)
+
 rest_off : (dots : Option Pointer) → Raises false (targets.rest_target dots)
 rest_off None = raises_pure None
-rest_off (Some p) = raises_begin (pat_off _ (Some p)) (λ i. raises_pure (Some i))
+rest_off (Some p) = raises_begin (target_off _ (origin None p)) (λ i. raises_pure (Some i))
 
 spread_off : (spread : Option Pointer) → Raises false (targets.report_spread spread)
 spread_off None = raises_pure tt
@@ -97,37 +107,38 @@ module _ (at : Pointer) where
 
   place_raises : {y : Bool} {e : ExprSteps} → Raises y e → Raises y (targets.place_form at e)
   unfolding targets.place_form
-  place_raises h = raises_end h (λ i. pat_off _ (Some at))
+  place_raises h = raises_end h (λ i. made_pat_off _ (Some at))
 
+  target_field_raises : {y : Bool} (n : Option Name) {p : Lowering PatId} → Raises y p → Raises y (targets.target_field_form at n p)
+  unfolding targets.target_field_form
+  target_field_raises n h = raises_end h (λ i. raises_still (named_apart at n i) (named_still at n i))
+
+module _ (at : Origin) where
   path_target_off : (h : HygieneId) {q : Lowering (Option HirPath)} → Raises false q → Raises false (targets.path_target_form at h q)
   unfolding targets.path_target_form
-  path_target_off h hq = raises_begin hq (λ p. pat_off _ (Some at))
+  path_target_off h hq = raises_begin hq (λ p. target_off _ at)
 
   tuple_target_raises : {y : Bool} {ps : Lowering Elements} → Raises y ps → Raises y (targets.tuple_target_form at ps)
   unfolding targets.tuple_target_form
-  tuple_target_raises h = raises_end h (λ r. raises_begin (elements_off r) (λ es. pat_off _ (Some at)))
+  tuple_target_raises h = raises_end h (λ r. raises_begin (elements_off r) (λ es. target_off _ at))
 
   call_target_raises : {y : Bool} (p : OptionPath) {ps : Lowering Elements} → Raises y ps
       → Raises (yields_if_read (path_of p) y) (targets.call_target_form at ps (lower.lower_path p))
   unfolding targets.call_target_form
-  call_target_raises p {ps = ps} h = beside p (targets.call_target_of at ps) (raises_still missing_pat_apart missing_pat_still)
-      (λ o. raises_end h (λ r. raises_begin (elements_off r) (λ es. pat_off _ (Some at))))
+  call_target_raises p {ps = ps} h = beside p (targets.call_target_of at ps) (made_pat_off _ at.call)
+      (λ o. raises_end h (λ r. raises_begin (elements_off r) (λ es. target_off _ at)))
 
   array_target_raises : {y z : Bool} (dots : Option Pointer) {b a : Lowering Elements} → Raises y b → Raises z a
       → Raises (y || z) (targets.array_target_form at dots b a)
   unfolding targets.array_target_form
-  array_target_raises dots hb ha = raises_then hb (λ b. raises_end ha (λ a. raises_begin (rest_off dots) (λ m. pat_off _ (Some at))))
+  array_target_raises dots hb ha = raises_then hb (λ b. raises_end ha (λ a. raises_begin (rest_off dots) (λ m. target_off _ at)))
 
   record_target_raises : {y : Bool} (p : OptionPath) (dots : Bool) (spread : Option Pointer) {fs : Lowering (List RecordFieldPat)}
       → Raises y fs → Raises (yields_if_read (path_of p) y) (targets.record_target_form at dots spread fs (lower.lower_path p))
   unfolding targets.record_target_form
   record_target_raises p dots spread {fs = fs} h = beside p (targets.record_target_of at dots spread fs)
-      (raises_still missing_pat_apart missing_pat_still)
-      (λ o. raises_begin (spread_off spread) (λ u. raises_end h (λ fs. pat_off _ (Some at))))
-
-  target_field_raises : {y : Bool} (n : Option Name) {p : Lowering PatId} → Raises y p → Raises y (targets.target_field_form at n p)
-  unfolding targets.target_field_form
-  target_field_raises n h = raises_end h (λ i. raises_still (named_apart at n i) (named_still at n i))
+      (made_pat_off _ at.call)
+      (λ o. raises_begin (spread_off spread) (λ u. raises_end h (λ fs. target_off _ at)))
 
 -- a disabled one leaves a fault and nothing else
 kept_raises : (e : Expr) {p : ExprSteps} → Raises (expr_yields e) p → Raises (expr_yields e) (kept e p)
@@ -264,10 +275,10 @@ mutual
   guard_raises (tree.guard e) = some_raises (part_raises e)
 
   target_raises : (t : Target) → Raises (target_yields t) (lower.lower_target t)
-  target_raises tree.absent_target = raises_still missing_pat_apart missing_pat_still
+  target_raises (tree.absent_target call) = made_pat_off _ call
   target_raises (tree.place_target at e) = place_raises at (expr_raises e)
-  target_raises (tree.macro_target at c t) = raises_begin (raises_only (only_told c)) (λ u. target_raises t)
-  target_raises (tree.wild_target at) = pat_off _ (Some at)
+  target_raises (tree.macro_target at c t) = calls.called_target_raises at c (target_raises t)
+  target_raises (tree.wild_target at) = target_off _ at
   target_raises (tree.path_target at p h) = path_target_off at h
       (raises_begin (raises_still (apart.reading_apart p start) (still.reading_still p start)) (λ r. raises_pure (path_read r)))
   target_raises (tree.tuple_target at ts) = tuple_target_raises at (targets_raise no_elements ts)
@@ -280,6 +291,7 @@ mutual
   targets_raise done tree.no_targets = raises_pure done
   targets_raise done (tree.more_targets t ts) = raises_then (target_raises t) (λ i. targets_raise _ ts)
   targets_raise done (tree.dots_targets ts) = targets_raise _ ts
+  targets_raise done (tree.noted_targets called ts) = raises_begin (raises_only (only_told called)) (λ u. targets_raise done ts)
 
   target_fields_raise : (done : List RecordFieldPat) (fs : TargetFields)
       → Raises (target_fields_yields fs) (lower.lower_target_fields done fs)

@@ -17,7 +17,8 @@ use Rattle.hir_lower_form.specs.Calls.{defined}
 use Rattle.hir_lower_form.specs.Lower.{settled}
 use Rattle.hir_meaning.specs.Run.{Value, unit, leave, unmatched, pure, ◌>>=◌, ◌>>◌, binds}
 use Rattle.hir_scope.specs.Scopes.{Scope, macro_scope}
-use Rattle.hir_meaning.specs.Syntax.{SyntaxRun, as_it_is, behind_def, run_expr, run_part, run_present, run_else, run_block, run_stmts, run_tail}
+use Rattle.hir_meaning.specs.Syntax.{SyntaxRun, as_it_is, behind_def, run_expr, run_part, run_present, run_else, run_block, run_stmts}
+use Rattle.hir_meaning.specs.Syntax.{run_tail}
 use Rattle.hir_meaning.specs.Left.{is_kept, is_left, none_left}
 use Rattle.hir_meaning.specs.Store.{StoreRun, bound_to, run_or_unit, run_statements, run_present as stored_present, run_else as stored_else}
 use Rattle.hir_scope.specs.Each.{IfPresent}
@@ -225,8 +226,8 @@ ends_behind : (base : Base) (nodes : ℕ) (final : Stored) (turns d : ℕ) (out 
     (def : Option MacroDefId) (ps : List Frame) (tail : Option ExprId) → Ends base nodes final turns d out ps tail o
     → Ends base nodes final turns d out (frames_behind def ps) tail o
 ends_behind base nodes final turns d out o None ps tail k = k
-ends_behind base nodes final turns d out o (Some def) ps tail k = λ y goes. same_inside (Some def) (k (λ turns qs. y turns (macro_scope def ∷ qs))
-    (record { same = λ turns d le f. same_outside (Some def) (goes.same turns d le f); jumps = goes.jumps }))
+ends_behind base nodes final turns d out o (Some def) ps tail k = λ y goes. same_inside (Some def)
+    (k (λ turns qs. y turns (macro_scope def ∷ qs)) (record { same = λ turns d le f. same_outside (Some def) (goes.same turns d le f); jumps = goes.jumps }))
 
 module _ (final : Stored) (turns d : ℕ) (o : Option ExprId) where
   same_behind : {names : ℕ} (def : Option MacroDefId) (ps : List Frame) (new : List Statement) (n : List Scope → SyntaxRun Value)

@@ -1,5 +1,5 @@
 -- What is stored for a call of a macro holds what it stands for holds.
-use Rattle.std.proofs.Common.{refl, List, [], Some, None}
+use Rattle.std.proofs.Common.{refl, [], Some}
 use Rattle.hir_store.specs.Pointers.{Pointer}
 use Rattle.hir_store.specs.declared.hir.Expr.TheVariants as hir
 use Rattle.hir_store.specs.declared.ids.PatId.{PatId}

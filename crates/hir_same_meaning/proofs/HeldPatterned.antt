@@ -18,23 +18,27 @@ use Rattle.hir_store.specs.declared.pat.RecordFieldPat.{RecordFieldPat}
 use Rattle.hir_store.specs.declared.path.Path.{Path as HirPath}
 use Rattle.hir_store.specs.declared.path.Path.TheVariants.{LangItem}
 use Rattle.hir_env.specs.Answered as tree
-use Rattle.hir_env.specs.Answered.{RangeForm}
+use Rattle.hir_env.specs.Answered.{Called, Origin, RangeForm}
+use Rattle.hir_env.specs.Targets.{origin}
 use Rattle.hir_data.specs.Rule.{PathRead}
 use Rattle.hir_lower_form.specs.Forms.{ExprSteps, let_form, match_form, arm_form, assign_form, let_stmt_form}
-use Rattle.hir_lower_form.specs.Lowering.{Lowering, ◌>>=◌, pure, alloc_pat}
+use Rattle.hir_lower_form.specs.Lowering.{Lowering, ◌>>=◌, pure}
 use Rattle.hir_lower_form.specs.Pats.{Table, Elements, elements_form, settle, no_names}
 use Rattle.hir_lower_form.specs.Ranges.{item_expr, range_fields, end_operand, made_range, range_form}
 use Rattle.hir_lower_form.specs.Targets as forms
+use Rattle.hir_lower_form.specs.Targets.{alloc_target}
 use Rattle.hir_meaning.specs.Inner.{Bodies, Inners, all_of, of_present, of_path, of_pat, of_pat_field, of_arm, of_statement}
 use Rattle.hir_meaning.specs.Inner.{Inside, of_expr, of_field, if_read, if_made}
 use Rattle.hir_read_back.proofs.Going.{PathIs}
+use Rattle.hir_steps.proofs.Calls.{correct_point_target, correct_told}
 use Rattle.hir_steps.proofs.PatAny.{settle_any}
-use Rattle.hir_steps.proofs.PatSteps.{correct_alloc_pat, correct_point_pat_field}
+use Rattle.hir_steps.proofs.PatSteps.{correct_alloc_made_pat, correct_point_pat_field}
 use Rattle.hir_steps.proofs.Steps.{Rel, Correct, correct_bind, correct_as, correct_pure, correct_alloc}
-use Rattle.hir_same_meaning.proofs.HeldPats.{Added, added_all, behind_path, WithPath, absent_held, named}
+use Rattle.hir_steps.proofs.TargetSteps.{correct_alloc_target}
+use Rattle.hir_same_meaning.proofs.HeldPats.{Added, added_all, behind_path, WithPath, named}
 use Rattle.hir_same_meaning.proofs.HeldTypes.{a_path}
 use Rattle.hir_same_meaning.proofs.Holding.{SameIn, inners_in, same_append, same_ids, an_expr, a_type, a_pat, each, maybe, Holds}
-use Rattle.hir_same_meaning.proofs.Holding.{holds_one, holds_behind, expr_held, expr0, expr2, pat_held, pat0, pat1}
+use Rattle.hir_same_meaning.proofs.Holding.{holds_one, holds_before, holds_behind, expr_held, expr0, expr2, pat_held}
 use Rattle.hir_same_meaning.proofs.TargetPlaces.{parts_of, spread_any}
 
 -- ---- a whole pattern
@@ -53,13 +57,13 @@ top_held p h = correct_as (correct_bind h (λ r. correct_bind (settle_any r.1) (
 abbrev pub parts : Elements → List PatId
 parts r = r.0
 
-list_held : {es : Bodies} {p : Lowering Elements} (from : Option Pointer) (con : Option ℕ → List PatId → HirPat)
+list_held : {es : Bodies} {p : Lowering Elements} (at : Origin) (con : Option ℕ → List PatId → HirPat)
     → Correct p (Added a_pat parts [] es)
-    → Correct (p >>= (λ r. elements_form false r >>= (λ k. alloc_pat (con k.0 k.1) from)))
+    → Correct (p >>= (λ r. elements_form false r >>= (λ k. alloc_target (con k.0 k.1) at)))
     (λ final ps m m' i. (fs : Bodies) → ((d : ℕ) → m.nodes + m.entries ≤ d → (n : Option ℕ) (is : List PatId)
     → SameIn final (all_of (inners_in final d).pat is) es → SameIn final (of_pat (inners_in final d) (con n is)) fs)
     → Holds a_pat fs final ps m m' i)
-list_held {es = es} from con h = correct_as (correct_bind h (λ r. correct_bind (parts_of r) (λ k. correct_alloc_pat (con k.0 k.1) from)))
+list_held {es = es} at con h = correct_as (correct_bind h (λ r. correct_bind (parts_of r) (λ k. correct_alloc_target (con k.0 k.1) at)))
     (λ final ps m m' i g row fs make. let e = row.first in let s = row.second in
     pat_held {ps = ps} {n = m} s.second (λ d le. make d
     (omega (le, row.before.nodes, row.before.entries, s.before.nodes, s.before.entries, arith)) s.one.0 s.one.1
@@ -70,32 +74,51 @@ target_path_is : (h : HygieneId) (r : Inners) (p : Option HirPath) → of_pat r 
 target_path_is h r None = refl
 target_path_is h r (Some p) = refl
 
-module _ (at : Pointer) where
-  pub place_held : {es : Bodies} {p : ExprSteps} → Correct p (Holds an_expr es) → Correct (forms.place_form at p) (Holds a_pat es)
-  unfolding forms.place_form
-  place_held h = pat1 (Some at) pat.Expr (λ r e. refl) h
+pub missing_target_held : (call : Option Pointer) → Correct (forms.missing_target call) (Holds a_pat [])
+missing_target_held call = correct_as (correct_alloc_made_pat pat.Missing call) (λ final ps m m' i g at. pat_held at (λ d le. tt))
 
+pub place_held : (at : Pointer) {es : Bodies} {p : ExprSteps} → Correct p (Holds an_expr es)
+    → Correct (forms.place_form at p) (Holds a_pat es)
+unfolding forms.place_form
+place_held at h = correct_as (correct_bind h (λ e. correct_alloc_made_pat (pat.Expr e) (Some at)))
+    (λ final ps m m' i g row. pat_held row.second (λ d le. row.first.same d le))
+
+pub called_target_held : (at : Option Pointer) (c : Called) {p : Lowering PatId} {es : Bodies} → Correct p (Holds a_pat es)
+    → Correct (forms.called_target at c p) (Holds a_pat es)
+called_target_held None c h = holds_behind (correct_told c) (λ u. h)
+called_target_held (Some at) c h = holds_behind (correct_told c) (λ u. holds_before h (λ i. correct_point_target at i))
+
+target0 : (p : HirPat) (at : Origin) → ((r : Inners) → of_pat r p ≡ []) → Correct (alloc_target p at) (Holds a_pat [])
+target0 p at e = correct_as (correct_alloc_target p at)
+    (λ final ps m m' i g at. pat_held at (λ d le. same_ids final [] (e (inners_in final d)) tt))
+
+pub wild_target_held : (at : Origin) → Correct (alloc_target pat.Wild at) (Holds a_pat [])
+wild_target_held at = target0 pat.Wild at (λ r. refl)
+
+rest_held : (dots : Option Pointer) → Correct (forms.rest_target dots) (Holds (maybe a_pat) [])
+rest_held None = correct_as (correct_pure None) (λ final ps m m' o g row. rw row.is (record { same = λ d le. tt }))
+rest_held (Some p) = holds_one Some (λ r i. refl) (target0 pat.Rest (origin None p) (λ r. refl))
+
+module _ (at : Origin) where
   pub path_target_held : {es : Bodies} (h : HygieneId) {q : Lowering (Option HirPath)} → Correct q (Holds a_path es)
       → Correct (forms.path_target_form at h q) (Holds a_pat es)
   unfolding forms.path_target_form
-  path_target_held h hq = pat1 (Some at) (forms.path_target_of h) (target_path_is h) hq
+  path_target_held {es = es} h hq = correct_as (correct_bind hq (λ p. correct_alloc_target (forms.path_target_of h p) at))
+      (λ final ps m m' i g row. pat_held row.second (λ d le.
+      same_ids final es (target_path_is h (inners_in final d) row.one) (row.first.same d le)))
 
   pub tuple_target_held : {es : Bodies} {p : Lowering Elements} → Correct p (Added a_pat parts [] es)
       → Correct (forms.tuple_target_form at p) (Holds a_pat es)
   unfolding forms.tuple_target_form
   tuple_target_held {es = es} h =
-      correct_as (list_held (Some at) pat.Tuple h) (λ final ps m m' i g row. row es (λ d le n is same. same))
-
-  rest_held : (dots : Option Pointer) → Correct (forms.rest_target dots) (Holds (maybe a_pat) [])
-  rest_held None = correct_as (correct_pure None) (λ final ps m m' o g row. rw row.is (record { same = λ d le. tt }))
-  rest_held (Some p) = holds_one Some (λ r i. refl) (pat0 pat.Rest (Some p) (λ r. refl))
+      correct_as (list_held at pat.Tuple h) (λ final ps m m' i g row. row es (λ d le n is same. same))
 
   pub array_target_held : {es fs : Bodies} (dots : Option Pointer) {b a : Lowering Elements} → Correct b (Added a_pat parts [] es)
       → Correct a (Added a_pat parts [] fs) → Correct (forms.array_target_form at dots b a) (Holds a_pat (es ++ fs))
   unfolding forms.array_target_form
   array_target_held {es = es} {fs = fs} dots hb ha = correct_as
       (correct_bind (added_all hb) (λ b. correct_bind (added_all ha) (λ a. correct_bind (rest_held dots)
-      (λ o. correct_alloc_pat (pat.Slice b.0 o a.0) (Some at)))))
+      (λ o. correct_alloc_target (pat.Slice b.0 o a.0) at))))
       (λ final ps m m' i g row. let s = row.second in let u = s.second in
       pat_held {ps = ps} {n = m} u.second (λ d le. let r = inners_in final d in
       same_append final (all_of r.pat row.one.0) (of_present r.pat u.one ++ all_of r.pat s.one.0) es fs
@@ -111,8 +134,8 @@ module _ (at : Pointer) where
     call_target_held {p = p} h = behind_path fs y says hq by
       where
         by : (o : Option HirPath) → Correct (forms.call_target_of at p o) (WithPath a_pat es fs o)
-        by None = correct_as absent_held (λ final ps m m' i g row n h. row)
-        by (Some o) = correct_as (list_held (Some at) (pat.TupleStruct o) h)
+        by None = correct_as (missing_target_held at.call) (λ final ps m m' i g row n h. row)
+        by (Some o) = correct_as (list_held at (pat.TupleStruct o) h)
             (λ final ps m m' i g row n path. row (es ++ fs) (λ d le k is same. let r = inners_in final d in
             same_append final (of_path r o) (all_of r.pat is) es fs (path.same d le) same))
 
@@ -123,14 +146,15 @@ module _ (at : Pointer) where
     record_target_held dots others {p = p} h = behind_path fs y says hq by
       where
         by : (o : Option HirPath) → Correct (forms.record_target_of at dots others p o) (WithPath a_pat es fs o)
-        by None = correct_as absent_held (λ final ps m m' i g row n h. row)
+        by None = correct_as (missing_target_held at.call) (λ final ps m m' i g row n h. row)
         by (Some o) = correct_as (correct_bind (spread_any others) (λ u. correct_bind h
-            (λ fs. correct_alloc_pat (pat.Record o fs dots) (Some at))))
+            (λ fs. correct_alloc_target (pat.Record o fs dots) at)))
             (λ final ps m m' i g row n path. let s = row.second in
             pat_held {ps = ps} {n = m} s.second (λ d le. let r = inners_in final d in
             same_append final (of_path r o) (all_of (of_pat_field r) s.one) es fs
             (path.same d (omega (le, row.before.nodes, row.before.entries, s.before.nodes, s.before.entries, arith))) (s.first.same d le)))
 
+module _ (at : Pointer) where
   pub target_field_held : {es : Bodies} (n : Name) {p : Lowering PatId} → Correct p (Holds a_pat es)
       → Correct (forms.target_field_form at (Some n) p) (Holds (maybe (λ r f. of_pat_field r f)) es)
   unfolding forms.target_field_form

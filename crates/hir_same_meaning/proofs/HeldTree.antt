@@ -471,10 +471,10 @@ mutual
   -- ---- what is assigned to
 
   target_holds : (t : Target) → Correct (lower.lower_target t) (Holds a_pat (inner.target_bodies t))
-  target_holds tree.absent_target = pats.absent_held
+  target_holds (tree.absent_target call) = patterned.missing_target_held call
   target_holds (tree.place_target at e) = patterned.place_held at (expr_holds e)
-  target_holds (tree.wild_target at) = pat0 pat.Wild (Some at) (λ r. refl)
-  target_holds (tree.macro_target at called t) = holds_behind (correct_told called) (λ u. target_holds t)
+  target_holds (tree.wild_target at) = patterned.wild_target_held at
+  target_holds (tree.macro_target at called t) = patterned.called_target_held at called (target_holds t)
   target_holds (tree.path_target at p h) =
       patterned.path_target_held at h (paths.path_held (tree.some_path p) (all_hold p))
   target_holds (tree.tuple_target at ts) = patterned.tuple_target_held at (targets_hold ts no_elements)
@@ -491,6 +491,7 @@ mutual
   targets_hold (tree.more_targets t ts) done =
       added_more {part = λ i. i} done.0 (target_holds t) (λ i. targets_hold ts (add_target done i))
   targets_hold (tree.dots_targets ts) done = targets_hold ts (add_target_dots done)
+  targets_hold (tree.noted_targets called ts) done = added_behind (correct_told called) (λ u. targets_hold ts done)
 
   target_fields_hold : (fs : TargetFields) (done : List RecordFieldPat)
       → Correct (lower.lower_target_fields done fs) (Pushed done (Holds (each a_field_pat) (inner.target_fields_bodies fs)))

@@ -15,7 +15,7 @@ use Rattle.hir_meaning.specs.Same.{SameBodies}
 use Rattle.hir_read_back.proofs.Layers.{Pushed}
 use Rattle.hir_steps.proofs.Frames.{Frame}
 use Rattle.hir_steps.proofs.Owning.{owning_keeps}
-use Rattle.hir_steps.proofs.PatSteps.{AllocatedPat, correct_alloc_pat}
+use Rattle.hir_steps.proofs.PatSteps.{AllocatedPat, AllocatedPatBy, PutPat, correct_alloc_pat}
 use Rattle.hir_steps.proofs.Steps.{Mark, Grows, Put, Rel, Correct, AllocatedBy, AllocatedType, correct_bind, correct_as, correct_pure}
 use Rattle.hir_steps.proofs.Steps.{correct_alloc, correct_alloc_type}
 
@@ -189,8 +189,8 @@ a_pat r p = r.pat p
 abbrev pub a_type_pat : Ids PatId
 a_type_pat r p = r.type_pat p
 
-pub pat_held : {p : HirPat} {source : Option Pointer} {es : Bodies} {final : Stored} {ps qs : List Frame} {m n m' : Mark} {i : PatId}
-    → AllocatedPat p source final qs m m' i
+pub pat_held : {put : PutPat} {p : HirPat} {source : Option Pointer} {es : Bodies} {final : Stored} {ps qs : List Frame} {m n m' : Mark}
+    {i : PatId} → AllocatedPatBy put p source final qs m m' i
     → ((d : ℕ) → m.nodes + m.entries ≤ d → SameIn final (of_pat (inners_in final d) p) es) → Holds a_pat es final ps n m' i
 unfolding inners
 pat_held {es = es} {final = final} {m' = m'} {i = i} at h = record { same = λ d le. at_depth d le }

@@ -170,10 +170,10 @@ mutual
 
   -- what is assigned to
   target_fine : (t : Target) → Correct (lower_target t) (PlacesAre (λ turns ss m. run_places turns t ss m))
-  target_fine tree.absent_target = TargetPlaces.absent_places
+  target_fine (tree.absent_target call) = TargetPlaces.absent_places call
   target_fine (tree.place_target at e) = TargetPlaces.place_places at (expr_fine e)
   target_fine (tree.wild_target at) = TargetPlaces.wild_places at
-  target_fine (tree.macro_target at called t) = TargetPlaces.told_places called (target_fine t)
+  target_fine (tree.macro_target at called t) = TargetPlaces.called_places at called (target_fine t)
   target_fine (tree.path_target at p h) = TargetPlaces.path_places at h (path_of (tree.some_path p)) (path_reads (tree.some_path p))
   target_fine (tree.tuple_target at ts) = TargetPlaces.tuple_places at (targets_fine ts no_elements)
   target_fine (tree.call_target at p ts) = TargetPlaces.call_places (path_of p) at (path_reads p) (targets_fine ts no_elements)
@@ -187,6 +187,7 @@ mutual
   targets_fine tree.no_targets done = TargetPlaces.none_place done
   targets_fine (tree.more_targets t ts) done = TargetPlaces.more_place (target_fine t) (targets_fine ts) done
   targets_fine (tree.dots_targets ts) done = TargetPlaces.dots_place (targets_fine ts) done
+  targets_fine (tree.noted_targets called ts) done = TargetPlaces.noted_place called (targets_fine ts done)
 
   target_fields_fine : (fs : TargetFields) (done : List RecordFieldPat)
       → Correct (lower_target_fields done fs)

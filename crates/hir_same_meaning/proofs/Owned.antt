@@ -145,10 +145,10 @@ mutual
   guard_owns (tree.guard e) = some_owns (part_owns e)
 
   target_owns : (t : Target) → Correct (lower_target t) Pats.OwnsPlaces
-  target_owns tree.absent_target = Pats.absent_owns
+  target_owns (tree.absent_target call) = Pats.absent_owns call
   target_owns (tree.place_target at e) = Pats.place_owns at (expr_owns e)
   target_owns (tree.wild_target at) = Pats.wild_owns at
-  target_owns (tree.macro_target at called t) = Pats.told_owns called (target_owns t)
+  target_owns (tree.macro_target at called t) = Pats.called_owns at called (target_owns t)
   target_owns (tree.path_target at p h) = Pats.path_target_owns (lower_path_any (tree.some_path p)) at h
   target_owns (tree.tuple_target at ts) = Pats.tuple_target_owns at (targets_own ts no_elements)
   target_owns (tree.call_target at p ts) = Pats.call_target_owns at (targets_own ts no_elements) (lower_path_any p)
@@ -161,6 +161,7 @@ mutual
   targets_own tree.no_targets done = Pats.none_own done
   targets_own (tree.more_targets t ts) done = Pats.more_own (target_owns t) (targets_own ts) done
   targets_own (tree.dots_targets ts) done = Pats.dots_own (targets_own ts) done
+  targets_own (tree.noted_targets called ts) done = Pats.noted_own called (targets_own ts done)
 
   target_fields_own : (fs : TargetFields) (done : List RecordFieldPat)
       → Correct (lower_target_fields done fs) (Pushed done (Pats.OwnsIn Pats.of_target_fields))

@@ -21,20 +21,23 @@ use Rattle.hir_store.specs.declared.pat.RecordFieldPat.{RecordFieldPat}
 use Rattle.hir_store.specs.declared.path.Path.{Path as HirPath}
 use Rattle.hir_store.specs.declared.path.Path.TheVariants.{LangItem}
 use Rattle.hir_env.specs.Answered as tree
-use Rattle.hir_env.specs.Answered.{Called, OptionPat, OptionType, RangeForm}
+use Rattle.hir_env.specs.Answered.{Called, Origin, OptionPat, OptionType, RangeForm}
+use Rattle.hir_env.specs.Targets.{origin}
 use Rattle.hir_lower_form.specs.Calls.{told}
 use Rattle.hir_lower_form.specs.Forms.{ExprSteps, push_some, let_form, match_form, arm_form, assign_form, let_stmt_form}
 use Rattle.hir_lower_form.specs.Lower.{lower_top, present_type}
-use Rattle.hir_lower_form.specs.Lowering.{Lowering, ◌>>=◌, pure, alloc_pat, report}
-use Rattle.hir_lower_form.specs.Pats.{Elements, no_elements, elements_form, missing_pat}
+use Rattle.hir_lower_form.specs.Lowering.{Lowering, ◌>>=◌, pure, report}
+use Rattle.hir_lower_form.specs.Pats.{Elements, no_elements, elements_form}
 use Rattle.hir_lower_form.specs.Ranges.{range_fields, end_operand, item_expr, made_range, range_form}
 use Rattle.hir_lower_form.specs.Targets as forms
+use Rattle.hir_lower_form.specs.Targets.{alloc_target}
 use Rattle.hir_meaning.specs.Places.{places, places_to, places_found, places_in, places_in_each, places_in_fields}
 use Rattle.hir_meaning.specs.Places.{places_in_present}
-use Rattle.hir_steps.proofs.Calls.{correct_told}
+use Rattle.hir_steps.proofs.Calls.{correct_point_target, correct_told}
 use Rattle.hir_steps.proofs.Frames.{Frame}
 use Rattle.hir_steps.proofs.Keeping.{top_any, present_type_any}
-use Rattle.hir_steps.proofs.PatSteps.{AllocatedPat, correct_alloc_pat, correct_point_pat_field}
+use Rattle.hir_steps.proofs.PatSteps.{AllocatedPatBy, PutPat, correct_alloc_made_pat, correct_point_pat_field}
+use Rattle.hir_steps.proofs.TargetSteps.{correct_alloc_target}
 use Rattle.hir_steps.proofs.Steps.{Mark, Grows, Rel, Correct, correct_bind, correct_as, correct_in_store, correct_pure, correct_alloc}
 use Rattle.hir_steps.proofs.Steps.{correct_report}
 use Rattle.hir_same_meaning.specs.Reached.{of_some, of_each, of_fields, of_statement, of_arms, below, reached_to, Spread}
@@ -138,8 +141,8 @@ abbrev pub OwnsPlaces : Rel PatId
 OwnsPlaces = OwnsIn of_target
 
 -- a pattern that was stored under the number from
-place_at : {p : HirPat} {from : Option Pointer} {final : Stored} {ps qs : List Frame} (m : Mark) {m1 m' : Mark} {i : PatId}
-    → AllocatedPat p from final qs m1 m' i → m.nodes ≤ m1.nodes
+place_at : {put : PutPat} {p : HirPat} {from : Option Pointer} {final : Stored} {ps qs : List Frame} (m : Mark) {m1 m' : Mark} {i : PatId}
+    → AllocatedPatBy put p from final qs m1 m' i → m.nodes ≤ m1.nodes
     → ((c d : ℕ) → m1.pats ≤ c → m'.nodes ≤ d
     → Spread m.nodes m1.nodes (of_each (reached_to (store_of final) d) (places_in (places_to (store_of final) c) p [])))
     → OwnsPlaces final ps m m' i
@@ -152,23 +155,37 @@ place_at {final = final} m {m1 = m1} {m' = m'} {i = i} at le h = record { spread
     go (suc c) d ge ge' = rw (at.number, at.here, at.nodes) (h c d (omega (arith, ge, at.next)) ge')
 
 -- without a place
-placeless : (p : HirPat) (from : Option Pointer) → ((part : PatId → List ExprId → List ExprId) → places_in part p [] ≡ [])
-    → Correct (alloc_pat p from) OwnsPlaces
-placeless p from e = correct_as (correct_alloc_pat p from) (λ final ps m m' i g at.
-    place_at m at (omega arith) (λ c d le le'. rw (e (places_to (store_of final) c)) (spread_none m.nodes m.nodes)))
+abbrev Placeless : HirPat → Type 0
+Placeless p = (part : PatId → List ExprId → List ExprId) → places_in part p [] ≡ []
 
-pub absent_owns : Correct missing_pat OwnsPlaces
-unfolding missing_pat
-absent_owns = placeless pat.Missing None (λ part. refl)
+none_at : {put : PutPat} {p : HirPat} {from : Option Pointer} {final : Stored} {ps qs : List Frame} {m m' : Mark} {i : PatId}
+    → Placeless p → AllocatedPatBy put p from final qs m m' i → OwnsPlaces final ps m m' i
+none_at {final = final} {m = m} e at =
+    place_at m at (omega arith) (λ c d le le'. rw (e (places_to (store_of final) c)) (spread_none m.nodes m.nodes))
 
-pub wild_owns : (at : Pointer) → Correct (alloc_pat pat.Wild (Some at)) OwnsPlaces
-wild_owns at = placeless pat.Wild (Some at) (λ part. refl)
+placeless : (p : HirPat) (at : Origin) → Placeless p → Correct (alloc_target p at) OwnsPlaces
+placeless p at e = correct_as (correct_alloc_target p at) (λ final ps m m' i g at. none_at e at)
+
+pub absent_owns : (call : Option Pointer) → Correct (forms.missing_target call) OwnsPlaces
+absent_owns call = correct_as (correct_alloc_made_pat pat.Missing call) (λ final ps m m' i g at. none_at (λ part. refl) at)
+
+pub wild_owns : (at : Origin) → Correct (alloc_target pat.Wild at) OwnsPlaces
+wild_owns at = placeless pat.Wild at (λ part. refl)
 
 -- a call is what it stands for
-pub told_owns : (c : Called) {p : Lowering PatId} → Correct p OwnsPlaces → Correct (told c >>= (λ u. p)) OwnsPlaces
+told_owns : (c : Called) {p : Lowering PatId} → Correct p OwnsPlaces → Correct (told c >>= (λ u. p)) OwnsPlaces
 told_owns c h = correct_as (correct_bind (correct_told c) (λ u. h)) (λ final ps m m' i g row. record {
   spread = λ c d le le'. spread_wider m.nodes m'.nodes row.before.nodes (omega arith) (row.second.spread c d le le');
 })
+
+pub called_owns : (at : Option Pointer) (c : Called) {p : Lowering PatId} → Correct p OwnsPlaces
+    → Correct (forms.called_target at c p) OwnsPlaces
+called_owns None c h = told_owns c h
+called_owns (Some at) c h = told_owns c (correct_as (correct_bind h (λ i. correct_bind (correct_point_target at i) (λ u. correct_pure i)))
+    (λ final ps m m' i g row. rw row.second.second.is (record {
+      spread = λ c d le le'. spread_wider m.nodes m'.nodes (omega arith) row.after.nodes
+          (row.first.spread c d (omega (le, row.after.pats, arith)) (omega (le', row.after.nodes, arith)));
+    })))
 
 module _ {R : Rel (Option HirPath)} {q : Lowering (Option HirPath)} (hq : Correct q R) where
   -- behind a path, or nothing of it
@@ -177,17 +194,17 @@ module _ {R : Rel (Option HirPath)} {q : Lowering (Option HirPath)} (hq : Correc
     spread = λ c d le le'. spread_wider m.nodes m'.nodes row.before.nodes (omega arith) (row.second.spread c d le le');
   })
 
-  pub path_target_owns : (at : Pointer) (h : HygieneId) → Correct (forms.path_target_form at h q) OwnsPlaces
+  pub path_target_owns : (at : Origin) (h : HygieneId) → Correct (forms.path_target_form at h q) OwnsPlaces
   unfolding forms.path_target_form
   path_target_owns at h = behind_path by
     where
-      by : (o : Option HirPath) → Correct (alloc_pat (forms.path_target_of h o) (Some at)) OwnsPlaces
-      by None = placeless pat.Missing (Some at) (λ part. refl)
-      by (Some p) = placeless (forms.path_target_of h (Some p)) (Some at) (λ part. refl)
+      by : (o : Option HirPath) → Correct (alloc_target (forms.path_target_of h o) at) OwnsPlaces
+      by None = placeless pat.Missing at (λ part. refl)
+      by (Some p) = placeless (forms.path_target_of h (Some p)) at (λ part. refl)
 
 pub place_owns : (at : Pointer) {e : ExprSteps} → Correct e Owns → Correct (forms.place_form at e) OwnsPlaces
 unfolding forms.place_form
-place_owns at h = correct_as (correct_bind h (λ e. correct_alloc_pat (pat.Expr e) (Some at)))
+place_owns at h = correct_as (correct_bind h (λ e. correct_alloc_made_pat (pat.Expr e) (Some at)))
     (λ final ps m m' i g row. place_at m row.second row.before.nodes (λ c d le le'.
     rw (append-nil (reached_to (store_of final) d row.one)) (row.first.spread d (omega (le', row.after.nodes, arith)))))
 
@@ -232,23 +249,34 @@ pub dots_own : {q : Elements → Lowering Elements} → ((done : Elements) → C
 dots_own hs done =
     correct_as (hs (forms.add_target_dots done)) (λ final ps m m' r g row. record { new = row.new; is = row.is; rel = row.rel })
 
+-- behind a call that stands for two dots
+pub noted_own : (c : Called) {done : Elements} {p : Lowering Elements} → Correct p (ElementsOwn done)
+    → Correct (told c >>= (λ u. p)) (ElementsOwn done)
+noted_own c h = correct_as (correct_bind (correct_told c) (λ u. h)) (λ final ps m m' r g row. let s = row.second in record {
+  new = s.new;
+  is = s.is;
+  rel = record {
+    spread = λ c d le le'. spread_wider m.nodes m'.nodes row.before.nodes (omega arith) (s.rel.spread c d le le');
+  };
+})
+
 -- what is a list of patterns as it is stored
-list_own : {p : Lowering Elements} (from : Option Pointer) (con : Option ℕ → List PatId → HirPat)
+list_own : {p : Lowering Elements} (at : Origin) (con : Option ℕ → List PatId → HirPat)
     → ((part : PatId → List ExprId → List ExprId) (n : Option ℕ) (is : List PatId)
     → places_in part (con n is) [] ≡ places_in_each part is [])
     → Correct p (ElementsOwn no_elements)
-    → Correct (p >>= (λ r. elements_form false r >>= (λ es. alloc_pat (con es.0 es.1) from))) OwnsPlaces
-list_own from con e h = correct_as (correct_bind h (λ r. correct_bind (parts_of r) (λ es. correct_alloc_pat (con es.0 es.1) from)))
+    → Correct (p >>= (λ r. elements_form false r >>= (λ es. alloc_target (con es.0 es.1) at))) OwnsPlaces
+list_own at con e h = correct_as (correct_bind h (λ r. correct_bind (parts_of r) (λ es. correct_alloc_target (con es.0 es.1) at)))
     (λ final ps m m' i g row. let s = row.second in
     place_at m s.second (omega (row.before.nodes, s.before.nodes, arith)) (λ c d le le'.
     rw (e (places_to (store_of final) c) s.one.0 s.one.1, s.first, row.first.is)
     (spread_wider m.nodes s.middle.nodes (omega arith) s.before.nodes
     (row.first.rel.spread c d (omega (le, s.before.pats, arith)) (omega (le', s.before.nodes, s.after.nodes, arith))))))
 
-module _ (at : Pointer) {b : Lowering Elements} (hb : Correct b (ElementsOwn no_elements)) where
+module _ (at : Origin) {b : Lowering Elements} (hb : Correct b (ElementsOwn no_elements)) where
   pub tuple_target_owns : Correct (forms.tuple_target_form at b) OwnsPlaces
   unfolding forms.tuple_target_form
-  tuple_target_owns = list_own (Some at) pat.Tuple (λ part n is. refl) hb
+  tuple_target_owns = list_own at pat.Tuple (λ part n is. refl) hb
 
   pub call_target_owns : {R : Rel (Option HirPath)} {q : Lowering (Option HirPath)} → Correct q R
       → Correct (forms.call_target_form at b q) OwnsPlaces
@@ -256,20 +284,20 @@ module _ (at : Pointer) {b : Lowering Elements} (hb : Correct b (ElementsOwn no_
   call_target_owns hq = behind_path hq by
     where
       by : (o : Option HirPath) → Correct (forms.call_target_of at b o) OwnsPlaces
-      by None = absent_owns
-      by (Some p) = list_own (Some at) (pat.TupleStruct p) (λ part n is. refl) hb
+      by None = absent_owns at.call
+      by (Some p) = list_own at (pat.TupleStruct p) (λ part n is. refl) hb
 
   rest_owns : (dots : Option Pointer) → Correct (forms.rest_target dots) (OwnsIn of_present)
   rest_owns None = correct_as (correct_pure None)
       (λ final ps m m' o g row. rw row.is (record { spread = λ c d le le'. spread_none m.nodes m'.nodes }))
-  rest_owns (Some p) = correct_as (correct_bind (placeless pat.Rest (Some p) (λ part. refl)) (λ i. correct_pure (Some i)))
+  rest_owns (Some p) = correct_as (correct_bind (placeless pat.Rest (origin None p) (λ part. refl)) (λ i. correct_pure (Some i)))
       (λ final ps m m' o g row. rw (row.second.is, row.second.still) (record { spread = row.first.spread }))
 
   pub array_target_owns : (dots : Option Pointer) {a : Lowering Elements} → Correct a (ElementsOwn no_elements)
       → Correct (forms.array_target_form at dots b a) OwnsPlaces
   unfolding forms.array_target_form
   array_target_owns dots ha = correct_as (correct_bind hb (λ b. correct_bind ha (λ a. correct_bind (rest_owns dots)
-      (λ o. correct_alloc_pat (pat.Slice b.0 o a.0) (Some at)))))
+      (λ o. correct_alloc_target (pat.Slice b.0 o a.0) at))))
       (λ final ps m m' i g row. let x = row.first in let s = row.second in let y = s.first in let u = s.second in
       place_at m u.second (omega (row.before.nodes, s.before.nodes, u.before.nodes, arith)) (λ c d le le'.
       let part = places_to (store_of final) c in
@@ -330,16 +358,16 @@ target_fields_more {final = final} {ps = ps} {m = m} {n = n} {m' = m'} done (Som
   };
 }
 
-pub record_target_owns : (at : Pointer) (dots : Bool) (spread : Option Pointer) {fs : Lowering (List RecordFieldPat)}
+pub record_target_owns : (at : Origin) (dots : Bool) (spread : Option Pointer) {fs : Lowering (List RecordFieldPat)}
     {R : Rel (Option HirPath)} {q : Lowering (Option HirPath)} → Correct q R → Correct fs (Pushed [] (OwnsIn of_target_fields))
     → Correct (forms.record_target_form at dots spread fs q) OwnsPlaces
 unfolding forms.record_target_form
 record_target_owns at dots spread {fs = fs} hq h = behind_path hq by
   where
     by : (o : Option HirPath) → Correct (forms.record_target_of at dots spread fs o) OwnsPlaces
-    by None = absent_owns
+    by None = absent_owns at.call
     by (Some p) = correct_as (correct_bind (spread_any spread) (λ u. correct_bind h
-        (λ fs. correct_alloc_pat (pat.Record p fs dots) (Some at))))
+        (λ fs. correct_alloc_target (pat.Record p fs dots) at)))
         (λ final ps m m' i g row. let s = row.second in
         place_at m s.second (omega (row.before.nodes, s.before.nodes, arith)) (λ c d le le'. rw s.first.is
         (spread_wider m.nodes s.middle.nodes row.before.nodes (omega arith)

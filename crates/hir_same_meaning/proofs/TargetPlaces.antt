@@ -15,19 +15,22 @@ use Rattle.hir_store.specs.declared.pat.Pat.TheVariants as pat
 use Rattle.hir_store.specs.declared.pat.RecordFieldPat.{RecordFieldPat}
 use Rattle.hir_store.specs.declared.path.Path.{Path as HirPath}
 use Rattle.hir_env.specs.Answering.{site_of}
-use Rattle.hir_env.specs.Answered.{Called, Target}
+use Rattle.hir_env.specs.Answered.{Called, Origin, Target}
+use Rattle.hir_env.specs.Targets.{origin}
 use Rattle.hir_lower_form.specs.Calls.{told}
 use Rattle.hir_lower_form.specs.Forms.{ExprSteps, push_some, assign_form}
 use Rattle.hir_lower_form.specs.Lower.{lower_target}
-use Rattle.hir_lower_form.specs.Lowering.{Lowering, ◌>>=◌ as ◌then◌, pure, alloc_pat, report}
-use Rattle.hir_lower_form.specs.Pats.{Elements, no_elements, missing_pat, elements_form}
+use Rattle.hir_lower_form.specs.Lowering.{Lowering, ◌>>=◌ as ◌then◌, pure, report}
+use Rattle.hir_lower_form.specs.Pats.{Elements, no_elements, elements_form}
 use Rattle.hir_lower_form.specs.Targets as forms
-use Rattle.hir_steps.proofs.Calls.{correct_told}
+use Rattle.hir_lower_form.specs.Targets.{alloc_target}
+use Rattle.hir_steps.proofs.Calls.{correct_point_target, correct_told}
 use Rattle.hir_steps.proofs.Frames.{Frame, scopes, Falls, falls_more}
 use Rattle.hir_steps.proofs.PatAny.{dots_any}
-use Rattle.hir_steps.proofs.PatSteps.{AllocatedPat, correct_alloc_pat, correct_point_pat_field}
+use Rattle.hir_steps.proofs.PatSteps.{AllocatedPatBy, PutPat, correct_alloc_made_pat, correct_point_pat_field}
 use Rattle.hir_steps.proofs.Steps.{Mark, Grows, Rel, Correct, Allocated, correct_bind, correct_as, correct_both, correct_in_store}
 use Rattle.hir_steps.proofs.Steps.{correct_pure, correct_alloc, correct_report}
+use Rattle.hir_steps.proofs.TargetSteps.{correct_alloc_target}
 use Rattle.hir_steps.proofs.TypeAny.{Any, any, pure_any}
 use Rattle.hir_data.specs.Data.{PatData}
 use Rattle.hir_data.specs.Reading.{stored_pat}
@@ -91,8 +94,8 @@ pub record PlacesAre (x : Placing) (final : Stored) (ps : List Frame) (m m' : Ma
   pub put : (c : ℕ) → m'.pats ≤ c → Put (base_of m) m'.nodes x final ps (places_to (store_of final) c i)
 
 -- one that was stored under the number from
-places_at : {p : HirPat} {source : Option Pointer} {x : Placing} {final : Stored} {ps qs : List Frame} {m0 m m' : Mark} {i : PatId}
-    → AllocatedPat p source final qs m m' i
+places_at : {set : PutPat} {p : HirPat} {source : Option Pointer} {x : Placing} {final : Stored} {ps qs : List Frame} {m0 m m' : Mark}
+    {i : PatId} → AllocatedPatBy set p source final qs m m' i
     → ((c : ℕ) → m.pats ≤ c → Put (base_of m0) m'.nodes x final ps (places_in (places_to (store_of final) c) p))
     → PlacesAre x final ps m0 m' i
 unfolding places_to
@@ -107,37 +110,49 @@ places_at {p = p} {x = x} {final = final} {ps = ps} {m0 = m0} {m' = m'} {i = i} 
 
 -- ---- without places
 
-without : (p : HirPat) (source : Option Pointer)
-    → ((part : PatId → List ExprId → List ExprId) (is : List ExprId) → places_in part p is ≡ is)
-    → Correct (alloc_pat p source) (PlacesAre nothing)
-without p source e = correct_as (correct_alloc_pat p source)
-    (λ final ps m m' i g at. places_at at (λ c le. record {
-      same = λ turns d ge f names few is n h. rw (e (places_to (store_of final) c) is) h;
-      jumps = λ d ge is h. rw (e (places_to (store_of final) c) is) h;
-    }))
+-- it holds none
+abbrev Placeless : HirPat → Type 0
+Placeless p = (part : PatId → List ExprId → List ExprId) (is : List ExprId) → places_in part p is ≡ is
 
-pub absent_places : Correct missing_pat (PlacesAre nothing)
-unfolding missing_pat
-absent_places = without pat.Missing None (λ part is. refl)
+none_at : {set : PutPat} {p : HirPat} {source : Option Pointer} {final : Stored} {ps qs : List Frame} {m m' : Mark} {i : PatId}
+    → Placeless p → AllocatedPatBy set p source final qs m m' i → PlacesAre nothing final ps m m' i
+none_at {final = final} e at = places_at at (λ c le. record {
+  same = λ turns d ge f names few is n h. rw (e (places_to (store_of final) c) is) h;
+  jumps = λ d ge is h. rw (e (places_to (store_of final) c) is) h;
+})
 
-pub wild_places : (at : Pointer) → Correct (alloc_pat pat.Wild (Some at)) (PlacesAre nothing)
-wild_places at = without pat.Wild (Some at) (λ part is. refl)
+without : (p : HirPat) (at : Origin) → Placeless p → Correct (alloc_target p at) (PlacesAre nothing)
+without p at e = correct_as (correct_alloc_target p at) (λ final ps m m' i g at. none_at e at)
+
+pub absent_places : (call : Option Pointer) → Correct (forms.missing_target call) (PlacesAre nothing)
+absent_places call = correct_as (correct_alloc_made_pat pat.Missing call) (λ final ps m m' i g at. none_at (λ part is. refl) at)
+
+pub wild_places : (at : Origin) → Correct (alloc_target pat.Wild at) (PlacesAre nothing)
+wild_places at = without pat.Wild at (λ part is. refl)
 
 -- a call is what it stands for
-pub told_places : (c : Called) {x : Placing} {p : Lowering PatId} → Correct p (PlacesAre x)
+told_places : (c : Called) {x : Placing} {p : Lowering PatId} → Correct p (PlacesAre x)
     → Correct (◌then◌ (told c) (λ u. p)) (PlacesAre x)
 told_places c h = correct_as (correct_bind (correct_told c) (λ u. h))
     (λ final ps m m' i g row. record { put = λ c le. put_within (omega arith) (omega arith) (row.second.put c le) })
 
-pub path_places : (at : Pointer) (h : HygieneId) (y : Option PathRead) {q : Lowering (Option HirPath)} → Correct q (PathIs y)
+pub called_places : (at : Option Pointer) (c : Called) {x : Placing} {p : Lowering PatId} → Correct p (PlacesAre x)
+    → Correct (forms.called_target at c p) (PlacesAre x)
+called_places None c h = told_places c h
+called_places (Some at) c h = told_places c (correct_as (correct_bind h (λ i. correct_bind (correct_point_target at i) (λ u. correct_pure i)))
+    (λ final ps m m' i g row. rw row.second.second.is (record {
+      put = λ c le. put_within (omega arith) row.after.nodes (row.first.put c (omega (le, row.after.pats, arith)));
+    })))
+
+pub path_places : (at : Origin) (h : HygieneId) (y : Option PathRead) {q : Lowering (Option HirPath)} → Correct q (PathIs y)
     → Correct (forms.path_target_form at h q) (PlacesAre nothing)
 unfolding forms.path_target_form
 path_places at h y hq = correct_as (correct_bind hq stored)
     (λ final ps m m' i g row. record { put = λ c le. put_within (omega arith) (omega arith) (row.second.put c le) })
   where
-    stored : (o : Option HirPath) → Correct (alloc_pat (forms.path_target_of h o) (Some at)) (PlacesAre nothing)
-    stored None = without pat.Missing (Some at) (λ part is. refl)
-    stored (Some p) = without (forms.path_target_of h (Some p)) (Some at) (λ part is. refl)
+    stored : (o : Option HirPath) → Correct (alloc_target (forms.path_target_of h o) at) (PlacesAre nothing)
+    stored None = without pat.Missing at (λ part is. refl)
+    stored (Some p) = without (forms.path_target_of h (Some p)) at (λ part is. refl)
 
 -- ---- a place
 
@@ -147,7 +162,7 @@ place x turns ss m = x turns ss >>= (λ v. m >>= (λ vs. gives (v ∷ vs)))
 pub place_places : (at : Pointer) {e : ExprSteps} {x : Walk Value} → Correct e (Runs one x)
     → Correct (forms.place_form at e) (PlacesAre (place x))
 unfolding forms.place_form
-place_places at h = correct_as (correct_bind h (λ e. correct_alloc_pat (pat.Expr e) (Some at)))
+place_places at h = correct_as (correct_bind h (λ e. correct_alloc_made_pat (pat.Expr e) (Some at)))
     (λ final ps m m' i g row. places_at row.second (λ c le.
     let e = goes_within {base' = base_of m} {nodes' = m'.nodes} (omega arith) row.first in record {
       same = λ turns d ge f names few is n s. same_bind (same_fewer few (e.same turns d ge f))
@@ -189,6 +204,15 @@ dots_place hs done = correct_as (hs (forms.add_target_dots done)) (λ final ps m
   put = row.put;
 })
 
+-- behind a call that stands for two dots
+pub noted_place : (c : Called) {done : Elements} {x : Placing} {p : Lowering Elements} → Correct p (ElementsPlace done x)
+    → Correct (◌then◌ (told c) (λ u. p)) (ElementsPlace done x)
+noted_place c h = correct_as (correct_bind (correct_told c) (λ u. h)) (λ final ps m m' r g row. let s = row.second in record {
+  new = s.new;
+  is = s.is;
+  put = λ c le. put_within (omega arith) (omega arith) (s.put c le);
+})
+
 -- ---- forms of lists
 
 -- the parts as they are stored, with no comma in front
@@ -200,11 +224,11 @@ unfolding elements_form
 parts_of es = correct_as (correct_bind (dots_any false es.1) (λ place. correct_bind (correct_pure es.0) (λ ids. correct_pure (place, ids))))
     (λ final ps m m' r g row. let s = row.second in rw s.second.is s.first.is)
 
-pub tuple_places : {x : Placing} {p : Lowering Elements} (at : Pointer) → Correct p (ElementsPlace no_elements x)
+pub tuple_places : {x : Placing} {p : Lowering Elements} (at : Origin) → Correct p (ElementsPlace no_elements x)
     → Correct (forms.tuple_target_form at p) (PlacesAre x)
 unfolding forms.tuple_target_form
 tuple_places at h = correct_as (correct_bind h (λ r. correct_bind (parts_of r)
-    (λ es. correct_alloc_pat (pat.Tuple es.0 es.1) (Some at))))
+    (λ es. correct_alloc_target (pat.Tuple es.0 es.1) at)))
     (λ final ps m m' i g row. let e = row.first in let s = row.second in
     places_at s.second (λ c le. rw (s.first, e.is)
     (put_within (omega arith) (omega (s.before.nodes, s.after.nodes, arith)) (e.put c (omega (le, s.before.pats, arith))))))
@@ -233,15 +257,15 @@ found_places y {x = x} hq g none' some' = correct_as (correct_bind hq found)
     join final ps m n m' (Some z) None i a h le = absurd a
     join final ps m n m' (Some z) (Some o) i a h le = record { put = λ c ge. put_within le (omega arith) (h.put c ge) }
 
-pub call_places : {x : Placing} {p : Lowering Elements} {q : Lowering (Option HirPath)} (y : Option PathRead) (at : Pointer)
+pub call_places : {x : Placing} {p : Lowering Elements} {q : Lowering (Option HirPath)} (y : Option PathRead) (at : Origin)
     → Correct q (PathIs y) → Correct p (ElementsPlace no_elements x)
     → Correct (forms.call_target_form at p q) (PlacesAre (λ turns ss m. if_read y (x turns ss m) m))
 unfolding forms.call_target_form
-call_places {x = x} {p = p} y at hq h = found_places y hq (forms.call_target_of at p) absent_places there
+call_places {x = x} {p = p} y at hq h = found_places y hq (forms.call_target_of at p) (absent_places at.call) there
   where
     there : (o : HirPath) → Correct (forms.call_target_of at p (Some o)) (PlacesAre x)
     there o = correct_as (correct_bind h (λ r. correct_bind (parts_of r)
-        (λ es. correct_alloc_pat (pat.TupleStruct o es.0 es.1) (Some at))))
+        (λ es. correct_alloc_target (pat.TupleStruct o es.0 es.1) at)))
         (λ final ps m m' i g row. let e = row.first in let s = row.second in
         places_at s.second (λ c le. rw (s.first, e.is)
         (put_within (omega arith) (omega (s.before.nodes, s.after.nodes, arith)) (e.put c (omega (le, s.before.pats, arith))))))
@@ -252,15 +276,15 @@ record RestIs (final : Stored) (ps : List Frame) (m m' : Mark) (o : Option PatId
 
 rest_places : (dots : Option Pointer) → Correct (forms.rest_target dots) RestIs
 rest_places None = correct_as (correct_pure None) (λ final ps m m' o g row. rw row.is (record { put = λ c le. put_nothing }))
-rest_places (Some at) = correct_as (correct_bind (without pat.Rest (Some at) (λ part is. refl)) (λ i. correct_pure (Some i)))
+rest_places (Some at) = correct_as (correct_bind (without pat.Rest (origin None at) (λ part is. refl)) (λ i. correct_pure (Some i)))
     (λ final ps m m' o g row. rw (row.second.is, row.second.still) (record { put = row.first.put }))
 
-pub array_places : {x y : Placing} {p q : Lowering Elements} (at : Pointer) (dots : Option Pointer)
+pub array_places : {x y : Placing} {p q : Lowering Elements} (at : Origin) (dots : Option Pointer)
     → Correct p (ElementsPlace no_elements x) → Correct q (ElementsPlace no_elements y)
     → Correct (forms.array_target_form at dots p q) (PlacesAre (both x y))
 unfolding forms.array_target_form
 array_places at dots h k = correct_as (correct_bind h (λ b. correct_bind k (λ a. correct_bind (rest_places dots)
-    (λ o. correct_alloc_pat (pat.Slice b.0 o a.0) (Some at)))))
+    (λ o. correct_alloc_target (pat.Slice b.0 o a.0) at))))
     (λ final ps m m' i g row. let b = row.first in let s = row.second in let a = s.first in let u = s.second in
     places_at u.second (λ c le. rw (b.is, a.is) (put_both
     (put_within (omega arith) (omega (s.before.nodes, u.before.nodes, u.after.nodes, arith)) (b.put c
@@ -336,15 +360,15 @@ spread_any None = pure_any tt
 spread_any (Some at) = any (correct_report _)
 
 pub record_places : {x : Placing} {p : Lowering (List RecordFieldPat)} {q : Lowering (Option HirPath)} (y : Option PathRead)
-    (at : Pointer) (dots : Bool) (spread : Option Pointer) → Correct q (PathIs y) → Correct p (Pushed [] (FieldsPlace x))
+    (at : Origin) (dots : Bool) (spread : Option Pointer) → Correct q (PathIs y) → Correct p (Pushed [] (FieldsPlace x))
     → Correct (forms.record_target_form at dots spread p q) (PlacesAre (λ turns ss m. if_read y (x turns ss m) m))
 unfolding forms.record_target_form
 record_places {x = x} {p = p} y at dots spread hq h =
-    found_places y hq (forms.record_target_of at dots spread p) absent_places there
+    found_places y hq (forms.record_target_of at dots spread p) (absent_places at.call) there
   where
     there : (o : HirPath) → Correct (forms.record_target_of at dots spread p (Some o)) (PlacesAre x)
     there o = correct_as (correct_bind (spread_any spread) (λ u. correct_bind h
-        (λ fs. correct_alloc_pat (pat.Record o fs dots) (Some at))))
+        (λ fs. correct_alloc_target (pat.Record o fs dots) at)))
         (λ final ps m m' i g row. let s = row.second in let e = s.first in
         places_at s.second (λ c le. rw e.is (put_within (under_grown row.before) s.after.nodes (e.rel.put c le))))
 

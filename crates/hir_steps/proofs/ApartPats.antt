@@ -1,4 +1,4 @@
--- What is done with patterns, targets, ranges and arms is made of steps, so that made names stay apart.
+-- What is done with patterns, ranges and arms is made of steps, so that made names stay apart.
 use Rattle.std.proofs.Common.{ℕ, suc, Bool, true, false, List, [], ◌∷◌, Option, Some, None}
 use Rattle.hir_base.specs.declared.op.RangeOp.{RangeOp}
 use Rattle.hir_store.specs.Names.{IsWritten}
@@ -6,7 +6,6 @@ use Rattle.hir_store.specs.Pointers.{Pointer}
 use Rattle.hir_store.specs.declared.hir.MatchArm.{MatchArm}
 use Rattle.hir_store.specs.declared.ids.BindingId.{BindingId}
 use Rattle.hir_store.specs.declared.ids.ExprId.{ExprId}
-use Rattle.hir_store.specs.declared.ids.HygieneId.{HygieneId}
 use Rattle.hir_store.specs.declared.ids.LangItemId.{LangItemId}
 use Rattle.hir_store.specs.declared.ids.PatId.{PatId}
 use Rattle.hir_store.specs.declared.ids.TypeRefId.{TypeRefId}
@@ -23,7 +22,7 @@ use Rattle.hir_lower_form.specs.Pats.{Key, Table, Notes, Elements, PatSteps, mis
 use Rattle.hir_lower_form.specs.Ranges as ranges
 use Rattle.hir_lower_form.specs.Targets as targets
 use Rattle.hir_lower_form.specs.Types.{TypeSteps, pattern_type_form}
-use Rattle.hir_steps.proofs.Apart.{Apart, binding_apart, define_apart, expr_apart, point_pat_field_apart, pure_apart, report_apart}
+use Rattle.hir_steps.proofs.Apart.{Apart, binding_apart, define_apart, expr_apart, point_pat_field_apart, pure_apart}
 use Rattle.hir_steps.proofs.Apart.{set_problem_apart, stored_pat_apart, stored_type_apart, then_apart}
 use Rattle.hir_steps.proofs.Steps.{Correct, correct_count_out}
 
@@ -208,56 +207,6 @@ module _ (at : Pointer) where
       → Correct (pattern_type_form at t p) Apart
   unfolding pattern_type_form
   pattern_type_apart ht hp = then_apart ht (λ t. then_apart hp (λ p. stored_type_apart _ _))
-
-  -- ---- targets
-
-  pub place_target_apart : {e : ExprSteps} → Correct e Apart → Correct (targets.place_form at e) Apart
-  unfolding targets.place_form
-  place_target_apart h = then_apart h (λ e. stored_pat_apart _ (Some at))
-
-  pub path_target_apart : (h : HygieneId) {q : Lowering (Option HirPath)} → Correct q Apart
-      → Correct (targets.path_target_form at h q) Apart
-  unfolding targets.path_target_form
-  path_target_apart h hq = then_apart hq (λ p. stored_pat_apart _ (Some at))
-
-  pub tuple_target_apart : {ps : Lowering Elements} → Correct ps Apart → Correct (targets.tuple_target_form at ps) Apart
-  unfolding targets.tuple_target_form
-  tuple_target_apart h = then_apart h (λ r. then_apart (elements_apart false r) (λ es. stored_pat_apart _ (Some at)))
-
-  call_target_of_apart : {ps : Lowering Elements} → Correct ps Apart → (o : Option HirPath) → Correct (targets.call_target_of at ps o) Apart
-  call_target_of_apart h None = missing_pat_apart
-  call_target_of_apart h (Some o) = then_apart h (λ r. then_apart (elements_apart false r) (λ es. stored_pat_apart _ (Some at)))
-
-  pub call_target_apart : {ps : Lowering Elements} {q : Lowering (Option HirPath)} → Correct ps Apart → Correct q Apart
-      → Correct (targets.call_target_form at ps q) Apart
-  unfolding targets.call_target_form
-  call_target_apart h hq = then_apart hq (λ o. call_target_of_apart h o)
-
-  pub array_target_apart : (dots : Option Pointer) {b a : Lowering Elements} → Correct b Apart → Correct a Apart
-      → Correct (targets.array_target_form at dots b a) Apart
-  unfolding targets.array_target_form
-  array_target_apart dots hb ha =
-      then_apart hb (λ b. then_apart ha (λ a. then_apart (rest_apart dots) (λ m. stored_pat_apart _ (Some at))))
-    where
-      rest_apart : (dots : Option Pointer) → Correct (targets.rest_target dots) Apart
-      rest_apart None = pure_apart None
-      rest_apart (Some p) = then_apart (stored_pat_apart _ (Some p)) (λ i. pure_apart (Some i))
-
-  record_target_of_apart : (dots : Bool) (spread : Option Pointer) {fs : Lowering (List RecordFieldPat)} → Correct fs Apart
-      → (o : Option HirPath) → Correct (targets.record_target_of at dots spread fs o) Apart
-  record_target_of_apart dots spread h None = missing_pat_apart
-  record_target_of_apart dots spread h (Some o) =
-      then_apart (spread_apart spread) (λ u. then_apart h (λ fs. stored_pat_apart _ (Some at)))
-    where
-      spread_apart : (spread : Option Pointer) → Correct (targets.report_spread spread) Apart
-      spread_apart None = pure_apart tt
-      spread_apart (Some p) = report_apart _
-
-  pub record_target_apart : (dots : Bool) (spread : Option Pointer) {fs : Lowering (List RecordFieldPat)}
-      {q : Lowering (Option HirPath)} → Correct fs Apart → Correct q Apart
-      → Correct (targets.record_target_form at dots spread fs q) Apart
-  unfolding targets.record_target_form
-  record_target_apart dots spread h hq = then_apart hq (λ o. record_target_of_apart dots spread h o)
 
   pub target_field_apart : (n : Option Name) {p : Lowering PatId} → Correct p Apart → Correct (targets.target_field_form at n p) Apart
   unfolding targets.target_field_form

@@ -37,20 +37,23 @@ use Rattle.hir_lower_form.specs.Pats.{Table, no_names, next_alternative, Element
 use Rattle.hir_steps.proofs.Apart.{Apart, closure_apart, constant_apart, coroutine_apart, inner_apart}
 use Rattle.hir_steps.proofs.Apart.{owning_apart, pure_apart, report_apart}
 use Rattle.hir_steps.proofs.Apart.{stored_pat_apart, stored_type_apart, then_apart}
-use Rattle.hir_steps.proofs.ApartPats.{alone_apart, arm_apart, array_target_apart, assign_apart, before_apart, bind_apart}
-use Rattle.hir_steps.proofs.ApartPats.{call_target_apart, element_apart, item_apart, let_apart, let_stmt_apart, limits_apart}
+use Rattle.hir_steps.proofs.ApartPats.{alone_apart, arm_apart, assign_apart, before_apart, bind_apart}
+use Rattle.hir_steps.proofs.ApartPats.{element_apart, item_apart, let_apart, let_stmt_apart, limits_apart}
 use Rattle.hir_steps.proofs.ApartPats.{literal_limit_apart, literal_pat_apart, literal_side_apart, match_apart, missing_pat_apart}
 use Rattle.hir_steps.proofs.ApartPats.{name_limit_apart, name_side_apart, or_apart, over_pat_apart, pat_field_apart, path_limit_apart}
-use Rattle.hir_steps.proofs.ApartPats.{path_pat_apart, path_side_apart, path_target_apart, pattern_type_apart, place_target_apart}
-use Rattle.hir_steps.proofs.ApartPats.{range_apart, range_pat_apart, record_pat_apart, record_target_apart, settle_apart}
-use Rattle.hir_steps.proofs.ApartPats.{slice_pat_apart, target_field_apart, tuple_pat_apart, tuple_struct_apart, tuple_target_apart}
+use Rattle.hir_steps.proofs.ApartPats.{path_pat_apart, path_side_apart, pattern_type_apart}
+use Rattle.hir_steps.proofs.ApartPats.{range_apart, range_pat_apart, record_pat_apart, settle_apart}
+use Rattle.hir_steps.proofs.ApartPats.{slice_pat_apart, target_field_apart, tuple_pat_apart, tuple_struct_apart}
 use Rattle.hir_steps.proofs.ApartPats.{type_alternatives_apart}
+use Rattle.hir_steps.proofs.ApartTargets.{array_target_apart, call_target_apart, missing_target_apart, path_target_apart}
+use Rattle.hir_steps.proofs.ApartTargets.{place_target_apart, record_target_apart, tuple_target_apart}
 use Rattle.hir_steps.proofs.ApartTypes.{args_form_apart, array_apart, assoc_apart, counted_apart, dyn_apart, error_apart, fn_apart}
 use Rattle.hir_steps.proofs.ApartTypes.{impl_apart, lifetime_apart, lifetime_option_apart, over_apart, parens_form_apart}
 use Rattle.hir_steps.proofs.ApartTypes.{path_bound_apart, path_type_apart, proceed_apart, ref_apart, tuple_apart, unit_apart}
 use Rattle.hir_steps.proofs.ApartTypes.{uses_apart, whole_apart, with_trait_apart}
 use Rattle.hir_steps.proofs.ApartPreludes.{coroutine_closure_apart}
 use Rattle.hir_steps.proofs.CallForms.{called_apart, called_pat_apart, called_type_apart, gone_apart, note_apart, told_apart}
+use Rattle.hir_steps.proofs.TargetSteps.{alloc_target_apart, called_target_apart}
 use Rattle.hir_steps.proofs.CallForms.{uncalled_apart, uncalled_pat_apart, uncalled_type_apart}
 use Rattle.hir_steps.proofs.Definitions.{behind_apart, define_apart}
 use Rattle.hir_steps.proofs.Steps.{Correct}
@@ -404,10 +407,10 @@ mutual
   -- targets
 
   pub target_apart : (t : Target) → Correct (lower_target t) Apart
-  target_apart tree.absent_target = missing_pat_apart
+  target_apart (tree.absent_target call) = missing_target_apart call
   target_apart (tree.place_target at e) = place_target_apart at (node_apart e)
-  target_apart (tree.macro_target at c t) = then_apart (told_apart c) (λ u. target_apart t)
-  target_apart (tree.wild_target at) = stored_pat_apart _ (Some at)
+  target_apart (tree.macro_target at c t) = called_target_apart at c (target_apart t)
+  target_apart (tree.wild_target at) = alloc_target_apart _ at
   target_apart (tree.path_target at p h) = path_target_apart at h (then_apart (reading_apart p start) (λ r. pure_apart (path_read r)))
   target_apart (tree.tuple_target at ts) = tuple_target_apart at (targets_apart no_elements ts)
   target_apart (tree.call_target at p ts) = call_target_apart at (targets_apart no_elements ts) (lower_path_apart p)
@@ -420,6 +423,7 @@ mutual
   targets_apart done tree.no_targets = pure_apart done
   targets_apart done (tree.more_targets t ts) = then_apart (target_apart t) (λ i. targets_apart _ ts)
   targets_apart done (tree.dots_targets ts) = targets_apart _ ts
+  targets_apart done (tree.noted_targets called ts) = then_apart (told_apart called) (λ u. targets_apart done ts)
 
   pub target_fields_apart : (done : List RecordFieldPat) (fs : TargetFields) → Correct (lower_target_fields done fs) Apart
   target_fields_apart done tree.no_target_fields = pure_apart done

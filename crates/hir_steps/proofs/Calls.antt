@@ -14,14 +14,16 @@ use Rattle.hir_store.specs.declared.ids.PatId.{PatId}
 use Rattle.hir_store.specs.declared.ids.TypeRefId.{TypeRefId}
 use Rattle.hir_store.proofs.Arenas.{continues_refl, prefix_refl}
 use Rattle.hir_store.proofs.BindingLemmas.{bindings_refl}
-use Rattle.hir_store.proofs.Extending.{extends_point_pat, extends_point_type}
+use Rattle.hir_store.proofs.Extending.{extends_point_pat, extends_point_target, extends_point_type}
+use Rattle.hir_store.proofs.Maps.{entered}
 use Rattle.hir_env.specs.NodeMap.{Site}
 use Rattle.hir_env.specs.Answers.{Eager}
 use Rattle.hir_env.specs.Answered as tree
 use Rattle.hir_env.specs.Answered.{Called, Entered, Gone}
 use Rattle.hir_lower_form.specs.Builder.{Builder}
 use Rattle.hir_lower_form.specs.Calls.{note, note_each, note_gone, record_each, report_condition, told}
-use Rattle.hir_lower_form.specs.Lowering.{go_on, Lowering, ◌>>◌, pure, point_pat, point_type, record_expansion, report}
+use Rattle.hir_lower_form.specs.Lowering.{go_on, Lowering, ◌>>◌, pure, point_pat, point_target, point_type, record_expansion}
+use Rattle.hir_lower_form.specs.Lowering.{report}
 use Rattle.hir_steps.specs.Calls.{Expansions, called_faults, condition_faults, eager_expansion, expansions_of_called}
 use Rattle.hir_steps.specs.Calls.{expansions_of_each, expansions_of_entered, expansions_of_gone, with_told}
 use Rattle.hir_steps.proofs.Apart.{Apart, apart_stored}
@@ -109,6 +111,7 @@ extends_told es ds s = record {
   types = continues_refl s.types;
   lifetimes = continues_refl s.lifetimes;
   roots = prefix_refl s.roots;
+  target_nodes = prefix_refl _;
   field_map_back = prefix_refl s.field_map_back;
   pat_field_map_back = prefix_refl s.pat_field_map_back;
   block_scopes = prefix_refl s.block_scopes;
@@ -124,7 +127,7 @@ correct_only {es = es} {ds = ds} {p = p} h = record {
       in_root = refl;
       roots = λ t. refl;
       paired = λ d. record { exprs = d.exprs; labels = d.labels; pats = d.pats; types = d.types; lifetimes = d.lifetimes };
-      mapped = λ d w. record { pats = w.pats; types = w.types; lifetimes = w.lifetimes };
+      mapped = λ d w. record { types = w.types; lifetimes = w.lifetimes };
       stays = extends_told es ds b.stored;
     };
     grows = grows_still (mark b) _ refl;
@@ -179,7 +182,7 @@ correct_point_pat node id = record {
       in_root = refl;
       roots = λ t. refl;
       paired = λ d. record { exprs = d.exprs; labels = d.labels; pats = d.pats; types = d.types; lifetimes = d.lifetimes };
-      mapped = λ d w. record { pats = leads_way b.stored.pats w.pats node id; types = w.types; lifetimes = w.lifetimes };
+      mapped = λ d w. record { types = w.types; lifetimes = w.lifetimes };
       stays = extends_point_pat b.stored node id;
     };
     grows = grows_still (mark b) _ refl;
@@ -199,8 +202,28 @@ correct_point_type node id = record {
       in_root = refl;
       roots = λ t. refl;
       paired = λ d. record { exprs = d.exprs; labels = d.labels; pats = d.pats; types = d.types; lifetimes = d.lifetimes };
-      mapped = λ d w. record { pats = w.pats; types = leads_way b.stored.types w.types node id; lifetimes = w.lifetimes };
+      mapped = λ d w. record { types = leads_way b.stored.types w.types node id; lifetimes = w.lifetimes };
       stays = extends_point_type b.stored node id;
+    };
+    grows = grows_still (mark b) _ refl;
+    in_final = λ d pre. record { counts_are = refl; stored = refl };
+  };
+}
+
+abbrev pub pointing_target : Pointer → PatId → Stored → Stored
+pointing_target p id s = record s { target_map = entered p id s.target_map }
+
+pub correct_point_target : (node : Pointer) (id : PatId) → Correct (point_target node id) (PatWrites (pointing_target node id))
+unfolding point_target storing.point_target
+correct_point_target node id = record {
+  holds = λ final ps b r. record {
+    kept = record {
+      scopes = refl;
+      in_root = refl;
+      roots = λ t. refl;
+      paired = λ d. record { exprs = d.exprs; labels = d.labels; pats = d.pats; types = d.types; lifetimes = d.lifetimes };
+      mapped = λ d w. record { types = w.types; lifetimes = w.lifetimes };
+      stays = extends_point_target b.stored node id;
     };
     grows = grows_still (mark b) _ refl;
     in_final = λ d pre. record { counts_are = refl; stored = refl };
@@ -211,6 +234,10 @@ pub still_point_pat : (node : Pointer) (id : PatId) → Still (point_pat node id
 unfolding point_pat
 still_point_pat node id = still_stored (storing.point_pat node id)
 
+pub still_point_target : (node : Pointer) (id : PatId) → Still (point_target node id)
+unfolding point_target
+still_point_target node id = still_stored (storing.point_target node id)
+
 pub still_point_type : (node : Pointer) (id : TypeRefId) → Still (point_type node id)
 unfolding point_type
 still_point_type node id = still_stored (storing.point_type node id)
@@ -218,6 +245,10 @@ still_point_type node id = still_stored (storing.point_type node id)
 pub point_pat_apart : (node : Pointer) (id : PatId) → Correct (point_pat node id) Apart
 point_pat_apart node id = correct_as (correct_point_pat node id)
     (λ final ps m m' u g row. apart_stored (pointing_pat node id) m m' (ap (λ c. c.7) row.counts_are) row.stored (λ s k. refl))
+
+pub point_target_apart : (node : Pointer) (id : PatId) → Correct (point_target node id) Apart
+point_target_apart node id = correct_as (correct_point_target node id)
+    (λ final ps m m' u g row. apart_stored (pointing_target node id) m m' (ap (λ c. c.7) row.counts_are) row.stored (λ s k. refl))
 
 pub point_type_apart : (node : Pointer) (id : TypeRefId) → Correct (point_type node id) Apart
 point_type_apart node id = correct_as (correct_point_type node id)

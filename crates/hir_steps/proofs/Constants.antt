@@ -87,7 +87,7 @@ module _ {A : Type 0} (make : ExprId → A) where
               roots = λ t. absurd (true≢false (sym t ∙ e));
               paired = λ d. let y = x.kept.paired d in
                   record { exprs = y.exprs; labels = y.labels; pats = y.pats; types = y.types; lifetimes = y.lifetimes };
-              mapped = λ d w. let y = x.kept.mapped d w in record { pats = y.pats; types = y.types; lifetimes = y.lifetimes };
+              mapped = λ d w. let y = x.kept.mapped d w in record { types = y.types; lifetimes = y.lifetimes };
               stays = extends_trans x.kept.stays more;
             };
             grows = grows_trans x.grows (grows_still (mark c) _ refl);

@@ -1,7 +1,6 @@
 -- Definitions of macros: how many stand before one is counted, and steps behind one are inside of it.
-use Rattle.std.proofs.Common.{◌≡◌, ℕ, suc, Bool, true, false, if◌then◌else◌, nat_lt, ◌^◌, List, ◌∷◌, Option, Some, None, Ok, Err, ap, ◌∙◌}
+use Rattle.std.proofs.Common.{ℕ, suc, Bool, true, false, if◌then◌else◌, nat_lt, ◌^◌, List, ◌∷◌, Option, Some, Ok, Err, ap, ◌∙◌}
 use Rattle.hir_store.specs.Stored.{Stored}
-use Rattle.hir_store.specs.declared.hir.Statement.{Statement}
 use Rattle.hir_store.specs.declared.ids.MacroDefId.{MacroDefId}
 use Rattle.hir_scope.specs.Ribs.{macro_rib}
 use Rattle.hir_lower_scope.specs.Labels.{rest}
@@ -9,10 +8,10 @@ use Rattle.hir_lower_form.specs.Builder.{Builder}
 use Rattle.hir_env.specs.Answered as tree
 use Rattle.hir_env.specs.Answered.{Stmt}
 use Rattle.hir_lower_form.specs.Calls.{behind, define_form, defined, inside_macro}
-use Rattle.hir_lower_form.specs.Lowering.{Checked, go_on, Lowering, ◌>>=◌, ◌>>◌, pure, close, count_def, count_out, open_macro}
+use Rattle.hir_lower_form.specs.Lowering.{Checked, go_on, Lowering, pure, close, count_def, count_out, open_macro}
 use Rattle.hir_steps.proofs.Apart.{Apart, apart_of, apart_still}
-use Rattle.hir_steps.proofs.Frames.{Frame, macro_at, ribs}
-use Rattle.hir_steps.proofs.Logic.{Rel, Answers, Holds, Correct, IsPure, correct_bind, correct_as, correct_pure}
+use Rattle.hir_steps.proofs.Frames.{Frame, macro_at}
+use Rattle.hir_steps.proofs.Logic.{Rel, Holds, Correct, IsPure, correct_bind, correct_as, correct_pure}
 use Rattle.hir_steps.proofs.Steps.{correct_count_out}
 
 -- ---- inside of a definition
@@ -21,7 +20,8 @@ use Rattle.hir_steps.proofs.Steps.{correct_count_out}
 abbrev pub InMacro : {A : Type 0} → MacroDefId → Rel A → Rel A
 InMacro d R = λ final ps m m' a. R final (macro_at d ∷ ps) m m' a
 
-pub correct_inside_macro : {A : Type 0} {R : Rel A} (d : MacroDefId) {p : Lowering A} → Correct p R → Correct (inside_macro d p) (InMacro d R)
+pub correct_inside_macro : {A : Type 0} {R : Rel A} (d : MacroDefId) {p : Lowering A} → Correct p R
+    → Correct (inside_macro d p) (InMacro d R)
 unfolding inside_macro open_macro close
 correct_inside_macro {A = A} {R = R} d {p = p} h = record {
   holds = λ final ps b e. let c = opened b in

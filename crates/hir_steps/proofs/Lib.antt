@@ -25,6 +25,8 @@ pub mod ApartPats
 pub mod ApartForms
 pub mod Calls
 pub mod CallForms
+pub mod TargetSteps
+pub mod ApartTargets
 pub mod Definitions
 pub mod ApartTree
 pub mod TypeAny

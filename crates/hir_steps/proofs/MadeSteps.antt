@@ -68,7 +68,7 @@ correct_alloc_made e source =
               types = d.types;
               lifetimes = d.lifetimes;
             };
-            mapped = λ d w. record { pats = w.pats; types = w.types; lifetimes = w.lifetimes };
+            mapped = λ d w. record { types = w.types; lifetimes = w.lifetimes };
             stays = record {
               exprs = continues_made s.exprs e source;
               labels = continues_refl s.labels;
@@ -77,6 +77,7 @@ correct_alloc_made e source =
               types = continues_refl s.types;
               lifetimes = continues_refl s.lifetimes;
               roots = prefix_refl s.roots;
+              target_nodes = prefix_refl _;
               field_map_back = prefix_refl s.field_map_back;
               pat_field_map_back = prefix_refl s.pat_field_map_back;
               block_scopes = prefix_refl s.block_scopes;

@@ -2,7 +2,7 @@
 use Rattle.std.proofs.Common.{◌≡◌, ◌∙◌, sym, ap, subst, refl, ℕ, zero, suc, length, List, [], ◌∷◌, ◌++◌}
 use Rattle.std.proofs.Common.{◌⊎◌, inl, inr, ⊎_elim, Bool, true, false, true≢false, Option, Some, None, is_some, slice_get}
 use Rattle.std.proofs.lemmas.Option.{same_Some}
-use Rattle.hir_store.specs.Pointers.{Pointer, same_pointer, found, flattened}
+use Rattle.hir_store.specs.Pointers.{Pointer, same_pointer, found}
 use Rattle.hir_store.specs.Arenas.{Sourced, none_yet, with_entry, with_made, with_way}
 use Rattle.hir_store.proofs.Maps.{entered, found_new, found_other, pointer_is}
 use Rattle.hir_steps.specs.Keeps.{EachLeads, LeadsSomewhere}
@@ -40,24 +40,6 @@ module _ {T I : Type 0} where
           (λ e. absurd (true≢false (ap is_some (sym e))))
           (push_cases a.sources None (Some p) n g);
     }
-
-    -- made up for a node that leads to another one
-    made_for_node : (s : Pointer) → LeadsSomewhere a s → EachLeads (with_made a x (Some s))
-    made_for_node s led = record {
-      to_entry = λ n p g. ⊎_elim
-          (λ l. let was = h.to_entry n p l in record { id = was.id; is = was.is })
-          (λ e. record { id = led.id; is = subst (λ q. found a.map q ≡ Some led.id) (same_Some s p e) led.is })
-          (push_cases a.sources (Some s) (Some p) n g);
-    }
-
-    -- made up for the node of the entry of this number
-    pub made_beside : (n : ℕ) → EachLeads (with_made a x (flattened (slice_get a.sources n)))
-    made_beside n = by (slice_get a.sources n) refl
-      where
-        by : (o : Option (Option Pointer)) → slice_get a.sources n ≡ o → EachLeads (with_made a x (flattened o))
-        by None e = made_for_none
-        by (Some None) e = made_for_none
-        by (Some (Some s)) e = made_for_node s (h.to_entry n s e)
 
     from_node : (number : ℕ → I) (s : Pointer) → EachLeads (with_entry number a x (Some s))
     from_node number s = record {

@@ -49,7 +49,7 @@ correct_own start id = record {
       in_root = refl;
       roots = λ t. refl;
       paired = λ d. record { exprs = d.exprs; labels = d.labels; pats = d.pats; types = d.types; lifetimes = d.lifetimes };
-      mapped = λ d w. record { pats = w.pats; types = w.types; lifetimes = w.lifetimes };
+      mapped = λ d w. record { types = w.types; lifetimes = w.lifetimes };
       stays = extends_owner b.stored start id;
     };
     grows = grows_still (mark b) _ refl;

@@ -24,7 +24,6 @@ use Rattle.hir_lower_form.specs.Lowering.{Checked, alloc_pat, alloc_made_pat, al
 use Rattle.hir_lower_form.specs.Preludes.{alloc_beside, pat_source}
 use Rattle.hir_steps.proofs.Frames.{Frame}
 use Rattle.hir_steps.proofs.Logic.{Mark, mark, counts, Holds, Rel, Correct, grows_still, in_prefix, one_more}
-use Rattle.hir_steps.proofs.Mapping.{leads_entry, made_beside}
 
 -- a pattern
 
@@ -81,11 +80,7 @@ correct_alloc_pat p source =
               types = d.types;
               lifetimes = d.lifetimes;
             };
-            mapped = λ d w. record {
-              pats = leads_entry s.pats p w.pats pat_id source;
-              types = w.types;
-              lifetimes = w.lifetimes;
-            };
+            mapped = λ d w. record { types = w.types; lifetimes = w.lifetimes };
             stays = record {
               exprs = continues_refl s.exprs;
               labels = continues_refl s.labels;
@@ -94,6 +89,7 @@ correct_alloc_pat p source =
               types = continues_refl s.types;
               lifetimes = continues_refl s.lifetimes;
               roots = prefix_refl s.roots;
+              target_nodes = prefix_refl _;
               field_map_back = prefix_refl s.field_map_back;
               pat_field_map_back = prefix_refl s.pat_field_map_back;
               block_scopes = prefix_refl s.block_scopes;
@@ -138,11 +134,83 @@ put_made_pat p source s = record s { pats = with_made s.pats p source }
 abbrev pub source_in : Stored → PatId → Option Pointer
 source_in s p = flattened (slice_get s.pats.sources p.0)
 
+abbrev pub AllocatedMadePat : Pat → Option Pointer → Rel PatId
+AllocatedMadePat = AllocatedPatBy put_made_pat
+
 abbrev pub AllocatedBeside : Pat → PatId → Rel PatId
 AllocatedBeside p own = λ final ps m m' i. AllocatedPatBy put_made_pat p (source_in m.stored own) final ps m m' i
 
 abbrev put_pat : Bool → Pat → Option Pointer → Sourced Pat PatId → Checked PatId × Sourced Pat PatId
 put_pat room p source a = if room then (Ok (pat_id (length a.entries)), with_made a p source) else (Err Full, a)
+
+put_holds : (p : Pat) (source : Option Pointer) (final : Stored) (ps : List Frame) (b : Builder) (room : Bool)
+    → Holds (AllocatedMadePat p source) final ps b (put_pat room p source b.stored.pats).0
+    (record b { stored = record b.stored { pats = (put_pat room p source b.stored.pats).1 } })
+put_holds p source final ps b true =
+    let s = b.stored in
+    let xs = s.pats.entries in
+    let ss = s.pats.sources in
+    let grown = length-append xs (p ∷ []) in record {
+      kept = record {
+        scopes = refl;
+        in_root = refl;
+        roots = λ t. refl;
+        paired = λ d. record {
+          exprs = d.exprs;
+          labels = d.labels;
+          pats = one_more xs p ss source d.pats;
+          types = d.types;
+          lifetimes = d.lifetimes;
+        };
+        mapped = λ d w. record { types = w.types; lifetimes = w.lifetimes };
+        stays = record {
+          exprs = continues_refl s.exprs;
+          labels = continues_refl s.labels;
+          pats = continues_made s.pats p source;
+          bindings = bindings_refl s.bindings;
+          types = continues_refl s.types;
+          lifetimes = continues_refl s.lifetimes;
+          roots = prefix_refl s.roots;
+          target_nodes = prefix_refl _;
+          field_map_back = prefix_refl s.field_map_back;
+          pat_field_map_back = prefix_refl s.pat_field_map_back;
+          block_scopes = prefix_refl s.block_scopes;
+          expansions = prefix_refl s.expansions;
+          diagnostics = prefix_refl s.diagnostics;
+        };
+      };
+      grows = record {
+        nodes = omega arith;
+        labels = omega arith;
+        pats = omega arith;
+        bindings = omega arith;
+        types = omega arith;
+        lifetimes = omega arith;
+        entries = omega arith;
+        names = omega arith;
+      };
+      in_final = λ d pre. record {
+        number = refl;
+        here = in_prefix xs p (length xs) refl pre.pats.entries;
+        from = in_prefix ss source (length xs) (sym d.pats) pre.pats.sources;
+        next = omega arith;
+        entries = omega arith;
+        nodes = refl;
+        labels = refl;
+        bindings = refl;
+        types = refl;
+        lifetimes = refl;
+        last = refl;
+        names = refl;
+        stored = refl;
+      };
+    }
+put_holds p source final ps b false = extends_refl b.stored
+
+pub correct_alloc_made_pat : (p : Pat) (source : Option Pointer) → Correct (alloc_made_pat p source) (AllocatedMadePat p source)
+unfolding alloc_made_pat storing.alloc_made_pat
+correct_alloc_made_pat p source =
+    record { holds = λ final ps b r. put_holds p source final ps b (nat_lt (length b.stored.pats.entries) b.stored.pats.limit) }
 
 pub correct_alloc_beside : (p : Pat) (own : PatId) → Correct (alloc_beside p own) (AllocatedBeside p own)
 unfolding alloc_beside pat_source alloc_made_pat storing.alloc_made_pat
@@ -153,64 +221,7 @@ correct_alloc_beside p own =
         → Holds (AllocatedBeside p own) final ps b (put_pat room p (source_in b.stored own) b.stored.pats).0
         (record b { stored = record b.stored { pats = (put_pat room p (source_in b.stored own) b.stored.pats).1 } })
     go final ps b true =
-        let s = b.stored in
-        let source = source_in s own in
-        let xs = s.pats.entries in
-        let ss = s.pats.sources in
-        let grown = length-append xs (p ∷ []) in record {
-          kept = record {
-            scopes = refl;
-            in_root = refl;
-            roots = λ t. refl;
-            paired = λ d. record {
-              exprs = d.exprs;
-              labels = d.labels;
-              pats = one_more xs p ss source d.pats;
-              types = d.types;
-              lifetimes = d.lifetimes;
-            };
-            mapped = λ d w. record { pats = made_beside s.pats p w.pats own.0; types = w.types; lifetimes = w.lifetimes };
-            stays = record {
-              exprs = continues_refl s.exprs;
-              labels = continues_refl s.labels;
-              pats = continues_made s.pats p source;
-              bindings = bindings_refl s.bindings;
-              types = continues_refl s.types;
-              lifetimes = continues_refl s.lifetimes;
-              roots = prefix_refl s.roots;
-              field_map_back = prefix_refl s.field_map_back;
-              pat_field_map_back = prefix_refl s.pat_field_map_back;
-              block_scopes = prefix_refl s.block_scopes;
-              expansions = prefix_refl s.expansions;
-              diagnostics = prefix_refl s.diagnostics;
-            };
-          };
-          grows = record {
-            nodes = omega arith;
-            labels = omega arith;
-            pats = omega arith;
-            bindings = omega arith;
-            types = omega arith;
-            lifetimes = omega arith;
-            entries = omega arith;
-            names = omega arith;
-          };
-          in_final = λ d pre. record {
-            number = refl;
-            here = in_prefix xs p (length xs) refl pre.pats.entries;
-            from = in_prefix ss source (length xs) (sym d.pats) pre.pats.sources;
-            next = omega arith;
-            entries = omega arith;
-            nodes = refl;
-            labels = refl;
-            bindings = refl;
-            types = refl;
-            lifetimes = refl;
-            last = refl;
-            names = refl;
-            stored = refl;
-          };
-        }
+        let x = put_holds p (source_in b.stored own) final ps b true in record { kept = x.kept; grows = x.grows; in_final = x.in_final }
     go final ps b false = extends_refl b.stored
 
 -- a binding, of which the problem isn't settled yet
@@ -272,7 +283,7 @@ correct_alloc_binding x =
             in_root = refl;
             roots = λ t. refl;
             paired = λ d. record { exprs = d.exprs; labels = d.labels; pats = d.pats; types = d.types; lifetimes = d.lifetimes };
-            mapped = λ d w. record { pats = w.pats; types = w.types; lifetimes = w.lifetimes };
+            mapped = λ d w. record { types = w.types; lifetimes = w.lifetimes };
             stays = record {
               exprs = continues_refl s.exprs;
               labels = continues_refl s.labels;
@@ -281,6 +292,7 @@ correct_alloc_binding x =
               types = continues_refl s.types;
               lifetimes = continues_refl s.lifetimes;
               roots = prefix_refl s.roots;
+              target_nodes = prefix_refl _;
               field_map_back = prefix_refl s.field_map_back;
               pat_field_map_back = prefix_refl s.pat_field_map_back;
               block_scopes = prefix_refl s.block_scopes;
@@ -335,7 +347,7 @@ correct_define id p = record {
       in_root = refl;
       roots = λ t. refl;
       paired = λ d. record { exprs = d.exprs; labels = d.labels; pats = d.pats; types = d.types; lifetimes = d.lifetimes };
-      mapped = λ d w. record { pats = w.pats; types = w.types; lifetimes = w.lifetimes };
+      mapped = λ d w. record { types = w.types; lifetimes = w.lifetimes };
       stays = extends_definition b.stored id p;
     };
     grows = grows_still (mark b) _ refl;
@@ -355,7 +367,7 @@ correct_point_pat_field id node = record {
       in_root = refl;
       roots = λ t. refl;
       paired = λ d. record { exprs = d.exprs; labels = d.labels; pats = d.pats; types = d.types; lifetimes = d.lifetimes };
-      mapped = λ d w. record { pats = w.pats; types = w.types; lifetimes = w.lifetimes };
+      mapped = λ d w. record { types = w.types; lifetimes = w.lifetimes };
       stays = extends_pat_field b.stored id node;
     };
     grows = grows_still (mark b) _ refl;
@@ -384,7 +396,7 @@ correct_set_problem id problem = record {
       in_root = refl;
       roots = λ t. refl;
       paired = λ d. record { exprs = d.exprs; labels = d.labels; pats = d.pats; types = d.types; lifetimes = d.lifetimes };
-      mapped = λ d w. record { pats = w.pats; types = w.types; lifetimes = w.lifetimes };
+      mapped = λ d w. record { types = w.types; lifetimes = w.lifetimes };
       stays = extends_problem b.stored id problem;
     };
     grows = grows_still (mark b) _ (problem_counts b id problem);

@@ -75,7 +75,7 @@ correct_report fault = record {
       in_root = refl;
       roots = λ t. refl;
       paired = λ d. record { exprs = d.exprs; labels = d.labels; pats = d.pats; types = d.types; lifetimes = d.lifetimes };
-      mapped = λ d w. record { pats = w.pats; types = w.types; lifetimes = w.lifetimes };
+      mapped = λ d w. record { types = w.types; lifetimes = w.lifetimes };
       stays = extends_report b.stored fault;
     };
     grows = grows_still _ _ refl;
@@ -108,7 +108,7 @@ correct_point node id = record {
       in_root = refl;
       roots = λ t. refl;
       paired = λ d. record { exprs = d.exprs; labels = d.labels; pats = d.pats; types = d.types; lifetimes = d.lifetimes };
-      mapped = λ d w. record { pats = w.pats; types = w.types; lifetimes = w.lifetimes };
+      mapped = λ d w. record { types = w.types; lifetimes = w.lifetimes };
       stays = extends_point b.stored node id;
     };
     grows = grows_still _ _ refl;
@@ -125,7 +125,7 @@ correct_point_field id node = record {
       in_root = refl;
       roots = λ t. refl;
       paired = λ d. record { exprs = d.exprs; labels = d.labels; pats = d.pats; types = d.types; lifetimes = d.lifetimes };
-      mapped = λ d w. record { pats = w.pats; types = w.types; lifetimes = w.lifetimes };
+      mapped = λ d w. record { types = w.types; lifetimes = w.lifetimes };
       stays = extends_field b.stored id node;
     };
     grows = grows_still _ _ refl;
@@ -143,7 +143,7 @@ correct_enter_block (Some n) = record {
       in_root = refl;
       roots = λ t. refl;
       paired = λ d. record { exprs = d.exprs; labels = d.labels; pats = d.pats; types = d.types; lifetimes = d.lifetimes };
-      mapped = λ d w. record { pats = w.pats; types = w.types; lifetimes = w.lifetimes };
+      mapped = λ d w. record { types = w.types; lifetimes = w.lifetimes };
       stays = extends_block b.stored n;
     };
     grows = grows_still _ _ refl;
@@ -201,7 +201,7 @@ correct_alloc e source = record { holds = λ final ps b r. go final ps b (nat_lt
               types = d.types;
               lifetimes = d.lifetimes;
             };
-            mapped = λ d w. record { pats = w.pats; types = w.types; lifetimes = w.lifetimes };
+            mapped = λ d w. record { types = w.types; lifetimes = w.lifetimes };
             stays = record {
               exprs = continues_entry expr_id s.exprs e source;
               labels = continues_refl s.labels;
@@ -210,6 +210,7 @@ correct_alloc e source = record { holds = λ final ps b r. go final ps b (nat_lt
               types = continues_refl s.types;
               lifetimes = continues_refl s.lifetimes;
               roots = prefix_refl s.roots;
+              target_nodes = prefix_refl _;
               field_map_back = prefix_refl s.field_map_back;
               pat_field_map_back = prefix_refl s.pat_field_map_back;
               block_scopes = prefix_refl s.block_scopes;
@@ -318,7 +319,7 @@ opens_as r l true b =
         types = d.types;
         lifetimes = d.lifetimes;
       };
-      mapped = λ d w. record { pats = w.pats; types = w.types; lifetimes = w.lifetimes };
+      mapped = λ d w. record { types = w.types; lifetimes = w.lifetimes };
       stays = record {
         exprs = continues_refl s.exprs;
         labels = continues_entry label_id s.labels x (Some l.pointer);
@@ -327,6 +328,7 @@ opens_as r l true b =
         types = continues_refl s.types;
         lifetimes = continues_refl s.lifetimes;
         roots = prefix_refl s.roots;
+        target_nodes = prefix_refl _;
         field_map_back = prefix_refl s.field_map_back;
         pat_field_map_back = prefix_refl s.pat_field_map_back;
         block_scopes = prefix_refl s.block_scopes;
@@ -498,7 +500,7 @@ correct_target (Some j) = record { holds = λ final ps b r. go final ps b (targe
         in_root = refl;
         roots = λ t. refl;
         paired = λ d. record { exprs = d.exprs; labels = d.labels; pats = d.pats; types = d.types; lifetimes = d.lifetimes };
-        mapped = λ d w. record { pats = w.pats; types = w.types; lifetimes = w.lifetimes };
+        mapped = λ d w. record { types = w.types; lifetimes = w.lifetimes };
         stays = extends_report b.stored (UnreachableLabel j.pointer j.name);
       };
       grows = grows_still _ _ refl;
@@ -516,7 +518,7 @@ correct_target (Some j) = record { holds = λ final ps b r. go final ps b (targe
         in_root = refl;
         roots = λ t. refl;
         paired = λ d. record { exprs = d.exprs; labels = d.labels; pats = d.pats; types = d.types; lifetimes = d.lifetimes };
-        mapped = λ d w. record { pats = w.pats; types = w.types; lifetimes = w.lifetimes };
+        mapped = λ d w. record { types = w.types; lifetimes = w.lifetimes };
         stays = extends_report b.stored (UndeclaredLabel j.pointer j.name);
       };
       grows = grows_still _ _ refl;

@@ -70,7 +70,6 @@ correct_alloc_type t source =
               lifetimes = d.lifetimes;
             };
             mapped = λ d w. record {
-              pats = w.pats;
               types = leads_entry s.types t w.types type_id source;
               lifetimes = w.lifetimes;
             };
@@ -82,6 +81,7 @@ correct_alloc_type t source =
               types = continues_entry type_id s.types t source;
               lifetimes = continues_refl s.lifetimes;
               roots = prefix_refl s.roots;
+              target_nodes = prefix_refl _;
               field_map_back = prefix_refl s.field_map_back;
               pat_field_map_back = prefix_refl s.pat_field_map_back;
               block_scopes = prefix_refl s.block_scopes;
@@ -167,7 +167,6 @@ correct_alloc_lifetime l source =
               types = d.types;
             };
             mapped = λ d w. record {
-              pats = w.pats;
               lifetimes = maps_back_entry (λ i. i.0) lifetime_id (λ n. refl) s.lifetimes l d.lifetimes w.lifetimes source;
               types = w.types;
             };
@@ -179,6 +178,7 @@ correct_alloc_lifetime l source =
               lifetimes = continues_entry lifetime_id s.lifetimes l source;
               types = continues_refl s.types;
               roots = prefix_refl s.roots;
+              target_nodes = prefix_refl _;
               field_map_back = prefix_refl s.field_map_back;
               pat_field_map_back = prefix_refl s.pat_field_map_back;
               block_scopes = prefix_refl s.block_scopes;

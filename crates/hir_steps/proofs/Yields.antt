@@ -22,7 +22,8 @@ use Rattle.hir_env.specs.Answered.{Jump, Label}
 use Rattle.hir_scope.specs.Ribs.{Target, reachable, unreachable, undeclared, target}
 use Rattle.hir_lower_form.specs.Builder.{Builder}
 use Rattle.hir_lower_form.specs.Lowering.{Checked, go_on, Lowering, ◌>>=◌, pure, stored, alloc_expr, alloc_made, alloc_type, alloc_lifetime}
-use Rattle.hir_lower_form.specs.Lowering.{alloc_pat, alloc_binding, define, set_problem, point_pat_field, count_out, made_number}
+use Rattle.hir_lower_form.specs.Lowering.{alloc_pat, alloc_made_pat, alloc_binding, define, set_problem, point_pat_field, count_out}
+use Rattle.hir_lower_form.specs.Lowering.{made_number}
 use Rattle.hir_lower_form.specs.Lowering.{open_label, open_as, open_try, open_try_as, open_try_named, try_target, close, enter_block}
 use Rattle.hir_lower_form.specs.Lowering.{note_yield, jump_target, found_or_fault, report, report_await, point, point_field}
 use Rattle.hir_steps.specs.Keeps.{Paired}
@@ -108,6 +109,10 @@ still_lifetime l at = still_stored (storing.alloc_lifetime l at)
 pub still_pat : (p : Pat) (at : Option Pointer) → Still (alloc_pat p at)
 unfolding alloc_pat
 still_pat p at = still_stored (storing.alloc_pat p at)
+
+pub still_made_pat : (p : Pat) (at : Option Pointer) → Still (alloc_made_pat p at)
+unfolding alloc_made_pat
+still_made_pat p at = still_stored (storing.alloc_made_pat p at)
 
 pub still_binding : (b : Binding) → Still (alloc_binding b)
 unfolding alloc_binding

@@ -33,15 +33,14 @@ pub record LeadsSomewhere {T I : Type 0} (a : Sourced T I) (p : Pointer) : Type 
   pub id : I
   pub is : found a.map p ≡ Some id
 
--- Where an entry came from a node, that leads to one: to this or to another one, since an entry may be made up for a node, which doesn't
--- lead to it, and the node of a call leads to what the call stands for, which came from another node.
+-- Where an entry came from a node, that leads to one: to this or to another one, since the node of a call leads to what the call stands
+-- for, which came from another node.
 pub record EachLeads {T I : Type 0} (a : Sourced T I) : Type 0 where
   pub to_entry : (n : ℕ) (p : Pointer) → slice_get a.sources n ≡ Some (Some p) → LeadsSomewhere a p
 
--- The nodes of patterns, types and lifetimes lead to them, where of the patterns and types of one node one is led to, and no other node
--- leads to a lifetime: so it is in an empty store, and stays.
+-- The nodes of types and lifetimes lead to them, where of the types of one node one is led to, and no other node leads to a lifetime: so
+-- it is in an empty store, and stays. A pattern may come from a node that leads nowhere: the call of a macro that is assigned to.
 pub record Mapped (s : Stored) : Type 0 where
-  pub pats : EachLeads s.pats
   pub types : EachLeads s.types
   pub lifetimes : MapsBack (λ i. i.0) s.lifetimes
 
