@@ -12,12 +12,11 @@ use Rattle.hir_env.specs.Answered as tree
 use Rattle.hir_env.specs.Answered.{Formal, Formals, OptionExpr, OptionPat, SelfFormal, Use}
 use Rattle.hir_data.specs.Tops.{Tops}
 use Rattle.hir_lower_form.specs.Forms.{push_some, some}
-use Rattle.hir_lower_form.specs.Lowering.{Lowering, ◌>>=◌, ◌>>◌, alloc_binding, report}
-use Rattle.hir_lower_form.specs.Pats.{missing_pat, new_binding}
+use Rattle.hir_lower_form.specs.Lowering.{Lowering, ◌>>=◌, alloc_binding}
+use Rattle.hir_lower_form.specs.Pats.{new_binding}
 use Rattle.hir_steps.proofs.Frames.{ribs}
 use Rattle.hir_steps.proofs.Logic as logic
 use Rattle.hir_steps.proofs.PatSteps as pats
-use Rattle.hir_steps.proofs.PatSteps.{with_new_binding}
 use Rattle.hir_steps.proofs.Steps as steps
 use Rattle.hir_one_result.specs.Formals.{lower_self, each_formal, lower_formals, lower_body, formals_read, plain_body}
 use Rattle.hir_one_result.specs.Leads.{Ways, OneBindingWay}

@@ -38,7 +38,7 @@ takes_gone why = takes_only (only_gone why)
 
 -- ---- the node of a call leads to the last
 
-before_one : (n k : ℕ) → suc k ≡ n → k ≡ n - 1
+pub before_one : (n k : ℕ) → suc k ≡ n → k ≡ n - 1
 before_one n k e = omega (arith, e)
 
 pats_called : (b : Builder) (at : Pointer) (i : PatId) → suc i.0 ≡ length b.stored.pats.entries
@@ -53,6 +53,7 @@ pats_called b at i e = record {
   paired = λ d. record { exprs = d.exprs; labels = d.labels; pats = d.pats; types = d.types; lifetimes = d.lifetimes };
   pat_sources = no_sources b.stored.pats refl;
   pat_ways = ap (λ n. insert_entry same_pointer b.stored.pats.map at (pat_id n)) (before_one (length b.stored.pats.entries) i.0 e);
+  target_ways = refl;
   type_sources = no_sources b.stored.types refl;
   lifetime_sources = no_sources b.stored.lifetimes refl;
   type_ways = refl;
@@ -75,6 +76,7 @@ types_called b at i e = record {
   paired = λ d. record { exprs = d.exprs; labels = d.labels; pats = d.pats; types = d.types; lifetimes = d.lifetimes };
   pat_sources = no_sources b.stored.pats refl;
   pat_ways = refl;
+  target_ways = refl;
   type_sources = no_sources b.stored.types refl;
   lifetime_sources = no_sources b.stored.lifetimes refl;
   type_ways = ap (λ n. insert_entry same_pointer b.stored.types.map at (type_id n)) (before_one (length b.stored.types.entries) i.0 e);

@@ -59,6 +59,7 @@ owning_takes {A = A} {owner = owner} {n = n} {p = p} h k =
       };
       pat_sources = took.pat_sources;
       pat_ways = took.pat_ways;
+      target_ways = took.target_ways;
       type_sources = took.type_sources;
       lifetime_sources = took.lifetime_sources;
       type_ways = took.type_ways;

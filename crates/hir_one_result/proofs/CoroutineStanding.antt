@@ -33,7 +33,7 @@ use Rattle.hir_steps.proofs.Keeping.{Any, any, part_any, present_type_any}
 use Rattle.hir_steps.proofs.Owning.{with_owned}
 use Rattle.hir_steps.proofs.Preludes.{correct_handed}
 use Rattle.hir_steps.proofs.Steps as steps
-use Rattle.hir_steps.proofs.Steps.{Both, Holds, Mark, Rel}
+use Rattle.hir_steps.proofs.Steps.{Holds, Mark}
 use Rattle.hir_one_result.specs.Leads.{OneUnled, OwnedBy, Ways, ◌&◌}
 use Rattle.hir_one_result.specs.StandsMade.{StoredParams}
 use Rattle.hir_one_result.specs.StandsPreludes.{IsCoroutine, StandsCoroutineClosure, StandsLets}

@@ -1,11 +1,11 @@
 -- Definitions of macros: how far they are counted, and that steps behind one take what they take elsewhere.
-use Rattle.std.proofs.Common.{◌≡◌, refl, ℕ, suc, ◌≤◌, ◌^◌, Bool, true, false, nat_lt, if◌then◌else◌, Option, Some, None}
+use Rattle.std.proofs.Common.{◌≡◌, refl, ℕ, suc, ◌≤◌, ◌^◌, Bool, true, false, nat_lt, if◌then◌else◌, Option, Some}
 use Rattle.std.proofs.lemmas.Bool.{ltb-false}
 use Rattle.hir_store.specs.declared.ids.MacroDefId.{MacroDefId}
 use Rattle.hir_env.specs.Answered as tree
 use Rattle.hir_env.specs.Answered.{Stmt}
 use Rattle.hir_lower_form.specs.Calls.{behind, define_form, defined, inside_macro}
-use Rattle.hir_lower_form.specs.Lowering.{Lowering, ◌>>=◌, ◌>>◌, pure, close, count_def, count_out, open_macro}
+use Rattle.hir_lower_form.specs.Lowering.{Lowering, pure, count_def, count_out, open_macro}
 use Rattle.hir_one_result.specs.Size.{Size, a_def, nothing}
 use Rattle.hir_one_result.proofs.PathRooms.{counts_out, counts_so_far}
 use Rattle.hir_one_result.proofs.Rooms.{Takes, takes_as, takes_begin, takes_close, takes_end, takes_pure}
@@ -25,7 +25,7 @@ define_takes k d = takes_end (takes_count k) (λ u. takes_pure (Some (defined d)
 
 pub takes_open_macro : (d : MacroDefId) → Takes nothing (open_macro d)
 unfolding open_macro
-takes_open_macro d = record { takes = λ b e. took_besides _ _ refl refl refl refl refl refl refl refl refl refl refl }
+takes_open_macro d = record { takes = λ b e. took_besides _ _ refl refl refl refl refl refl refl refl refl refl refl refl }
 
 pub inside_takes : {A : Type 0} {n : Size} (d : MacroDefId) {p : Lowering A} → Takes n p → Takes n (inside_macro d p)
 unfolding inside_macro

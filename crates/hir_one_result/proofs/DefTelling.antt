@@ -1,5 +1,5 @@
 -- Definitions of macros add nothing to a list of what is told, and what is behind one adds to it in one scope more.
-use Rattle.std.proofs.Common.{ap, ℕ, List, ◌∷◌, Option, Some, None}
+use Rattle.std.proofs.Common.{ap, ℕ, List, ◌∷◌, Option, Some}
 use Rattle.hir_store.specs.declared.ids.MacroDefId.{MacroDefId}
 use Rattle.hir_env.specs.Answered as tree
 use Rattle.hir_env.specs.Answered.{Stmt}

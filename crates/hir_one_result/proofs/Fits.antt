@@ -25,10 +25,11 @@ fits {A = A} {n = n} {p = p} h old d = by (p old).0 (p old).1 (h.takes old d)
       types = h.types.more;
       lifetimes = h.lifetimes.more;
       pat_sources = h.pat_sources;
-      pat_ways = h.pat_ways;
+      pat_map = h.pat_ways;
+      target_map = h.target_ways;
       type_sources = h.type_sources;
       lifetime_sources = h.lifetime_sources;
-      type_ways = h.type_ways;
+      types_map = h.type_ways;
     }
     by (Err f) new h = h
 

@@ -17,7 +17,7 @@ use Rattle.hir_lower_form.specs.declared.preludes.Prelude.{Prelude}
 use Rattle.hir_lower_form.specs.Lower.{lower_part}
 use Rattle.hir_lower_form.specs.Pats.{new_binding}
 use Rattle.hir_lower_form.specs.Preludes as forms
-use Rattle.hir_lower_form.specs.Preludes.{binding_of, let_params, let_self, lower_handed, made_coroutine_form}
+use Rattle.hir_lower_form.specs.Preludes.{binding_of, let_params, let_self}
 use Rattle.hir_steps.proofs.Always.{correct_always}
 use Rattle.hir_steps.proofs.Keeping.{any, lets_any, made_coroutine_any, part_any}
 use Rattle.hir_steps.proofs.Preludes.{LetSelf, binding_at, correct_let_self}

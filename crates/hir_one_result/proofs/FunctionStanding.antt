@@ -29,7 +29,7 @@ use Rattle.hir_steps.proofs.Frames.{Frame, ribs}
 use Rattle.hir_steps.proofs.Keeping.{any, part_any}
 use Rattle.hir_steps.proofs.Logic as logic
 use Rattle.hir_steps.proofs.PatSteps as pats
-use Rattle.hir_steps.proofs.PatSteps.{defining, with_new_binding, with_pat}
+use Rattle.hir_steps.proofs.PatSteps.{defining, with_pat}
 use Rattle.hir_steps.proofs.Preludes.{Told, binding_at, correct_binding_of, correct_let_self}
 use Rattle.hir_steps.proofs.Steps as steps
 use Rattle.hir_steps.proofs.Steps.{Mark}

@@ -47,7 +47,7 @@ module _ (count : Stored → ℕ) where
     pub last : (b : Builder) → EndsAt number (p b).0 (p b).1
 
   -- whatever comes before
-  lastly : {A B : Type 0} {number : B → ℕ} (p : Lowering A) {f : A → Lowering B} → ((a : A) → LastOf number (f a))
+  pub lastly : {A B : Type 0} {number : B → ℕ} (p : Lowering A) {f : A → Lowering B} → ((a : A) → LastOf number (f a))
       → LastOf number (p >>= f)
   lastly {A = A} {number = number} p {f = f} h = record { last = λ b. by (p b).0 (p b).1 }
     where
@@ -66,12 +66,12 @@ module _ (count : Stored → ℕ) where
       by (Err e) c = tt
 
   -- that store none
-  abbrev StaysAt : {A : Type 0} → Builder → Checked A → Builder → Type 0
+  abbrev pub StaysAt : {A : Type 0} → Builder → Checked A → Builder → Type 0
   StaysAt b (Ok a) c = count c.stored ≡ count b.stored
   StaysAt b (Err e) c = Unit {0}
 
-  record Stays {A : Type 0} (p : Lowering A) : Type 0 where
-    stays : (b : Builder) → StaysAt b (p b).0 (p b).1
+  pub record Stays {A : Type 0} (p : Lowering A) : Type 0 where
+    pub stays : (b : Builder) → StaysAt b (p b).0 (p b).1
 
   -- what is made of the answer has the same number
   last_given : {A B : Type 0} {number : A → ℕ} {now : B → ℕ} {p : Lowering A} (g : A → B) → ((a : A) → now (g a) ≡ number a)
@@ -84,7 +84,7 @@ module _ (count : Stored → ℕ) where
       by (Err f) c x = tt
 
   -- behind which none is stored
-  last_before : {A B C : Type 0} {number : A → ℕ} {now : C → ℕ} {p : Lowering A} {q : A → Lowering B} (g : A → C)
+  pub last_before : {A B C : Type 0} {number : A → ℕ} {now : C → ℕ} {p : Lowering A} {q : A → Lowering B} (g : A → C)
       → ((a : A) → now (g a) ≡ number a) → LastOf number p → ((a : A) → Stays (q a))
       → LastOf now (p >>= (λ a. q a >>= (λ v. pure (g a))))
   last_before {A = A} {B = B} {C = C} {number = number} {now = now} {p = p} {q = q} g e h k =

@@ -28,7 +28,7 @@ use Rattle.hir_lower_form.specs.Preludes.{coroutine_closure_form, lower_handed, 
 use Rattle.hir_lower_form.specs.Lower.{ExprSteps, closure_form, constant_form, coroutine_form}
 use Rattle.hir_lower_form.specs.Lowering.{Checked, Lowering, ◌>>=◌, pure, alloc_binding, alloc_expr, alloc_lifetime, alloc_pat, alloc_type}
 use Rattle.hir_lower_form.specs.Lowering.{close, count_out, enter_block, jump_target, open_label, point, point_field, point_pat_field}
-use Rattle.hir_lower_form.specs.Lowering.{report, report_await, alloc_made, made_number, open_try, owning, try_target}
+use Rattle.hir_lower_form.specs.Lowering.{report, report_await, alloc_made, alloc_made_pat, made_number, open_try, owning, try_target}
 use Rattle.hir_lower_form.specs.Ranges.{inner_form}
 use Rattle.hir_steps.proofs.Barriers as barriers
 use Rattle.hir_steps.proofs.Barriers.{ClosureRow, CoroutineRow}
@@ -43,7 +43,7 @@ use Rattle.hir_steps.proofs.MadeSteps.{AllocatedMade, MadeNumber, OpenedTry, Try
 use Rattle.hir_steps.proofs.Owning as owners
 use Rattle.hir_steps.proofs.Owning.{Owning}
 use Rattle.hir_steps.proofs.PatSteps as pats
-use Rattle.hir_steps.proofs.PatSteps.{AllocatedBinding, AllocatedPat, PatWrites, with_field_pat}
+use Rattle.hir_steps.proofs.PatSteps.{AllocatedBinding, AllocatedMadePat, AllocatedPat, PatWrites, with_field_pat}
 use Rattle.hir_steps.proofs.Steps as steps
 use Rattle.hir_steps.proofs.Steps.{Allocated, AllocatedLifetime, AllocatedType, Both, Holds, IsPure, Mark, Opened, OpenedBy, Rel, Seq}
 use Rattle.hir_steps.proofs.Steps.{Targeted}
@@ -165,6 +165,10 @@ correct_alloc_lifetime l source =
 pub correct_alloc_pat : (p : Pat) (source : Option Pointer) → Correct (alloc_pat p source) (AllocatedPat p source)
 correct_alloc_pat p source =
     keeping (pats.correct_alloc_pat p source) (λ final ps m m' i row. settled_as m.stored m'.stored (ap (λ s. s.bindings) row.stored))
+
+pub correct_alloc_made_pat : (p : Pat) (source : Option Pointer) → Correct (alloc_made_pat p source) (AllocatedMadePat p source)
+correct_alloc_made_pat p source = keeping (pats.correct_alloc_made_pat p source)
+    (λ final ps m m' i row. settled_as m.stored m'.stored (ap (λ s. s.bindings) row.stored))
 
 pub correct_alloc_binding : (b : Binding) → Correct (alloc_binding b) (AllocatedBinding b)
 correct_alloc_binding b = keeping (pats.correct_alloc_binding b) (λ final ps m m' i row.

@@ -64,6 +64,7 @@ takes_made e source = record { takes = λ b d. by b (nat_lt (length b.stored.exp
       };
       pat_sources = no_sources b.stored.pats refl;
       pat_ways = refl;
+      target_ways = refl;
       type_sources = no_sources b.stored.types refl;
       lifetime_sources = no_sources b.stored.lifetimes refl;
       type_ways = refl;
@@ -100,6 +101,7 @@ takes_number = record { takes = λ b d. by b (nat_lt (suc b.names) (2 ^ 32)) ref
       };
       pat_sources = no_sources b.stored.pats refl;
       pat_ways = refl;
+      target_ways = refl;
       type_sources = no_sources b.stored.types refl;
       lifetime_sources = no_sources b.stored.lifetimes refl;
       type_ways = refl;
@@ -147,6 +149,7 @@ takes_named at typed k = record { takes = λ b d. by b (nat_lt (length b.stored.
       };
       pat_sources = no_sources b.stored.pats refl;
       pat_ways = refl;
+      target_ways = refl;
       type_sources = no_sources b.stored.types refl;
       lifetime_sources = no_sources b.stored.lifetimes refl;
       type_ways = refl;

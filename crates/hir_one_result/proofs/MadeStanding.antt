@@ -28,9 +28,9 @@ use Rattle.hir_lower_form.specs.Made.{try_block_form, bound_block, typed_try_for
 use Rattle.hir_steps.proofs.Frames.{Frame, ribs}
 use Rattle.hir_steps.proofs.Logic as logic
 use Rattle.hir_steps.proofs.PatSteps as pats
-use Rattle.hir_steps.proofs.PatSteps.{AllocatedPat, defining, with_new_binding, with_pat}
+use Rattle.hir_steps.proofs.PatSteps.{AllocatedPat, defining, with_pat}
 use Rattle.hir_steps.proofs.Steps as steps
-use Rattle.hir_steps.proofs.Steps.{Mark, Rel}
+use Rattle.hir_steps.proofs.Steps.{Mark}
 use Rattle.hir_one_result.specs.Forms.{item_form, generated_path, residual_item, leaves_with}
 use Rattle.hir_one_result.specs.Leads.{Way, Ways, OneWay, OneLabelWay, ◌&◌}
 use Rattle.hir_one_result.specs.StandsMade.{PatMade, LabelMade, StandsMade, StandsMadeBind, StandsItemCall, StandsFlowArm, StandsResidual}

@@ -22,7 +22,7 @@ use Rattle.hir_lower_form.specs.Pats.{Table, same_key, key_of, enter_or, next_al
 use Rattle.hir_steps.proofs.Frames.{Frame, ribs}
 use Rattle.hir_steps.proofs.Logic as logic
 use Rattle.hir_steps.proofs.Logic.{longer}
-use Rattle.hir_steps.proofs.PatSteps.{AllocatedPat, with_new_binding}
+use Rattle.hir_steps.proofs.PatSteps.{AllocatedPatBy, PutPat, with_new_binding}
 use Rattle.hir_steps.proofs.PatSteps as pats
 use Rattle.hir_steps.proofs.Steps as steps
 use Rattle.hir_steps.proofs.Steps.{Mark}
@@ -251,8 +251,8 @@ facts_bind h k = correct_as (correct_bind h k) (λ final ps m m' b g row. record
   moved = moved_then row.first.moved row.second.moved;
 })
 
-pub pat_at : {p : HirPat} {source : Option Pointer} {final : Stored} {ps : List Frame} {m m' : Mark} {i : PatId}
-    → AllocatedPat p source final ps m m' i → PatIs (store_of final) (map_of final) i p
+pub pat_at : {put : PutPat} {p : HirPat} {source : Option Pointer} {final : Stored} {ps : List Frame} {m m' : Mark} {i : PatId}
+    → AllocatedPatBy put p source final ps m m' i → PatIs (store_of final) (map_of final) i p
 pat_at {final = final} row = ap (λ n. slice_get final.pats.entries n) row.number ∙ row.here
 
 -- a pattern that makes no binding

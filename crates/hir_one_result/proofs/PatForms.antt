@@ -26,10 +26,10 @@ use Rattle.hir_lower_form.specs.Forms.{push_some}
 use Rattle.hir_lower_form.specs.Lower.{lower_path, lower_pat}
 use Rattle.hir_lower_form.specs.Lowering.{Lowering, ◌>>=◌, ◌>>◌, pure, alloc_pat, define, report}
 use Rattle.hir_lower_form.specs.Pats as forms
-use Rattle.hir_lower_form.specs.Pats.{Table, Elements, PatSteps, missing_pat}
+use Rattle.hir_lower_form.specs.Pats.{Table, Elements, PatSteps}
 use Rattle.hir_steps.proofs.Frames.{Frame}
 use Rattle.hir_steps.proofs.PatSteps as pats
-use Rattle.hir_steps.proofs.PatSteps.{defining, with_pat}
+use Rattle.hir_steps.proofs.PatSteps.{defining}
 use Rattle.hir_steps.proofs.Steps as steps
 use Rattle.hir_steps.proofs.Steps.{Mark}
 use Rattle.hir_data.specs.Patterns.{if_path, pattern_data}

@@ -1,6 +1,6 @@
--- What is done with the parts of patterns, targets and ranges stores as much as they become, or there is no room for it.
+-- What is done with the parts of patterns and ranges stores as much as they become, or there is no room for it.
 use Rattle.std.proofs.Common.{◌≡◌, refl, sym, ap, subst, ℕ, suc, ◌^◌, nat_lt, Bool, true, false, not, if◌then◌else◌, cond, arith, List}
-use Rattle.std.proofs.Common.{[], ◌∷◌, ◌++◌, length, Option, Some, None, is_some, inl, inr, ⊎_elim, ◌∙◌, ◌⊎◌, true≢false, option_map}
+use Rattle.std.proofs.Common.{[], ◌∷◌, ◌++◌, length, Option, Some, None, is_some, inl, inr, ◌∙◌, ◌⊎◌, true≢false, option_map}
 use Rattle.std.proofs.Common.{add-one}
 use Rattle.std.proofs.lemmas.Bool.{ltb-false}
 use Rattle.std.specs.Map.{lookup}
@@ -9,7 +9,6 @@ use Rattle.hir_store.specs.Pointers.{Pointer}
 use Rattle.hir_store.specs.declared.hir.MatchArm.{MatchArm}
 use Rattle.hir_store.specs.declared.ids.BindingId.{BindingId}
 use Rattle.hir_store.specs.declared.ids.ExprId.{ExprId}
-use Rattle.hir_store.specs.declared.ids.HygieneId.{HygieneId}
 use Rattle.hir_store.specs.declared.ids.LangItemId.{LangItemId}
 use Rattle.hir_store.specs.declared.ids.PatId.{PatId}
 use Rattle.hir_store.specs.declared.ids.TypeRefId.{TypeRefId}
@@ -27,13 +26,12 @@ use Rattle.hir_lower_form.specs.Pats as forms
 use Rattle.hir_lower_form.specs.Pats.{Elements, Key, Notes, PatSteps, same_key, key_of, Table, no_names, missing_pat, no_elements, enter_or}
 use Rattle.hir_lower_form.specs.Pats.{leave_or}
 use Rattle.hir_lower_form.specs.Ranges as ranges
-use Rattle.hir_lower_form.specs.Targets as targets
 use Rattle.hir_lower_form.specs.Types.{TypeSteps, pattern_type_form}
-use Rattle.hir_one_result.specs.PatRoom.{is_known, name_size, front_pat_size, name_side_size, rest_size, range_size, names_after, or_size}
+use Rattle.hir_one_result.specs.PatRoom.{is_known, name_size, front_pat_size, name_side_size, range_size, names_after, or_size}
 use Rattle.hir_one_result.specs.PathRoom.{Seen}
 use Rattle.hir_one_result.specs.Size.{Size, nothing, an_expr, a_binding, a_pat, a_type, dots_behind, ◌∪◌, if_so, or_missing}
-use Rattle.hir_one_result.proofs.Rooms.{Takes, takes_then, takes_as, takes_end, takes_begin, takes_pure, takes_alloc, takes_type}
-use Rattle.hir_one_result.proofs.Rooms.{takes_pat, takes_binding, takes_define, takes_problem, takes_point_pat_field, takes_report}
+use Rattle.hir_one_result.proofs.Rooms.{Takes, takes_then, takes_as, takes_end, takes_pure, takes_alloc, takes_type}
+use Rattle.hir_one_result.proofs.Rooms.{takes_pat, takes_binding, takes_define, takes_problem, takes_point_pat_field}
 use Rattle.hir_one_result.proofs.Took.{Same, nothing_first, moved_in}
 use Rattle.hir_one_result.proofs.Tellings.{Tells, tells_then, tells_end, tells_pure, tells_any, takes_of, tells_as, tells_less}
 use Rattle.hir_one_result.proofs.PathRooms.{GivesPath, option_seen, counts_out}
@@ -167,7 +165,7 @@ front_takes : (comma : Bool) (ids : List PatId) → Takes (front_pat_size comma)
 front_takes false ids = takes_pure ids
 front_takes true ids = takes_end missing_pat_takes (λ i. takes_pure (i ∷ ids))
 
-elements_take : (comma : Bool) (es : Elements) (d : Option ℕ) → es.1 ≡ d
+pub elements_take : (comma : Bool) (es : Elements) (d : Option ℕ) → es.1 ≡ d
     → Takes (dots_behind (moved_by comma d) ∪ front_pat_size comma) (forms.elements_form comma es)
 unfolding forms.elements_form
 elements_take comma es d e = subst (λ k. Takes (dots_behind (moved_by comma k) ∪ front_pat_size comma)
@@ -178,7 +176,7 @@ elements_take comma es d e = subst (λ k. Takes (dots_behind (moved_by comma k) 
 abbrev pub ElementsTake : Size → FirstUses → FirstUses → Option ℕ → (Table → Lowering (Elements × Table)) → Type 0
 ElementsTake n us vs d p = (t : Table) → Keyed us t → Tells n (λ r. Keyed vs r.1 × (r.0.1 ≡ d)) (p t)
 
-named_takes : (at : Pointer) (n : Option Name) (i : PatId) → Takes nothing (forms.named_part at n i)
+pub named_takes : (at : Pointer) (n : Option Name) (i : PatId) → Takes nothing (forms.named_part at n i)
 named_takes at None i = takes_pure None
 named_takes at (Some n) i = takes_end (takes_point_pat_field i at) (λ u. takes_pure _)
 
@@ -325,99 +323,6 @@ module _ (at : Pointer) where
       → Takes (n ∪ (m ∪ a_type (Some at))) (pattern_type_form at t p)
   unfolding pattern_type_form
   pattern_type_takes ht hp = takes_then ht (λ t. takes_then hp (λ p. takes_type _ (Some at)))
-
-  -- ---- targets
-
-  pub place_target_takes : {n : Size} {e : ExprSteps} → Takes n e → Takes (n ∪ a_pat (Some at)) (targets.place_form at e)
-  unfolding targets.place_form
-  place_target_takes h = takes_then h (λ e. takes_pat _ (Some at))
-
-  pub path_target_takes : (h : HygieneId) {n : Size} {q : Lowering (Option HirPath)} → Takes n q
-      → Takes (n ∪ a_pat (Some at)) (targets.path_target_form at h q)
-  unfolding targets.path_target_form
-  path_target_takes h hq = takes_then hq (λ p. takes_pat _ (Some at))
-
-  -- without a comma in front
-  small : (d : Option ℕ) → Same ((dots_behind (moved_by false d) ∪ nothing) ∪ a_pat (Some at)) (dots_behind d ∪ a_pat (Some at))
-  small None = record {
-    exprs = refl;
-    labels = refl;
-    bindings = refl;
-    owners = refl;
-    names = refl;
-    pats = refl;
-    types = refl;
-    lifetimes = refl;
-    pat_leads = refl;
-    type_leads = refl;
-    overcounts = λ h. ⊎_elim (λ y. ⊎_elim (λ x. inl x) (λ x. absurd x) y) (λ x. inr x) h;
-  }
-  small (Some n) = record {
-    exprs = refl;
-    labels = refl;
-    bindings = refl;
-    owners = refl;
-    names = refl;
-    pats = refl;
-    types = refl;
-    lifetimes = refl;
-    pat_leads = refl;
-    type_leads = refl;
-    overcounts = λ h. ⊎_elim (λ y. ⊎_elim (λ x. inl x) (λ x. absurd x) y) (λ x. inr x) h;
-  }
-
-  pub tuple_target_takes : {n : Size} {d : Option ℕ} {ps : Lowering Elements} → Tells n (λ r. r.1 ≡ d) ps
-      → Takes (n ∪ (dots_behind d ∪ a_pat (Some at))) (targets.tuple_target_form at ps)
-  unfolding targets.tuple_target_form
-  tuple_target_takes {d = d} h = takes_of (tells_then h (λ r e. tells_any (takes_as (small d)
-      (takes_then (elements_take false r d e) (λ es. takes_pat _ (Some at))))))
-
-  call_target_of_takes : {n : Size} {d : Option ℕ} {ps : Lowering Elements} → Tells n (λ r. r.1 ≡ d) ps → (o : Option HirPath)
-      → Takes (or_missing (is_some (option_seen o)) (n ∪ (dots_behind d ∪ a_pat (Some at)))) (targets.call_target_of at ps o)
-  call_target_of_takes h None = missing_pat_takes
-  call_target_of_takes {d = d} h (Some o) = takes_of (tells_then h (λ r e. tells_any (takes_as (small d)
-      (takes_then (elements_take false r d e) (λ es. takes_pat _ (Some at))))))
-
-  pub call_target_takes : {x : Option Seen} {m n : Size} {d : Option ℕ} {q : Lowering (Option HirPath)} {ps : Lowering Elements}
-      → Tells m (GivesPath x) q → Tells n (λ r. r.1 ≡ d) ps
-      → Takes (m ∪ or_missing (is_some x) (n ∪ (dots_behind d ∪ a_pat (Some at)))) (targets.call_target_form at ps q)
-  unfolding targets.call_target_form
-  call_target_takes {n = n} {d = d} {ps = ps} hq h = takes_of (tells_then hq (λ o e. tells_any
-      (subst (λ y. Takes (or_missing (is_some y) (n ∪ (dots_behind d ∪ a_pat (Some at)))) (targets.call_target_of at ps o)) e
-      (call_target_of_takes h o))))
-
-  rest_takes : (dots : Option Pointer) → Takes (rest_size dots) (targets.rest_target dots)
-  rest_takes None = takes_pure None
-  rest_takes (Some p) = takes_end (takes_pat _ (Some p)) (λ i. takes_pure (Some i))
-
-  pub array_target_takes : (dots : Option Pointer) {n m : Size} {b a : Lowering Elements} → Takes n b → Takes m a
-      → Takes (n ∪ (m ∪ (rest_size dots ∪ a_pat (Some at)))) (targets.array_target_form at dots b a)
-  unfolding targets.array_target_form
-  array_target_takes dots hb ha =
-      takes_then hb (λ b. takes_then ha (λ a. takes_then (rest_takes dots) (λ m. takes_pat _ (Some at))))
-
-  spread_takes : (spread : Option Pointer) → Takes nothing (targets.report_spread spread)
-  spread_takes None = takes_pure tt
-  spread_takes (Some p) = takes_report _
-
-  record_target_of_takes : (dots : Bool) (spread : Option Pointer) {n : Size} {fs : Lowering (List RecordFieldPat)} → Takes n fs
-      → (o : Option HirPath)
-      → Takes (or_missing (is_some (option_seen o)) (n ∪ a_pat (Some at))) (targets.record_target_of at dots spread fs o)
-  record_target_of_takes dots spread h None = missing_pat_takes
-  record_target_of_takes dots spread h (Some o) =
-      takes_begin (spread_takes spread) (λ u. takes_then h (λ fs. takes_pat _ (Some at)))
-
-  pub record_target_takes : (dots : Bool) (spread : Option Pointer) {x : Option Seen} {m n : Size} {q : Lowering (Option HirPath)}
-      {fs : Lowering (List RecordFieldPat)} → Tells m (GivesPath x) q → Takes n fs
-      → Takes (m ∪ or_missing (is_some x) (n ∪ a_pat (Some at))) (targets.record_target_form at dots spread fs q)
-  unfolding targets.record_target_form
-  record_target_takes dots spread {n = n} {fs = fs} hq h = takes_of (tells_then hq (λ o e. tells_any
-      (subst (λ y. Takes (or_missing (is_some y) (n ∪ a_pat (Some at))) (targets.record_target_of at dots spread fs o)) e
-      (record_target_of_takes dots spread h o))))
-
-  pub target_field_takes : (n : Option Name) {m : Size} {p : Lowering PatId} → Takes m p → Takes m (targets.target_field_form at n p)
-  unfolding targets.target_field_form
-  target_field_takes n h = takes_end h (λ i. named_takes at n i)
 
   -- ---- forms with patterns
 

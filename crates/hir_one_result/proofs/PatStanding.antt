@@ -17,7 +17,7 @@ use Rattle.hir_store.specs.declared.pat.Pat.{Pat as HirPat}
 use Rattle.hir_store.specs.declared.pat.Pat.TheVariants as pat
 use Rattle.hir_store.specs.declared.path.Path.{Path as HirPath}
 use Rattle.hir_env.specs.Answered as tree
-use Rattle.hir_env.specs.Answered.{OptionPath, PatLeaf, PatUnary, Signed, Use}
+use Rattle.hir_env.specs.Answered.{OptionPath, PatLeaf, Signed}
 use Rattle.hir_data.specs.Data.{PathData}
 use Rattle.hir_data.specs.Patterns.{if_path}
 use Rattle.hir_data.specs.Reading.{stored_path}
@@ -32,7 +32,7 @@ use Rattle.hir_lower_form.specs.Pats as forms
 use Rattle.hir_lower_form.specs.Pats.{Table, Elements, PatSteps, missing_pat, name_path, signed_literal}
 use Rattle.hir_steps.proofs.Frames.{Frame, ribs}
 use Rattle.hir_steps.proofs.Steps as steps
-use Rattle.hir_steps.proofs.Steps.{Mark, Rel, with_fault}
+use Rattle.hir_steps.proofs.Steps.{Mark, Rel}
 use Rattle.hir_one_result.specs.Leads.{Way, Ways, No, ◌&◌}
 use Rattle.hir_one_result.specs.Stands.{Open, Absent, There, BehindFront, PatIs, RangeIs, StandsNameSide}
 use Rattle.hir_one_result.specs.Stands.{StandsSidePath, StandsSigned, WherePath}

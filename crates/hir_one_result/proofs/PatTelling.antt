@@ -18,19 +18,24 @@ use Rattle.hir_store.specs.declared.pat.Pat.{Pat as HirPat}
 use Rattle.hir_store.specs.declared.pat.RecordFieldPat.{RecordFieldPat}
 use Rattle.hir_store.specs.declared.path.Path.{Path as HirPath}
 use Rattle.hir_env.specs.Answered as tree
-use Rattle.hir_env.specs.Answered.{OptionPath, PatUnary, RangeForm, Signed, Use}
+use Rattle.hir_env.specs.Answered.{Origin, OptionPath, PatUnary, RangeForm, Signed, Use}
+use Rattle.hir_env.specs.Targets.{origin, source_of}
 use Rattle.hir_data.specs.Written.{written_path}
 use Rattle.hir_lower_form.specs.Forms.{ExprSteps, let_form, match_form, arm_form, assign_form, let_stmt_form}
 use Rattle.hir_lower_form.specs.Lower.{lower_path}
-use Rattle.hir_lower_form.specs.Lowering.{Lowering, alloc_pat, alloc_binding, define, set_problem, point_pat_field}
+use Rattle.hir_lower_form.specs.Lowering.{Lowering, ◌>>=◌, pure, alloc_made_pat, alloc_pat, alloc_binding, define, set_problem}
+use Rattle.hir_lower_form.specs.Lowering.{point_pat_field, point_target}
 use Rattle.hir_lower_form.specs.Pats as forms
 use Rattle.hir_lower_form.specs.Pats.{Elements, Key, Notes, PatSteps, Table, missing_pat}
 use Rattle.hir_lower_form.specs.Ranges as ranges
 use Rattle.hir_lower_form.specs.Targets as targets
+use Rattle.hir_lower_form.specs.Targets.{alloc_target}
 use Rattle.hir_lower_form.specs.Types.{TypeSteps, pattern_type_form}
 use Rattle.hir_scope.specs.Scopes.{Scope}
-use Rattle.hir_steps.proofs.PatSteps.{correct_alloc_pat, correct_alloc_binding, correct_define, correct_set_problem}
-use Rattle.hir_steps.proofs.PatSteps.{correct_point_pat_field, defining, with_field_pat, with_new_binding, with_pat, with_problem_of}
+use Rattle.hir_steps.proofs.Calls.{correct_point_target, pointing_target}
+use Rattle.hir_steps.proofs.PatSteps.{correct_alloc_made_pat, correct_alloc_pat, correct_alloc_binding, correct_define, correct_set_problem}
+use Rattle.hir_steps.proofs.PatSteps.{correct_point_pat_field, defining, put_made_pat, with_field_pat, with_new_binding, with_pat}
+use Rattle.hir_steps.proofs.PatSteps.{with_problem_of}
 use Rattle.hir_steps.proofs.Steps.{Correct, correct_as, correct_count_out}
 use Rattle.hir_one_result.specs.Blocks.{where_some}
 use Rattle.hir_one_result.proofs.PathTelling.{tells_type}
@@ -46,6 +51,14 @@ module _ {X : Type 0} (L : Listing X) where
   pub tells_pat : (p : HirPat) (source : Option Pointer) → Correct (alloc_pat p source) (Tells L (nothing L))
   tells_pat p source = correct_as (correct_alloc_pat p source) (λ final ps m m' i g row.
       record { told = λ ss e. added_none L (ap L.list row.stored ∙ L.unchanged m.stored (with_pat p source m.stored) refl refl refl) })
+
+  pub tells_made_pat : (p : HirPat) (source : Option Pointer) → Correct (alloc_made_pat p source) (Tells L (nothing L))
+  tells_made_pat p source = correct_as (correct_alloc_made_pat p source) (λ final ps m m' i g row.
+      record { told = λ ss e. added_none L (ap L.list row.stored ∙ L.unchanged m.stored (put_made_pat p source m.stored) refl refl refl) })
+
+  pub tells_point_target : (at : Pointer) (i : PatId) → Correct (point_target at i) (Tells L (nothing L))
+  tells_point_target at i = correct_as (correct_point_target at i) (λ final ps m m' u g row.
+      record { told = λ ss e. added_none L (ap L.list row.stored ∙ L.unchanged m.stored (pointing_target at i m.stored) refl refl refl) })
 
   pub tells_binding : (b : Binding) → Correct (alloc_binding b) (Tells L (nothing L))
   tells_binding b = correct_as (correct_alloc_binding b) (λ final ps m m' i g row.
@@ -258,67 +271,6 @@ module _ {X : Type 0} (L : Listing X) where
     unfolding pattern_type_form
     pattern_type_tells ht hp = tells_bind L ht (λ t. tells_end L hp (λ p. tells_type L _ _))
 
-    -- targets
-
-    pub place_target_tells : {D : List Scope → List X} {e : ExprSteps} → Correct e (Tells L D)
-        → Correct (targets.place_form at e) (Tells L D)
-    unfolding targets.place_form
-    place_target_tells h = tells_end L h (λ e. tells_pat _ (Some at))
-
-    pub path_target_tells : (h : HygieneId) {D : List Scope → List X} {q : Lowering (Option HirPath)} → Correct q (Tells L D)
-        → Correct (targets.path_target_form at h q) (Tells L D)
-    unfolding targets.path_target_form
-    path_target_tells h hq = tells_end L hq (λ p. tells_pat _ (Some at))
-
-    pub tuple_target_tells : {D : List Scope → List X} {ps : Lowering Elements} → Correct ps (Tells L D)
-        → Correct (targets.tuple_target_form at ps) (Tells L D)
-    unfolding targets.tuple_target_form
-    tuple_target_tells h = tells_end L h (λ r. tells_end L (elements_tell false r) (λ es. tells_pat _ (Some at)))
-
-    call_target_of_tells : {D : List Scope → List X} {ps : Lowering Elements} → Correct ps (Tells L D) → (o : Option HirPath)
-        → Correct (targets.call_target_of at ps o) (Tells L (λ ss. where_some o (D ss)))
-    call_target_of_tells h None = missing_pat_tells
-    call_target_of_tells h (Some o) = tells_end L h (λ r. tells_end L (elements_tell false r) (λ es. tells_pat _ (Some at)))
-
-    pub call_target_tells : (q : OptionPath) {W D : List Scope → List X} {ps : Lowering Elements} → Correct (lower_path q) (Tells L W)
-        → Correct ps (Tells L D)
-        → Correct (targets.call_target_form at ps (lower_path q)) (Tells L (λ ss. W ss ++ where_some (written_path q) (D ss)))
-    unfolding targets.call_target_form
-    call_target_tells q hq h = where_tells L q hq (λ o. call_target_of_tells h o)
-
-    rest_tells : (dots : Option Pointer) → Correct (targets.rest_target dots) (Tells L (nothing L))
-    rest_tells None = tells_pure L None
-    rest_tells (Some p) = tells_end L (tells_pat _ (Some p)) (λ i. tells_pure L (Some i))
-
-    pub array_target_tells : (dots : Option Pointer) {D E : List Scope → List X} {b a : Lowering Elements} → Correct b (Tells L D)
-        → Correct a (Tells L E) → Correct (targets.array_target_form at dots b a) (Tells L (λ ss. D ss ++ E ss))
-    unfolding targets.array_target_form
-    array_target_tells dots hb ha =
-        tells_bind L hb (λ b. tells_end L ha (λ a. tells_end L (rest_tells dots) (λ m. tells_pat _ (Some at))))
-
-    spread_tells : (spread : Option Pointer) → Correct (targets.report_spread spread) (Tells L (λ ss. spread_fault L spread))
-    spread_tells None = tells_pure L tt
-    spread_tells (Some p) = tells_report L _
-
-    record_target_of_tells : (dots : Bool) (spread : Option Pointer) {D : List Scope → List X} {fs : Lowering (List RecordFieldPat)}
-        → Correct fs (Tells L D) → (o : Option HirPath)
-        → Correct (targets.record_target_of at dots spread fs o) (Tells L (λ ss. where_some o (spread_fault L spread ++ D ss)))
-    record_target_of_tells dots spread h None = missing_pat_tells
-    record_target_of_tells dots spread h (Some o) =
-        tells_bind L (spread_tells spread) (λ u. tells_end L h (λ fs. tells_pat _ (Some at)))
-
-    pub record_target_tells : (dots : Bool) (spread : Option Pointer) (q : OptionPath) {W D : List Scope → List X}
-        {fs : Lowering (List RecordFieldPat)} → Correct (lower_path q) (Tells L W) → Correct fs (Tells L D)
-        → Correct (targets.record_target_form at dots spread fs (lower_path q))
-        (Tells L (λ ss. W ss ++ where_some (written_path q) (spread_fault L spread ++ D ss)))
-    unfolding targets.record_target_form
-    record_target_tells dots spread q hq h = where_tells L q hq (λ o. record_target_of_tells dots spread h o)
-
-    pub target_field_tells : (n : Option Name) {D : List Scope → List X} {p : Lowering PatId} → Correct p (Tells L D)
-        → Correct (targets.target_field_form at n p) (Tells L D)
-    unfolding targets.target_field_form
-    target_field_tells n h = tells_end L h (λ i. named_tells at n i)
-
     -- forms with patterns
 
     pub let_tells : {D E : List Scope → List X} {p : Lowering PatId} {e : ExprSteps} → Correct p (Tells L D) → Correct e (Tells L E)
@@ -335,6 +287,77 @@ module _ {X : Type 0} (L : Listing X) where
         → Correct (assign_form at t v) (Tells L (λ ss. D ss ++ E ss))
     unfolding assign_form
     assign_tells ht hv = tells_bind L ht (λ t. tells_end L hv (λ v. tells_alloc L _ _))
+
+  -- ---- targets
+
+  -- a node that is assigned to leads to the pattern
+  pub pointed_tells : (at : Pointer) {D : List Scope → List X} {p : Lowering PatId} → Correct p (Tells L D)
+      → Correct (p >>= (λ i. point_target at i >>= (λ u. pure i))) (Tells L D)
+  pointed_tells at h = tells_end L h (λ i. tells_end L (tells_point_target at i) (λ u. tells_pure L i))
+
+  pub target_tells : (p : HirPat) (at : Origin) → Correct (alloc_target p at) (Tells L (nothing L))
+  unfolding alloc_target
+  target_tells p at = pointed_tells at.node (tells_made_pat p (Some (source_of at)))
+
+  pub place_target_tells : (at : Pointer) {D : List Scope → List X} {e : ExprSteps} → Correct e (Tells L D)
+      → Correct (targets.place_form at e) (Tells L D)
+  unfolding targets.place_form
+  place_target_tells at h = tells_end L h (λ e. tells_made_pat _ (Some at))
+
+  pub target_field_tells : (at : Pointer) (n : Option Name) {D : List Scope → List X} {p : Lowering PatId} → Correct p (Tells L D)
+      → Correct (targets.target_field_form at n p) (Tells L D)
+  unfolding targets.target_field_form
+  target_field_tells at n h = tells_end L h (λ i. named_tells at n i)
+
+  module _ (at : Origin) where
+    pub path_target_tells : (h : HygieneId) {D : List Scope → List X} {q : Lowering (Option HirPath)} → Correct q (Tells L D)
+        → Correct (targets.path_target_form at h q) (Tells L D)
+    unfolding targets.path_target_form
+    path_target_tells h hq = tells_end L hq (λ p. target_tells _ at)
+
+    pub tuple_target_tells : {D : List Scope → List X} {ps : Lowering Elements} → Correct ps (Tells L D)
+        → Correct (targets.tuple_target_form at ps) (Tells L D)
+    unfolding targets.tuple_target_form
+    tuple_target_tells h = tells_end L h (λ r. tells_end L (elements_tell false r) (λ es. target_tells _ at))
+
+    call_target_of_tells : {D : List Scope → List X} {ps : Lowering Elements} → Correct ps (Tells L D) → (o : Option HirPath)
+        → Correct (targets.call_target_of at ps o) (Tells L (λ ss. where_some o (D ss)))
+    call_target_of_tells h None = tells_made_pat _ at.call
+    call_target_of_tells h (Some o) = tells_end L h (λ r. tells_end L (elements_tell false r) (λ es. target_tells _ at))
+
+    pub call_target_tells : (q : OptionPath) {W D : List Scope → List X} {ps : Lowering Elements} → Correct (lower_path q) (Tells L W)
+        → Correct ps (Tells L D)
+        → Correct (targets.call_target_form at ps (lower_path q)) (Tells L (λ ss. W ss ++ where_some (written_path q) (D ss)))
+    unfolding targets.call_target_form
+    call_target_tells q hq h = where_tells L q hq (λ o. call_target_of_tells h o)
+
+    rest_tells : (dots : Option Pointer) → Correct (targets.rest_target dots) (Tells L (nothing L))
+    rest_tells None = tells_pure L None
+    rest_tells (Some p) = tells_end L (target_tells _ (origin None p)) (λ i. tells_pure L (Some i))
+
+    pub array_target_tells : (dots : Option Pointer) {D E : List Scope → List X} {b a : Lowering Elements} → Correct b (Tells L D)
+        → Correct a (Tells L E) → Correct (targets.array_target_form at dots b a) (Tells L (λ ss. D ss ++ E ss))
+    unfolding targets.array_target_form
+    array_target_tells dots hb ha =
+        tells_bind L hb (λ b. tells_end L ha (λ a. tells_end L (rest_tells dots) (λ m. target_tells _ at)))
+
+    spread_tells : (spread : Option Pointer) → Correct (targets.report_spread spread) (Tells L (λ ss. spread_fault L spread))
+    spread_tells None = tells_pure L tt
+    spread_tells (Some p) = tells_report L _
+
+    record_target_of_tells : (dots : Bool) (spread : Option Pointer) {D : List Scope → List X} {fs : Lowering (List RecordFieldPat)}
+        → Correct fs (Tells L D) → (o : Option HirPath)
+        → Correct (targets.record_target_of at dots spread fs o) (Tells L (λ ss. where_some o (spread_fault L spread ++ D ss)))
+    record_target_of_tells dots spread h None = tells_made_pat _ at.call
+    record_target_of_tells dots spread h (Some o) =
+        tells_bind L (spread_tells spread) (λ u. tells_end L h (λ fs. target_tells _ at))
+
+    pub record_target_tells : (dots : Bool) (spread : Option Pointer) (q : OptionPath) {W D : List Scope → List X}
+        {fs : Lowering (List RecordFieldPat)} → Correct (lower_path q) (Tells L W) → Correct fs (Tells L D)
+        → Correct (targets.record_target_form at dots spread fs (lower_path q))
+        (Tells L (λ ss. W ss ++ where_some (written_path q) (spread_fault L spread ++ D ss)))
+    unfolding targets.record_target_form
+    record_target_tells dots spread q hq h = where_tells L q hq (λ o. record_target_of_tells dots spread h o)
 
   pub arm_tells : {D E F : List Scope → List X} {p : Lowering PatId} {e : ExprSteps} {g : Lowering (Option ExprId)}
       → Correct p (Tells L D) → Correct e (Tells L E) → Correct g (Tells L F)

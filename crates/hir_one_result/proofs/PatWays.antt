@@ -5,10 +5,12 @@ use Rattle.std.proofs.Common.{append-nil, append_assoc, length, length-append, B
 use Rattle.std.proofs.Common.{slice_get, Contains}
 use Rattle.std.proofs.lemmas.List.Elements.{Contains-append_left, Contains-push}
 use Rattle.std.proofs.lemmas.Option.{same_Some}
+use Rattle.indexmap.specs.IndexMap.{insert_entry}
 use Rattle.hir_store.specs.Pointers.{Pointer, found, same_pointer}
 use Rattle.hir_store.proofs.Maps.{entered, found_new, found_other, found_split, pointer_is}
 use Rattle.hir_one_result.specs.Leads.{LeadBack}
-use Rattle.hir_one_result.specs.Size.{NodeLeads, called_at, calls_led, led_by, sources_led, stored_from}
+use Rattle.hir_one_result.specs.Size.{NodeLeads, assigned_at, called_at, calls_led, led_by, sources_led, stored_from, target_leads}
+use Rattle.hir_one_result.specs.Size.{targets_led}
 
 none_further : (n : ℕ) → n ≡ n + 0
 none_further n = omega arith
@@ -20,6 +22,7 @@ pub sources_both : (xs ys : List NodeLeads) → sources_led (xs ++ ys) ≡ sourc
 sources_both [] ys = refl
 sources_both (stored_from s ∷ xs) ys = ap (λ zs. s ∷ zs) (sources_both xs ys)
 sources_both (called_at p ∷ xs) ys = sources_both xs ys
+sources_both (assigned_at p ∷ xs) ys = sources_both xs ys
 
 module _ {I : Type 0} (number : ℕ → I) where
   -- once the one and then the other are stored
@@ -31,11 +34,42 @@ module _ {I : Type 0} (number : ℕ → I) where
       led_then (suc n) xs ys now
       ∙ ap (λ k. led_by number k ys (led_by number (suc n) xs now)) (one_further n (length (sources_led xs)))
   led_then n (called_at p ∷ xs) ys es = led_then n xs ys (led_by number n (called_at p ∷ []) es)
+  led_then n (assigned_at p ∷ xs) ys es = led_then n xs ys es
 
   -- where what came before is known
   pub led_behind : (n : ℕ) (xs ys : List NodeLeads) (es : List (Pointer × I)) {k : ℕ} {fs gs : List (Pointer × I)}
       → k ≡ n + length (sources_led xs) → fs ≡ led_by number n xs es → gs ≡ led_by number k ys fs → gs ≡ led_by number n (xs ++ ys) es
   led_behind n xs ys es e f g = g ∙ ((λ i. led_by number (e i) ys (f i)) ∙ sym (led_then n xs ys es))
+
+  -- the same of what is assigned to
+  targets_then : (n : ℕ) (xs ys : List NodeLeads) (es : List (Pointer × I))
+      → targets_led number n (xs ++ ys) es ≡ targets_led number (n + length (sources_led xs)) ys (targets_led number n xs es)
+  targets_then n [] ys es = ap (λ k. targets_led number k ys es) (none_further n)
+  targets_then n (stored_from s ∷ xs) ys es = targets_then (suc n) xs ys es
+      ∙ ap (λ k. targets_led number k ys (targets_led number (suc n) xs es)) (one_further n (length (sources_led xs)))
+  targets_then n (called_at p ∷ xs) ys es = targets_then n xs ys es
+  targets_then n (assigned_at p ∷ xs) ys es = targets_then n xs ys (targets_led number n (assigned_at p ∷ []) es)
+
+  pub targets_behind : (n : ℕ) (xs ys : List NodeLeads) (es : List (Pointer × I)) {k : ℕ} {fs gs : List (Pointer × I)}
+      → k ≡ n + length (sources_led xs) → fs ≡ targets_led number n xs es → gs ≡ targets_led number k ys fs
+      → gs ≡ targets_led number n (xs ++ ys) es
+  targets_behind n xs ys es e f g = g ∙ ((λ i. targets_led number (e i) ys (f i)) ∙ sym (targets_then n xs ys es))
+
+  one_back : (n : ℕ) → n ≡ suc n - 1
+  one_back n = omega arith
+
+  -- as if those that are assigned to were those that patterns are stored from
+  pub targets_as_led : (n : ℕ) (xs : List NodeLeads) (es : List (Pointer × I))
+      → targets_led number n xs es ≡ led_by number n (target_leads xs) es
+  targets_as_led n [] es = refl
+  targets_as_led n (stored_from s ∷ []) es = refl
+  targets_as_led n (stored_from s ∷ (stored_from q ∷ xs)) es = targets_as_led (suc n) (stored_from q ∷ xs) es
+  targets_as_led n (stored_from s ∷ (called_at q ∷ xs)) es = targets_as_led (suc n) (called_at q ∷ xs) es
+  targets_as_led n (stored_from s ∷ (assigned_at q ∷ xs)) es =
+      targets_as_led (suc n) xs (insert_entry same_pointer es q (number (suc n - 1)))
+      ∙ ap (λ k. led_by number (suc n) (target_leads xs) (insert_entry same_pointer es q (number k))) (sym (one_back n))
+  targets_as_led n (called_at p ∷ xs) es = targets_as_led n xs es
+  targets_as_led n (assigned_at p ∷ xs) es = targets_as_led n xs (insert_entry same_pointer es p (number (n - 1)))
 
 -- ---- where nothing was stored before
 
@@ -132,6 +166,7 @@ module _ {I : Type 0} (place : I → ℕ) (number : ℕ → I) (placed : (n : �
       one : (s : Option Pointer) → Back (ss ++ s ∷ []) cs (led_by number (length ss) (stored_from s ∷ []) es)
       one None = back_stored_none ss cs es h
       one (Some p) = back_stored ss cs es h p
+  back_from ss cs (assigned_at p ∷ xs) es h = back_from ss cs xs es h
   back_from ss cs (called_at p ∷ xs) es h =
       let now = led_by number (length ss) (called_at p ∷ []) es in
       subst (λ ds. Back (ss ++ sources_led xs) ds (led_by number (length ss) xs now)) (append_assoc cs (p ∷ []) (calls_led xs))
@@ -139,3 +174,9 @@ module _ {I : Type 0} (place : I → ℕ) (number : ℕ → I) (placed : (n : �
 
   pub leads_back : (xs : List NodeLeads) → LeadBack place (led_by number 0 xs []) (sources_led xs) (calls_led xs)
   leads_back xs = back_from [] [] xs [] back_none
+
+  -- so it is of what is assigned to
+  pub targets_back : (xs : List NodeLeads)
+      → LeadBack place (targets_led number 0 xs []) (sources_led (target_leads xs)) (calls_led (target_leads xs))
+  targets_back xs = subst (λ es. LeadBack place es (sources_led (target_leads xs)) (calls_led (target_leads xs)))
+      (sym (targets_as_led number 0 xs [])) (leads_back (target_leads xs))

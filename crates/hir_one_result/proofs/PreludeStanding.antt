@@ -33,7 +33,7 @@ use Rattle.hir_steps.proofs.PatSteps as pats
 use Rattle.hir_steps.proofs.PatSteps.{AllocatedPatBy, PutPat, defining, put_made_pat, source_in}
 use Rattle.hir_steps.proofs.Preludes.{Told, correct_handed, correct_let_param, correct_own_name_of, own_at}
 use Rattle.hir_steps.proofs.Steps as steps
-use Rattle.hir_steps.proofs.Steps.{Mark, Rel}
+use Rattle.hir_steps.proofs.Steps.{Mark}
 use Rattle.hir_data.specs.Data.{PatData, generated_pattern, pat_at}
 use Rattle.hir_data.specs.Preludes.{HandedIn, handed_in, source_of}
 use Rattle.hir_read_back.proofs.Preludes.{ReadAs, ReadsAs, by_alone, handed_alike, handed_of, source_alike}

@@ -20,7 +20,7 @@ use Rattle.hir_read_back.proofs.Names.{AreFor, found_in}
 use Rattle.hir_read_back.proofs.PatTree.{top_now}
 use Rattle.hir_lower_form.specs.Lower.{lower_pat, lower_top}
 use Rattle.hir_lower_form.specs.Pats as forms
-use Rattle.hir_lower_form.specs.Pats.{Key, Notes, Table, new_binding, no_names}
+use Rattle.hir_lower_form.specs.Pats.{Notes, new_binding, no_names}
 use Rattle.hir_steps.proofs.Frames.{Frame, ribs}
 use Rattle.hir_steps.proofs.PatSteps as pats
 use Rattle.hir_steps.proofs.PatSteps.{with_problem_of}

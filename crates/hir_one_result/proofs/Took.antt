@@ -9,9 +9,9 @@ use Rattle.hir_lower_form.specs.Lowering.{Checked}
 use Rattle.hir_steps.specs.Keeps.{Paired}
 use Rattle.hir_one_result.specs.Laws.{MayBeOwned}
 use Rattle.hir_one_result.specs.Room.{Short}
-use Rattle.hir_one_result.specs.Size.{NodeLeads, Size, led_by, nothing, placed, sources_led, ◌∪◌}
+use Rattle.hir_one_result.specs.Size.{NodeLeads, Size, led_by, nothing, placed, sources_led, targets_led, ◌∪◌}
 use Rattle.hir_one_result.proofs.Owners.{as_many_both, as_many_placed, further_none, no_owners, owners_joined, owners_then}
-use Rattle.hir_one_result.proofs.PatWays.{led_behind, sources_both}
+use Rattle.hir_one_result.proofs.PatWays.{led_behind, sources_both, targets_behind}
 
 -- an arena of this limit that held so many holds n more
 pub record Grew (n limit held limit' held' : ℕ) : Type 0 where
@@ -67,6 +67,7 @@ pub record Took (n : Size) (before after : Builder) : Type 0 where
   pub paired : Paired before.stored → Paired after.stored
   pub pat_sources : after.stored.pats.sources ≡ before.stored.pats.sources ++ n.pats
   pub pat_ways : after.stored.pats.map ≡ led_by pat_id (length before.stored.pats.entries) n.pat_leads before.stored.pats.map
+  pub target_ways : after.stored.target_map ≡ targets_led pat_id (length before.stored.pats.entries) n.pat_leads before.stored.target_map
   pub type_sources : after.stored.types.sources ≡ before.stored.types.sources ++ n.types
   pub lifetime_sources : after.stored.lifetimes.sources ≡ before.stored.lifetimes.sources ++ n.lifetimes
   pub type_ways : after.stored.types.map ≡ led_by type_id (length before.stored.types.entries) n.type_leads before.stored.types.map
@@ -192,6 +193,8 @@ took_then {n = n} {k = k} a b c t u = record {
   pat_sources = then_more a.stored.pats.sources n.pats k.pats t.pat_sources u.pat_sources;
   pat_ways = led_behind pat_id (length a.stored.pats.entries) n.pat_leads k.pat_leads a.stored.pats.map
       (as_led n.pat_leads _ t.pat_leads t.pats.more) t.pat_ways u.pat_ways;
+  target_ways = targets_behind pat_id (length a.stored.pats.entries) n.pat_leads k.pat_leads a.stored.target_map
+      (as_led n.pat_leads _ t.pat_leads t.pats.more) t.target_ways u.target_ways;
   type_sources = then_more a.stored.types.sources n.types k.types t.type_sources u.type_sources;
   lifetime_sources = then_more a.stored.lifetimes.sources n.lifetimes k.lifetimes t.lifetime_sources u.lifetime_sources;
   type_ways = led_behind type_id (length a.stored.types.entries) n.type_leads k.type_leads a.stored.types.map
@@ -215,6 +218,8 @@ took_as {a = a} same t = record {
   paired = t.paired;
   pat_sources = t.pat_sources ∙ ap (λ xs. a.stored.pats.sources ++ xs) same.pats;
   pat_ways = t.pat_ways ∙ ap (λ xs. led_by pat_id (length a.stored.pats.entries) xs a.stored.pats.map) same.pat_leads;
+  target_ways = t.target_ways
+      ∙ ap (λ xs. targets_led pat_id (length a.stored.pats.entries) xs a.stored.target_map) same.pat_leads;
   type_sources = t.type_sources ∙ ap (λ xs. a.stored.types.sources ++ xs) same.types;
   lifetime_sources = t.lifetime_sources ∙ ap (λ xs. a.stored.lifetimes.sources ++ xs) same.lifetimes;
   type_ways = t.type_ways ∙ ap (λ xs. led_by type_id (length a.stored.types.entries) xs a.stored.types.map) same.type_leads;
@@ -248,8 +253,9 @@ pairs_still e h = subst (λ s. length s.sources ≡ length s.entries) (sym e) h
 pub took_besides : (before after : Builder) → let a = before.stored in let b = after.stored in
     b.exprs.entries ≡ a.exprs.entries → b.exprs.sources ≡ a.exprs.sources → b.exprs.limit ≡ a.exprs.limit → b.labels ≡ a.labels
     → length b.bindings.entries ≡ length a.bindings.entries → b.bindings.limit ≡ a.bindings.limit → b.bindings.owners ≡ a.bindings.owners
-    → b.pats ≡ a.pats → b.types ≡ a.types → b.lifetimes ≡ a.lifetimes → after.names ≡ before.names → Took nothing before after
-took_besides before after e from limit l n most os p t f k = let a = before.stored in record {
+    → b.pats ≡ a.pats → b.target_map ≡ a.target_map → b.types ≡ a.types → b.lifetimes ≡ a.lifetimes → after.names ≡ before.names
+    → Took nothing before after
+took_besides before after e from limit l n most os p w t f k = let a = before.stored in record {
   exprs = grew_none (ap length e) limit;
   labels = still a.labels l;
   bindings = grew_none n most;
@@ -265,6 +271,7 @@ took_besides before after e from limit l n most os p t f k = let a = before.stor
   };
   pat_sources = no_sources a.pats p;
   pat_ways = ap (λ s. s.map) p;
+  target_ways = w;
   type_ways = ap (λ s. s.map) t;
   pat_leads = refl;
   type_leads = refl;
@@ -276,7 +283,7 @@ took_besides before after e from limit l n most os p t f k = let a = before.stor
 }
 
 pub took_none : (b : Builder) → Took nothing b b
-took_none b = took_besides b b refl refl refl refl refl refl refl refl refl refl refl
+took_none b = took_besides b b refl refl refl refl refl refl refl refl refl refl refl refl
 
 no_more : (n : ℕ) → n + 0 ≡ n
 no_more n = omega arith

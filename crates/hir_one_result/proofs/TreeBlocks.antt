@@ -81,7 +81,8 @@ use Rattle.hir_one_result.proofs.PatTelling.{path_pat_tells, bind_tells, over_pa
 use Rattle.hir_one_result.proofs.PatTelling.{record_pat_tells, pat_field_tells, slice_pat_tells, or_tells, literal_pat_tells}
 use Rattle.hir_one_result.proofs.PatTelling.{literal_side_tells, name_side_tells, path_side_tells, range_pat_tells, range_tells}
 use Rattle.hir_one_result.proofs.PatTelling.{literal_limit_tells, name_limit_tells, path_limit_tells, limits_tell, type_alternatives_tell}
-use Rattle.hir_one_result.proofs.PatTelling.{pattern_type_tells, place_target_tells, path_target_tells, tuple_target_tells}
+use Rattle.hir_one_result.proofs.PatTelling.{pattern_type_tells, place_target_tells, path_target_tells, pointed_tells, target_tells}
+use Rattle.hir_one_result.proofs.PatTelling.{tells_made_pat, tuple_target_tells}
 use Rattle.hir_one_result.proofs.PatTelling.{call_target_tells, array_target_tells, record_target_tells, target_field_tells, let_tells}
 use Rattle.hir_one_result.proofs.PatTelling.{match_tells, assign_tells, arm_tells, let_stmt_tells, item_tells, before_tells, spread_fault}
 
@@ -480,10 +481,12 @@ mutual
       tells_end entered (pat_enters p no_names) (λ r. tells_end entered (settle_tells entered r.1) (λ u. tells_pure entered r.0))
 
   target_enters : (t : Target) → Enters (blocks_of_target t) (lower_target t)
-  target_enters tree.absent_target = missing_pat_tells entered
+  target_enters (tree.absent_target call) = tells_made_pat entered _ call
   target_enters (tree.place_target at e) = place_target_tells entered at (node_blocks e)
-  target_enters (tree.macro_target at c t) = tells_bind entered (told_tells entered c) (λ u. target_enters t)
-  target_enters (tree.wild_target at) = tells_pat entered _ _
+  target_enters (tree.macro_target None c t) = tells_bind entered (told_tells entered c) (λ u. target_enters t)
+  target_enters (tree.macro_target (Some at) c t) =
+      tells_bind entered (told_tells entered c) (λ u. pointed_tells entered at (target_enters t))
+  target_enters (tree.wild_target at) = target_tells entered _ at
   target_enters (tree.path_target at p h) =
       path_target_tells entered at h (tells_end entered (reading_enters p start) (λ r. tells_pure entered _))
   target_enters (tree.tuple_target at ts) = tuple_target_tells entered at (targets_enters no_elements ts)
@@ -498,6 +501,7 @@ mutual
   targets_enters done tree.no_targets = tells_pure entered done
   targets_enters done (tree.more_targets t ts) = tells_bind entered (target_enters t) (λ i. targets_enters _ ts)
   targets_enters done (tree.dots_targets ts) = targets_enters _ ts
+  targets_enters done (tree.noted_targets c ts) = tells_bind entered (told_tells entered c) (λ u. targets_enters done ts)
 
   target_fields_enters : (done : List RecordFieldPat) (fs : TargetFields)
       → Enters (blocks_of_target_fields fs) (lower_target_fields done fs)

@@ -81,7 +81,8 @@ use Rattle.hir_one_result.proofs.PatTelling.{path_pat_tells, bind_tells, over_pa
 use Rattle.hir_one_result.proofs.PatTelling.{record_pat_tells, pat_field_tells, slice_pat_tells, or_tells, literal_pat_tells}
 use Rattle.hir_one_result.proofs.PatTelling.{literal_side_tells, name_side_tells, path_side_tells, range_pat_tells, range_tells}
 use Rattle.hir_one_result.proofs.PatTelling.{literal_limit_tells, name_limit_tells, path_limit_tells, limits_tell, type_alternatives_tell}
-use Rattle.hir_one_result.proofs.PatTelling.{pattern_type_tells, place_target_tells, path_target_tells, tuple_target_tells}
+use Rattle.hir_one_result.proofs.PatTelling.{pattern_type_tells, place_target_tells, path_target_tells, pointed_tells, target_tells}
+use Rattle.hir_one_result.proofs.PatTelling.{tells_made_pat, tuple_target_tells}
 use Rattle.hir_one_result.proofs.PatTelling.{call_target_tells, array_target_tells, record_target_tells, target_field_tells, let_tells}
 use Rattle.hir_one_result.proofs.PatTelling.{match_tells, assign_tells, arm_tells, let_stmt_tells, item_tells, before_tells, spread_fault}
 use Rattle.hir_store.specs.Pointers.{Pointer}
@@ -490,10 +491,12 @@ mutual
       tells_end reported (pat_reports p no_names) (λ r. tells_end reported (settle_tells reported r.1) (λ u. tells_pure reported r.0))
 
   target_reports : (t : Target) → Reports (λ ss. target_faults_in ss t) (lower_target t)
-  target_reports tree.absent_target = missing_pat_tells reported
+  target_reports (tree.absent_target call) = tells_made_pat reported _ call
   target_reports (tree.place_target at e) = place_target_tells reported at (node_faults e)
-  target_reports (tree.macro_target at c t) = tells_bind reported (told_tells reported c) (λ u. target_reports t)
-  target_reports (tree.wild_target at) = tells_pat reported _ _
+  target_reports (tree.macro_target None c t) = tells_bind reported (told_tells reported c) (λ u. target_reports t)
+  target_reports (tree.macro_target (Some at) c t) =
+      tells_bind reported (told_tells reported c) (λ u. pointed_tells reported at (target_reports t))
+  target_reports (tree.wild_target at) = target_tells reported _ at
   target_reports (tree.path_target at p h) =
       path_target_tells reported at h (tells_end reported (reading_reports p start) (λ r. tells_pure reported _))
   target_reports (tree.tuple_target at ts) = tuple_target_tells reported at (targets_reports no_elements ts)
@@ -508,6 +511,7 @@ mutual
   targets_reports done tree.no_targets = tells_pure reported done
   targets_reports done (tree.more_targets t ts) = tells_bind reported (target_reports t) (λ i. targets_reports _ ts)
   targets_reports done (tree.dots_targets ts) = targets_reports _ ts
+  targets_reports done (tree.noted_targets c ts) = tells_bind reported (told_tells reported c) (λ u. targets_reports done ts)
 
   target_fields_reports : (done : List RecordFieldPat) (fs : TargetFields)
       → Reports (λ ss. target_fields_faults ss fs) (lower_target_fields done fs)

@@ -58,17 +58,20 @@ use Rattle.hir_one_result.proofs.CallRooms.{called_pat_takes, called_pat_tells, 
 use Rattle.hir_one_result.proofs.CallRooms.{takes_told, tells_behind, uncalled_pat_takes, uncalled_takes, uncalled_type_takes}
 use Rattle.hir_one_result.proofs.DefRooms.{behind_stmt_takes, define_takes}
 use Rattle.hir_one_result.proofs.LastStored.{lower_pat_last, type_last, type_pat_last}
+use Rattle.hir_one_result.proofs.LastTargets.{lower_target_last}
 use Rattle.hir_one_result.proofs.Rooms.{Takes, takes_then, takes_as, takes_end, takes_begin, takes_pure, takes_report, takes_alloc}
-use Rattle.hir_one_result.proofs.Rooms.{takes_binding, takes_constant, takes_inner, takes_type, takes_pat}
+use Rattle.hir_one_result.proofs.Rooms.{takes_binding, takes_constant, takes_inner, takes_made_pat, takes_type, takes_pat}
+use Rattle.hir_one_result.proofs.TargetRooms.{target_takes as alloc_target_takes, array_target_takes, call_target_takes}
+use Rattle.hir_one_result.proofs.TargetRooms.{called_target_takes, path_target_takes, place_target_takes, record_target_takes}
+use Rattle.hir_one_result.proofs.TargetRooms.{target_field_takes, tuple_target_takes}
 use Rattle.hir_one_result.proofs.Took.{nothing_first, moved_in, moved_out}
 use Rattle.hir_one_result.proofs.Tellings.{tells_then, tells_any, takes_of, Tells, tells_as, tells_pure, tells_end, tells_less}
 use Rattle.hir_one_result.proofs.PatRooms.{Keyed, none_keyed, PatTakes, missing_pat_takes, alone_takes, path_pat_takes, bind_takes}
 use Rattle.hir_one_result.proofs.PatRooms.{over_pat_takes, tuple_pat_takes, tuple_struct_takes, record_pat_takes, pat_field_takes}
 use Rattle.hir_one_result.proofs.PatRooms.{slice_takes, literal_pat_takes, literal_side_takes, name_side_takes, path_side_takes}
 use Rattle.hir_one_result.proofs.PatRooms.{range_pat_takes, range_takes, literal_limit_takes, name_limit_takes, path_limit_takes}
-use Rattle.hir_one_result.proofs.PatRooms.{limits_take, type_alternatives_take, pattern_type_takes, place_target_takes, path_target_takes}
-use Rattle.hir_one_result.proofs.PatRooms.{tuple_target_takes, call_target_takes, array_target_takes, record_target_takes}
-use Rattle.hir_one_result.proofs.PatRooms.{target_field_takes, let_takes, match_takes, assign_takes, arm_takes, let_stmt_takes, item_takes}
+use Rattle.hir_one_result.proofs.PatRooms.{limits_take, type_alternatives_take, pattern_type_takes}
+use Rattle.hir_one_result.proofs.PatRooms.{let_takes, match_takes, assign_takes, arm_takes, let_stmt_takes, item_takes}
 use Rattle.hir_one_result.proofs.PatRooms.{before_takes, settle_takes, from_none, PartsTake, whole_parts, element_takes, AsMany}
 use Rattle.hir_one_result.proofs.PatRooms.{or_form_takes}
 use Rattle.hir_one_result.proofs.PathRooms.{GivesPath, seen, seen_read, seen_named, seen_dollar, seen_self, Gives, proceed_tells}
@@ -488,10 +491,11 @@ mutual
       (λ r e. tells_end (tells_any (settle_takes r.1)) (λ u x. tells_pure (λ i. Unit {0}) r.0 tt)))
 
   target_takes : (t : Target) → Takes (target_size t) (lower_target t)
-  target_takes tree.absent_target = missing_pat_takes
+  target_takes (tree.absent_target call) = takes_made_pat _ call
   target_takes (tree.place_target at e) = place_target_takes at (node_takes e)
-  target_takes (tree.macro_target at c t) = takes_begin (takes_told c) (λ u. target_takes t)
-  target_takes (tree.wild_target at) = takes_pat _ _
+  target_takes (tree.macro_target None c t) = takes_begin (takes_told c) (λ u. target_takes t)
+  target_takes (tree.macro_target (Some at) c t) = called_target_takes at c (lower_target_last t) (target_takes t)
+  target_takes (tree.wild_target at) = alloc_target_takes _ at
   target_takes (tree.path_target at p h) =
       path_target_takes at h (takes_end (takes_of (reading_tells p start)) (λ r. takes_pure _))
   target_takes (tree.tuple_target at ts) = tuple_target_takes at (whole_targets ts (targets_take ts no_elements))
@@ -507,6 +511,7 @@ mutual
       tells_less (λ r e. e ∙ parts.one_further done.0 i done.1 (target_dots ts)) (targets_take ts (targets.add_target done i)))
   targets_take (tree.dots_targets ts) done =
       tells_less (λ r e. e ∙ parts.dots_here done.0 done.1 (target_dots ts)) (targets_take ts (targets.add_target_dots done))
+  targets_take (tree.noted_targets c ts) done = tells_behind (takes_told c) (λ u. targets_take ts done)
 
   target_fields_take : (done : List RecordFieldPat) (fs : TargetFields) → Takes (target_fields_size fs) (lower_target_fields done fs)
   target_fields_take done tree.no_target_fields = takes_pure done

@@ -12,14 +12,14 @@ use Rattle.hir_one_result.specs.Laws.{Defined, Grown, GrownUnless}
 use Rattle.hir_one_result.specs.Leads.{LeadBack}
 use Rattle.hir_one_result.specs.OneResult.{OneResults, fresh_owing, in_root_of, with_root}
 use Rattle.hir_one_result.specs.Room.{body_size}
-use Rattle.hir_one_result.specs.Size.{calls_led, led_by, sources_led}
+use Rattle.hir_one_result.specs.Size.{calls_led, led_by, sources_led, target_leads}
 use Rattle.hir_one_result.proofs.AfterLowering.{after_lowering}
 use Rattle.hir_one_result.proofs.Bodies.{body_stands}
 use Rattle.hir_one_result.proofs.Fits.{bodies_fit}
 use Rattle.hir_one_result.proofs.TreeRooms.{body_takes}
 use Rattle.hir_one_result.proofs.Lasting.{Unchanged}
 use Rattle.hir_one_result.proofs.Led.{leads_nowhere}
-use Rattle.hir_one_result.proofs.PatWays.{leads_back}
+use Rattle.hir_one_result.proofs.PatWays.{leads_back, targets_back}
 use Rattle.hir_one_result.proofs.Took.{Room, Took}
 use Rattle.hir_one_result.proofs.TreeBlocks.{body_enters}
 use Rattle.hir_one_result.proofs.TreeFaults.{body_reports}
@@ -37,7 +37,6 @@ one_results limit owed kind skipped f e given id new is =
     let old = in_root_of (fresh_owing limit owed) in
     let none : Paired old.stored = record { exprs = refl; labels = refl; pats = refl; types = refl; lifetimes = refl } in
     let nowhere : Mapped old.stored = record {
-      pats = leads_none limit;
       types = leads_none limit;
       lifetimes = maps_back_none (λ i. i.0) limit;
     } in
@@ -77,13 +76,17 @@ one_results limit owed kind skipped f e given id new is =
       pats = let n = fits.pats in omega (arith, n);
       types = let n = fits.types in omega (arith, n);
       lifetimes = let n = fits.lifetimes in omega (arith, n);
-      pat_map = fits.pat_ways;
+      pat_map = fits.pat_map;
       pat_ways = let leads = (body_size kind skipped f e).pat_leads in
-          subst (λ es. LeadBack (λ i. i.0) es (sources_led leads) (calls_led leads)) (sym fits.pat_ways)
+          subst (λ es. LeadBack (λ i. i.0) es (sources_led leads) (calls_led leads)) (sym fits.pat_map)
           (leads_back (λ i. i.0) pat_id (λ n. refl) leads);
-      types_map = fits.type_ways;
+      target_map = fits.target_map;
+      target_ways = let leads = target_leads (body_size kind skipped f e).pat_leads in
+          subst (λ es. LeadBack (λ i. i.0) es (sources_led leads) (calls_led leads)) (sym fits.target_map)
+          (targets_back (λ i. i.0) pat_id (λ n. refl) (body_size kind skipped f e).pat_leads);
+      types_map = fits.types_map;
       type_ways = let leads = (body_size kind skipped f e).type_leads in
-          subst (λ es. LeadBack (λ i. i.0) es new.stored.types.sources (calls_led leads)) (sym fits.type_ways)
+          subst (λ es. LeadBack (λ i. i.0) es new.stored.types.sources (calls_led leads)) (sym fits.types_map)
           (subst (λ ss. LeadBack (λ i. i.0) (led_by type_id 0 leads []) ss (calls_led leads)) (took.type_leads ∙ sym fits.type_sources)
           (leads_back (λ i. i.0) type_id (λ n. refl) leads));
       lifetime_ways = lead_back (λ i. i.0) new.stored.lifetimes mapped.lifetimes;

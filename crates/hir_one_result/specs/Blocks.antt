@@ -302,7 +302,7 @@ abbrev mutual
   -- ---- what is assigned to
 
   pub blocks_of_target : Target → List BlockId
-  blocks_of_target tree.absent_target = []
+  blocks_of_target (tree.absent_target call) = []
   blocks_of_target (tree.place_target at e) = blocks_of e
   blocks_of_target (tree.macro_target at called t) = blocks_of_target t
   blocks_of_target (tree.wild_target at) = []
@@ -317,6 +317,7 @@ abbrev mutual
   blocks_of_targets tree.no_targets = []
   blocks_of_targets (tree.more_targets t ts) = blocks_of_target t ++ blocks_of_targets ts
   blocks_of_targets (tree.dots_targets ts) = blocks_of_targets ts
+  blocks_of_targets (tree.noted_targets called ts) = blocks_of_targets ts
 
   pub blocks_of_target_fields : TargetFields → List BlockId
   blocks_of_target_fields tree.no_target_fields = []

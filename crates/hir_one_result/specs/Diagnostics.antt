@@ -1,8 +1,7 @@
 -- The faults of what lowering reads of a tree, in some order: one for each disabled node that is asked about, one for each call of a
--- macro that isn't found, and one for each
--- named jump that has no target, or none in reach, one for each await outside of async code, one for each expression behind the
--- two dots of a record that is assigned to, and one for each parameter that may only be a name and isn't. Those of constants in
--- types and paths are among them. What is in a disabled node isn't read.
+-- macro that isn't found, one for each named jump that has no target, or none in reach, one for each await outside of async code, one
+-- for each expression behind the two dots of a record that is assigned to, and one for each parameter that may only be a name and isn't.
+-- Those of constants in types and paths are among them. What is in a disabled node isn't read.
 use Rattle.std.specs.Prelude.{◌≡◌, Bool, true, false, List, [], ◌∷◌, ◌++◌, Option, Some, None}
 use Rattle.hir_store.specs.declared.diagnostics.ExpressionStoreDiagnostics.{ExpressionStoreDiagnostics}
 use Rattle.hir_store.specs.declared.diagnostics.ExpressionStoreDiagnostics.TheVariants.{AwaitOutsideOfAsync, InactiveCode, UndeclaredLabel}
@@ -335,7 +334,7 @@ abbrev mutual
   -- ---- what is assigned to
 
   pub target_faults_in : List Scope → Target → Faults
-  target_faults_in ss tree.absent_target = []
+  target_faults_in ss (tree.absent_target call) = []
   target_faults_in ss (tree.place_target at e) = diagnostics ss e
   target_faults_in ss (tree.macro_target at called t) = called_faults called ++ target_faults_in ss t
   target_faults_in ss (tree.wild_target at) = []
@@ -350,6 +349,7 @@ abbrev mutual
   targets_faults ss tree.no_targets = []
   targets_faults ss (tree.more_targets t ts) = target_faults_in ss t ++ targets_faults ss ts
   targets_faults ss (tree.dots_targets ts) = targets_faults ss ts
+  targets_faults ss (tree.noted_targets called ts) = called_faults called ++ targets_faults ss ts
 
   pub target_fields_faults : List Scope → TargetFields → Faults
   target_fields_faults ss tree.no_target_fields = []

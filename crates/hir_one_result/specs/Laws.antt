@@ -18,7 +18,7 @@ use Rattle.hir_one_result.specs.Leads.{Way, label_ways, Covers, CoversLabels, Co
 use Rattle.hir_one_result.specs.Stands.{StandsPart}
 use Rattle.hir_one_result.specs.Diagnostics.{Faults, part_diagnostics, Around}
 use Rattle.hir_one_result.specs.Blocks.{blocks_of_part}
-use Rattle.hir_one_result.specs.Size.{Size, led_by, placed}
+use Rattle.hir_one_result.specs.Size.{Size, led_by, placed, targets_led}
 use Rattle.hir_one_result.specs.Room.{Short, body_size, size_part, type_part_size, whole_size}
 
 -- what is claimed where the tree is lowered into a `Paired` store
@@ -88,7 +88,8 @@ BlocksAre = WhereLowered (λ e old id new. new.stored.block_scopes ≡ old.store
 -- numbers
 
 -- So many expressions, labels and bindings come behind those that were stored, and patterns, types and lifetimes with these sources. Of
--- patterns it is said which the nodes lead to, and of bindings the numbers of what owns them, in the order in which they come.
+-- patterns it is said which the nodes lead to, and which what is assigned to leads to, and of bindings the numbers of what owns them, in
+-- the order in which they come.
 pub record Grown (n : Size) (old new : Stored) : Type 0 where
   pub exprs : length new.exprs.entries ≡ length old.exprs.entries + n.exprs
   pub labels : length new.labels.entries ≡ length old.labels.entries + n.labels
@@ -97,12 +98,13 @@ pub record Grown (n : Size) (old new : Stored) : Type 0 where
   pub may_be_owned : MayBeOwned old → MayBeOwned new
   pub pats : length new.pats.entries ≡ length old.pats.entries + length n.pats
   pub pat_sources : new.pats.sources ≡ old.pats.sources ++ n.pats
-  pub pat_ways : new.pats.map ≡ led_by pat_id (length old.pats.entries) n.pat_leads old.pats.map
+  pub pat_map : new.pats.map ≡ led_by pat_id (length old.pats.entries) n.pat_leads old.pats.map
+  pub target_map : new.target_map ≡ targets_led pat_id (length old.pats.entries) n.pat_leads old.target_map
   pub types : length new.types.entries ≡ length old.types.entries + length n.types
   pub lifetimes : length new.lifetimes.entries ≡ length old.lifetimes.entries + length n.lifetimes
   pub type_sources : new.types.sources ≡ old.types.sources ++ n.types
   pub lifetime_sources : new.lifetimes.sources ≡ old.lifetimes.sources ++ n.lifetimes
-  pub type_ways : new.types.map ≡ led_by type_id (length old.types.entries) n.type_leads old.types.map
+  pub types_map : new.types.map ≡ led_by type_id (length old.types.entries) n.type_leads old.types.map
 
 -- where lowering is refused there is no room for them
 abbrev pub GrownUnless : {A : Type 0} → Size → Builder → Checked A → Builder → Type 0

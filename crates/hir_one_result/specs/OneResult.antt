@@ -21,7 +21,7 @@ use Rattle.hir_one_result.specs.Formals.{Given, Received, formals_read, lower_bo
 use Rattle.hir_one_result.specs.Leads.{Way, Ways, No, OneBindingWay, OneUnled, OwnedBy, ◌&◌, label_ways, Covers, CoversLabels}
 use Rattle.hir_one_result.specs.Leads.{CoversBindings, LeadBack, MapLeads, OwnersAre}
 use Rattle.hir_one_result.specs.Room.{body_size, formals_data}
-use Rattle.hir_one_result.specs.Size.{calls_led, led_by, placed, sources_led}
+use Rattle.hir_one_result.specs.Size.{calls_led, led_by, placed, sources_led, target_leads, targets_led}
 use Rattle.hir_one_result.specs.Stands.{Open, Absent, StandsBefore, StandsPart}
 use Rattle.hir_one_result.specs.StandsPreludes.{IsCoroutine, Named, StandsHanded, StandsLets, StandsSelfLet}
 use Rattle.hir_one_result.specs.StandsWhole.{StandsTop}
@@ -67,8 +67,9 @@ StandsBody store source_map rs (Some kind) skipped f e given i = λ ws. (body : 
 -- are as many; each binding is that of a name of a top pattern, or of `self`, or of a name that is made up or that a parameter is handed
 -- in by, has the patterns that make it, and is owned by the innermost closure, coroutine, `const` block, length or argument around it, or
 -- by nothing, as its way says and as it is counted. The source map leads from each written expression and label to what it became, and
--- from nowhere else; the nodes of patterns, types and lifetimes lead to them, but for patterns that are made up, and of other nodes those
--- of calls do, each to the last pattern or type that is stored by then, for which the call stands.
+-- from nowhere else; the nodes of patterns, types and lifetimes lead to them, but for patterns that are made up or assigned to, and of
+-- other nodes those of calls do, each to the last pattern or type that is stored by then, for which the call stands. What is assigned to,
+-- where it is no place, leads to its pattern by a map of its own, and so does the node of a call that is what is assigned to.
 -- Behind the faults that the body owes as a whole come those of what is read of the tree, in some order. The blocks with numbers are those
 -- of the tree, in the order of entering.
 pub record OneResult (store : Store) (source_map : SourceMap) (owed : Faults) (kind : Option CoroutineKind) (skipped : Bool) (f : Formals)
@@ -89,6 +90,9 @@ pub record OneResult (store : Store) (source_map : SourceMap) (owed : Faults) (k
   pub pat_map : source_map.pat_map ≡ led_by pat_id 0 (body_size kind skipped f e).pat_leads []
   pub pat_ways : let leads = (body_size kind skipped f e).pat_leads in
       LeadBack (λ i. i.0) source_map.pat_map (sources_led leads) (calls_led leads)
+  pub target_map : source_map.target_map ≡ targets_led pat_id 0 (body_size kind skipped f e).pat_leads []
+  pub target_ways : let leads = target_leads (body_size kind skipped f e).pat_leads in
+      LeadBack (λ i. i.0) source_map.target_map (sources_led leads) (calls_led leads)
   pub types_map : source_map.types_map ≡ led_by type_id 0 (body_size kind skipped f e).type_leads []
   pub type_ways : let leads = (body_size kind skipped f e).type_leads in
       LeadBack (λ i. i.0) source_map.types_map source_map.type_sources (calls_led leads)

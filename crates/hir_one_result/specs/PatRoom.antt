@@ -5,9 +5,10 @@ use Rattle.hir_store.specs.declared.name.Name.{Name}
 use Rattle.hir_store.specs.declared.name.Name.TheVariants as name
 use Rattle.hir_env.specs.Answered as tree
 use Rattle.hir_env.specs.Answered.{OptionPath, Pat, OptionPat, Pats, PatFields, PatField, RangeForm, Use}
+use Rattle.hir_env.specs.Targets.{origin}
 use Rattle.hir_data.specs.Uses.{FirstUses, is_of, with_use}
 use Rattle.hir_one_result.specs.PathRoom.{whole_read}
-use Rattle.hir_one_result.specs.Size.{Size, nothing, an_expr, a_binding, a_pat, ◌∪◌, if_so}
+use Rattle.hir_one_result.specs.Size.{Size, nothing, an_expr, a_binding, a_pat, a_target, ◌∪◌, if_so}
 
 -- a name is known where a use of it came before
 abbrev pub is_known : FirstUses → Use → Bool
@@ -85,7 +86,7 @@ name_side_size n = an_expr
 -- the two dots of an array that is assigned to
 abbrev pub rest_size : Option Pointer → Size
 rest_size None = nothing
-rest_size (Some at) = a_pat (Some at)
+rest_size (Some at) = a_target (origin None at)
 
 -- a range, with what it calls
 abbrev pub range_size : RangeForm → Size

@@ -24,8 +24,9 @@ use Rattle.hir_one_result.specs.PatRoom.{names_after, names_after_part, names_af
 use Rattle.hir_one_result.specs.PatRoom.{or_size, name_side_size, rest_size, range_size}
 use Rattle.hir_one_result.specs.PreludeRoom.{handed_size, prelude_size, self_let_size}
 use Rattle.hir_one_result.specs.Size.{Size, nothing, an_expr, a_label, a_binding, a_pat, a_type, a_lifetime, a_super, a_body, dots_behind}
-use Rattle.hir_one_result.specs.Size.{a_def, a_pat_call, a_type_call, uncalled_pat_size, uncalled_type_size}
+use Rattle.hir_one_result.specs.Size.{a_def, a_made_pat, a_pat_call, a_target, a_target_way, a_type_call, uncalled_pat_size}
 use Rattle.hir_one_result.specs.Size.{a_made_name, a_made_bind, a_flow_arm, a_for_turn, an_item_call, owned, ◌∪◌, if_so, or_missing}
+use Rattle.hir_one_result.specs.Size.{or_missing_target, uncalled_type_size}
 use Rattle.hir_one_result.specs.PathRoom.{Seen, nothing_seen, at_first, segments_read, own_read, whole_read, before, yields, lifetime_size}
 use Rattle.hir_one_result.specs.PathRoom.{uses_size}
 
@@ -396,23 +397,26 @@ abbrev mutual
   -- ---- what is assigned to
 
   pub target_size : Target → Size
-  target_size tree.absent_target = a_pat None
-  target_size (tree.place_target at e) = size e ∪ a_pat (Some at)
-  target_size (tree.macro_target at called t) = target_size t
-  target_size (tree.wild_target at) = a_pat (Some at)
-  target_size (tree.path_target at p h) = path_size p nothing_seen ∪ a_pat (Some at)
-  target_size (tree.tuple_target at ts) = targets_size ts ∪ dots_behind (target_dots ts) ∪ a_pat (Some at)
+  target_size (tree.absent_target call) = a_made_pat call
+  target_size (tree.place_target at e) = size e ∪ a_made_pat (Some at)
+  target_size (tree.macro_target None called t) = target_size t
+  target_size (tree.macro_target (Some at) called t) = target_size t ∪ a_target_way at
+  target_size (tree.wild_target at) = a_target at
+  target_size (tree.path_target at p h) = path_size p nothing_seen ∪ a_target at
+  target_size (tree.tuple_target at ts) = targets_size ts ∪ dots_behind (target_dots ts) ∪ a_target at
   target_size (tree.call_target at p ts) =
-      whole_size p ∪ or_missing (is_some (whole_read p)) (targets_size ts ∪ dots_behind (target_dots ts) ∪ a_pat (Some at))
+      whole_size p
+      ∪ or_missing_target at.call (is_some (whole_read p)) (targets_size ts ∪ dots_behind (target_dots ts) ∪ a_target at)
   -- the two dots behind the parts on both sides of them
-  target_size (tree.array_target at before dots behind) = targets_size before ∪ targets_size behind ∪ rest_size dots ∪ a_pat (Some at)
+  target_size (tree.array_target at before dots behind) = targets_size before ∪ targets_size behind ∪ rest_size dots ∪ a_target at
   target_size (tree.record_target at p fs dots spread) =
-      whole_size p ∪ or_missing (is_some (whole_read p)) (target_fields_size fs ∪ a_pat (Some at))
+      whole_size p ∪ or_missing_target at.call (is_some (whole_read p)) (target_fields_size fs ∪ a_target at)
 
   pub targets_size : Targets → Size
   targets_size tree.no_targets = nothing
   targets_size (tree.more_targets t ts) = target_size t ∪ targets_size ts
   targets_size (tree.dots_targets ts) = targets_size ts
+  targets_size (tree.noted_targets called ts) = targets_size ts
 
   pub target_fields_size : TargetFields → Size
   target_fields_size tree.no_target_fields = nothing

@@ -6,32 +6,54 @@ use Rattle.hir_store.specs.Pointers.{Pointer, same_pointer}
 use Rattle.hir_store.specs.Storing.{expr_id}
 use Rattle.hir_store.specs.declared.ids.ExprId.{ExprId}
 use Rattle.hir_env.specs.Answered as tree
-use Rattle.hir_env.specs.Answered.{Called}
+use Rattle.hir_env.specs.Answered.{Called, Origin}
+use Rattle.hir_env.specs.Targets.{source_of}
 use Rattle.hir_meaning.specs.InnerWritten.{InnerBody, Bodies}
 
 -- What leads to a pattern or a type: one is stored, to which this node leads, or none; or the node of a call leads to the last that is
--- stored by then, for which the call stands.
+-- stored by then, for which the call stands; or one that is assigned to leads to the last pattern that is stored by then, in a map of
+-- its own.
 pub data NodeLeads : Type 0 where
   stored_from : Option Pointer → NodeLeads
   called_at : Pointer → NodeLeads
+  assigned_at : Pointer → NodeLeads
 
 -- of each that is stored the node that leads to it
 abbrev pub sources_led : List NodeLeads → List (Option Pointer)
 sources_led [] = []
 sources_led (stored_from source ∷ xs) = source ∷ sources_led xs
 sources_led (called_at at ∷ xs) = sources_led xs
+sources_led (assigned_at at ∷ xs) = sources_led xs
 
 -- the nodes of the calls
 abbrev pub calls_led : List NodeLeads → List Pointer
 calls_led [] = []
 calls_led (stored_from source ∷ xs) = calls_led xs
 calls_led (called_at at ∷ xs) = at ∷ calls_led xs
+calls_led (assigned_at at ∷ xs) = calls_led xs
 
 -- where nodes lead then, where the first that is stored has this number
 abbrev pub led_by : {I : Type 0} → (ℕ → I) → ℕ → List NodeLeads → List (Pointer × I) → List (Pointer × I)
 led_by number n [] es = es
 led_by number n (stored_from source ∷ xs) es = led_by number (suc n) xs (pointed es source (number n))
 led_by number n (called_at at ∷ xs) es = led_by number n xs (insert_entry same_pointer es at (number (n - 1)))
+led_by number n (assigned_at at ∷ xs) es = led_by number n xs es
+
+-- the same of what is assigned to
+abbrev pub targets_led : {I : Type 0} → (ℕ → I) → ℕ → List NodeLeads → List (Pointer × I) → List (Pointer × I)
+targets_led number n [] es = es
+targets_led number n (stored_from source ∷ xs) es = targets_led number (suc n) xs es
+targets_led number n (called_at at ∷ xs) es = targets_led number n xs es
+targets_led number n (assigned_at at ∷ xs) es = targets_led number n xs (insert_entry same_pointer es at (number (n - 1)))
+
+-- Of what is assigned to: as if each pattern were stored from the node that leads to it first, and the others, which are calls around
+-- that, were called.
+abbrev pub target_leads : List NodeLeads → List NodeLeads
+target_leads [] = []
+target_leads (stored_from source ∷ (assigned_at at ∷ xs)) = stored_from (Some at) ∷ target_leads xs
+target_leads (stored_from source ∷ xs) = stored_from None ∷ target_leads xs
+target_leads (called_at at ∷ xs) = target_leads xs
+target_leads (assigned_at at ∷ xs) = called_at at ∷ target_leads xs
 
 pub record Size : Type 1 where
   pub exprs : ℕ
@@ -92,6 +114,10 @@ a_made_pat source = record nothing { pats = source ∷ []; pat_leads = stored_fr
 
 abbrev pub a_type : Option Pointer → Size
 a_type source = record nothing { types = source ∷ []; type_leads = stored_from source ∷ [] }
+
+-- a node that is assigned to leads to the last pattern
+abbrev pub a_target_way : Pointer → Size
+a_target_way at = record nothing { pat_leads = assigned_at at ∷ [] }
 
 -- the node of a call leads to the last pattern, and to the last type
 abbrev pub a_pat_call : Pointer → Size
@@ -158,6 +184,10 @@ a ∪ b = record {
   overcounts = a.overcounts ⊎ b.overcounts;
 }
 
+-- what is assigned to: it comes from its node, or from the outermost call around it, and its node leads to it
+abbrev pub a_target : Origin → Size
+a_target at = a_made_pat (Some (source_of at)) ∪ a_target_way at.node
+
 -- a name that is made up and bound, by a pattern that came from no node
 abbrev pub a_made_bind : Size
 a_made_bind = a_binding ∪ a_pat None
@@ -193,3 +223,8 @@ uncalled_type_size at called = a_type None ∪ a_type_call at
 abbrev pub or_missing : Bool → Size → Size
 or_missing true a = a
 or_missing false a = a_pat None
+
+-- so is what is assigned to, at the outermost call around it
+abbrev pub or_missing_target : Option Pointer → Bool → Size → Size
+or_missing_target call true a = a
+or_missing_target call false a = a_made_pat call

@@ -67,8 +67,6 @@ use Rattle.hir_one_result.specs.StandsPreludes.{StandsCoroutineClosure}
 pub use Rattle.hir_one_result.specs.StandsReads.{NamesOf, WithNames, ReadsAsPat, ReadsAsTarget, ReadsAsType}
 pub use Rattle.hir_one_result.specs.StandsParts.{SomeConst, WhereOn, Unless, StandsBefore, WherePath, BehindFront, Names, StandsName}
 
--- in a store
-
 module _ (store : Store) (source_map : SourceMap) where
   abbrev pub StandsMissing : ExprId → Ways
   StandsMissing i = λ ws. ExprAt store source_map i hir.Missing None × OneUnled i ws
@@ -565,7 +563,7 @@ module _ (store : Store) (source_map : SourceMap) where
     -- ---- what is assigned to
 
     pub StandsTarget : Open → Target → PatId → Ways
-    StandsTarget rs tree.absent_target i = No
+    StandsTarget rs (tree.absent_target call) i = No
     StandsTarget rs (tree.place_target at e) i = λ ws. (x : ExprId) × PatIs i (pat.Expr x) × Stands rs e x ws
     StandsTarget rs (tree.macro_target at called t) i = StandsTarget rs t i
     StandsTarget rs (tree.wild_target at) i = No
@@ -588,6 +586,7 @@ module _ (store : Store) (source_map : SourceMap) where
     StandsTargets rs (tree.more_targets t ts) is =
         StandsBefore false (λ i. StandsTarget rs t i) (λ others. StandsTargets rs ts others) is
     StandsTargets rs (tree.dots_targets ts) is = StandsTargets rs ts is
+    StandsTargets rs (tree.noted_targets called ts) is = StandsTargets rs ts is
 
     pub StandsTargetFields : Open → TargetFields → List RecordFieldPat → Ways
     StandsTargetFields rs tree.no_target_fields is = λ ws. (is ≡ []) × No ws

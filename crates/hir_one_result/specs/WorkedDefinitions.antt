@@ -1,6 +1,5 @@
 -- Small trees with definitions of macros, and with calls that stand for two dots: what is stored, what is wrong, and what has no room.
-use Rattle.std.specs.Prelude.{◌≡◌, ℕ, suc, ◌≤◌, ◌^◌, true, false, List, [], ◌∷◌, Option, Some, None, slice_get}
-use Rattle.hir_store.specs.Pointers.{Pointer}
+use Rattle.std.specs.Prelude.{◌≡◌, ℕ, suc, ◌≤◌, ◌^◌, false, List, [], ◌∷◌, Option, Some, None, slice_get}
 use Rattle.hir_store.specs.Stored.{Store, SourceMap}
 use Rattle.hir_store.specs.declared.diagnostics.ExpressionStoreDiagnostics.TheVariants.{UndeclaredLabel, UnresolvedMacroCall}
 use Rattle.hir_store.specs.declared.hir.Expr.TheVariants as hir

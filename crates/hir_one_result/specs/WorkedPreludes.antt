@@ -20,7 +20,7 @@ use Rattle.hir_store.specs.declared.ids.TypeRefId.{TypeRefId}
 use Rattle.hir_store.specs.declared.pat.Pat.TheVariants as pat
 use Rattle.hir_scope.specs.Scopes.{loop_scope}
 use Rattle.hir_env.specs.Answered as tree
-use Rattle.hir_env.specs.Answered.{Expr, OptionExpr, OptionPat, Params, Pat, Use}
+use Rattle.hir_env.specs.Answered.{Expr, OptionExpr, OptionPat, Params}
 use Rattle.hir_meaning.specs.Small.{at, jump_a, label_a, root}
 use Rattle.hir_one_result.specs.Blocks.{blocks_of}
 use Rattle.hir_one_result.specs.Diagnostics.{diagnostics}

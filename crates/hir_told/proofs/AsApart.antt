@@ -7,8 +7,9 @@ use Rattle.hir_lower_form.specs.Lowering.{Lowering, ◌>>=◌, pure}
 use Rattle.hir_lower_form.specs.Pats.{new_binding}
 use Rattle.hir_lower_form.specs.Walks.{super_read}
 use Rattle.hir_steps.proofs.CallForms.{gone_apart, note_apart, told_apart}
-use Rattle.hir_steps.proofs.Calls.{point_pat_apart, point_type_apart}
-use Rattle.hir_steps.proofs.Apart.{Apart, apart_trans, binding_apart, closure_apart, constant_apart, coroutine_apart, define_apart}
+use Rattle.hir_steps.proofs.Calls.{point_pat_apart, point_target_apart, point_type_apart}
+use Rattle.hir_steps.proofs.Apart.{Apart, apart_trans, binding_apart, closure_apart, constant_apart, coroutine_apart}
+use Rattle.hir_steps.proofs.Apart.{define_apart}
 use Rattle.hir_steps.proofs.Apart.{enter_block_apart, expr_apart, inner_apart, jump_apart, made_apart, named_apart, opened_apart}
 use Rattle.hir_steps.proofs.Apart.{opened_try_apart, owning_apart, point_apart, point_field_apart, point_pat_field_apart, pure_apart}
 use Rattle.hir_steps.proofs.Apart.{report_apart, stored_lifetime_apart, stored_pat_apart, stored_type_apart, then_apart}
@@ -21,6 +22,7 @@ use Rattle.hir_steps.proofs.Barriers.{correct_yield}
 use Rattle.hir_steps.proofs.Definitions as definitions
 use Rattle.hir_steps.proofs.Frames.{block_at, loop_at}
 use Rattle.hir_steps.proofs.Steps.{Correct, correct_as}
+use Rattle.hir_steps.proofs.TargetSteps.{made_pat_apart}
 use Rattle.hir_told.specs.Silent.{silent}
 use Rattle.hir_told.proofs.Answering.{Answering}
 use Rattle.hir_told.proofs.CorrectWhere.{correct_where}
@@ -52,6 +54,7 @@ apart_graded = record {
   type_is = λ t at. stored_type_apart t at;
   lifetime_is = λ l at. stored_lifetime_apart l at;
   pat_is = λ p at. stored_pat_apart p at;
+  made_pat_is = λ p at. made_pat_apart p at;
   expr_is = λ e at. expr_apart e at;
   made_expr_is = λ e at. made_apart e at;
   point_is = λ at h. then_apart h (λ i. then_apart (point_apart at i) (λ u. pure_apart i));
@@ -65,6 +68,7 @@ apart_graded = record {
   gone_is = λ why. gone_apart why;
   type_call_is = λ at l h. then_apart h (λ i. then_apart (point_type_apart at i) (λ u. pure_apart i));
   pat_call_is = λ at l h. then_apart h (λ i. then_apart (point_pat_apart at i) (λ u. pure_apart i));
+  target_way_is = λ at l h. then_apart h (λ i. then_apart (point_target_apart at i) (λ u. pure_apart i));
   hands_call_is = λ at t l h. then_apart h (λ r. then_apart (point_pat_apart at r.0) (λ u. pure_apart r));
   super_is = λ w. counted_apart (super_read w);
   dots_is = λ comma place. dots_apart comma place;

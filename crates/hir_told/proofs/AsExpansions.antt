@@ -65,6 +65,7 @@ expansions_graded = let all = tells_graded expanded in record {
   type_is = λ t at. all.type_is t at;
   lifetime_is = λ l at. all.lifetime_is l at;
   pat_is = λ p at. all.pat_is p at;
+  made_pat_is = λ p at. all.made_pat_is p at;
   expr_is = λ e at. all.expr_is e at;
   made_expr_is = λ e at. all.made_expr_is e at;
   point_is = λ at h. all.point_is at h;
@@ -78,6 +79,7 @@ expansions_graded = let all = tells_graded expanded in record {
   gone_is = λ why. all.gone_is why;
   type_call_is = λ at l h. all.type_call_is at l h;
   pat_call_is = λ at l h. all.pat_call_is at l h;
+  target_way_is = λ at l h. all.target_way_is at l h;
   hands_call_is = λ at t l h. all.hands_call_is at t l h;
   super_is = λ w. all.super_is w;
   dots_is = λ comma place. all.dots_is comma place;

@@ -40,9 +40,11 @@ use Rattle.hir_one_result.proofs.PatRooms.{settle_takes}
 use Rattle.hir_one_result.proofs.PathRooms.{counted_tells, counts_out}
 use Rattle.hir_one_result.proofs.Rooms.{Takes, takes_alloc, takes_as, takes_begin, takes_binding, takes_block, takes_close, takes_constant}
 use Rattle.hir_one_result.proofs.Rooms.{takes_only}
-use Rattle.hir_one_result.proofs.Rooms.{takes_define, takes_end, takes_inner, takes_jump, takes_lifetime, takes_note, takes_open, takes_pat}
+use Rattle.hir_one_result.proofs.Rooms.{takes_define, takes_end, takes_inner, takes_jump, takes_lifetime, takes_made_pat, takes_note}
+use Rattle.hir_one_result.proofs.Rooms.{takes_open, takes_pat}
 use Rattle.hir_one_result.proofs.Rooms.{takes_point, takes_point_field, takes_point_pat_field, takes_pure, takes_report}
 use Rattle.hir_one_result.proofs.Rooms.{takes_then, takes_type}
+use Rattle.hir_one_result.proofs.TargetRooms.{takes_pointed}
 use Rattle.hir_one_result.proofs.Tellings as known
 use Rattle.hir_one_result.proofs.Tellings.{takes_of, tells_any, tells_then}
 use Rattle.hir_one_result.proofs.Took.{Room, Same, may_be_owned, nothing_first}
@@ -189,6 +191,7 @@ rooms_graded = record {
   type_is = λ t at. takes_type t at;
   lifetime_is = λ l at. takes_lifetime l at;
   pat_is = λ p at. takes_pat p at;
+  made_pat_is = λ p at. takes_made_pat p at;
   expr_is = λ e at. (takes_alloc e at, last_alloc e at);
   made_expr_is = λ e at. (takes_made e at, last_made e at);
   point_is = λ at h. (takes_end h.0 (λ i. takes_end (takes_point at i) (λ u. takes_pure i)), pointed_last at h.1);
@@ -202,6 +205,7 @@ rooms_graded = record {
   gone_is = λ why. takes_gone why;
   type_call_is = λ at l h. takes_called_type at l h;
   pat_call_is = λ at l h. takes_of (tells_called at (λ i. i) l (tells_any h));
+  target_way_is = λ at l h. takes_pointed at l h;
   hands_call_is = λ at t l h. takes_of (tells_called at (λ r. r.0) l (tells_any h));
   super_is = λ w. takes_of (counted_tells w);
   dots_is = λ comma place. dots_take comma place;
@@ -277,10 +281,11 @@ fits {A = A} {n = n} {p = p} h old d = by (p old).0 (p old).1 (h.takes old d)
       types = h.types.more;
       lifetimes = h.lifetimes.more;
       pat_sources = h.pat_sources;
-      pat_ways = h.pat_ways;
+      pat_map = h.pat_ways;
+      target_map = h.target_ways;
       type_sources = h.type_sources;
       lifetime_sources = h.lifetime_sources;
-      type_ways = h.type_ways;
+      types_map = h.type_ways;
     }
     by (Err f) new h = h
 

@@ -30,7 +30,7 @@ use Rattle.hir_one_result.proofs.ClosureTelling.{closure_tells, coroutine_tells}
 use Rattle.hir_one_result.proofs.CoroutineTelling.{coroutine_body_tells, coroutine_closure_tells}
 use Rattle.hir_one_result.proofs.DefTelling.{define_tells, inside_tells}
 use Rattle.hir_one_result.proofs.MadeTelling.{tells_number}
-use Rattle.hir_one_result.proofs.PatTelling.{settle_tells, tells_binding, tells_define, tells_pat}
+use Rattle.hir_one_result.proofs.PatTelling.{settle_tells, tells_binding, tells_define, tells_made_pat, tells_pat, tells_point_target}
 use Rattle.hir_one_result.proofs.Telling.{Added, Listing, Tells, added_none, added_then, constant_tells, inner_tells, nothing, opened_tells}
 use Rattle.hir_one_result.proofs.Telling.{owning_tells, rooted_tells, tells_alloc, tells_aside, tells_bind, tells_end, tells_enter_block}
 use Rattle.hir_one_result.proofs.Telling.{tells_point, tells_point_field, tells_pure, tells_report, tells_target}
@@ -126,6 +126,7 @@ module _ {X : Type 0} (L : Listing X) where
     type_is = λ t at. tells_aside L (aside_type t at);
     lifetime_is = λ l at. tells_aside L (aside_lifetime l at);
     pat_is = λ p at. tells_pat L p at;
+    made_pat_is = λ p at. tells_made_pat L p at;
     expr_is = λ e at. tells_alloc L e at;
     made_expr_is = λ e at. tells_made e at;
     point_is = λ at h. tells_end L h (λ i. tells_end L (tells_point L at i) (λ u. tells_pure L i));
@@ -139,6 +140,7 @@ module _ {X : Type 0} (L : Listing X) where
     gone_is = λ why. gone_tells L why;
     type_call_is = λ at l h. tells_bind L h (λ i. tells_end L (tells_point_type L at i) (λ u. tells_pure L i));
     pat_call_is = λ at l h. tells_bind L h (λ i. tells_end L (tells_point_pat L at i) (λ u. tells_pure L i));
+    target_way_is = λ at l h. tells_bind L h (λ i. tells_end L (tells_point_target L at i) (λ u. tells_pure L i));
     hands_call_is = λ at t l h. tells_bind L h (λ r. tells_end L (tells_point_pat L at r.0) (λ u. tells_pure L r));
     super_is = λ w. tells_aside L (counted_aside (super_read w));
     dots_is = λ comma place. dots_tell comma place;

@@ -12,7 +12,8 @@ use Rattle.hir_lower_form.specs.Pats.{new_binding}
 use Rattle.hir_lower_form.specs.Walks.{super_read}
 use Rattle.hir_read_back.proofs.Definitions.{behind_raises, define_off}
 use Rattle.hir_steps.specs.Keeps.{Paired}
-use Rattle.hir_steps.proofs.Calls.{only_gone, only_note, only_told, point_pat_apart, point_type_apart, still_only, still_point_pat}
+use Rattle.hir_steps.proofs.Calls.{only_gone, only_note, only_told, point_pat_apart, point_target_apart, point_type_apart, still_only}
+use Rattle.hir_steps.proofs.Calls.{still_point_pat, still_point_target}
 use Rattle.hir_steps.proofs.Calls.{still_point_type}
 use Rattle.hir_steps.proofs.Apart.{Apart, binding_apart, point_apart, try_target_apart}
 use Rattle.hir_steps.proofs.ApartPats.{settle_apart}
@@ -27,8 +28,8 @@ use Rattle.hir_steps.proofs.StillTypes.{counted_still}
 use Rattle.hir_steps.proofs.Steps.{Correct}
 use Rattle.hir_steps.proofs.Yields.{RaisedTo, Raises, Still, or_assoc, raises_begin, raises_end, raises_pure, raises_still, raises_then}
 use Rattle.hir_steps.proofs.Yields.{still_binding, still_define, still_enter_block, still_expr, still_jump_target, still_lifetime}
-use Rattle.hir_steps.proofs.Yields.{still_made}
-use Rattle.hir_steps.proofs.Yields.{still_made_number, still_pat, still_point, still_point_field, still_point_pat_field}
+use Rattle.hir_steps.proofs.Yields.{still_made, still_made_number, still_made_pat, still_pat, still_point, still_point_field}
+use Rattle.hir_steps.proofs.Yields.{still_point_pat_field}
 use Rattle.hir_steps.proofs.Yields.{still_report, still_try_target, still_type}
 use Rattle.hir_told.specs.Laws.{ExprsNote, PatsNote, TargetsNote, TypesNote}
 use Rattle.hir_told.specs.Yields.{yields}
@@ -104,6 +105,7 @@ yields_graded = let apart = apart_graded in record {
   type_is = λ t at. off (apart.type_is t at) (still_type t at);
   lifetime_is = λ l at. off (apart.lifetime_is l at) (still_lifetime l at);
   pat_is = λ p at. off (apart.pat_is p at) (still_pat p at);
+  made_pat_is = λ p at. off (apart.made_pat_is p at) (still_made_pat p at);
   expr_is = λ e at. off (apart.expr_is e at) (still_expr e at);
   made_expr_is = λ e at. off (apart.made_expr_is e at) (still_made e at);
   point_is = λ at h. (
@@ -125,6 +127,10 @@ yields_graded = let apart = apart_graded in record {
   pat_call_is = λ at l h. (
     apart.pat_call_is at l h.0,
     raises_then h.1 (λ i. raises_begin (raises_still (point_pat_apart at i) (still_point_pat at i)) (λ u. raises_pure i)),
+  );
+  target_way_is = λ at l h. (
+    apart.target_way_is at l h.0,
+    raises_then h.1 (λ i. raises_begin (raises_still (point_target_apart at i) (still_point_target at i)) (λ u. raises_pure i)),
   );
   hands_call_is = λ at t l h. (
     apart.hands_call_is at t l h.0,

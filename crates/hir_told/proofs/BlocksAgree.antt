@@ -84,6 +84,17 @@ missing_is q D {xs = xs} ss e = by (written_path q) (is_some (whole_read q)) (re
     by (Some a) true k = e
     by (Some a) false k = absurd (true≢false k)
 
+-- the same of what is assigned to
+missing_target_is : (call : Option Pointer) (q : OptionPath) (D : Told) {xs : List BlockId} (ss : List Scope) → D ss ≡ xs
+    → p.or_missing_target blocks call (is_some (whole_read q)) D ss ≡ now.where_some (written_path q) xs
+missing_target_is call q D {xs = xs} ss e = by (written_path q) (is_some (whole_read q)) (read_alike q)
+  where
+    by : {A : Type 0} (o : Option A) (b : Bool) → is_some o ≡ b → p.or_missing_target blocks call b D ss ≡ now.where_some o xs
+    by None true k = absurd (true≢false (sym k))
+    by None false k = refl
+    by (Some a) true k = e
+    by (Some a) false k = absurd (true≢false k)
+
 record_is : (q : OptionPath) (D : Told) {xs : List BlockId} (ss : List Scope) → D ss ≡ xs
     → p.record_of blocks (is_some (whole_read q)) D ss ≡ now.where_some (written_path q) xs
 record_is q D {xs = xs} ss e = by (written_path q) (is_some (whole_read q)) (read_alike q)
@@ -384,22 +395,24 @@ mutual
   -- ---- what is assigned to
 
   target_is : (t : Target) (ss : List Scope) → g.grade_target blocks t ss ≡ now.blocks_of_target t
-  target_is tree.absent_target ss = refl
+  target_is (tree.absent_target call) ss = refl
   target_is (tree.place_target at e) ss = behind (expr_is e ss)
-  target_is (tree.macro_target at c t) ss = target_is t ss
+  target_is (tree.macro_target None c t) ss = target_is t ss
+  target_is (tree.macro_target (Some at) c t) ss = behind (target_is t ss)
   target_is (tree.wild_target at) ss = refl
   target_is (tree.path_target at q h) ss = behind (path_is q nothing_seen ss)
   target_is (tree.tuple_target at ts) ss = behind (targets_are ts ss)
-  target_is (tree.call_target at q ts) ss = both (whole_is q ss) (missing_is q _ ss (behind (targets_are ts ss)))
+  target_is (tree.call_target at q ts) ss = both (whole_is q ss) (missing_target_is at.call q _ ss (behind (targets_are ts ss)))
   target_is (tree.array_target at before dots after) ss =
       both (targets_are before ss) (first (targets_are after ss) (behind (rest_none dots ss)))
   target_is (tree.record_target at q fs dots spread) ss =
-      both (whole_is q ss) (missing_is q _ ss (both (spread_none spread ss) (behind (target_fields_are fs ss))))
+      both (whole_is q ss) (missing_target_is at.call q _ ss (both (spread_none spread ss) (behind (target_fields_are fs ss))))
 
   targets_are : (ts : Targets) (ss : List Scope) → g.grade_targets blocks ts ss ≡ now.blocks_of_targets ts
   targets_are tree.no_targets ss = refl
   targets_are (tree.more_targets t ts) ss = both (target_is t ss) (targets_are ts ss)
   targets_are (tree.dots_targets ts) ss = targets_are ts ss
+  targets_are (tree.noted_targets c ts) ss = targets_are ts ss
 
   target_fields_are : (fs : TargetFields) (ss : List Scope) → g.grade_target_fields blocks fs ss ≡ now.blocks_of_target_fields fs
   target_fields_are tree.no_target_fields ss = refl

@@ -8,6 +8,7 @@ use Rattle.hir_told.specs.Expanded.{expansions}
 use Rattle.hir_told.specs.Grades.{grade_stmts}
 use Rattle.hir_told.specs.Worked.{SmallCalls}
 use Rattle.hir_told.specs.WorkedOrders.{AllSmallOrders, call_alone, expr_call, recorded}
+use Rattle.hir_told.specs.WorkedTargets.{AllSmallTargets}
 
 pub small_calls : SmallCalls
 small_calls = record {
@@ -36,4 +37,21 @@ small_orders a b f g = record {
   bodies = refl;
   coroutines = λ kind. refl;
   skipped = refl;
+}
+
+pub small_targets : AllSmallTargets
+small_targets is_found at a b c p q f g = record {
+  elements = λ ss. refl;
+  missing = refl;
+  unled = refl;
+  callee = λ ss. refl;
+  callees = λ h. refl;
+  dots = λ ss. refl;
+  entered_dots = λ form. refl;
+  whole = refl;
+  source = refl;
+  node = refl;
+  outermost_dots = λ form. refl;
+  lacking = refl;
+  place = refl;
 }

@@ -110,6 +110,17 @@ missing_is q D {xs = xs} ss e = by (written_path q) (is_some (whole_read q)) (re
     by (Some a) true k = e
     by (Some a) false k = absurd (true≢false k)
 
+-- the same of what is assigned to
+missing_target_is : (call : Option Pointer) (q : OptionPath) (D : Told) {xs : Faults} (ss : List Scope) → Like (D ss) xs
+    → Like (p.or_missing_target faults call (is_some (whole_read q)) D ss) (where_some (written_path q) xs)
+missing_target_is call q D {xs = xs} ss e = by (written_path q) (is_some (whole_read q)) (read_alike q)
+  where
+    by : {A : Type 0} (o : Option A) (b : Bool) → is_some o ≡ b → Like (p.or_missing_target faults call b D ss) (where_some o xs)
+    by None true k = absurd (true≢false (sym k))
+    by None false k = same _
+    by (Some a) true k = e
+    by (Some a) false k = absurd (true≢false k)
+
 record_is : (q : OptionPath) (D : Told) {xs : Faults} (ss : List Scope) → Like (D ss) xs
     → Like (p.record_of faults (is_some (whole_read q)) D ss) (where_some (written_path q) xs)
 record_is q D {xs = xs} ss e = by (written_path q) (is_some (whole_read q)) (read_alike q)
@@ -412,22 +423,24 @@ mutual
   -- ---- what is assigned to
 
   target_is : (t : Target) (ss : List Scope) → Like (g.grade_target faults t ss) (now.target_faults_in ss t)
-  target_is tree.absent_target ss = same _
+  target_is (tree.absent_target call) ss = same _
   target_is (tree.place_target at e) ss = behind (expr_is e ss)
-  target_is (tree.macro_target at c t) ss = both (same _) (target_is t ss)
+  target_is (tree.macro_target None c t) ss = both (same _) (target_is t ss)
+  target_is (tree.macro_target (Some at) c t) ss = both (same _) (behind (target_is t ss))
   target_is (tree.wild_target at) ss = same _
   target_is (tree.path_target at q h) ss = behind (path_is q nothing_seen ss)
   target_is (tree.tuple_target at ts) ss = behind (targets_are ts ss)
-  target_is (tree.call_target at q ts) ss = both (whole_is q ss) (missing_is q _ ss (behind (targets_are ts ss)))
+  target_is (tree.call_target at q ts) ss = both (whole_is q ss) (missing_target_is at.call q _ ss (behind (targets_are ts ss)))
   target_is (tree.array_target at before dots after) ss =
       both (targets_are before ss) (first (targets_are after ss) (behind_none (rest_none dots ss)))
   target_is (tree.record_target at q fs dots spread) ss =
-      both (whole_is q ss) (missing_is q _ ss (both (as_is (spread_is spread ss)) (behind (target_fields_are fs ss))))
+      both (whole_is q ss) (missing_target_is at.call q _ ss (both (as_is (spread_is spread ss)) (behind (target_fields_are fs ss))))
 
   targets_are : (ts : Targets) (ss : List Scope) → Like (g.grade_targets faults ts ss) (now.targets_faults ss ts)
   targets_are tree.no_targets ss = same _
   targets_are (tree.more_targets t ts) ss = both (target_is t ss) (targets_are ts ss)
   targets_are (tree.dots_targets ts) ss = targets_are ts ss
+  targets_are (tree.noted_targets c ts) ss = both (same _) (targets_are ts ss)
 
   target_fields_are : (fs : TargetFields) (ss : List Scope) → Like (g.grade_target_fields faults fs ss) (now.target_fields_faults ss fs)
   target_fields_are tree.no_target_fields ss = same _

@@ -26,9 +26,10 @@ use Rattle.hir_lower_form.specs.Calls.{define_form, inside_macro, note, note_gon
 use Rattle.hir_lower_form.specs.Forms.{ExprSteps, StoredContents, closure_form, constant_form, coroutine_block_form}
 use Rattle.hir_lower_form.specs.Forms.{coroutine_form, no_closure_params, value_form, yield_form}
 use Rattle.hir_lower_form.specs.Lower.{lower_params, lower_part, present_type}
-use Rattle.hir_lower_form.specs.Lowering.{Lowering, ◌>>=◌, pure, alloc_binding, alloc_expr, alloc_lifetime, alloc_made, alloc_pat}
-use Rattle.hir_lower_form.specs.Lowering.{alloc_type, close, define, enter_block, jump_target, made_number, open_label}
-use Rattle.hir_lower_form.specs.Lowering.{open_try, owning, point, point_field, point_pat, point_pat_field, point_type, report, try_target}
+use Rattle.hir_lower_form.specs.Lowering.{Lowering, ◌>>=◌, pure, alloc_binding, alloc_expr, alloc_lifetime, alloc_made, alloc_made_pat}
+use Rattle.hir_lower_form.specs.Lowering.{alloc_pat, alloc_type, close, define, enter_block, jump_target, made_number, open_label}
+use Rattle.hir_lower_form.specs.Lowering.{open_try, owning, point, point_field, point_pat, point_pat_field, point_target, point_type}
+use Rattle.hir_lower_form.specs.Lowering.{report, try_target}
 use Rattle.hir_lower_form.specs.Made.{made_bind_form}
 use Rattle.hir_lower_form.specs.Paths.{counted}
 use Rattle.hir_lower_form.specs.Pats.{Table, counted_dots, key_of, new_binding, no_names, settle}
@@ -78,6 +79,7 @@ pub record Graded {ℓ} (S : Grading {ℓ}) : Type (ℓ ⊔ 1) where
   pub type_is : (t : TypeRef) (at : Option Pointer) → Claim (S.type_at at) (alloc_type t at)
   pub lifetime_is : (l : LifetimeRef) (at : Option Pointer) → Claim (S.lifetime_at at) (alloc_lifetime l at)
   pub pat_is : (p : HirPat) (at : Option Pointer) → Claim (S.pat_at at) (alloc_pat p at)
+  pub made_pat_is : (p : HirPat) (at : Option Pointer) → Claim (S.made_pat_at at) (alloc_made_pat p at)
   pub expr_is : (e : HirExpr) (at : Option Pointer) → Made S.expr (alloc_expr e at)
   -- of a node that is made up
   pub made_expr_is : (e : HirExpr) (at : Option Pointer) → Made S.expr (alloc_made e at)
@@ -98,6 +100,9 @@ pub record Graded {ℓ} (S : Grading {ℓ}) : Type (ℓ ⊔ 1) where
       → Claim (S.then' g (S.type_call at)) (t >>= (λ i. point_type at i >>= (λ _. pure i)))
   pub pat_call_is : (at : Pointer) {g : S.G} {p : Lowering PatId} → LastPat (λ i. i) p → Claim g p
       → Claim (S.then' g (S.pat_call at)) (p >>= (λ i. point_pat at i >>= (λ _. pure i)))
+  -- so does a node that is assigned to
+  pub target_way_is : (at : Pointer) {g : S.G} {p : Lowering PatId} → LastPat (λ i. i) p → Claim g p
+      → Claim (S.then' g (S.target_way at)) (p >>= (λ i. point_target at i >>= (λ _. pure i)))
   pub hands_call_is : (at : Pointer) (t : Table) {g : S.G} {p : Lowering (PatId × Table)} → LastPat (λ r. r.0) p → Hands t g p
       → Hands t (S.then' g (S.pat_call at)) (p >>= (λ r. point_pat at r.0 >>= (λ _. pure r)))
   pub super_is : (w : PathWalk) → Claim (S.super (supers w.kind)) (counted (super_read w))

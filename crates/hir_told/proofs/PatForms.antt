@@ -21,7 +21,7 @@ use Rattle.hir_lower_form.specs.Forms.{ExprSteps}
 use Rattle.hir_lower_form.specs.Lower.{lower_pat}
 use Rattle.hir_lower_form.specs.Lowering.{Lowering, ◌>>=◌}
 use Rattle.hir_lower_form.specs.Pats as forms
-use Rattle.hir_lower_form.specs.Pats.{Elements, Key, Notes, PatSteps, Table, enter_or, key_of, leave_or, missing_pat, no_elements}
+use Rattle.hir_lower_form.specs.Pats.{Elements, PatSteps, Table, enter_or, key_of, leave_or, missing_pat, no_elements}
 use Rattle.hir_lower_form.specs.Ranges as ranges
 use Rattle.hir_read_back.proofs.PatParts.{dots_behind, dots_here, one_further}
 use Rattle.hir_one_result.specs.PathRoom.{Seen}

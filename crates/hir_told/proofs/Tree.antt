@@ -46,6 +46,7 @@ use Rattle.hir_one_result.specs.PathRoom.{at_first, found, segment_read, segment
 use Rattle.hir_one_result.specs.PathRoom.{any_arg, yields}
 use Rattle.hir_one_result.specs.PatRoom.{names_after, names_after_part, names_after_each, names_after_fields, names_after_field}
 use Rattle.hir_one_result.proofs.LastStored.{lower_pat_last, type_last, type_pat_last}
+use Rattle.hir_one_result.proofs.LastTargets.{lower_target_last}
 use Rattle.hir_one_result.proofs.PathRooms.{seen, seen_read, seen_named, seen_dollar, seen_self, Gives, GivesPath, Yields, Fills, full}
 use Rattle.hir_one_result.proofs.PathRooms.{full_arg, full_binding, yields_full, or_nothing}
 use Rattle.hir_one_result.proofs.PatRooms.{none_keyed, from_none}
@@ -347,10 +348,12 @@ module _ {ℓ} {S : Grading {ℓ}} (L : Graded S) where
     -- ---- what is assigned to
 
     pub target_graded : (t : Target) → L.Claim (g.grade_target S t) (lower_target t)
-    target_graded tree.absent_target = pats.missing_pat_graded L
+    target_graded (tree.absent_target call) = L.made_pat_is _ call
     target_graded (tree.place_target at e) = targets.place_graded L at (L.made_is (expr_graded e))
-    target_graded (tree.macro_target at c t) = calls.told_target_graded L c (target_graded t)
-    target_graded (tree.wild_target at) = L.pat_is _ _
+    target_graded (tree.macro_target None c t) = calls.told_target_graded L c (target_graded t)
+    target_graded (tree.macro_target (Some at) c t) =
+        calls.told_target_graded L c (L.target_way_is at (lower_target_last t) (target_graded t))
+    target_graded (tree.wild_target at) = targets.assigned_graded L _ at
     target_graded (tree.path_target at p h) = targets.path_target_graded L at h (map_is L _ (reading_graded p start).claim)
     target_graded (tree.tuple_target at ts) = targets.tuple_target_graded L at (all_targets ts (targets_graded ts no_elements))
     target_graded (tree.call_target at p ts) =
@@ -367,6 +370,7 @@ module _ {ℓ} {S : Grading {ℓ}} (L : Graded S) where
         told_less L (λ r e. e ∙ one_further done.0 i done.1 (target_dots ts)) (targets_graded ts (add_target done i)))
     targets_graded (tree.dots_targets ts) done =
         told_less L (λ r e. e ∙ dots_here done.0 done.1 (target_dots ts)) (targets_graded ts (add_target_dots done))
+    targets_graded (tree.noted_targets c ts) done = told_then L (told_any L (L.told_is c)) (λ u x. targets_graded ts done)
 
     target_fields_graded : (done : List RecordFieldPat) (fs : TargetFields)
         → L.Claim (g.grade_target_fields S fs) (lower_target_fields done fs)

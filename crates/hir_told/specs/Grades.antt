@@ -15,7 +15,7 @@ use Rattle.hir_one_result.specs.PathRoom.{Seen, nothing_seen, at_first, segments
 use Rattle.hir_one_result.specs.PatRoom.{names_after, names_after_part, names_after_each, names_after_field}
 use Rattle.hir_told.specs.Grading.{Grading, if_so, before, grade_lifetime, grade_uses, or_missing, grade_name, behind_comma, grade_or}
 use Rattle.hir_told.specs.Grading.{grade_name_side, grade_rest, grade_spread, kept_of, labelled_of, grade_front, record_of, grade_await}
-use Rattle.hir_told.specs.Grading.{grade_behind, grade_uncalled_pat, grade_uncalled_type}
+use Rattle.hir_told.specs.Grading.{grade_assigned, grade_behind, grade_uncalled_pat, grade_uncalled_type, or_missing_target}
 use Rattle.hir_told.specs.Grading.{grade_range, made_bind, item_call, flow_arm, residual, for_turn, grade_try}
 
 module _ {ℓ} (S : Grading {ℓ}) where
@@ -237,24 +237,26 @@ module _ {ℓ} (S : Grading {ℓ}) where
     -- ---- what is assigned to
 
     pub grade_target : Target → S.G
-    grade_target tree.absent_target = S.pat_at None
-    grade_target (tree.place_target at e) = S.then' (grade_expr e) (S.pat_at (Some at))
-    grade_target (tree.macro_target at called t) = S.then' (S.told called) (grade_target t)
-    grade_target (tree.wild_target at) = S.pat_at (Some at)
-    grade_target (tree.path_target at p h) = S.then' (grade_path p nothing_seen) (S.pat_at (Some at))
-    grade_target (tree.tuple_target at ts) = S.then' (grade_targets ts) (S.then' (S.dots (target_dots ts)) (S.pat_at (Some at)))
-    grade_target (tree.call_target at p ts) = S.then' (grade_whole p) (or_missing S (is_some (whole_read p))
-        (S.then' (grade_targets ts) (S.then' (S.dots (target_dots ts)) (S.pat_at (Some at)))))
+    grade_target (tree.absent_target call) = S.made_pat_at call
+    grade_target (tree.place_target at e) = S.then' (grade_expr e) (S.made_pat_at (Some at))
+    grade_target (tree.macro_target None called t) = S.then' (S.told called) (grade_target t)
+    grade_target (tree.macro_target (Some at) called t) = S.then' (S.told called) (S.then' (grade_target t) (S.target_way at))
+    grade_target (tree.wild_target at) = grade_assigned S at
+    grade_target (tree.path_target at p h) = S.then' (grade_path p nothing_seen) (grade_assigned S at)
+    grade_target (tree.tuple_target at ts) = S.then' (grade_targets ts) (S.then' (S.dots (target_dots ts)) (grade_assigned S at))
+    grade_target (tree.call_target at p ts) = S.then' (grade_whole p) (or_missing_target S at.call (is_some (whole_read p))
+        (S.then' (grade_targets ts) (S.then' (S.dots (target_dots ts)) (grade_assigned S at))))
     -- the two dots behind the parts on both sides of them
     grade_target (tree.array_target at before dots behind) = S.then' (grade_targets before)
-        (S.then' (grade_targets behind) (S.then' (grade_rest S dots) (S.pat_at (Some at))))
-    grade_target (tree.record_target at p fs dots spread) = S.then' (grade_whole p) (or_missing S (is_some (whole_read p))
-        (S.then' (grade_spread S spread) (S.then' (grade_target_fields fs) (S.pat_at (Some at)))))
+        (S.then' (grade_targets behind) (S.then' (grade_rest S dots) (grade_assigned S at)))
+    grade_target (tree.record_target at p fs dots spread) = S.then' (grade_whole p) (or_missing_target S at.call (is_some (whole_read p))
+        (S.then' (grade_spread S spread) (S.then' (grade_target_fields fs) (grade_assigned S at))))
 
     pub grade_targets : Targets → S.G
     grade_targets tree.no_targets = S.none
     grade_targets (tree.more_targets t ts) = S.then' (grade_target t) (grade_targets ts)
     grade_targets (tree.dots_targets ts) = grade_targets ts
+    grade_targets (tree.noted_targets called ts) = S.then' (S.told called) (grade_targets ts)
 
     pub grade_target_fields : TargetFields → S.G
     grade_target_fields tree.no_target_fields = S.none

@@ -11,7 +11,8 @@ use Rattle.hir_store.specs.declared.name.Name.{Name}
 use Rattle.hir_store.specs.declared.name.Name.TheVariants as name
 use Rattle.hir_env.specs.Answered as tree
 use Rattle.hir_env.specs.Answered.{Called, Entered, Expr, Gone, Jump, Label, Lifetime, Limit, Listing, OptionExpr, Params, Pats, RangeForm}
-use Rattle.hir_env.specs.Answered.{Stmt, Stmts, Use, UseRead}
+use Rattle.hir_env.specs.Answered.{Origin, Stmt, Stmts, Use, UseRead}
+use Rattle.hir_env.specs.Targets.{origin, source_of}
 use Rattle.hir_data.specs.Uses.{FirstUses}
 use Rattle.hir_meaning.specs.Left.{is_left, gives_value}
 use Rattle.hir_one_result.specs.PathRoom.{Seen, Read, goes_on}
@@ -27,6 +28,9 @@ pub record Grading {ℓ} : Type (ℓ + 1) where
   pub type_at : Option Pointer → G
   pub lifetime_at : Option Pointer → G
   pub pat_at : Option Pointer → G
+  -- a pattern to which no written node leads, and a node that is assigned to and leads to the last one
+  pub made_pat_at : Option Pointer → G
+  pub target_way : Pointer → G
   pub expr : G
   pub binding : G
   pub fault : ExpressionStoreDiagnostics → G
@@ -129,10 +133,19 @@ module _ {ℓ} (S : Grading {ℓ}) where
 
   -- ---- what is assigned to
 
+  -- it comes from its node, or from the outermost call around it, and its node leads to it
+  abbrev pub grade_assigned : Origin → S.G
+  grade_assigned at = S.then' (S.made_pat_at (Some (source_of at))) (S.target_way at.node)
+
+  -- where its path isn't read it is missing, at the outermost call around it
+  abbrev pub or_missing_target : Option Pointer → Bool → S.G → S.G
+  or_missing_target call true g = g
+  or_missing_target call false g = S.made_pat_at call
+
   -- the two dots of an array
   abbrev pub grade_rest : Option Pointer → S.G
   grade_rest None = S.none
-  grade_rest (Some at) = S.pat_at (Some at)
+  grade_rest (Some at) = grade_assigned (origin None at)
 
   -- an expression behind the two dots of a record
   abbrev pub grade_spread : Option Pointer → S.G

@@ -9,3 +9,4 @@ pub mod Sizes
 pub mod Laws
 pub mod Worked
 pub mod WorkedOrders
+pub mod WorkedTargets

@@ -22,6 +22,8 @@ module _ {X : Type 0} (of_faults : List ExpressionStoreDiagnostics → List X) (
     type_at = λ at. nothing;
     lifetime_at = λ at. nothing;
     pat_at = λ at. nothing;
+    made_pat_at = λ at. nothing;
+    target_way = λ at. nothing;
     expr = nothing;
     binding = nothing;
     fault = λ d. λ ss. of_faults (d ∷ []);

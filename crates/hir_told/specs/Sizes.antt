@@ -7,7 +7,7 @@ use Rattle.hir_one_result.specs.PreludeRoom.{handed_size, prelude_size, self_let
 use Rattle.hir_one_result.specs.Room.{formals_data, label_size}
 use Rattle.hir_one_result.specs.Size as size
 use Rattle.hir_one_result.specs.Size.{Size, a_binding, a_body, a_label, a_lifetime, a_made_name, a_pat, a_super, a_type}
-use Rattle.hir_one_result.specs.Size.{a_def, a_pat_call, a_type_call}
+use Rattle.hir_one_result.specs.Size.{a_def, a_made_pat, a_pat_call, a_target_way, a_type_call}
 use Rattle.hir_one_result.specs.Size.{an_expr, dots_behind, nothing, ◌∪◌}
 use Rattle.hir_told.specs.Bodies.{GradingBodies}
 use Rattle.hir_told.specs.Grading.{Grading}
@@ -20,6 +20,8 @@ sizes = record {
   type_at = λ at. a_type at;
   lifetime_at = λ at. a_lifetime at;
   pat_at = λ at. a_pat at;
+  made_pat_at = λ at. a_made_pat at;
+  target_way = λ at. a_target_way at;
   expr = an_expr;
   binding = a_binding;
   fault = λ d. nothing;

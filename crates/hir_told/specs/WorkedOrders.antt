@@ -8,7 +8,7 @@ use Rattle.hir_store.specs.declared.hir.CoroutineKind.{CoroutineKind}
 use Rattle.hir_store.specs.declared.ids.MacroDefId.{MacroDefId}
 use Rattle.hir_store.specs.declared.name.Name.{Name}
 use Rattle.hir_env.specs.Answered as tree
-use Rattle.hir_env.specs.Answered.{Entered, Expr, Formals, OptionExpr, Pat, Segment, Stmts, Type_}
+use Rattle.hir_env.specs.Answered.{Entered, Expr, Formals, Pat, Segment, Type_}
 use Rattle.hir_env.specs.Spot.{site_of}
 use Rattle.hir_steps.specs.Calls.{Expansions}
 use Rattle.hir_told.specs.Bodies.{grade_body}

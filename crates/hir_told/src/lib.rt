@@ -7,6 +7,7 @@ ghost use Rattle.hir_told.specs.Laws.{ExprsEnter, ExprsExpand, ExprsFit, ExprsNo
 ghost use Rattle.hir_told.specs.Laws.{PathsExpand, PatsNote, TargetsNote, TypesExpand, TypesNote};
 ghost use Rattle.hir_told.specs.Worked.{SmallCalls};
 ghost use Rattle.hir_told.specs.WorkedOrders.{AllSmallOrders};
+ghost use Rattle.hir_told.specs.WorkedTargets.{AllSmallTargets};
 
 /// A `yield` is noted where one is told of an expression, and nowhere else.
 pub fn exprs_note()
@@ -97,4 +98,11 @@ pub fn small_calls()
 /// and parameters before their body.
 pub fn small_orders()
     ensures { AllSmallOrders }
+{}
+
+/// Small targets with calls of macros: elements and callees that aren't found are faults, in their order, and so is a call in front of the
+/// two dots that it stands for; those that are entered are told in that order. An element comes from its outermost call, to which no
+/// node leads, and a call that is the whole target leads to what it stands for.
+pub fn small_targets()
+    ensures { AllSmallTargets }
 {}

@@ -17,13 +17,14 @@ use Rattle.hir_store.specs.declared.type_ref.TypeRef.{TypeRef}
 use Rattle.hir_store.specs.declared.type_ref.TypeRef.TheVariants as ty
 use Rattle.hir_store.specs.declared.type_ref.LifetimeRef.{LifetimeRef}
 use Rattle.hir_lower_form.specs.Builder.{Builder}
-use Rattle.hir_lower_form.specs.Lowering.{Checked, Lowering, ◌>>=◌, pure, alloc_expr, alloc_made, alloc_pat, alloc_type, alloc_lifetime}
+use Rattle.hir_lower_form.specs.Lowering.{Checked, Lowering, ◌>>=◌, pure, alloc_expr, alloc_made, alloc_made_pat, alloc_pat, alloc_type}
+use Rattle.hir_lower_form.specs.Lowering.{alloc_lifetime}
 use Rattle.hir_lower_form.specs.Lowering.{owning}
 use Rattle.hir_lower_form.specs.Preludes.{alloc_beside}
 use Rattle.hir_steps.proofs.Frames.{Frame}
 use Rattle.hir_steps.proofs.MadeSteps.{correct_alloc_made}
 use Rattle.hir_steps.proofs.Owning.{owned_by, owning_keeps}
-use Rattle.hir_steps.proofs.PatSteps.{AllocatedPatBy, PutPat, correct_alloc_beside, correct_alloc_pat}
+use Rattle.hir_steps.proofs.PatSteps.{AllocatedPatBy, PutPat, correct_alloc_beside, correct_alloc_made_pat, correct_alloc_pat}
 use Rattle.hir_steps.proofs.Steps.{Mark, Grows, Rel, Seq, Holds, Correct, correct_bind, correct_as, correct_pure, correct_alloc}
 use Rattle.hir_steps.proofs.Steps.{correct_alloc_type, correct_alloc_lifetime}
 use Rattle.hir_type_result.specs.Reached.{below, types_reached}
@@ -551,6 +552,12 @@ pat_adds {was = was} p {final = final} {m = m} {m' = m'} {i = i} row g new came 
 pub adds_pat : {was : Numbers} (p : HirPat) (source : Option Pointer) → ((l : Look) → of_pat l p ⊑ was l)
     → Correct (alloc_pat p source) (Adds was (λ i l. l.pats i))
 adds_pat p source h = correct_as (correct_alloc_pat p source) (λ final ps m m' i g row.
+    pat_adds p row g (ap (λ x. x.pats.entries) row.stored) (λ s d k. ap (λ x. named s final d x k) row.stored) h)
+
+-- one to which no written node leads
+pub adds_made_pat : {was : Numbers} (p : HirPat) (source : Option Pointer) → ((l : Look) → of_pat l p ⊑ was l)
+    → Correct (alloc_made_pat p source) (Adds was (λ i l. l.pats i))
+adds_made_pat p source h = correct_as (correct_alloc_made_pat p source) (λ final ps m m' i g row.
     pat_adds p row g (ap (λ x. x.pats.entries) row.stored) (λ s d k. ap (λ x. named s final d x k) row.stored) h)
 
 -- one that is made up for the node of another one

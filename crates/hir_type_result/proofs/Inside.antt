@@ -54,7 +54,7 @@ use Rattle.hir_type_result.proofs.Counted.{times, times_append, counted_spread}
 use Rattle.hir_type_result.proofs.Weighed.{Cost, view, free, an_expr, a_type, a_type_pat, a_pat, a_limit, a_target, a_constant, sum}
 use Rattle.hir_type_result.proofs.Weighed.{Adds, adds_pure}
 use Rattle.hir_type_result.proofs.Weighed.{adds_then, adds_beside, adds_any, adds_from, adds_type, adds_expr, adds_constant}
-use Rattle.hir_type_result.proofs.Weighed.{adds_limit, adds_owning, adds_pat, adds_target}
+use Rattle.hir_type_result.proofs.Weighed.{adds_limit, adds_owning, adds_pat}
 use Rattle.hir_type_result.proofs.Weighed.{adds_type_pat}
 use Rattle.hir_type_result.proofs.Weights as weights
 use Rattle.hir_type_result.proofs.InsideTypes.{maybe_type, types, a_bound, bounds, arguments, lists, maybe_path, walk, reading}
@@ -441,10 +441,11 @@ mutual
   -- targets
 
   target_adds : (t : Target) → Correct (lower_target t) (Adds free a_target)
-  target_adds tree.absent_target = aims.missing_target_adds
+  target_adds (tree.absent_target call) = aims.missing_target_adds call
   target_adds (tree.place_target at e) = aims.place_adds at (node_adds e)
-  target_adds (tree.macro_target at c t) = adds_then (adds_any (correct_told c)) (λ u. target_adds t)
-  target_adds (tree.wild_target at) = adds_target _ (Some at) (λ v. omega arith)
+  target_adds (tree.macro_target None c t) = adds_then (adds_any (correct_told c)) (λ u. target_adds t)
+  target_adds (tree.macro_target (Some at) c t) = adds_then (adds_any (correct_told c)) (λ u. aims.pointed_adds at (target_adds t))
+  target_adds (tree.wild_target at) = aims.adds_target _ at (λ v. omega arith)
   target_adds (tree.path_target at p h) = aims.path_target_adds at h (adds_then (reading_adds p start)
       (λ r. adds_pure (path_read r) (λ v. weights.path_read_less v.weight v.held r)))
   target_adds (tree.tuple_target at ts) = aims.tuple_target_adds at (targets_add no_elements ts)
@@ -459,6 +460,7 @@ mutual
   targets_add done (tree.more_targets t ts) = adds_then (adds_beside (aims.target_elements done) (target_adds t))
       (λ i. adds_from (aims.pushed done.0 i) (targets_add (add_target done i) ts))
   targets_add done (tree.dots_targets ts) = targets_add (add_target_dots done) ts
+  targets_add done (tree.noted_targets c ts) = adds_then (adds_any (correct_told c)) (λ u. targets_add done ts)
 
   target_fields_add : (done : List RecordFieldPat) (fs : TargetFields)
       → Correct (lower_target_fields done fs) (Adds (aims.target_fields done) aims.target_fields)

@@ -7,15 +7,20 @@ use Rattle.hir_store.specs.declared.ids.ExprId.{ExprId}
 use Rattle.hir_store.specs.declared.ids.HygieneId.{HygieneId}
 use Rattle.hir_store.specs.declared.ids.PatId.{PatId}
 use Rattle.hir_store.specs.declared.name.Name.{Name}
+use Rattle.hir_store.specs.declared.pat.Pat.{Pat}
 use Rattle.hir_store.specs.declared.pat.Pat.TheVariants as pat
 use Rattle.hir_store.specs.declared.pat.RecordFieldPat.{RecordFieldPat}
 use Rattle.hir_store.specs.declared.path.Path.{Path as HirPath}
+use Rattle.hir_env.specs.Answered.{Origin}
+use Rattle.hir_env.specs.Targets.{origin, source_of}
 use Rattle.hir_lower_form.specs.Forms.{ExprSteps, push_some, assign_form}
-use Rattle.hir_lower_form.specs.Lowering.{Lowering}
-use Rattle.hir_lower_form.specs.Pats.{Elements, elements_form, missing_pat, named_part, with_first_missing}
+use Rattle.hir_lower_form.specs.Lowering.{Lowering, ◌>>=◌, pure, point_target}
+use Rattle.hir_lower_form.specs.Pats.{Elements, elements_form, named_part, with_first_missing}
 use Rattle.hir_lower_form.specs.Targets as targets
+use Rattle.hir_lower_form.specs.Targets.{alloc_target, missing_target}
 use Rattle.hir_meaning.specs.Inner.{all_of, of_pat_field, of_path, of_present}
 use Rattle.hir_meaning.specs.Places.{places, places_in_each, places_in_fields, places_in_present, places_to}
+use Rattle.hir_steps.proofs.Calls.{correct_point_target}
 use Rattle.hir_steps.proofs.PatAny.{dots_any}
 use Rattle.hir_steps.proofs.PatSteps.{correct_point_pat_field}
 use Rattle.hir_steps.proofs.Steps.{Correct, correct_report}
@@ -25,7 +30,7 @@ use Rattle.hir_type_result.proofs.Counted.{times, times_append}
 use Rattle.hir_type_result.proofs.Fronts.{in_store_front, each_front, fields_front, present_front, times_each}
 use Rattle.hir_type_result.proofs.Weights as weights
 use Rattle.hir_type_result.proofs.Weighed.{View, Cost, free, beside, an_expr, a_target, in_expr, in_target, sum, sum_append, view}
-use Rattle.hir_type_result.proofs.Weighed.{Adds, adds_pure, adds_then, adds_beside, adds_any, adds_from, adds_expr_at, adds_target}
+use Rattle.hir_type_result.proofs.Weighed.{Adds, adds_pure, adds_then, adds_beside, adds_any, adds_from, adds_expr_at, adds_made_target}
 use Rattle.hir_type_result.proofs.InsideTypes.{maybe_path}
 use Rattle.hir_type_result.proofs.InsideForms.{both}
 
@@ -86,12 +91,18 @@ field_pushed fs (Some f) v =
 
 -- ---- forms
 
-missing_adds : {was : Cost} → Correct missing_pat (Adds was a_target)
-unfolding missing_pat
-missing_adds = adds_target pat.Missing None (λ v. omega arith)
+-- a node that is assigned to leads to the pattern
+pub pointed_adds : (at : Pointer) {was : Cost} {p : Lowering PatId} → Correct p (Adds was a_target)
+    → Correct (p >>= (λ i. point_target at i >>= (λ u. pure i))) (Adds was a_target)
+pointed_adds at h = adds_then h (λ i. adds_then (adds_any (correct_point_target at i)) (λ u. adds_pure i (λ v. omega arith)))
 
-pub missing_target_adds : Correct missing_pat (Adds free a_target)
-missing_target_adds = missing_adds
+pub adds_target : {was : Cost} (p : Pat) (at : Origin) → ((v : View) → in_target p v ≤ was v)
+    → Correct (alloc_target p at) (Adds was a_target)
+unfolding alloc_target
+adds_target p at h = pointed_adds at.node (adds_made_target p (Some (source_of at)) h)
+
+pub missing_target_adds : {was : Cost} (call : Option Pointer) → Correct (missing_target call) (Adds was a_target)
+missing_target_adds call = adds_made_target pat.Missing call (λ v. omega arith)
 
 path_target_less : (h : HygieneId) (o : Option HirPath) (v : View) → in_target (targets.path_target_of h o) v ≤ maybe_path o v
 path_target_less h None v = omega arith
@@ -130,29 +141,34 @@ named_part_adds : (at : Pointer) (n : Option Name) (i : PatId) → Correct (name
 named_part_adds at None i = adds_pure None (λ v. omega arith)
 named_part_adds at (Some n) i = adds_then (adds_any (correct_point_pat_field i at)) (λ u. adds_pure _ (λ v. omega arith))
 
-module _ (at : Pointer) where
-  pub place_adds : {e : ExprSteps} → Correct e (Adds free an_expr) → Correct (targets.place_form at e) (Adds free a_target)
-  unfolding targets.place_form
-  place_adds h = adds_then h (λ e. adds_target (pat.Expr e) (Some at)
-      (λ v. let x = times_append v.number (v.reach e) [] in omega (arith, x)))
+pub place_adds : (at : Pointer) {e : ExprSteps} → Correct e (Adds free an_expr) → Correct (targets.place_form at e) (Adds free a_target)
+unfolding targets.place_form
+place_adds at h = adds_then h (λ e. adds_made_target (pat.Expr e) (Some at)
+    (λ v. let x = times_append v.number (v.reach e) [] in omega (arith, x)))
 
+pub target_field_adds : (at : Pointer) (n : Option Name) {p : Lowering PatId} → Correct p (Adds free a_target)
+    → Correct (targets.target_field_form at n p) (Adds free maybe_target_field)
+unfolding targets.target_field_form
+target_field_adds at n h = adds_then h (λ i. named_part_adds at n i)
+
+module _ (at : Origin) where
   pub path_target_adds : (h : HygieneId) {q : Lowering (Option HirPath)} → Correct q (Adds free maybe_path)
       → Correct (targets.path_target_form at h q) (Adds free a_target)
   unfolding targets.path_target_form
-  path_target_adds h hq = adds_then hq (λ o. adds_target _ (Some at) (path_target_less h o))
+  path_target_adds h hq = adds_then hq (λ o. adds_target _ at (path_target_less h o))
 
   pub tuple_target_adds : {p : Lowering Elements} → Correct p (Adds free target_elements)
       → Correct (targets.tuple_target_form at p) (Adds free a_target)
   unfolding targets.tuple_target_form
   tuple_target_adds h = adds_then h (λ r. adds_then (adds_from (λ v. omega arith) (elements_add free r))
-      (λ es. adds_target (pat.Tuple es.0 es.1) (Some at) (λ v. omega arith)))
+      (λ es. adds_target (pat.Tuple es.0 es.1) at (λ v. omega arith)))
 
   call_target_of_adds : {p : Lowering Elements} → Correct p (Adds free target_elements) → (o : Option HirPath)
       → Correct (targets.call_target_of at p o) (Adds (maybe_path o) a_target)
-  call_target_of_adds h None = missing_adds
+  call_target_of_adds h None = missing_target_adds at.call
   call_target_of_adds h (Some o) = adds_then (adds_beside (maybe_path (Some o)) h)
       (λ r. adds_then (elements_add (maybe_path (Some o)) r)
-      (λ es. adds_target (pat.TupleStruct o es.0 es.1) (Some at) (call_less o es.0 es.1)))
+      (λ es. adds_target (pat.TupleStruct o es.0 es.1) at (call_less o es.0 es.1)))
 
   pub call_target_adds : {p : Lowering Elements} {q : Lowering (Option HirPath)} → Correct p (Adds free target_elements)
       → Correct q (Adds free maybe_path) → Correct (targets.call_target_form at p q) (Adds free a_target)
@@ -161,14 +177,14 @@ module _ (at : Pointer) where
 
   rest_adds : (dots : Option Pointer) → Correct (targets.rest_target dots) (Adds free maybe_target)
   rest_adds None = adds_pure None (λ v. omega arith)
-  rest_adds (Some p) = adds_then (adds_target pat.Rest (Some p) (λ v. omega arith)) (λ i. adds_pure (Some i) (λ v. omega arith))
+  rest_adds (Some p) = adds_then (adds_target pat.Rest (origin None p) (λ v. omega arith)) (λ i. adds_pure (Some i) (λ v. omega arith))
 
   pub array_target_adds : (dots : Option Pointer) {b a : Lowering Elements} → Correct b (Adds free target_elements)
       → Correct a (Adds free target_elements) → Correct (targets.array_target_form at dots b a) (Adds free a_target)
   unfolding targets.array_target_form
   array_target_adds dots hb ha = adds_then hb (λ b. adds_then (adds_beside (target_elements b) ha)
       (λ a. adds_then (adds_beside (beside (target_elements b) (target_elements a)) (rest_adds dots))
-      (λ m. adds_target (pat.Slice b.0 m a.0) (Some at) (array_less b.0 m a.0))))
+      (λ m. adds_target (pat.Slice b.0 m a.0) at (array_less b.0 m a.0))))
 
   spread_any : (spread : Option Pointer) → Correct (targets.report_spread spread) Any
   spread_any None = pure_any tt
@@ -177,9 +193,9 @@ module _ (at : Pointer) where
   record_target_of_adds : (dots : Bool) (spread : Option Pointer) {fs : Lowering (List RecordFieldPat)}
       → Correct fs (Adds free target_fields) → (o : Option HirPath)
       → Correct (targets.record_target_of at dots spread fs o) (Adds (maybe_path o) a_target)
-  record_target_of_adds dots spread h None = missing_adds
+  record_target_of_adds dots spread h None = missing_target_adds at.call
   record_target_of_adds dots spread h (Some o) = adds_then (adds_any (spread_any spread))
-      (λ u. adds_then (adds_beside (maybe_path (Some o)) h) (λ fs. adds_target (pat.Record o fs dots) (Some at) (record_less o fs dots)))
+      (λ u. adds_then (adds_beside (maybe_path (Some o)) h) (λ fs. adds_target (pat.Record o fs dots) at (record_less o fs dots)))
 
   pub record_target_adds : (dots : Bool) (spread : Option Pointer) {fs : Lowering (List RecordFieldPat)}
       {q : Lowering (Option HirPath)} → Correct fs (Adds free target_fields) → Correct q (Adds free maybe_path)
@@ -187,11 +203,7 @@ module _ (at : Pointer) where
   unfolding targets.record_target_form
   record_target_adds dots spread h hq = adds_then hq (λ o. record_target_of_adds dots spread h o)
 
-  pub target_field_adds : (n : Option Name) {p : Lowering PatId} → Correct p (Adds free a_target)
-      → Correct (targets.target_field_form at n p) (Adds free maybe_target_field)
-  unfolding targets.target_field_form
-  target_field_adds n h = adds_then h (λ i. named_part_adds at n i)
-
+module _ (at : Pointer) where
   -- where all places are looked for
   assign_less : (t : PatId) (e : ExprId) (final : Stored) (all number reach hold : ℕ)
       → in_expr (hir.Assignment t e) (view final all number reach hold (length final.pats.entries))

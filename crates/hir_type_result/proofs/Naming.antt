@@ -21,7 +21,7 @@ use Rattle.hir_store.specs.declared.type_ref.ConstRef.{ConstRef}
 use Rattle.hir_env.specs.Answered.{Called, Label, Jump, Use}
 use Rattle.hir_scope.specs.Ribs.{Rib, Target, reachable, unreachable, undeclared, target}
 use Rattle.hir_lower_form.specs.Lowering.{Lowering, ◌>>=◌, pure, alloc_binding, alloc_expr, define, point, point_field, point_pat}
-use Rattle.hir_lower_form.specs.Lowering.{point_pat_field, point_type}
+use Rattle.hir_lower_form.specs.Lowering.{point_pat_field, point_target, point_type}
 use Rattle.hir_lower_form.specs.Lowering.{report, report_await, enter_block, open_label, close, jump_target, alloc_made, made_number}
 use Rattle.hir_lower_form.specs.Lowering.{open_try, try_target}
 use Rattle.hir_lower_form.specs.Lower.{ExprSteps, constant_form, some}
@@ -30,7 +30,7 @@ use Rattle.hir_lower_form.specs.Pats.{called_pat_form, settle_from, use_name, us
 use Rattle.hir_lower_form.specs.Types.{TypeSteps, called_type_form}
 use Rattle.hir_lower_form.specs.Ranges.{inner_form}
 use Rattle.hir_steps.specs.Calls.{Expansions}
-use Rattle.hir_steps.proofs.Calls.{Only, correct_only, correct_point_pat, correct_point_type, only_told}
+use Rattle.hir_steps.proofs.Calls.{Only, correct_only, correct_point_pat, correct_point_target, correct_point_type, only_told}
 use Rattle.hir_steps.proofs.Constants.{correct_constant, correct_inner, with_root}
 use Rattle.hir_steps.proofs.Frames.{Frame, rib, ribs}
 use Rattle.hir_steps.proofs.MadeSteps.{correct_made_number, correct_opened_try, correct_try_target}
@@ -156,6 +156,10 @@ quiet_only h = quiet_writes (correct_only h) (λ x. refl) (λ s final d k x. ref
 
 pub quiet_point_pat : (at : Pointer) (i : PatId) → Correct (point_pat at i) Quiet
 quiet_point_pat at i = quiet_writes (correct_point_pat at i) (λ x. refl) (λ s final d k x. refl)
+
+-- a node that is assigned to
+pub quiet_point_target : (at : Pointer) (i : PatId) → Correct (point_target at i) Quiet
+quiet_point_target at i = quiet_writes (correct_point_target at i) (λ x. refl) (λ s final d k x. refl)
 
 quiet_point_type : (at : Pointer) (i : TypeRefId) → Correct (point_type at i) Quiet
 quiet_point_type at i = quiet_writes (correct_point_type at i) (λ x. refl) (λ s final d k x. refl)

@@ -14,17 +14,20 @@ use Rattle.hir_store.specs.declared.ids.PatId.{PatId}
 use Rattle.hir_store.specs.declared.ids.TypeRefId.{TypeRefId}
 use Rattle.hir_store.specs.declared.name.Name.{Name}
 use Rattle.hir_store.specs.declared.name.Name.TheVariants as name
+use Rattle.hir_store.specs.declared.pat.Pat.{Pat}
 use Rattle.hir_store.specs.declared.pat.Pat.TheVariants as pat
 use Rattle.hir_store.specs.declared.pat.RecordFieldPat.{RecordFieldPat}
 use Rattle.hir_store.specs.declared.path.Path.{Path as HirPath}
 use Rattle.hir_env.specs.Answered as tree
-use Rattle.hir_env.specs.Answered.{Called, PatLeaf, PatUnary, RangeForm, Signed, Use}
+use Rattle.hir_env.specs.Targets.{origin, source_of}
+use Rattle.hir_env.specs.Answered.{Called, Origin, PatLeaf, PatUnary, RangeForm, Signed, Use}
 use Rattle.hir_lower_form.specs.Forms.{ExprSteps, push_some, let_form, match_form, arm_form, assign_form, let_stmt_form}
-use Rattle.hir_lower_form.specs.Lowering.{Lowering, alloc_pat}
+use Rattle.hir_lower_form.specs.Lowering.{Lowering, ◌>>=◌, pure, alloc_pat, point_target}
 use Rattle.hir_lower_form.specs.Pats as forms
 use Rattle.hir_lower_form.specs.Pats.{Table, Elements, PatSteps, missing_pat}
 use Rattle.hir_lower_form.specs.Ranges as ranges
 use Rattle.hir_lower_form.specs.Targets as targets
+use Rattle.hir_lower_form.specs.Targets.{alloc_target, missing_target}
 use Rattle.hir_steps.proofs.Calls.{only_told}
 use Rattle.hir_steps.proofs.Steps.{Correct, correct_count_out}
 use Rattle.hir_type_result.specs.Reached.{of_each, of_present}
@@ -32,9 +35,9 @@ use Rattle.hir_type_result.specs.Named.{Look, of_arm, of_expr, of_pat, of_pat_fi
 use Rattle.hir_type_result.proofs.Counted.{◌⊑◌, times_append}
 use Rattle.hir_type_result.proofs.Numbers.{each_push}
 use Rattle.hir_type_result.proofs.Adding.{Numbers, none, Adds, Quiet, adds_pure, adds_then, adds_beside, adds_quiet, adds_from}
-use Rattle.hir_type_result.proofs.Adding.{adds_expr, adds_pat, adds_done, framed, Steps}
+use Rattle.hir_type_result.proofs.Adding.{adds_expr, adds_made_pat, adds_pat, adds_done, framed, Steps}
 use Rattle.hir_type_result.proofs.Naming.{quiet_pure, quiet_then, quiet_alloc, quiet_report, quiet_point_pat_field, quiet_define}
-use Rattle.hir_type_result.proofs.Naming.{called_names, ids, name_adds, quiet_only, quiet_point_pat}
+use Rattle.hir_type_result.proofs.Naming.{called_names, ids, name_adds, quiet_only, quiet_point_pat, quiet_point_target}
 use Rattle.hir_type_result.proofs.Owned.{a_pat, maybe_path, maybe_type, beside}
 
 -- what each kind of answer names
@@ -312,79 +315,6 @@ module _ (at : Pointer) where
   unfolding ranges.type_alternatives_form
   type_alternatives_adds h = adds_then h (λ ps. adds_pat (pat.Or ps) (Some at) (λ l k. omega arith))
 
-  -- ---- targets
-
-  pub place_adds : {e : ExprSteps} → Correct e Quiet → Correct (targets.place_form at e) (Adds none a_pat)
-  unfolding targets.place_form
-  place_adds h = adds_then h (λ e. adds_pat (pat.Expr e) (Some at) (λ l k. omega arith))
-
-  path_target_named : (h : HygieneId) (o : Option HirPath) (l : Look) → of_pat l (targets.path_target_of h o) ⊑ maybe_path o l
-  path_target_named h None l k = omega arith
-  path_target_named h (Some p) l k = omega arith
-
-  pub path_target_adds : (h : HygieneId) {q : Lowering (Option HirPath)} → Correct q (Adds none maybe_path)
-      → Correct (targets.path_target_form at h q) (Adds none a_pat)
-  unfolding targets.path_target_form
-  path_target_adds h hq = adds_then hq (λ o. adds_pat _ (Some at) (path_target_named h o))
-
-  pub tuple_target_adds : {p : Lowering Elements} → Correct p (Adds none elements)
-      → Correct (targets.tuple_target_form at p) (Adds none a_pat)
-  unfolding targets.tuple_target_form
-  tuple_target_adds h = adds_then h (λ r. adds_then (elements_add none false r)
-      (λ es. adds_pat (pat.Tuple es.0 es.1) (Some at) (λ l k. omega arith)))
-
-  call_target_of_adds : {p : Lowering Elements} → Correct p (Adds none elements) → (o : Option HirPath)
-      → Correct (targets.call_target_of at p o) (Adds (maybe_path o) a_pat)
-  call_target_of_adds h None = missing_adds
-  call_target_of_adds h (Some o) = adds_then (adds_beside (maybe_path (Some o)) h)
-      (λ r. adds_then (elements_add (maybe_path (Some o)) false r)
-      (λ es. adds_pat (pat.TupleStruct o es.0 es.1) (Some at) (λ l k. omega arith)))
-
-  pub call_target_adds : {p : Lowering Elements} {q : Lowering (Option HirPath)} → Correct p (Adds none elements)
-      → Correct q (Adds none maybe_path) → Correct (targets.call_target_form at p q) (Adds none a_pat)
-  unfolding targets.call_target_form
-  call_target_adds h hq = adds_then hq (λ o. call_target_of_adds h o)
-
-  rest_adds : (dots : Option Pointer) → Correct (targets.rest_target dots) (Adds none maybe_pat)
-  rest_adds None = adds_pure None (λ l k. omega arith)
-  rest_adds (Some p) = adds_then (adds_pat pat.Rest (Some p) (λ l k. omega arith)) (λ i. adds_pure (Some i) (λ l k. omega arith))
-
-  array_named : (b : List PatId) (m : Option PatId) (a : List PatId) (l : Look)
-      → of_pat l (pat.Slice b m a) ⊑ (pats b l ++ pats a l) ++ maybe_pat m l
-  array_named b m a l k =
-      let x = times_append k (of_each l.pats b) (of_present l.pats m ++ of_each l.pats a) in
-      let y = times_append k (of_present l.pats m) (of_each l.pats a) in
-      let z = times_append k (of_each l.pats b ++ of_each l.pats a) (of_present l.pats m) in
-      let w = times_append k (of_each l.pats b) (of_each l.pats a) in omega arith
-
-  pub array_target_adds : (dots : Option Pointer) {b a : Lowering Elements} → Correct b (Adds none elements)
-      → Correct a (Adds none elements) → Correct (targets.array_target_form at dots b a) (Adds none a_pat)
-  unfolding targets.array_target_form
-  array_target_adds dots hb ha = adds_then hb (λ b. adds_then (adds_beside (elements b) ha)
-      (λ a. adds_then (adds_beside (beside (elements b) (elements a)) (rest_adds dots))
-      (λ m. adds_pat (pat.Slice b.0 m a.0) (Some at) (array_named b.0 m a.0))))
-
-  spread_quiet : (spread : Option Pointer) → Correct (targets.report_spread spread) Quiet
-  spread_quiet None = quiet_pure tt
-  spread_quiet (Some p) = quiet_report _
-
-  record_target_of_adds : (dots : Bool) (spread : Option Pointer) {fs : Lowering (List RecordFieldPat)} → Correct fs (Adds none fields)
-      → (o : Option HirPath) → Correct (targets.record_target_of at dots spread fs o) (Adds (maybe_path o) a_pat)
-  record_target_of_adds dots spread h None = missing_adds
-  record_target_of_adds dots spread h (Some o) = adds_then (adds_quiet (spread_quiet spread))
-      (λ u. adds_then (adds_beside (maybe_path (Some o)) h) (λ fs. adds_pat (pat.Record o fs dots) (Some at) (λ l k. omega arith)))
-
-  pub record_target_adds : (dots : Bool) (spread : Option Pointer) {fs : Lowering (List RecordFieldPat)}
-      {q : Lowering (Option HirPath)} → Correct fs (Adds none fields) → Correct q (Adds none maybe_path)
-      → Correct (targets.record_target_form at dots spread fs q) (Adds none a_pat)
-  unfolding targets.record_target_form
-  record_target_adds dots spread h hq = adds_then hq (λ o. record_target_of_adds dots spread h o)
-
-  pub target_field_adds : (n : Option Name) {p : Lowering PatId} → Correct p (Adds none a_pat)
-      → Correct (targets.target_field_form at n p) (Adds none maybe_field)
-  unfolding targets.target_field_form
-  target_field_adds n h = adds_then h (λ i. named_part_adds at n i)
-
   -- ---- expressions that patterns stand in
 
   pub let_quiet : {p : Lowering PatId} {e : ExprSteps} → Correct p (Adds none a_pat) → Correct e Quiet → Correct (let_form at p e) Quiet
@@ -401,6 +331,93 @@ module _ (at : Pointer) where
   unfolding assign_form
   assign_quiet ht hv = adds_then ht (λ t. adds_then (adds_quiet hv)
       (λ v. adds_expr (hir.Assignment t v) (Some at) (λ l k. omega arith)))
+
+-- ---- targets
+
+-- a node that is assigned to leads to the pattern
+pub pointed_adds : (at : Pointer) {was : Numbers} {p : Lowering PatId} → Correct p (Adds was a_pat)
+    → Correct (p >>= (λ i. point_target at i >>= (λ u. pure i))) (Adds was a_pat)
+pointed_adds at h = adds_then h (λ i. adds_then (adds_quiet (quiet_point_target at i)) (λ u. adds_pure i (λ l k. omega arith)))
+
+pub adds_target : {was : Numbers} (p : Pat) (at : Origin) → ((l : Look) → of_pat l p ⊑ was l)
+    → Correct (alloc_target p at) (Adds was a_pat)
+unfolding alloc_target
+adds_target p at h = pointed_adds at.node (adds_made_pat p (Some (source_of at)) h)
+
+pub missing_target_adds : {was : Numbers} (call : Option Pointer) → Correct (missing_target call) (Adds was a_pat)
+missing_target_adds call = adds_made_pat pat.Missing call (λ l k. omega arith)
+
+pub place_adds : (at : Pointer) {e : ExprSteps} → Correct e Quiet → Correct (targets.place_form at e) (Adds none a_pat)
+unfolding targets.place_form
+place_adds at h = adds_then h (λ e. adds_made_pat (pat.Expr e) (Some at) (λ l k. omega arith))
+
+pub target_field_adds : (at : Pointer) (n : Option Name) {p : Lowering PatId} → Correct p (Adds none a_pat)
+    → Correct (targets.target_field_form at n p) (Adds none maybe_field)
+unfolding targets.target_field_form
+target_field_adds at n h = adds_then h (λ i. named_part_adds at n i)
+
+module _ (at : Origin) where
+  path_target_named : (h : HygieneId) (o : Option HirPath) (l : Look) → of_pat l (targets.path_target_of h o) ⊑ maybe_path o l
+  path_target_named h None l k = omega arith
+  path_target_named h (Some p) l k = omega arith
+
+  pub path_target_adds : (h : HygieneId) {q : Lowering (Option HirPath)} → Correct q (Adds none maybe_path)
+      → Correct (targets.path_target_form at h q) (Adds none a_pat)
+  unfolding targets.path_target_form
+  path_target_adds h hq = adds_then hq (λ o. adds_target _ at (path_target_named h o))
+
+  pub tuple_target_adds : {p : Lowering Elements} → Correct p (Adds none elements)
+      → Correct (targets.tuple_target_form at p) (Adds none a_pat)
+  unfolding targets.tuple_target_form
+  tuple_target_adds h = adds_then h (λ r. adds_then (elements_add none false r)
+      (λ es. adds_target (pat.Tuple es.0 es.1) at (λ l k. omega arith)))
+
+  call_target_of_adds : {p : Lowering Elements} → Correct p (Adds none elements) → (o : Option HirPath)
+      → Correct (targets.call_target_of at p o) (Adds (maybe_path o) a_pat)
+  call_target_of_adds h None = missing_target_adds at.call
+  call_target_of_adds h (Some o) = adds_then (adds_beside (maybe_path (Some o)) h)
+      (λ r. adds_then (elements_add (maybe_path (Some o)) false r)
+      (λ es. adds_target (pat.TupleStruct o es.0 es.1) at (λ l k. omega arith)))
+
+  pub call_target_adds : {p : Lowering Elements} {q : Lowering (Option HirPath)} → Correct p (Adds none elements)
+      → Correct q (Adds none maybe_path) → Correct (targets.call_target_form at p q) (Adds none a_pat)
+  unfolding targets.call_target_form
+  call_target_adds h hq = adds_then hq (λ o. call_target_of_adds h o)
+
+  rest_adds : (dots : Option Pointer) → Correct (targets.rest_target dots) (Adds none maybe_pat)
+  rest_adds None = adds_pure None (λ l k. omega arith)
+  rest_adds (Some p) = adds_then (adds_target pat.Rest (origin None p) (λ l k. omega arith)) (λ i. adds_pure (Some i) (λ l k. omega arith))
+
+  array_named : (b : List PatId) (m : Option PatId) (a : List PatId) (l : Look)
+      → of_pat l (pat.Slice b m a) ⊑ (pats b l ++ pats a l) ++ maybe_pat m l
+  array_named b m a l k =
+      let x = times_append k (of_each l.pats b) (of_present l.pats m ++ of_each l.pats a) in
+      let y = times_append k (of_present l.pats m) (of_each l.pats a) in
+      let z = times_append k (of_each l.pats b ++ of_each l.pats a) (of_present l.pats m) in
+      let w = times_append k (of_each l.pats b) (of_each l.pats a) in omega arith
+
+  pub array_target_adds : (dots : Option Pointer) {b a : Lowering Elements} → Correct b (Adds none elements)
+      → Correct a (Adds none elements) → Correct (targets.array_target_form at dots b a) (Adds none a_pat)
+  unfolding targets.array_target_form
+  array_target_adds dots hb ha = adds_then hb (λ b. adds_then (adds_beside (elements b) ha)
+      (λ a. adds_then (adds_beside (beside (elements b) (elements a)) (rest_adds dots))
+      (λ m. adds_target (pat.Slice b.0 m a.0) at (array_named b.0 m a.0))))
+
+  spread_quiet : (spread : Option Pointer) → Correct (targets.report_spread spread) Quiet
+  spread_quiet None = quiet_pure tt
+  spread_quiet (Some p) = quiet_report _
+
+  record_target_of_adds : (dots : Bool) (spread : Option Pointer) {fs : Lowering (List RecordFieldPat)} → Correct fs (Adds none fields)
+      → (o : Option HirPath) → Correct (targets.record_target_of at dots spread fs o) (Adds (maybe_path o) a_pat)
+  record_target_of_adds dots spread h None = missing_target_adds at.call
+  record_target_of_adds dots spread h (Some o) = adds_then (adds_quiet (spread_quiet spread))
+      (λ u. adds_then (adds_beside (maybe_path (Some o)) h) (λ fs. adds_target (pat.Record o fs dots) at (λ l k. omega arith)))
+
+  pub record_target_adds : (dots : Bool) (spread : Option Pointer) {fs : Lowering (List RecordFieldPat)}
+      {q : Lowering (Option HirPath)} → Correct fs (Adds none fields) → Correct q (Adds none maybe_path)
+      → Correct (targets.record_target_form at dots spread fs q) (Adds none a_pat)
+  unfolding targets.record_target_form
+  record_target_adds dots spread h hq = adds_then hq (λ o. record_target_of_adds dots spread h o)
 
 -- ---- items of the language
 

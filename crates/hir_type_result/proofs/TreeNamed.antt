@@ -447,10 +447,11 @@ mutual
   -- targets
 
   target_adds : (t : Target) → Correct (lower_target t) (Adds none a_pat)
-  target_adds tree.absent_target = pats.missing_named
+  target_adds (tree.absent_target call) = pats.missing_target_adds call
   target_adds (tree.place_target at e) = pats.place_adds at (node_quiet e)
-  target_adds (tree.macro_target at c t) = adds_then (quiet_only (only_told c)) (λ u. target_adds t)
-  target_adds (tree.wild_target at) = adds_pat _ (Some at) (λ l k. omega arith)
+  target_adds (tree.macro_target None c t) = adds_then (quiet_only (only_told c)) (λ u. target_adds t)
+  target_adds (tree.macro_target (Some at) c t) = adds_then (quiet_only (only_told c)) (λ u. pats.pointed_adds at (target_adds t))
+  target_adds (tree.wild_target at) = pats.adds_target _ at (λ l k. omega arith)
   target_adds (tree.path_target at p h) = pats.path_target_adds at h (adds_then (reading_adds p start)
       (λ r. adds_pure (path_read r) (λ o. numbers.path_read_less o.types r)))
   target_adds (tree.tuple_target at ts) = pats.tuple_target_adds at (targets_add no_elements ts)
@@ -464,6 +465,7 @@ mutual
   targets_add done (tree.more_targets t ts) = adds_then (adds_beside (pats.elements done) (target_adds t))
       (λ i. adds_from (λ l. pats.pushed done.0 i l) (targets_add (add_target done i) ts))
   targets_add done (tree.dots_targets ts) = targets_add (add_target_dots done) ts
+  targets_add done (tree.noted_targets c ts) = adds_then (adds_quiet (quiet_only (only_told c))) (λ u. targets_add done ts)
 
   target_fields_add : (done : List RecordFieldPat) (fs : TargetFields)
       → Correct (lower_target_fields done fs) (Adds (pats.fields done) pats.fields)

@@ -12,7 +12,8 @@ use Rattle.hir_store.specs.declared.pat.Pat.{Pat}
 use Rattle.hir_store.specs.declared.type_ref.ConstRef.{ConstRef}
 use Rattle.hir_store.specs.declared.type_ref.TypeRef.{TypeRef}
 use Rattle.hir_env.specs.Answered.{Label}
-use Rattle.hir_lower_form.specs.Lowering.{Lowering, ◌>>=◌, pure, owning, alloc_expr, alloc_made, alloc_pat, alloc_type, open_label, close}
+use Rattle.hir_lower_form.specs.Lowering.{Lowering, ◌>>=◌, pure, owning, alloc_expr, alloc_made, alloc_made_pat, alloc_pat, alloc_type}
+use Rattle.hir_lower_form.specs.Lowering.{close, open_label}
 use Rattle.hir_lower_form.specs.Lower.{ExprSteps, constant_form}
 use Rattle.hir_lower_form.specs.Preludes.{alloc_beside}
 use Rattle.hir_lower_form.specs.Ranges.{inner_form}
@@ -22,7 +23,7 @@ use Rattle.hir_steps.proofs.Constants.{correct_constant, correct_inner}
 use Rattle.hir_steps.proofs.Frames.{Frame, rib, ribs}
 use Rattle.hir_steps.proofs.MadeSteps.{correct_alloc_made}
 use Rattle.hir_steps.proofs.Owning.{owned_by, owning_keeps}
-use Rattle.hir_steps.proofs.PatSteps.{AllocatedPatBy, PutPat, correct_alloc_beside, correct_alloc_pat}
+use Rattle.hir_steps.proofs.PatSteps.{AllocatedPatBy, PutPat, correct_alloc_beside, correct_alloc_made_pat, correct_alloc_pat}
 use Rattle.hir_steps.proofs.Steps.{Mark, Grows, Rel, Correct, correct_bind, correct_as, correct_in_store, correct_pure, correct_alloc}
 use Rattle.hir_steps.proofs.Steps.{correct_alloc_type, correct_opened, with_label, Put, AllocatedBy}
 use Rattle.hir_same_meaning.specs.Reached.{below, of_each, reached_to}
@@ -382,11 +383,12 @@ adds_type_pat p source h =
 abbrev pub in_target : Pat → Cost
 in_target p v = times v.number (of_each v.reach (places_in (places_to v.store v.place) p [])) + sum v.weight (unrun_of_pat v.held p)
 
-pub adds_target : {was : Cost} (p : Pat) (source : Option Pointer) → ((v : View) → in_target p v ≤ was v)
-    → Correct (alloc_pat p source) (Adds was a_target)
+-- whether or not a node leads to it, and whichever does
+pub adds_made_target : {was : Cost} (p : Pat) (source : Option Pointer) → ((v : View) → in_target p v ≤ was v)
+    → Correct (alloc_made_pat p source) (Adds was a_target)
 unfolding unruns places_to
-adds_target p source h =
-    adds_pat_as {cost = a_target} {step = in_target p} p source (λ final all number reach hold place i here. rw here refl) h
+adds_made_target p source h = correct_as (correct_alloc_made_pat p source) (λ final ps m m' i g row.
+    added_pat {cost = a_target} {step = in_target p} p (λ final all number reach hold place i here. rw here refl) h row)
 
 -- an expression reaches itself and what it names, with all places looked for, whether or not its node leads to it
 

@@ -14,10 +14,10 @@ use Rattle.hir_one_result.specs.Diagnostics.{type_part_faults}
 use Rattle.hir_one_result.specs.Laws.{Defined, Grown, GrownUnless, Settled}
 use Rattle.hir_one_result.specs.Leads.{LeadBack}
 use Rattle.hir_one_result.specs.Room.{type_part_size}
-use Rattle.hir_one_result.specs.Size.{calls_led, led_by, sources_led}
+use Rattle.hir_one_result.specs.Size.{calls_led, led_by, sources_led, target_leads}
 use Rattle.hir_one_result.proofs.Fits.{types_fit}
 use Rattle.hir_one_result.proofs.Led.{leads_nowhere}
-use Rattle.hir_one_result.proofs.PatWays.{leads_back}
+use Rattle.hir_one_result.proofs.PatWays.{leads_back, targets_back}
 use Rattle.hir_one_result.proofs.Took.{Room, Took}
 use Rattle.hir_one_result.proofs.TreeBlocks.{type_enters}
 use Rattle.hir_one_result.proofs.TreeFaults.{type_reports}
@@ -35,7 +35,6 @@ nothing_paired limit = record { exprs = refl; labels = refl; pats = refl; types 
 
 nothing_mapped : (limit : ℕ) → Mapped (fresh limit).stored
 nothing_mapped limit = record {
-  pats = leads_none limit;
   types = leads_none limit;
   lifetimes = maps_back_none (λ i. i.0) limit;
 }
@@ -78,13 +77,17 @@ type_results limit t i new is =
       pat_sources = fits.pat_sources;
       type_sources = fits.type_sources;
       lifetime_sources = fits.lifetime_sources;
-      pat_map = fits.pat_ways;
+      pat_map = fits.pat_map;
       pat_ways = let leads = (type_part_size t).pat_leads in
-          subst (λ es. LeadBack (λ i. i.0) es (sources_led leads) (calls_led leads)) (sym fits.pat_ways)
+          subst (λ es. LeadBack (λ i. i.0) es (sources_led leads) (calls_led leads)) (sym fits.pat_map)
           (leads_back (λ i. i.0) pat_id (λ n. refl) leads);
-      types_map = fits.type_ways;
+      target_map = fits.target_map;
+      target_ways = let leads = target_leads (type_part_size t).pat_leads in
+          subst (λ es. LeadBack (λ i. i.0) es (sources_led leads) (calls_led leads)) (sym fits.target_map)
+          (targets_back (λ i. i.0) pat_id (λ n. refl) (type_part_size t).pat_leads);
+      types_map = fits.types_map;
       type_ways = let leads = (type_part_size t).type_leads in
-          subst (λ es. LeadBack (λ i. i.0) es new.stored.types.sources (calls_led leads)) (sym fits.type_ways)
+          subst (λ es. LeadBack (λ i. i.0) es new.stored.types.sources (calls_led leads)) (sym fits.types_map)
           (subst (λ ss. LeadBack (λ i. i.0) (led_by type_id 0 leads []) ss (calls_led leads)) (took.type_leads ∙ sym fits.type_sources)
           (leads_back (λ i. i.0) type_id (λ n. refl) leads));
       lifetime_ways = lead_back (λ i. i.0) new.stored.lifetimes mapped.lifetimes;

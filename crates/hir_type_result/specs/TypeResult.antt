@@ -17,7 +17,7 @@ use Rattle.hir_meaning.specs.Same.{SameBodies}
 use Rattle.hir_one_result.specs.Blocks.{blocks_of_type_part}
 use Rattle.hir_one_result.specs.Diagnostics.{type_part_faults}
 use Rattle.hir_one_result.specs.Room.{Short, type_part_size}
-use Rattle.hir_one_result.specs.Size.{calls_led, led_by, placed, sources_led}
+use Rattle.hir_one_result.specs.Size.{calls_led, led_by, placed, sources_led, target_leads, targets_led}
 use Rattle.hir_one_result.specs.Stands.{TypePartWays}
 use Rattle.hir_type_result.specs.Named.{of_exprs, of_pats, of_pats_alone, of_types_alone}
 use Rattle.hir_type_result.specs.Pats.{of_types, pats_reached}
@@ -25,16 +25,17 @@ use Rattle.hir_type_result.specs.Reached.{types_reached}
 use Rattle.hir_type_result.specs.Roots.{RootsAre, lengths_of, no_lengths}
 use Rattle.hir_type_result.specs.Unrun.{unrun_in_type}
 
--- What is stored where one type was lowered. It reads back as what is written, and each body inside it does what the written one
--- does. There are patterns, types and lifetimes from just those of its nodes that become one, in the order of lowering, patterns that
--- are made up for those of parameters, and as many expressions, labels and bindings as the bodies inside it become, and nothing besides.
--- Each body inside is a root, in the order in which they are done, also one that the type doesn't reach. Nodes of patterns, types and
--- lifetimes lead to them, but for patterns that are made up, those of expressions and labels to what they became, and no other nodes
--- lead anywhere. However deep one looks, the type, all expressions and all patterns together reach no type in two ways, types and
--- expressions no pattern, and what the type holds and doesn't run no expression. Each binding is that of a name of a top pattern in these
--- bodies, or of a name that is made up or that a parameter is handed in by, has the patterns that make it, and is owned by the innermost
--- closure, coroutine, `const` block, length or argument around it, as its way says and as it is counted. The faults and the entered
--- blocks are those of these bodies.
+-- What is stored where one type was lowered. It reads back as what is written, and each body inside it does what the written one does.
+-- There are patterns, types and lifetimes from just those of its nodes that become one, in the order of lowering, patterns that are made
+-- up for those of parameters, and as many expressions, labels and bindings as the bodies inside it become, and nothing besides. Each
+-- body inside is a root, in the order in which they are done, also one that the type doesn't reach. Nodes of patterns, types and
+-- lifetimes lead to them, but for patterns that are made up or assigned to, those of expressions and labels to what they became, and
+-- what is assigned to and is no place to its pattern, by a map of its own; of other nodes those of calls alone lead anywhere. However
+-- deep one looks, the type, all expressions and all patterns together reach no type in two ways, types and expressions no pattern, and
+-- what the type holds and doesn't run no expression. Each binding is that of a name of a top pattern in these bodies, or of a name that
+-- is made up or that a parameter is handed in by, has the patterns that make it, and is owned by the innermost closure, coroutine,
+-- `const` block, length or argument around it, as its way says and as it is counted. The faults and the entered blocks are those of
+-- these bodies.
 pub record TypeResult (store : Store) (source_map : SourceMap) (i : TypeRefId) (t : OptionType) : Type 0 where
   pub reads_back : stored_type store source_map i ≡ written_type t
   pub inner : SameBodies store source_map (type_inner_bodies store i) (part_bodies t)
@@ -53,6 +54,9 @@ pub record TypeResult (store : Store) (source_map : SourceMap) (i : TypeRefId) (
   pub pat_map : source_map.pat_map ≡ led_by pat_id 0 (type_part_size t).pat_leads []
   pub pat_ways : let leads = (type_part_size t).pat_leads in
       LeadBack (λ i. i.0) source_map.pat_map (sources_led leads) (calls_led leads)
+  pub target_map : source_map.target_map ≡ targets_led pat_id 0 (type_part_size t).pat_leads []
+  pub target_ways : let leads = target_leads (type_part_size t).pat_leads in
+      LeadBack (λ i. i.0) source_map.target_map (sources_led leads) (calls_led leads)
   pub types_map : source_map.types_map ≡ led_by type_id 0 (type_part_size t).type_leads []
   pub type_ways : let leads = (type_part_size t).type_leads in
       LeadBack (λ i. i.0) source_map.types_map source_map.type_sources (calls_led leads)
