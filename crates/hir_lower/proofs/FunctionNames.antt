@@ -17,7 +17,7 @@ use Rattle.hir_store.specs.declared.ids.PatId.{PatId}
 use Rattle.hir_store.specs.declared.pat.Binding.{Binding}
 use Rattle.hir_store.proofs.Extending.{extends_refl, extends_trans}
 use Rattle.hir_env.specs.Answered as tree
-use Rattle.hir_env.specs.Answered.{Formal, Formals, OptionExpr, SelfFormal, Use}
+use Rattle.hir_env.specs.Answered.{Formal, Formals, OptionExpr, SelfFormal}
 use Rattle.hir_lower_form.specs.Forms.{push_some}
 use Rattle.hir_lower_form.specs.Pats.{new_binding}
 use Rattle.hir_lower_form.specs.Preludes.{let_self}

@@ -1,6 +1,6 @@
 -- No two names that lowering makes up are the same, but for those that arguments are handed in by.
 use Rattle.std.proofs.Common.{arith, ◌≡◌, ◌∙◌, ◌⊎◌, ◌≤◌, ◌+◌, ⊎_elim, inl, inr, refl, sym, ap, subst, ℕ, Bool, List, [], Option, None}
-use Rattle.std.proofs.Common.{Result, Ok, Err}
+use Rattle.std.proofs.Common.{Result, Ok, Err, is_some, true≢false}
 use Rattle.std.specs.Prelude.{IfOk}
 use Rattle.std.proofs.Math.Logic.{∥∥₁_map}
 use Rattle.hir_syntax.specs.declared.types.Type_.{Type_ as AstType_}
@@ -13,16 +13,19 @@ use Rattle.hir_store.specs.declared.ids.ExprId.{ExprId}
 use Rattle.hir_store.specs.declared.ids.PatId.{PatId}
 use Rattle.hir_store.specs.declared.ids.TypeRefId.{TypeRefId}
 use Rattle.hir_store.proofs.Extending.{extends_root}
+use Rattle.hir_store.proofs.Maps.{maps_back_none}
 use Rattle.hir_env.specs.Answered.{Formals, OptionExpr}
 use Rattle.hir_env.specs.Spot.{Spot}
 use Rattle.hir_lower_form.specs.Builder.{Builder}
 use Rattle.hir_lower_form.specs.Lower.{type_part}
 use Rattle.hir_lower_form.specs.Lowering.{Checked, Lowering}
-use Rattle.hir_steps.specs.Keeps.{IsHanded, MadeApart, times_bound, times_labelled}
+use Rattle.hir_steps.specs.Keeps.{IsHanded, MadeApart, Mapped, times_bound, times_labelled}
 use Rattle.hir_steps.proofs.Apart.{Once, times}
 use Rattle.hir_steps.proofs.ApartTree.{type_apart}
 use Rattle.hir_steps.proofs.Keeping.{apart_by}
+use Rattle.hir_steps.proofs.Mapping.{leads_none}
 use Rattle.hir_one_result.specs.Formals.{lower_body}
+use Rattle.hir_one_result.specs.Laws.{Defined}
 use Rattle.hir_one_result.specs.OneResult.{fresh_owing}
 use Rattle.hir_lower.specs.Formals.{Given}
 use Rattle.hir_lower.specs.Means.{IsHandedTo, MadeOnce, kind_unless_skipped, owed_faults, unless_skipped, whole_type}
@@ -39,6 +42,18 @@ apart_from_nothing limit = record { once = λ k. inl (omega arith); later = λ k
 
 pub fresh_apart : (b : Builder) (limit : ℕ) → b ≡ fresh limit → ∥ MadeApart b.names b.stored ∥₁
 fresh_apart b limit h = rw h (∣ apart_from_nothing limit ∣₁)
+
+-- where nothing is stored, no binding lacks a pattern, and no node leads anywhere
+pub fresh_defined : (b : Builder) (limit : ℕ) → b ≡ fresh limit → Defined b.stored
+fresh_defined b limit h = rw h
+    (record {
+      as_many = refl;
+      each = λ c ps e. absurd (true≢false (sym (ap is_some e)));
+      known = λ n c sub e. absurd (true≢false (sym (ap is_some e)));
+    })
+
+pub fresh_mapped : (b : Builder) (limit : ℕ) → b ≡ fresh limit → ∥ Mapped b.stored ∥₁
+fresh_mapped b limit h = rw h (∣ record { types = leads_none limit; lifetimes = maps_back_none (λ i. i.0) limit } ∣₁)
 
 -- by what stays apart in all that is stored
 once_if : (names : ℕ) (s : Stored) → MadeApart names s → MadeOnce (store_of s) []

@@ -1,9 +1,9 @@
 -- What is lowered as a root is what is written.
-use Rattle.std.proofs.Common.{◌≡◌, ◌≢◌, ◌∙◌, refl, sym, ap, subst, suc, true, length, [], ◌∷◌, ◌++◌, Ok, Err}
+use Rattle.std.proofs.Common.{◌≡◌, ◌≢◌, ◌+◌, ◌∙◌, refl, sym, ap, subst, suc, true, length, [], ◌∷◌, ◌++◌, Ok, Err}
 use Rattle.std.specs.Prelude.{IfOk, IsErrOf}
 use Rattle.std.proofs.Math.Logic.{∥∥₁_map}
 use Rattle.hir_store.specs.Bindings.{binding_id}
-use Rattle.hir_store.specs.Stored.{Stored, store_of, map_of}
+use Rattle.hir_store.specs.Stored.{SourceMap, Store, Stored, store_of, map_of}
 use Rattle.hir_store.specs.Storing as storing
 use Rattle.hir_store.specs.Storing.{Extends, root_at}
 use Rattle.hir_store.specs.Range.{HasExpr}
@@ -11,7 +11,8 @@ use Rattle.hir_store.specs.declared.ids.BindingId.{BindingId}
 use Rattle.hir_store.specs.declared.ids.ExprId.{ExprId}
 use Rattle.hir_store.specs.declared.fault.StoreFault.{StoreFault}
 use Rattle.hir_store.specs.declared.fault.StoreFault.TheVariants.{Memory, Full}
-use Rattle.hir_store.proofs.Extending.{extends_owner, extends_root, extends_trans}
+use Rattle.hir_store.proofs.Arenas.{prefix_refl}
+use Rattle.hir_store.proofs.Extending.{extends_owner, extends_refl, extends_root, extends_trans}
 use Rattle.hir_store.proofs.OwnerLemmas.{length_owned}
 use Rattle.hir_env.specs.Answered.{OptionExpr}
 use Rattle.hir_lower_form.specs.Builder.{Builder}
@@ -19,14 +20,15 @@ use Rattle.hir_lower_form.specs.Lowering.{Checked, Lowering, Lowers, go_on, bind
 use Rattle.hir_lower_form.specs.Lowering.{record_root}
 use Rattle.hir_lower_form.specs.Lower.{lower_part}
 use Rattle.hir_scope.specs.Ribs.{map_ribs}
-use Rattle.hir_steps.specs.Keeps.{KeepsAll, Keeps, MadeApart, Paired}
+use Rattle.hir_steps.specs.Keeps.{KeepsAll, Keeps, MadeApart, Mapped, Paired}
 use Rattle.hir_steps.proofs.ApartTree.{part_apart}
 use Rattle.hir_steps.proofs.Keeping.{apart_by, keeping}
 use Rattle.hir_steps.proofs.Owning.{with_owned}
 use Rattle.hir_same_meaning.specs.Headline.{Lowered}
 use Rattle.hir_same_meaning.proofs.Whole.{headline}
 use Rattle.hir_steps.proofs.Formals.{apart_in, apart_now}
-use Rattle.hir_one_result.specs.Laws.{FitsUnless, Grown, MayBeOwned, Settled}
+use Rattle.hir_one_result.specs.Definitions.{DefinitionsAre}
+use Rattle.hir_one_result.specs.Laws.{Defined, FitsUnless, Grown, MayBeOwned, Settled}
 use Rattle.hir_one_result.specs.Room.{TooLarge, size_part}
 use Rattle.hir_one_result.specs.Size.{owned}
 use Rattle.hir_one_result.specs.Diagnostics.{forget}
@@ -41,6 +43,8 @@ use Rattle.hir_one_result.proofs.OwnedWays.{shown_owned}
 use Rattle.hir_one_result.proofs.TreeFaults.{diagnostics_are}
 use Rattle.hir_one_result.proofs.TreeBlocks.{blocks_are}
 use Rattle.hir_one_result.proofs.Fits.{all_fit}
+use Rattle.hir_one_result.proofs.Took.{Room, Took}
+use Rattle.hir_one_result.proofs.TreeRooms.{part_takes}
 use Rattle.hir_told.proofs.AsExpansions.{exprs_expand}
 use Rattle.hir_type_result.proofs.Inside.{expr_inside}
 use Rattle.hir_type_result.proofs.Named.{expr_bindings_came, expr_pats_once, expr_types_once}
@@ -88,6 +92,7 @@ recorded_went b (Ok i) c h = let w = went_owned b.stored c.stored i h in record 
   labels = w.labels;
   pats = w.pats;
   types = w.types;
+  targets = w.targets;
   lifetimes = w.lifetimes;
   bindings = w.bindings;
   owners = w.owners;
@@ -114,6 +119,7 @@ root_stays e b m =
       labels = ways.labels.ways;
       pats = ways.pats.ways;
       types = ways.types.ways;
+      targets = ways.targets;
       lifetimes = ways.lifetimes.ways;
     })
 
@@ -228,10 +234,11 @@ module _ (e : OptionExpr) (b inner : Builder) (i : ExprId) (none_open : b.scopes
         types = fits.types;
         lifetimes = fits.lifetimes;
         pat_sources = fits.pat_sources;
-        pat_ways = fits.pat_ways;
+        pat_map = fits.pat_map;
+        target_map = fits.target_map;
         type_sources = fits.type_sources;
         lifetime_sources = fits.lifetime_sources;
-        type_ways = fits.type_ways;
+        types_map = fits.types_map;
       }
 
   -- it is recorded, and owns its bindings
@@ -272,10 +279,11 @@ module _ (e : OptionExpr) (b inner : Builder) (i : ExprId) (none_open : b.scopes
           types = fits.types;
           lifetimes = fits.lifetimes;
           pat_sources = fits.pat_sources;
-          pat_ways = fits.pat_ways;
+          pat_map = fits.pat_map;
+          target_map = fits.target_map;
           type_sources = fits.type_sources;
           lifetime_sources = fits.lifetime_sources;
-          type_ways = fits.type_ways;
+          types_map = fits.types_map;
         };
         owners = fits.owners may;
         roots = ap (λ rs. rs ++ root_at (store_of inner.stored) i ∷ []) (roots_inside in_root);
@@ -292,7 +300,7 @@ module _ (e : OptionExpr) (b inner : Builder) (i : ExprId) (none_open : b.scopes
           types = after.types;
           lifetimes = after.lifetimes;
         };
-        mapped = λ m. let x = kept.mapped paired m in record { pats = x.pats; types = x.types; lifetimes = x.lifetimes };
+        mapped = λ m. let x = kept.mapped paired m in record { types = x.types; lifetimes = x.lifetimes };
       }
 
 root_rooted : (e : OptionExpr) (b b' : Builder) (i : ExprId) → Paired b.stored → MayBeOwned b.stored → root_of e b ≡ (Ok i, b')
@@ -320,6 +328,53 @@ pub apart_if : (e : OptionExpr) (b b' : Builder) (r : Checked ExprId) → Lowers
     → ∥ MadeApart b.names b.stored ∥₁ → IfOk r (λ i. ∥ MadeApart b'.names b'.stored ∥₁)
 apart_if e b b' (Ok i) l d m = ∥∥₁_map m (root_apart e b b' i l.0 d)
 apart_if e b b' (Err f) l d m = tt
+
+-- each binding has the patterns that make it
+root_defined : (e : OptionExpr) (b b' : Builder) (i : ExprId) → Paired b.stored → MayBeOwned b.stored → root_of e b ≡ (Ok i, b')
+    → Defined b.stored → Defined b'.stored
+root_defined e b b' i d m h known =
+    let r : Rooted b.stored b'.stored i e = root_rooted e b b' i d m h in
+    (r.lives b'.stored (extends_refl b'.stored) (prefix_refl b'.stored.bindings.entries)).reaches.defined known
+
+pub defined_if : (e : OptionExpr) (b b' : Builder) (r : Checked ExprId) → Lowers HasExpr (root_of e) b r b' → Paired b.stored
+    → MayBeOwned b.stored → Defined b.stored → IfOk r (λ i. Defined b'.stored)
+defined_if e b b' (Ok i) l d m known = root_defined e b b' i d m l.0 known
+defined_if e b b' (Err f) l d m known = tt
+
+pub definitions_of : (s : Stored) (store : Store) (source_map : SourceMap) → store ≡ store_of s → source_map ≡ map_of s → Defined s
+    → DefinitionsAre store.pats (length store.bindings) source_map.binding_definitions
+definitions_of s store source_map is map_is d =
+    let P : Store → Type 0 = λ x. DefinitionsAre x.pats (length x.bindings) source_map.binding_definitions in
+    let Q : SourceMap → Type 0 = λ m. DefinitionsAre s.pats.entries (length s.bindings.entries) m.binding_definitions in
+    subst P (sym is) (subst Q (sym map_is) d)
+
+-- the nodes of types and lifetimes lead to them
+root_mapped : (e : OptionExpr) (b b' : Builder) (i : ExprId) → Paired b.stored → root_of e b ≡ (Ok i, b') → Mapped b.stored
+    → Mapped b'.stored
+root_mapped e b b' i d h m =
+    let p : Parts e b i b' = parts e b b' i h in
+    let kept : KeepsAll (closed b) p.inner = subst (λ r. Keeps (closed b) r.0 r.1) p.is (keeping e (closed b)) in
+    let x = kept.mapped d m in
+    subst (λ c. Mapped c.stored) p.left (record { types = x.types; lifetimes = x.lifetimes })
+
+pub mapped_if : (e : OptionExpr) (b b' : Builder) (r : Checked ExprId) → Lowers HasExpr (root_of e) b r b' → Paired b.stored
+    → ∥ Mapped b.stored ∥₁ → IfOk r (λ i. ∥ Mapped b'.stored ∥₁)
+mapped_if e b b' (Ok i) l d m = ∥∥₁_map m (root_mapped e b b' i d l.0)
+mapped_if e b b' (Err f) l d m = tt
+
+-- as many names are made up as are counted in the tree
+root_names : (e : OptionExpr) (b b' : Builder) (i : ExprId) → root_of e b ≡ (Ok i, b') → Paired b.stored
+    → b'.names ≡ b.names + (size_part e).names
+root_names e b b' i h d =
+    let p : Parts e b i b' = parts e b b' i h in
+    let took : Took (size_part e) (closed b) p.inner =
+    subst (λ r. Room (size_part e) (closed b) r.0 r.1) p.is ((part_takes e).takes (closed b) d) in
+    subst (λ x. x.names ≡ b.names + (size_part e).names) p.left took.names
+
+pub names_if : (e : OptionExpr) (b b' : Builder) (r : Checked ExprId) → Lowers HasExpr (root_of e) b r b' → Paired b.stored
+    → IfOk r (λ i. b'.names ≡ b.names + (size_part e).names)
+names_if e b b' (Ok i) l d = root_names e b b' i l.0 d
+names_if e b b' (Err f) l d = tt
 
 -- after a root all is closed again
 root_outside : (e : OptionExpr) (b b' : Builder) (i : ExprId) → root_of e b ≡ (Ok i, b') → Outside b'

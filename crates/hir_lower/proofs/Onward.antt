@@ -21,7 +21,7 @@ use Rattle.hir_lower.specs.Stays.{LeadsOn, Stays}
 -- maps
 
 module _ {I : Type 0} (place : I → ℕ) (n : ℕ) where
-  on_refl : (es : List (Pointer × I)) → LeadsOn place n es es
+  pub on_refl : (es : List (Pointer × I)) → LeadsOn place n es es
   on_refl es = λ p t f. (t, (f, inl refl))
 
   pub on_trans : (a b c : List (Pointer × I)) → LeadsOn place n a b → LeadsOn place n b c → LeadsOn place n a c
@@ -120,6 +120,8 @@ pub record Went (a b : Stored) : Type 0 where
   pub exprs : Onward expr_place a.exprs b.exprs
   pub labels : Onward label_place a.labels b.labels
   pub pats : Onward pat_place a.pats b.pats
+  -- so do the nodes of what is assigned to
+  pub targets : LeadsOn pat_place (length a.pats.entries) a.target_map b.target_map
   pub types : Onward type_place a.types b.types
   pub lifetimes : Onward lifetime_place a.lifetimes b.lifetimes
   pub bindings : Prefix a.bindings.entries b.bindings.entries
@@ -130,6 +132,7 @@ went_refl a = record {
   exprs = onward_refl expr_place _;
   labels = onward_refl label_place _;
   pats = onward_refl pat_place _;
+  targets = on_refl pat_place _ _;
   types = onward_refl type_place _;
   lifetimes = onward_refl lifetime_place _;
   bindings = prefix_refl _;
@@ -144,20 +147,22 @@ stays_refl a = record {
   exprs = on_refl expr_place _ _;
   labels = on_refl label_place _ _;
   pats = on_refl pat_place _ _;
+  targets = on_refl pat_place _ _;
   types = on_refl type_place _ _;
   lifetimes = on_refl lifetime_place _ _;
 }
 
--- the arenas are those of before, and so are the bindings and what owns them
+-- the arenas are those of before, and so are the bindings, what owns them, and where what is assigned to leads
 abbrev Arenas : Stored → Stored → Type 0
 Arenas a b = (b.exprs ≡ a.exprs) × ((b.labels ≡ a.labels) × ((b.pats ≡ a.pats) × ((b.types ≡ a.types) × ((b.lifetimes ≡ a.lifetimes)
-    × ((b.bindings.entries ≡ a.bindings.entries) × (b.bindings.owners ≡ a.bindings.owners))))))
+    × ((b.bindings.entries ≡ a.bindings.entries) × ((b.bindings.owners ≡ a.bindings.owners) × (b.target_map ≡ a.target_map)))))))
 
 pub went_same : (a b : Stored) → Arenas a b → Went a b
-went_same a b e = rw (e.0, e.1.0, e.1.1.0, e.1.1.1.0, e.1.1.1.1.0, e.1.1.1.1.1.0, e.1.1.1.1.1.1) (record {
+went_same a b e = rw (e.0, e.1.0, e.1.1.0, e.1.1.1.0, e.1.1.1.1.0, e.1.1.1.1.1.0, e.1.1.1.1.1.1.0, e.1.1.1.1.1.1.1) (record {
   exprs = onward_refl expr_place _;
   labels = onward_refl label_place _;
   pats = onward_refl pat_place _;
+  targets = on_refl pat_place _ _;
   types = onward_refl type_place _;
   lifetimes = onward_refl lifetime_place _;
   bindings = prefix_refl _;
@@ -169,6 +174,7 @@ went_trans a b c g h = record {
   exprs = onward_trans expr_place _ _ _ g.exprs h.exprs;
   labels = onward_trans label_place _ _ _ g.labels h.labels;
   pats = onward_trans pat_place _ _ _ g.pats h.pats;
+  targets = on_trans pat_place _ _ _ _ g.targets (on_sooner pat_place _ _ _ _ g.pats.grown h.targets);
   types = onward_trans type_place _ _ _ g.types h.types;
   lifetimes = onward_trans lifetime_place _ _ _ g.lifetimes h.lifetimes;
   bindings = prefix_trans g.bindings h.bindings;
@@ -253,4 +259,4 @@ pub anyway : {A : Type 0} {L : Low A} {p : Lowering A} → Leading L p → Leadi
 anyway h = weaker (λ s a l. tt) h
 
 pub leading_pure : {A : Type 0} (a : A) → Leading any (pure a)
-leading_pure a = record { goes = λ b. (went_same _ _ (refl, (refl, (refl, (refl, (refl, (refl, refl)))))), tt) }
+leading_pure a = record { goes = λ b. (went_same _ _ (refl, (refl, (refl, (refl, (refl, (refl, (refl, refl))))))), tt) }

@@ -39,6 +39,7 @@ went_owned a b id w = record {
   labels = w.labels;
   pats = w.pats;
   types = w.types;
+  targets = w.targets;
   lifetimes = w.lifetimes;
   bindings = w.bindings;
   owners = owners_stay a b id w.owners;

@@ -19,31 +19,29 @@ use Rattle.hir_store.specs.declared.ids.TypeRefId.{TypeRefId}
 use Rattle.hir_store.specs.declared.name.Name.{Name}
 use Rattle.hir_store.specs.declared.name.Name.TheVariants as name
 use Rattle.hir_store.specs.declared.pat.Binding.{Binding}
-use Rattle.hir_store.specs.declared.pat.Pat.{Pat as HirPat}
 use Rattle.hir_store.specs.declared.pat.RecordFieldPat.{RecordFieldPat}
 use Rattle.hir_store.specs.declared.path.Path.{Path as HirPath}
 use Rattle.hir_env.specs.Answered as tree
-use Rattle.hir_env.specs.Answered.{Called, PatUnary, RangeForm, Signed, Use}
+use Rattle.hir_env.specs.Answered.{Called, Origin, PatUnary, RangeForm, Signed, Use}
+use Rattle.hir_env.specs.Targets.{origin}
 use Rattle.hir_lower_form.specs.Forms.{ExprSteps, let_form, match_form, arm_form, assign_form, let_stmt_form}
 use Rattle.hir_lower_form.specs.Builder.{Builder}
-use Rattle.hir_lower_form.specs.Lowering.{Checked, Lowering, ◌>>=◌, alloc_expr, alloc_pat, go_on, pure, set_problem}
+use Rattle.hir_lower_form.specs.Lowering.{Checked, Lowering, ◌>>=◌, alloc_expr, go_on, pure, set_problem}
 use Rattle.hir_lower_form.specs.Pats as forms
 use Rattle.hir_lower_form.specs.Pats.{Key, Table, Notes, Elements, PatSteps, missing_pat, no_names}
 use Rattle.hir_lower_form.specs.Ranges as ranges
 use Rattle.hir_lower_form.specs.Targets as targets
+use Rattle.hir_lower_form.specs.Targets.{called_target}
 use Rattle.hir_scope.specs.Each.{Each}
 use Rattle.hir_steps.proofs.Logic.{longer}
 use Rattle.hir_lower.proofs.Onward.{Leading, Low, Goes, Went, any, since, then', makes, anyway, in_turn, leading_pure, makes_pat, new_pat}
 use Rattle.hir_lower.proofs.Onward.{weaker}
 use Rattle.hir_lower.proofs.Ways.{leading_alloc, leading_point_pat, leading_told, leading_alloc_binding, leading_alloc_pat}
 use Rattle.hir_lower.proofs.Ways.{leading_barrier, leading_close_barrier, leading_count_out, leading_define, leading_enter, leading_leave}
-use Rattle.hir_lower.proofs.Ways.{leading_point_pat_field, leading_report}
+use Rattle.hir_lower.proofs.Ways.{leading_made_pat, leading_point_pat_field, leading_point_target, leading_report, leading_target}
 
 node_leads : (e : HirExpr) (source : Option Pointer) → Leading any (alloc_expr e source)
 node_leads e source = anyway (leading_alloc e source)
-
-any_pat_leads : (p : HirPat) (source : Option Pointer) → Leading any (alloc_pat p source)
-any_pat_leads p source = anyway (leading_alloc_pat p source)
 
 pub missing_pat_leads : Leading new_pat missing_pat
 unfolding missing_pat
@@ -169,6 +167,7 @@ settled noted number (e ∷ es) s b w h =
       labels = w.labels;
       pats = w.pats;
       types = w.types;
+      targets = w.targets;
       lifetimes = w.lifetimes;
       bindings = changed s.bindings.entries b.stored.bindings.entries e.1.0 (problem_set problem) h.0 w.bindings;
       owners = λ m. let x = w.owners m in (x.0, x.1 ∙ sym (length_at e.1.0 (problem_set problem) b.stored.bindings.entries));
@@ -431,59 +430,6 @@ module _ (at : Pointer) where
   unfolding ranges.type_alternatives_form
   type_alternatives_leads h = makes_pat h (λ ps. leading_alloc_pat _ (Some at))
 
-  -- targets
-
-  pub place_target_leads : {e : ExprSteps} → Leading since e → Leading any (targets.place_form at e)
-  unfolding targets.place_form
-  place_target_leads h = then' h (λ e. any_pat_leads _ (Some at))
-
-  pub path_target_leads : (h : HygieneId) {q : Lowering (Option HirPath)} → Leading any q → Leading any (targets.path_target_form at h q)
-  unfolding targets.path_target_form
-  path_target_leads h hq = then' hq (λ p. any_pat_leads _ (Some at))
-
-  pub tuple_target_leads : {ps : Lowering Elements} → Leading any ps → Leading any (targets.tuple_target_form at ps)
-  unfolding targets.tuple_target_form
-  tuple_target_leads h = then' h (λ r. then' (elements_leads false r) (λ es. any_pat_leads _ (Some at)))
-
-  call_target_of_leads : {ps : Lowering Elements} → Leading any ps → (o : Option HirPath) → Leading any (targets.call_target_of at ps o)
-  call_target_of_leads h None = anyway missing_pat_leads
-  call_target_of_leads h (Some o) = then' h (λ r. then' (elements_leads false r) (λ es. any_pat_leads _ (Some at)))
-
-  pub call_target_leads : {ps : Lowering Elements} {q : Lowering (Option HirPath)} → Leading any ps → Leading any q
-      → Leading any (targets.call_target_form at ps q)
-  unfolding targets.call_target_form
-  call_target_leads h hq = then' hq (λ o. call_target_of_leads h o)
-
-  pub array_target_leads : (dots : Option Pointer) {b a : Lowering Elements} → Leading any b → Leading any a
-      → Leading any (targets.array_target_form at dots b a)
-  unfolding targets.array_target_form
-  array_target_leads dots hb ha =
-      then' hb (λ b. then' ha (λ a. then' (rest_leads dots) (λ m. any_pat_leads _ (Some at))))
-    where
-      rest_leads : (dots : Option Pointer) → Leading any (targets.rest_target dots)
-      rest_leads None = leading_pure None
-      rest_leads (Some p) = then' (leading_alloc_pat _ (Some p)) (λ i. leading_pure (Some i))
-
-  record_target_of_leads : (dots : Bool) (spread : Option Pointer) {fs : Lowering (List RecordFieldPat)} → Leading any fs
-      → (o : Option HirPath) → Leading any (targets.record_target_of at dots spread fs o)
-  record_target_of_leads dots spread h None = anyway missing_pat_leads
-  record_target_of_leads dots spread h (Some o) =
-      then' (report_leads spread) (λ u. then' h (λ fs. any_pat_leads _ (Some at)))
-    where
-      report_leads : (spread : Option Pointer) → Leading any (targets.report_spread spread)
-      report_leads None = leading_pure tt
-      report_leads (Some p) = leading_report _
-
-  pub record_target_leads : (dots : Bool) (spread : Option Pointer) {fs : Lowering (List RecordFieldPat)}
-      {q : Lowering (Option HirPath)} → Leading any fs → Leading any q
-      → Leading any (targets.record_target_form at dots spread fs q)
-  unfolding targets.record_target_form
-  record_target_leads dots spread h hq = then' hq (λ o. record_target_of_leads dots spread h o)
-
-  pub target_field_leads : (n : Option Name) {p : Lowering PatId} → Leading any p → Leading any (targets.target_field_form at n p)
-  unfolding targets.target_field_form
-  target_field_leads n h = then' h (λ i. named_leads at n i)
-
   -- forms with patterns
 
   pub let_leads : {p : Lowering PatId} {e : ExprSteps} → Leading any p → Leading since e → Leading since (let_form at p e)
@@ -498,6 +444,67 @@ module _ (at : Pointer) where
   pub assign_leads : {t : Lowering PatId} {v : ExprSteps} → Leading any t → Leading since v → Leading since (assign_form at t v)
   unfolding assign_form
   assign_leads ht hv = makes ht (λ t. makes hv (λ v. leading_alloc _ (Some at)))
+
+-- targets
+
+pub place_target_leads : (at : Pointer) {e : ExprSteps} → Leading since e → Leading new_pat (targets.place_form at e)
+unfolding targets.place_form
+place_target_leads at h = makes_pat h (λ e. leading_made_pat _ (Some at))
+
+pub called_target_leads : (at : Option Pointer) (c : Called) {p : Lowering PatId} → Leading new_pat p
+    → Leading new_pat (called_target at c p)
+called_target_leads None c h = makes_pat (leading_told c) (λ u. h)
+called_target_leads (Some at) c h = makes_pat (leading_told c) (λ u. leading_point_target at h)
+
+pub target_field_leads : (at : Pointer) (n : Option Name) {p : Lowering PatId} → Leading new_pat p
+    → Leading any (targets.target_field_form at n p)
+unfolding targets.target_field_form
+target_field_leads at n h = then' h (λ i. named_leads at n i)
+
+module _ (at : Origin) where
+  pub path_target_leads : (h : HygieneId) {q : Lowering (Option HirPath)} → Leading any q
+      → Leading new_pat (targets.path_target_form at h q)
+  unfolding targets.path_target_form
+  path_target_leads h hq = makes_pat hq (λ p. leading_target _ at)
+
+  pub tuple_target_leads : {ps : Lowering Elements} → Leading any ps → Leading new_pat (targets.tuple_target_form at ps)
+  unfolding targets.tuple_target_form
+  tuple_target_leads h = makes_pat h (λ r. makes_pat (elements_leads false r) (λ es. leading_target _ at))
+
+  call_target_of_leads : {ps : Lowering Elements} → Leading any ps → (o : Option HirPath) → Leading new_pat (targets.call_target_of at ps o)
+  call_target_of_leads h None = leading_made_pat _ at.call
+  call_target_of_leads h (Some o) = makes_pat h (λ r. makes_pat (elements_leads false r) (λ es. leading_target _ at))
+
+  pub call_target_leads : {ps : Lowering Elements} {q : Lowering (Option HirPath)} → Leading any ps → Leading any q
+      → Leading new_pat (targets.call_target_form at ps q)
+  unfolding targets.call_target_form
+  call_target_leads h hq = makes_pat hq (λ o. call_target_of_leads h o)
+
+  pub array_target_leads : (dots : Option Pointer) {b a : Lowering Elements} → Leading any b → Leading any a
+      → Leading new_pat (targets.array_target_form at dots b a)
+  unfolding targets.array_target_form
+  array_target_leads dots hb ha =
+      makes_pat hb (λ b. makes_pat ha (λ a. makes_pat (rest_leads dots) (λ m. leading_target _ at)))
+    where
+      rest_leads : (dots : Option Pointer) → Leading any (targets.rest_target dots)
+      rest_leads None = leading_pure None
+      rest_leads (Some p) = then' (leading_target _ (origin None p)) (λ i. leading_pure (Some i))
+
+  record_target_of_leads : (dots : Bool) (spread : Option Pointer) {fs : Lowering (List RecordFieldPat)} → Leading any fs
+      → (o : Option HirPath) → Leading new_pat (targets.record_target_of at dots spread fs o)
+  record_target_of_leads dots spread h None = leading_made_pat _ at.call
+  record_target_of_leads dots spread h (Some o) =
+      makes_pat (report_leads spread) (λ u. makes_pat h (λ fs. leading_target _ at))
+    where
+      report_leads : (spread : Option Pointer) → Leading any (targets.report_spread spread)
+      report_leads None = leading_pure tt
+      report_leads (Some p) = leading_report _
+
+  pub record_target_leads : (dots : Bool) (spread : Option Pointer) {fs : Lowering (List RecordFieldPat)}
+      {q : Lowering (Option HirPath)} → Leading any fs → Leading any q
+      → Leading new_pat (targets.record_target_form at dots spread fs q)
+  unfolding targets.record_target_form
+  record_target_leads dots spread h hq = makes_pat hq (λ o. record_target_of_leads dots spread h o)
 
 pub arm_leads : {p : Lowering PatId} {e : ExprSteps} {g : Lowering (Option ExprId)} → Leading any p → Leading since e → Leading any g
     → Leading any (arm_form p e g)

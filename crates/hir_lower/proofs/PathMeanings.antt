@@ -1,10 +1,12 @@
 -- What is lowered as a path is what is written.
-use Rattle.std.proofs.Common.{◌≡◌, ◌≢◌, ◌∙◌, refl, sym, ap, subst, Bool, false, [], Option, Some, None, Result, Ok, Err}
+use Rattle.std.proofs.Common.{◌≡◌, ◌≢◌, ◌+◌, ◌∙◌, refl, sym, ap, subst, Bool, false, [], Option, Some, None, Result, Ok, Err}
 use Rattle.std.specs.Prelude.{IfOk, IsErrAnd, IsErrOf}
 use Rattle.hir_syntax.specs.declared.ast.Path.{Path as AstPath}
 use Rattle.std.proofs.Math.Logic.{∥∥₁_map}
 use Rattle.hir_store.specs.Stored.{Stored, store_of, map_of}
 use Rattle.hir_store.specs.Storing.{Extends}
+use Rattle.hir_store.proofs.Arenas.{prefix_refl}
+use Rattle.hir_store.proofs.Extending.{extends_refl}
 use Rattle.hir_store.specs.declared.path.Path.{Path}
 use Rattle.hir_store.specs.declared.fault.StoreFault.{StoreFault}
 use Rattle.hir_store.specs.declared.fault.StoreFault.TheVariants.{Memory, Full}
@@ -15,18 +17,21 @@ use Rattle.hir_lower_form.specs.Builder.{Builder}
 use Rattle.hir_lower_form.specs.Lowering.{Checked, SomeEnd}
 use Rattle.hir_lower_form.specs.Lower.{lower_path}
 use Rattle.hir_lower_form.specs.Methods.{LowersPath}
-use Rattle.hir_steps.specs.Keeps.{Keeps, KeepsAll, MadeApart, Paired}
+use Rattle.hir_steps.specs.Keeps.{Keeps, KeepsAll, MadeApart, Mapped, Paired}
 use Rattle.hir_steps.proofs.ApartTree.{lower_path_apart}
 use Rattle.hir_steps.proofs.Keeping.{apart_by, paths_keep}
 use Rattle.hir_read_back.proofs.Now.{path_law}
-use Rattle.hir_one_result.specs.Laws.{Grown, GrownUnless, MayBeOwned, Settled}
+use Rattle.hir_one_result.specs.Laws.{Defined, Grown, GrownUnless, MayBeOwned, Settled}
 use Rattle.hir_one_result.specs.Diagnostics.{Around}
 use Rattle.hir_one_result.specs.Room.{Short, whole_size}
 use Rattle.hir_one_result.specs.Stands.{Open, WholeWays}
 use Rattle.hir_one_result.proofs.Fits.{paths_fit}
 use Rattle.hir_one_result.proofs.Leading.{Shown}
+use Rattle.hir_one_result.proofs.Tellings.{takes_of}
+use Rattle.hir_one_result.proofs.Took.{Room, Took}
 use Rattle.hir_one_result.proofs.TreeBlocks.{whole_enters}
 use Rattle.hir_one_result.proofs.TreeFaults.{whole_reports}
+use Rattle.hir_one_result.proofs.TreeRooms.{path_tells}
 use Rattle.hir_one_result.proofs.TreeStands.{whole_left}
 use Rattle.hir_told.proofs.AsExpansions.{paths_expand}
 use Rattle.hir_type_result.specs.Roots.{RootsOf, recorded}
@@ -35,9 +40,11 @@ use Rattle.hir_type_result.proofs.Inside.{path_inside}
 use Rattle.hir_type_result.proofs.Named.{path_bindings_came, path_pats_once, path_types_once}
 use Rattle.hir_lower.specs.declared.error.LowerError.{LowerError}
 use Rattle.hir_lower.specs.declared.error.LowerError.TheVariants as refused
+use Rattle.hir_lower.specs.Beside.{TakesArguments}
 use Rattle.hir_lower.specs.Calls.{Outside, refusal}
 use Rattle.hir_lower.specs.Means.{BearsNames, ConstantsLive, PathRooted, ReadsBack, whole_path}
 use Rattle.hir_lower.specs.Stays.{Stays}
+use Rattle.hir_lower.proofs.Beside.{beside_law}
 use Rattle.hir_lower.proofs.Onward.{Went, went}
 use Rattle.hir_lower.proofs.TreeWays.{option_path_leads}
 
@@ -68,6 +75,13 @@ module _ (at : Spot) (x : AstPath) (b b' : Builder) where
       (sym (path_law (whole_path at x) b b' (Some y) d l.0 later ext))
   names_if (Err e) l d = tt
 
+  pub arguments_if : (r : Checked (Option Path)) → Alone r → Paired b.stored → IfOk r (λ y. TakesArguments b'.stored at x y)
+  arguments_if (Ok None) l d = tt
+  arguments_if (Ok (Some y)) l d = λ later ext alone plain.
+      beside_law at x (stored_path (store_of later) (map_of later) y) alone plain
+      (sym (path_law (whole_path at x) b b' (Some y) d l.0 later ext))
+  arguments_if (Err e) l d = tt
+
   -- where no label is open
 
   none_around : b.scopes ≡ [] → Around [] b.scopes
@@ -87,6 +101,7 @@ module _ (at : Spot) (x : AstPath) (b b' : Builder) where
         labels = ways.labels.ways;
         pats = ways.pats.ways;
         types = ways.types.ways;
+        targets = ways.targets;
         lifetimes = ways.lifetimes.ways;
       }
 
@@ -151,6 +166,19 @@ module _ (at : Spot) (x : AstPath) (b b' : Builder) where
       let w : Went b.stored b'.stored = subst (λ q. Went b.stored q.1.stored) l.0 path_went in (w.owners m).1
   path_may_be_owned_if (Err e) l m = tt
 
+  pub path_defined_if : (r : Checked (Option Path)) → Alone r → Paired b.stored → MayBeOwned b.stored → Outside b → Defined b.stored
+      → IfOk r (λ y. Defined b'.stored)
+  path_defined_if (Ok y) l d m out known =
+      let r : PathRooted b.stored b'.stored y (whole_path at x) = rooted_path_if (Ok y) l d m out in
+      (r.lives b'.stored (extends_refl b'.stored) (prefix_refl b'.stored.bindings.entries)).reaches.defined known
+  path_defined_if (Err e) l d m out known = tt
+
+  pub path_mapped_if : (r : Checked (Option Path)) → Alone r → Paired b.stored → ∥ Mapped b.stored ∥₁
+      → IfOk r (λ y. ∥ Mapped b'.stored ∥₁)
+  path_mapped_if (Ok y) l d m =
+      let kept : KeepsAll b b' = subst (λ q. Keeps b q.0 q.1) l.0 (paths_keep (whole_path at x) b) in ∥∥₁_map m (kept.mapped d)
+  path_mapped_if (Err e) l d m = tt
+
   pub outside_path_if : (r : Checked (Option Path)) → Alone r → Outside b → IfOk r (λ y. Outside b')
   outside_path_if (Ok y) l o =
       let kept : KeepsAll b b' = subst (λ q. Keeps b q.0 q.1) l.0 (paths_keep (whole_path at x) b) in
@@ -161,6 +189,13 @@ module _ (at : Spot) (x : AstPath) (b b' : Builder) where
       → IfOk r (λ y. ∥ MadeApart b'.names b'.stored ∥₁)
   path_apart_if (Ok y) l d m = ∥∥₁_map m (apart_by (lower_path_apart (whole_path at x)) b b' y d l.0)
   path_apart_if (Err e) l d m = tt
+
+  pub path_names_if : (r : Checked (Option Path)) → Alone r → Paired b.stored
+      → IfOk r (λ y. b'.names ≡ b.names + (whole_size (whole_path at x)).names)
+  path_names_if (Ok y) l d =
+      let n = whole_size (whole_path at x) in
+      let took : Took n b b' = subst (λ q. Room n b q.0 q.1) l.0 ((takes_of (path_tells (whole_path at x))).takes b d) in took.names
+  path_names_if (Err e) l d = tt
 
   pub ends_if : (r : Checked (Option Path)) → Alone r → IsErrOf r Full → SomeEnd b'
   ends_if (Ok y) l is = cc

@@ -1,11 +1,8 @@
 -- What stands in front of the body of a coroutine that a closure or a function has, and what it is handed its arguments by, are made of
 -- such steps.
-use Rattle.std.proofs.Common.{Bool, true, false, nat_lt, length, List, [], ◌∷◌, ◌++◌, Option, Some, None, Ok}
+use Rattle.std.proofs.Common.{Bool, true, false, List, [], ◌∷◌, ◌++◌, Option, Some, None, Ok}
 use Rattle.hir_store.specs.Pointers.{Pointer}
 use Rattle.hir_store.specs.Stored.{Stored}
-use Rattle.hir_store.specs.Storing as storing
-use Rattle.hir_store.specs.Storing.{pat_id}
-use Rattle.hir_store.proofs.Arenas.{prefix_refl}
 use Rattle.hir_store.specs.declared.hir.CoroutineKind.{CoroutineKind}
 use Rattle.hir_store.specs.declared.hir.CoroutineSource.{CoroutineSource}
 use Rattle.hir_store.specs.declared.hir.CoroutineSource.TheVariants as source
@@ -17,9 +14,8 @@ use Rattle.hir_store.specs.declared.ids.TypeRefId.{TypeRefId}
 use Rattle.hir_store.specs.declared.name.Name.{Name}
 use Rattle.hir_store.specs.declared.name.Name.TheVariants as name
 use Rattle.hir_store.specs.declared.pat.Pat.{Pat as HirPat}
-use Rattle.hir_lower_form.specs.Builder.{Builder}
 use Rattle.hir_lower_form.specs.Forms.{ExprSteps, root_hygiene}
-use Rattle.hir_lower_form.specs.Lowering.{Lowering, alloc_made_pat}
+use Rattle.hir_lower_form.specs.Lowering.{Lowering}
 use Rattle.hir_lower_form.specs.Preludes.{alloc_beside, coroutine_closure_form, handed_as, handed_between, handed_by_name, handed_form}
 use Rattle.hir_lower_form.specs.Preludes.{handed_in, handed_own, let_form, let_param, let_params, lower_handed, made_coroutine_form}
 use Rattle.hir_lower_form.specs.Preludes.{name_form, no_prelude, own_name_of, pat_source, two_lets_form, within_form}
@@ -28,32 +24,9 @@ use Rattle.hir_lower_form.specs.declared.preludes.Handed.{Handed}
 use Rattle.hir_lower_form.specs.declared.preludes.OwnName.{OwnName}
 use Rattle.hir_lower_form.specs.declared.preludes.Prelude.{Prelude}
 use Rattle.hir_lower.proofs.OwnedWays.{leading_owning}
-use Rattle.hir_lower.proofs.Onward.{Goes, Leading, any, expr_place, label_place, leading_pure, lifetime_place, made_up, makes}
-use Rattle.hir_lower.proofs.Onward.{onward_made, onward_refl, pat_place, since, then', type_place, went_refl}
+use Rattle.hir_lower.proofs.Onward.{Leading, any, anyway, leading_pure, makes, since, then', went_refl}
 use Rattle.hir_lower.proofs.Ways.{leading_alloc, leading_alloc_binding, leading_barrier, leading_close_barrier, leading_define}
-use Rattle.hir_lower.proofs.Ways.{leading_number}
-
--- its node doesn't lead to it
-pub leading_made_pat : (p : HirPat) (from : Option Pointer) → Leading any (alloc_made_pat p from)
-unfolding alloc_made_pat storing.alloc_made_pat
-leading_made_pat p from = record { goes = λ b. by b (nat_lt (length b.stored.pats.entries) b.stored.pats.limit) }
-  where
-    by : (b : Builder) (t : Bool)
-        → Goes any b (made_up pat_id t p from b.stored.pats).0
-        (record b { stored = record b.stored { pats = (made_up pat_id t p from b.stored.pats).1 } })
-    by b true = (
-      record {
-        exprs = onward_refl expr_place _;
-        labels = onward_refl label_place _;
-        pats = onward_made pat_place b.stored.pats p from;
-        types = onward_refl type_place _;
-        lifetimes = onward_refl lifetime_place _;
-        bindings = prefix_refl _;
-        owners = λ m. (prefix_refl _, m);
-      },
-      tt,
-    )
-    by b false = went_refl b.stored
+use Rattle.hir_lower.proofs.Ways.{leading_made_pat, leading_number}
 
 -- nothing is stored where something is read
 leading_read : {A : Type 0} (read : Stored → A) → Leading any (λ b. (Ok (read b.stored), b))
@@ -69,7 +42,7 @@ own_name_leads p = leading_read _
 
 beside_leads : (x : HirPat) (p : PatId) → Leading any (alloc_beside x p)
 unfolding alloc_beside
-beside_leads x p = then' (source_leads p) (λ at. leading_made_pat x at)
+beside_leads x p = then' (source_leads p) (λ at. anyway (leading_made_pat x at))
 
 handed_leads : (x : Handed) → Leading any (handed_form x)
 unfolding handed_form

@@ -57,7 +57,7 @@ use Rattle.hir_lower.proofs.Onward.{Leading, any, since, then', makes, leading_p
 use Rattle.hir_lower.proofs.Ways.{leading_report, leading_block, leading_close, leading_jump, leading_alloc, leading_open, leading_point}
 use Rattle.hir_lower.proofs.Ways.{leading_closed, leading_report_await, leading_point_field, leading_alloc_type, leading_alloc_pat}
 use Rattle.hir_lower.proofs.Ways.{leading_barrier, leading_enter, leading_call, leading_close_barrier, leading_gone, leading_note}
-use Rattle.hir_lower.proofs.Ways.{leading_behind, leading_define_macro, leading_told, leading_leave}
+use Rattle.hir_lower.proofs.Ways.{leading_behind, leading_define_macro, leading_leave, leading_made_pat, leading_target, leading_told}
 use Rattle.hir_lower.proofs.OwnedWays.{coroutine_block_leads, coroutine_leads, leading_owning}
 use Rattle.hir_lower.proofs.PreludeWays.{coroutine_closure_leads}
 use Rattle.hir_lower.proofs.PatWays.{alone_leads, arm_leads, array_target_leads, assign_leads, before_leads, bind_leads, call_target_leads}
@@ -67,7 +67,7 @@ use Rattle.hir_lower.proofs.PatWays.{name_side_leads, or_leads, over_pat_leads, 
 use Rattle.hir_lower.proofs.PatWays.{path_side_leads, path_target_leads, place_target_leads, range_leads, range_pat_leads, record_pat_leads}
 use Rattle.hir_lower.proofs.PatWays.{record_target_leads, slice_pat_leads, target_field_leads, tuple_pat_leads}
 use Rattle.hir_lower.proofs.PatWays.{tuple_struct_leads, tuple_target_leads, type_alternatives_leads, names, unnamed, beside}
-use Rattle.hir_lower.proofs.PatWays.{barred_pat_leads, beside_later, beside_pat}
+use Rattle.hir_lower.proofs.PatWays.{barred_pat_leads, beside_later, beside_pat, called_target_leads}
 use Rattle.hir_lower.proofs.PatWays.{alternatives_in, called_names_lead, called_pat_leads, named_pat, no_alternative, one_alternative}
 use Rattle.hir_lower.proofs.PatWays.{only_names, then_names, top_form_leads, uncalled_pat_leads}
 use Rattle.hir_lower.proofs.MadeWays.{for_leads, question_leads, try_block_leads, typed_try_leads}
@@ -382,7 +382,7 @@ mutual
   node_leads (tree.let_expr at p e) = let_leads at (top_leads p) (part_leads e)
   node_leads (tree.match_expr at e arms) = match_leads at (part_leads e) (arms_lead [] arms)
   node_leads (tree.range_expr at form low high) = range_leads at form (present_leads low) (present_leads high)
-  node_leads (tree.assign_expr at own t v) = assign_leads at (target_leads t) (part_leads v)
+  node_leads (tree.assign_expr at own t v) = assign_leads at (anyway (target_leads t)) (part_leads v)
 
   try_leads : (at : Pointer) (t : OptionType) {block : Bool → ExprSteps} → ((typed : Bool) → Leading since (block typed))
       → Leading since (try_form at t block)
@@ -568,11 +568,11 @@ mutual
 
   -- ---- targets
 
-  pub target_leads : (t : Target) → Leading any (lower_target t)
-  target_leads tree.absent_target = anyway missing_pat_leads
+  pub target_leads : (t : Target) → Leading new_pat (lower_target t)
+  target_leads (tree.absent_target call) = leading_made_pat _ call
   target_leads (tree.place_target at e) = place_target_leads at (node_leads e)
-  target_leads (tree.macro_target at called t) = then' (leading_told called) (λ u. target_leads t)
-  target_leads (tree.wild_target at) = anyway (leading_alloc_pat _ (Some at))
+  target_leads (tree.macro_target at called t) = called_target_leads at called (target_leads t)
+  target_leads (tree.wild_target at) = leading_target _ at
   target_leads (tree.path_target at p h) = path_target_leads at h (then' (reading_leads p start) (λ r. leading_pure (path_read r)))
   target_leads (tree.tuple_target at ts) = tuple_target_leads at (targets_leads no_elements ts)
   target_leads (tree.call_target at p ts) = call_target_leads at (targets_leads no_elements ts) (option_path_leads p)
@@ -585,6 +585,7 @@ mutual
   targets_leads done tree.no_targets = leading_pure done
   targets_leads done (tree.more_targets t ts) = then' (target_leads t) (λ i. targets_leads _ ts)
   targets_leads done (tree.dots_targets ts) = targets_leads _ ts
+  targets_leads done (tree.noted_targets called ts) = then' (leading_told called) (λ u. targets_leads done ts)
 
   target_fields_leads : (done : List RecordFieldPat) (fs : TargetFields) → Leading any (lower_target_fields done fs)
   target_fields_leads done tree.no_target_fields = leading_pure done

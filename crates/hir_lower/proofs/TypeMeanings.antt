@@ -17,10 +17,11 @@ use Rattle.hir_env.specs.Spot.{Spot}
 use Rattle.hir_lower_form.specs.Builder.{Builder, fresh}
 use Rattle.hir_lower_form.specs.Lower.{type_part}
 use Rattle.hir_lower_form.specs.Lowering.{Checked, Lowers, SomeEnd, alloc_type}
-use Rattle.hir_steps.specs.Keeps.{MadeApart, Paired}
+use Rattle.hir_steps.specs.Keeps.{MadeApart, Mapped, Paired}
 use Rattle.hir_steps.proofs.Apart.{stored_type_apart}
 use Rattle.hir_steps.proofs.Keeping.{apart_by}
-use Rattle.hir_one_result.specs.Laws.{MayBeOwned}
+use Rattle.hir_steps.proofs.Mapping.{leads_entry}
+use Rattle.hir_one_result.specs.Laws.{Defined, MayBeOwned}
 use Rattle.hir_told.proofs.AsExpansions.{types_expand}
 use Rattle.hir_type_result.specs.TypeResult.{TypeResult, TypeTooLarge}
 use Rattle.hir_type_result.proofs.Whole.{refused_types, type_results}
@@ -93,6 +94,20 @@ module _ (b b' : Builder) (ty : TypeRef) (at : Pointer) where
       let other : e ≢ Memory = λ is. n (ap Err is) in
       sym (ap (λ (q : Checked TypeRefId × Builder). q.1.scopes) (sym (alloc_is b ty at) ∙ (l other).0)) ∙ after_is
 
+  no_name_after : (t : Bool) → (after t b ty at).1.names ≡ b.names
+  no_name_after true = refl
+  no_name_after false = refl
+
+  no_name : (alloc_type ty (Some at) b).1.names ≡ b.names
+  no_name =
+      ap (λ (q : Checked TypeRefId × Builder). q.1.names) (alloc_is b ty at)
+      ∙ no_name_after (nat_lt (length b.stored.types.entries) b.stored.types.limit)
+
+  pub names_of_type_if : (r : Checked TypeRefId) → Alone r → r ≢ Err Memory → b'.names ≡ b.names
+  names_of_type_if (Ok i) l n = sym (ap (λ (q : Checked TypeRefId × Builder). q.1.names) l.0) ∙ no_name
+  names_of_type_if (Err e) l n =
+      let other : e ≢ Memory = λ is. n (ap Err is) in sym (ap (λ (q : Checked TypeRefId × Builder). q.1.names) (l other).0) ∙ no_name
+
   outside_after : (t : Bool) → Outside b → Outside (after t b ty at).1
   outside_after true o = record { scopes = o.scopes; in_root = o.in_root }
   outside_after false o = record { scopes = o.scopes; in_root = o.in_root }
@@ -102,6 +117,29 @@ module _ (b b' : Builder) (ty : TypeRef) (at : Pointer) where
       let t = nat_lt (length b.stored.types.entries) b.stored.types.limit in
       subst (λ (q : Checked TypeRefId × Builder). Outside q.1) (sym (alloc_is b ty at) ∙ l.0) (outside_after t o)
   outside_type_if (Err e) l o = tt
+
+  defined_after : (t : Bool) → Defined b.stored → Defined (after t b ty at).1.stored
+  defined_after true d = record { as_many = d.as_many; each = d.each; known = d.known }
+  defined_after false d = d
+
+  pub defined_type_if : (r : Checked TypeRefId) → Alone r → Defined b.stored → IfOk r (λ i. Defined b'.stored)
+  defined_type_if (Ok i) l d =
+      let t = nat_lt (length b.stored.types.entries) b.stored.types.limit in
+      subst (λ (q : Checked TypeRefId × Builder). Defined q.1.stored) (sym (alloc_is b ty at) ∙ l.0) (defined_after t d)
+  defined_type_if (Err e) l d = tt
+
+  mapped_after : (t : Bool) → Mapped b.stored → Mapped (after t b ty at).1.stored
+  mapped_after true m = record { types = leads_entry b.stored.types ty m.types type_id (Some at); lifetimes = m.lifetimes }
+  mapped_after false m = record { types = m.types; lifetimes = m.lifetimes }
+
+  mapped_type : (i : TypeRefId) → alloc_type ty (Some at) b ≡ (Ok i, b') → Mapped b.stored → Mapped b'.stored
+  mapped_type i is m =
+      let t = nat_lt (length b.stored.types.entries) b.stored.types.limit in
+      subst (λ (q : Checked TypeRefId × Builder). Mapped q.1.stored) (sym (alloc_is b ty at) ∙ is) (mapped_after t m)
+
+  pub mapped_type_if : (r : Checked TypeRefId) → Alone r → ∥ Mapped b.stored ∥₁ → IfOk r (λ i. ∥ Mapped b'.stored ∥₁)
+  mapped_type_if (Ok i) l m = ∥∥₁_map m (mapped_type i l.0)
+  mapped_type_if (Err e) l m = tt
 
   owned_after : (t : Bool) → MayBeOwned b.stored → MayBeOwned (after t b ty at).1.stored
   owned_after true m = m

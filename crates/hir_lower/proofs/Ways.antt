@@ -29,7 +29,8 @@ use Rattle.hir_store.specs.declared.type_ref.TypeRef.{TypeRef}
 use Rattle.hir_store.specs.declared.ids.BlockId.{BlockId}
 use Rattle.hir_store.specs.declared.ids.CfgId.{CfgId}
 use Rattle.hir_env.specs.Answered as tree
-use Rattle.hir_env.specs.Answered.{Called, Entered, Gone, Label, Jump, Stmt}
+use Rattle.hir_env.specs.Answered.{Called, Entered, Gone, Label, Jump, Origin, Stmt}
+use Rattle.hir_env.specs.Targets.{source_of}
 use Rattle.hir_env.specs.Answers.{Eager}
 use Rattle.hir_env.specs.NodeMap.{Site}
 use Rattle.hir_scope.specs.Ribs.{Target, reachable, unreachable, undeclared, target}
@@ -37,20 +38,22 @@ use Rattle.hir_lower_form.specs.Builder.{Builder}
 use Rattle.hir_lower_form.specs.Calls.{behind, define_form, defined, inside_macro, note, note_each, note_gone, record_each}
 use Rattle.hir_lower_form.specs.Calls.{report_condition, told}
 use Rattle.hir_lower_form.specs.Lowering.{Checked, go_on, Lowering, ◌>>=◌, pure, alloc_expr, alloc_lifetime, alloc_type, point, report}
-use Rattle.hir_lower_form.specs.Lowering.{alloc_binding, alloc_made, alloc_pat, define, made_number, point_pat, point_pat_field}
-use Rattle.hir_lower_form.specs.Lowering.{count_def, open_macro, point_type, record_expansion}
+use Rattle.hir_lower_form.specs.Lowering.{alloc_binding, alloc_made, alloc_made_pat, alloc_pat, define, made_number, point_pat}
+use Rattle.hir_lower_form.specs.Lowering.{count_def, open_macro, point_pat_field, point_target, point_type, record_expansion}
 use Rattle.hir_lower_form.specs.Lowering.{open_try, open_try_as, open_try_named, try_target}
 use Rattle.hir_lower_form.specs.Lowering.{close_barrier, note_yield}
 use Rattle.hir_lower_form.specs.Lowering.{point_field, open_barrier, enter_root, outside_root, leave_root, record_root}
 use Rattle.hir_lower_form.specs.Lowering.{enter_block, open_label, close, jump_target, found_or_fault, open_as, report_await, count_out}
+use Rattle.hir_lower_form.specs.Targets.{alloc_target}
 use Rattle.hir_steps.proofs.Logic.{one_more}
-use Rattle.hir_lower.proofs.Onward.{on_trans, on_insert, onward_refl, onward_entry, onward_made, made, made_up, expr_place, label_place}
+use Rattle.hir_lower.proofs.Onward.{on_refl, on_trans, on_insert, onward_refl, onward_entry, onward_made, made, made_up, expr_place}
+use Rattle.hir_lower.proofs.Onward.{label_place}
 use Rattle.hir_lower.proofs.Onward.{pat_place, type_place, lifetime_place, Went, went_refl, went_same, Low, any, since, new_pat, new_type}
 use Rattle.hir_lower.proofs.Onward.{Goes, Leading, then', leading_pure}
 
 pub leading_count_out : {A : Type 0} → Leading any (count_out {A = A})
 unfolding count_out
-leading_count_out = record { goes = λ b. went_same _ _ (refl, (refl, (refl, (refl, (refl, (refl, refl)))))) }
+leading_count_out = record { goes = λ b. went_same _ _ (refl, (refl, (refl, (refl, (refl, (refl, (refl, refl))))))) }
 
 -- what a definition of a macro counts and opens is nothing stored
 counted_leads : (t : Bool) → Leading any (if t then pure tt else count_out {A = Unit {0}})
@@ -63,16 +66,16 @@ leading_define_macro k d = then' (counted_leads (nat_lt (suc k) (2 ^ 32))) (λ u
 
 leading_open_macro : (d : MacroDefId) → Leading any (open_macro d)
 unfolding open_macro
-leading_open_macro d = record { goes = λ b. (went_same _ _ (refl, (refl, (refl, (refl, (refl, (refl, refl)))))), tt) }
+leading_open_macro d = record { goes = λ b. (went_same _ _ (refl, (refl, (refl, (refl, (refl, (refl, (refl, refl))))))), tt) }
 
 pub leading_report : (d : ExpressionStoreDiagnostics) → Leading any (report d)
 unfolding report storing.report
-leading_report d = record { goes = λ b. (went_same _ _ (refl, (refl, (refl, (refl, (refl, (refl, refl)))))), tt) }
+leading_report d = record { goes = λ b. (went_same _ _ (refl, (refl, (refl, (refl, (refl, (refl, (refl, refl))))))), tt) }
 
 -- nor does a call that is recorded
 leading_expansion : (call : Site) (range : Option TextRange) (file : HirFileId) → Leading any (record_expansion call range file)
 unfolding record_expansion storing.record_expansion
-leading_expansion call range file = record { goes = λ b. (went_same _ _ (refl, (refl, (refl, (refl, (refl, (refl, refl)))))), tt) }
+leading_expansion call range file = record { goes = λ b. (went_same _ _ (refl, (refl, (refl, (refl, (refl, (refl, (refl, refl))))))), tt) }
 
 leading_each : (es : List Eager) → Leading any (record_each es)
 leading_each [] = leading_pure tt
@@ -104,7 +107,7 @@ leading_gone why = then' (leading_calls why.entered) (λ u. leading_condition wh
 -- where a value leads to is no way of a node
 pub leading_point_field : (i : ExprId) (at : Pointer) → Leading any (point_field i at)
 unfolding point_field storing.point_field
-leading_point_field i at = record { goes = λ b. (went_same _ _ (refl, (refl, (refl, (refl, (refl, (refl, refl)))))), tt) }
+leading_point_field i at = record { goes = λ b. (went_same _ _ (refl, (refl, (refl, (refl, (refl, (refl, (refl, refl))))))), tt) }
 
 pub leading_report_await : (at : Pointer) (location : Option AwaitLocation) → Leading any (report_await at location)
 unfolding report_await
@@ -114,31 +117,31 @@ leading_report_await at (Some l) = leading_report _
 pub leading_block : (n : Option BlockId) → Leading any (enter_block n)
 unfolding enter_block storing.enter_block
 leading_block None = leading_pure tt
-leading_block (Some n) = record { goes = λ b. (went_same _ _ (refl, (refl, (refl, (refl, (refl, (refl, refl)))))), tt) }
+leading_block (Some n) = record { goes = λ b. (went_same _ _ (refl, (refl, (refl, (refl, (refl, (refl, (refl, refl))))))), tt) }
 
 pub leading_barrier : Leading any open_barrier
 unfolding open_barrier
-leading_barrier = record { goes = λ b. (went_same _ _ (refl, (refl, (refl, (refl, (refl, (refl, refl)))))), tt) }
+leading_barrier = record { goes = λ b. (went_same _ _ (refl, (refl, (refl, (refl, (refl, (refl, (refl, refl))))))), tt) }
 
 pub leading_close_barrier : (outside : Bool) → Leading any (close_barrier outside)
 unfolding close_barrier
-leading_close_barrier outside = record { goes = λ b. (went_same _ _ (refl, (refl, (refl, (refl, (refl, (refl, refl)))))), tt) }
+leading_close_barrier outside = record { goes = λ b. (went_same _ _ (refl, (refl, (refl, (refl, (refl, (refl, (refl, refl))))))), tt) }
 
 pub leading_note : Leading any note_yield
 unfolding note_yield
-leading_note = record { goes = λ b. (went_same _ _ (refl, (refl, (refl, (refl, (refl, (refl, refl)))))), tt) }
+leading_note = record { goes = λ b. (went_same _ _ (refl, (refl, (refl, (refl, (refl, (refl, (refl, refl))))))), tt) }
 
 pub leading_enter : Leading any enter_root
 unfolding enter_root
-leading_enter = record { goes = λ b. (went_same _ _ (refl, (refl, (refl, (refl, (refl, (refl, refl)))))), tt) }
+leading_enter = record { goes = λ b. (went_same _ _ (refl, (refl, (refl, (refl, (refl, (refl, (refl, refl))))))), tt) }
 
 leading_outside : Leading any outside_root
 unfolding outside_root
-leading_outside = record { goes = λ b. (went_same _ _ (refl, (refl, (refl, (refl, (refl, (refl, refl)))))), tt) }
+leading_outside = record { goes = λ b. (went_same _ _ (refl, (refl, (refl, (refl, (refl, (refl, (refl, refl))))))), tt) }
 
 leading_record : (i : ExprId) → Leading any (record_root i)
 unfolding record_root storing.record_root
-leading_record i = record { goes = λ b. (went_same _ _ (refl, (refl, (refl, (refl, (refl, (refl, refl)))))), tt) }
+leading_record i = record { goes = λ b. (went_same _ _ (refl, (refl, (refl, (refl, (refl, (refl, (refl, refl))))))), tt) }
 
 pub leading_leave : (outer : Bool) (i : ExprId) → Leading any (leave_root outer i)
 unfolding leave_root
@@ -147,7 +150,7 @@ leading_leave false i = then' (leading_record i) (λ u. leading_outside)
 
 pub leading_close : Leading any close
 unfolding close
-leading_close = record { goes = λ b. (went_same _ _ (refl, (refl, (refl, (refl, (refl, (refl, refl)))))), tt) }
+leading_close = record { goes = λ b. (went_same _ _ (refl, (refl, (refl, (refl, (refl, (refl, (refl, refl))))))), tt) }
 
 leading_inside_macro : {A : Type 0} (d : MacroDefId) {p : Lowering A} → Leading any p → Leading any (inside_macro d p)
 unfolding inside_macro
@@ -163,9 +166,9 @@ leading_jump None = leading_pure None
 leading_jump (Some j) = record { goes = λ b. by b (target j b.scopes) }
   where
     by : (b : Builder) (t : Target LabelId) → Goes any b (found_or_fault j t b).0 (found_or_fault j t b).1
-    by b (reachable n) = (went_same _ _ (refl, (refl, (refl, (refl, (refl, (refl, refl)))))), tt)
-    by b unreachable = (went_same _ _ (refl, (refl, (refl, (refl, (refl, (refl, refl)))))), tt)
-    by b undeclared = (went_same _ _ (refl, (refl, (refl, (refl, (refl, (refl, refl)))))), tt)
+    by b (reachable n) = (went_same _ _ (refl, (refl, (refl, (refl, (refl, (refl, (refl, refl))))))), tt)
+    by b unreachable = (went_same _ _ (refl, (refl, (refl, (refl, (refl, (refl, (refl, refl))))))), tt)
+    by b undeclared = (went_same _ _ (refl, (refl, (refl, (refl, (refl, (refl, (refl, refl))))))), tt)
 
 pub leading_alloc : (e : Expr) (source : Option Pointer) → Leading since (alloc_expr e source)
 unfolding alloc_expr storing.alloc_expr
@@ -179,6 +182,7 @@ leading_alloc e source = record { goes = λ b. by b (nat_lt (length b.stored.exp
         exprs = onward_entry expr_place expr_id (λ n. refl) b.stored.exprs e source;
         labels = onward_refl label_place _;
         pats = onward_refl pat_place _;
+        targets = on_refl pat_place _ _;
         types = onward_refl type_place _;
         lifetimes = onward_refl lifetime_place _;
         bindings = prefix_refl _;
@@ -201,6 +205,7 @@ leading_made e source = record { goes = λ b. by b (nat_lt (length b.stored.expr
         exprs = onward_made expr_place b.stored.exprs e source;
         labels = onward_refl label_place _;
         pats = onward_refl pat_place _;
+        targets = on_refl pat_place _ _;
         types = onward_refl type_place _;
         lifetimes = onward_refl lifetime_place _;
         bindings = prefix_refl _;
@@ -222,6 +227,30 @@ leading_alloc_pat p source = record { goes = λ b. by b (nat_lt (length b.stored
         exprs = onward_refl expr_place _;
         labels = onward_refl label_place _;
         pats = onward_entry pat_place pat_id (λ n. refl) b.stored.pats p source;
+        targets = on_refl pat_place _ _;
+        types = onward_refl type_place _;
+        lifetimes = onward_refl lifetime_place _;
+        bindings = prefix_refl _;
+        owners = λ m. (prefix_refl _, m);
+      },
+      omega arith,
+    )
+    by b false = went_refl b.stored
+
+-- no node leads to it at once
+pub leading_made_pat : (p : HirPat) (from : Option Pointer) → Leading new_pat (alloc_made_pat p from)
+unfolding alloc_made_pat storing.alloc_made_pat
+leading_made_pat p from = record { goes = λ b. by b (nat_lt (length b.stored.pats.entries) b.stored.pats.limit) }
+  where
+    by : (b : Builder) (t : Bool)
+        → Goes new_pat b (made_up pat_id t p from b.stored.pats).0
+        (record b { stored = record b.stored { pats = (made_up pat_id t p from b.stored.pats).1 } })
+    by b true = (
+      record {
+        exprs = onward_refl expr_place _;
+        labels = onward_refl label_place _;
+        pats = onward_made pat_place b.stored.pats p from;
+        targets = on_refl pat_place _ _;
         types = onward_refl type_place _;
         lifetimes = onward_refl lifetime_place _;
         bindings = prefix_refl _;
@@ -252,6 +281,7 @@ leading_alloc_binding x = record { goes = λ b. by b (nat_lt (length b.stored.bi
         exprs = onward_refl expr_place _;
         labels = onward_refl label_place _;
         pats = onward_refl pat_place _;
+        targets = on_refl pat_place _ _;
         types = onward_refl type_place _;
         lifetimes = onward_refl lifetime_place _;
         bindings = prefix_push b.stored.bindings.entries x;
@@ -263,11 +293,11 @@ leading_alloc_binding x = record { goes = λ b. by b (nat_lt (length b.stored.bi
 
 pub leading_define : (id : BindingId) (p : PatId) → Leading any (define id p)
 unfolding define storing.define
-leading_define id p = record { goes = λ b. (went_same _ _ (refl, (refl, (refl, (refl, (refl, (refl, refl)))))), tt) }
+leading_define id p = record { goes = λ b. (went_same _ _ (refl, (refl, (refl, (refl, (refl, (refl, (refl, refl))))))), tt) }
 
 pub leading_point_pat_field : (id : PatId) (at : Pointer) → Leading any (point_pat_field id at)
 unfolding point_pat_field storing.point_pat_field
-leading_point_pat_field id at = record { goes = λ b. (went_same _ _ (refl, (refl, (refl, (refl, (refl, (refl, refl)))))), tt) }
+leading_point_pat_field id at = record { goes = λ b. (went_same _ _ (refl, (refl, (refl, (refl, (refl, (refl, (refl, refl))))))), tt) }
 
 pub leading_alloc_type : (e : TypeRef) (source : Option Pointer) → Leading new_type (alloc_type e source)
 unfolding alloc_type storing.alloc_type
@@ -281,6 +311,7 @@ leading_alloc_type e source = record { goes = λ b. by b (nat_lt (length b.store
         exprs = onward_refl expr_place _;
         labels = onward_refl label_place _;
         pats = onward_refl pat_place _;
+        targets = on_refl pat_place _ _;
         types = onward_entry type_place type_id (λ n. refl) b.stored.types e source;
         lifetimes = onward_refl lifetime_place _;
         bindings = prefix_refl _;
@@ -302,6 +333,7 @@ leading_alloc_lifetime e source = record { goes = λ b. by b (nat_lt (length b.s
         exprs = onward_refl expr_place _;
         labels = onward_refl label_place _;
         pats = onward_refl pat_place _;
+        targets = on_refl pat_place _ _;
         types = onward_refl type_place _;
         lifetimes = onward_entry lifetime_place lifetime_id (λ n. refl) b.stored.lifetimes e source;
         bindings = prefix_refl _;
@@ -317,6 +349,7 @@ label_made l source b true = record {
   exprs = onward_refl expr_place _;
   labels = onward_entry label_place label_id (λ n. refl) b.stored.labels l source;
   pats = onward_refl pat_place _;
+  targets = on_refl pat_place _ _;
   types = onward_refl type_place _;
   lifetimes = onward_refl lifetime_place _;
   bindings = prefix_refl _;
@@ -387,6 +420,7 @@ leading_point at {p = p} h = record { goes = λ b. by b (p b).0 (p b).1 (h.goes 
         labels = x.0.labels;
         pats = x.0.pats;
         types = x.0.types;
+        targets = x.0.targets;
         lifetimes = x.0.lifetimes;
         bindings = x.0.bindings;
         owners = x.0.owners;
@@ -413,6 +447,7 @@ leading_point_pat {A = A} at pat_in {L = L} {p = p} new h = record { goes = λ b
           ways = on_trans pat_place _ _ _ _ x.0.pats.ways (on_insert pat_place _ c.stored.pats.map at (pat_in a) (new b.stored a x.1));
         };
         types = x.0.types;
+        targets = x.0.targets;
         lifetimes = x.0.lifetimes;
         bindings = x.0.bindings;
         owners = x.0.owners;
@@ -420,6 +455,33 @@ leading_point_pat {A = A} at pat_in {L = L} {p = p} new h = record { goes = λ b
       x.1,
     )
     by b (Err e) c x = x
+
+-- of what is assigned to
+pub leading_point_target : (at : Pointer) {p : Lowering PatId} → Leading new_pat p
+    → Leading new_pat (p >>= (λ i. point_target at i >>= (λ _. pure i)))
+unfolding point_target storing.point_target
+leading_point_target at {p = p} h = record { goes = λ b. by b (p b).0 (p b).1 (h.goes b) }
+  where
+    by : (b : Builder) (o : Checked PatId) (c : Builder) → Goes new_pat b o c
+        → Goes new_pat b (go_on o c (λ i. point_target at i >>= (λ _. pure i))).0 (go_on o c (λ i. point_target at i >>= (λ _. pure i))).1
+    by b (Ok i) c x = (
+      record {
+        exprs = x.0.exprs;
+        labels = x.0.labels;
+        pats = x.0.pats;
+        targets = on_trans pat_place _ _ _ _ x.0.targets (on_insert pat_place _ c.stored.target_map at i x.1);
+        types = x.0.types;
+        lifetimes = x.0.lifetimes;
+        bindings = x.0.bindings;
+        owners = x.0.owners;
+      },
+      x.1,
+    )
+    by b (Err e) c x = x
+
+pub leading_target : (p : HirPat) (at : Origin) → Leading new_pat (alloc_target p at)
+unfolding alloc_target
+leading_target p at = leading_point_target at.node (leading_made_pat p (Some (source_of at)))
 
 pub leading_point_type : (at : Pointer) {p : Lowering TypeRefId} → Leading new_type p
     → Leading new_type (p >>= (λ i. point_type at i >>= (λ _. pure i)))
@@ -437,6 +499,7 @@ leading_point_type at {p = p} h = record { goes = λ b. by b (p b).0 (p b).1 (h.
           grown = x.0.types.grown;
           ways = on_trans type_place _ _ _ _ x.0.types.ways (on_insert type_place _ c.stored.types.map at i x.1);
         };
+        targets = x.0.targets;
         lifetimes = x.0.lifetimes;
         bindings = x.0.bindings;
         owners = x.0.owners;

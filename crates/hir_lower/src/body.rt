@@ -1,6 +1,6 @@
 //! Bodies of items.
 
-ghost use Rattle.std.specs.Prelude.{◌≡◌, ◌≢◌, Bool, false, is_some, IfOk, IsErrOf, option_copied};
+ghost use Rattle.std.specs.Prelude.{◌≡◌, ◌≢◌, Bool, false, is_some, IfOk, IsErrOf, option_copied, option_map, slice_get};
 ghost use Rattle.hir_store.specs.Range.{InRange};
 ghost use Rattle.hir_store.specs.Stored.{map_of, store_of};
 ghost use Rattle.hir_lower_form.specs.Builder.{fresh};
@@ -60,6 +60,15 @@ impl Drop for Body {
             params: _,
             self_param: _,
         } = self;
+    }
+}
+
+impl Body {
+    /// The expression that the body is (upstream's function of this name): its first root. A body that `lower_body` answers has one.
+    pub fn root_expr(&self) -> Option<ExprId>
+        ensures { result ≡ option_map (λ r. r.root) (slice_get self.now.store.roots 0) }
+    {
+        Some(self.store.expr_roots().first()?.root)
     }
 }
 

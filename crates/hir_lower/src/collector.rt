@@ -1,17 +1,18 @@
 //! The collector, which lowers trees into one store and stops for good after its first error.
 
-ghost use Rattle.std.specs.Prelude.{[], ◌≡◌, ◌≢◌, false, true, Err, IfOk, IsErrOf, IsOkAnd, option_copied};
+ghost use Rattle.std.specs.Prelude.{[], ◌+◌, ◌≡◌, ◌≢◌, false, true, Err, IfOk, IsErrOf, IsOkAnd, length, option_copied};
 ghost use Rattle.hir_store.specs.Range.{HasExpr, HasTypeParts, InRange};
 ghost use Rattle.hir_store.specs.Stored.{map_of, store_of};
 ghost use Rattle.hir_env.specs.Spot.{in_file};
 ghost use Rattle.hir_env.specs.Whole.{expr_part};
 ghost use Rattle.hir_lower_form.specs.Lowering.{Lowers, SomeEnd};
 ghost use Rattle.hir_lower_form.specs.Methods.{LowersExprOpt};
-ghost use Rattle.hir_steps.specs.Keeps.{MadeApart, Paired};
-ghost use Rattle.hir_one_result.specs.Laws.{MayBeOwned};
-ghost use Rattle.hir_one_result.specs.Room.{whole_size};
-ghost use Rattle.hir_one_result.specs.Room.{Short, TooLarge};
+ghost use Rattle.hir_steps.specs.Keeps.{MadeApart, Mapped, Paired};
+ghost use Rattle.hir_one_result.specs.Definitions.{DefinitionsAre};
+ghost use Rattle.hir_one_result.specs.Laws.{Defined, MayBeOwned};
+ghost use Rattle.hir_one_result.specs.Room.{Short, TooLarge, size_part, whole_size};
 ghost use Rattle.hir_lower_handlers.specs.Spots.{spot_at};
+ghost use Rattle.hir_lower.specs.Beside.{TakesArguments};
 ghost use Rattle.hir_lower.specs.Calls.{Calls, Outside};
 ghost use Rattle.hir_lower.specs.Means.{AddsType, BearsNames, MadeOnce, NoRoomForType, PathRooted, ReadsBack, Rooted};
 ghost use Rattle.hir_lower.specs.Means.{whole_path};
@@ -97,11 +98,16 @@ pub(crate) fn lower_root<E: LowerEnv>(
     ensures rooted { let e = expr_part (spot_at (E.answers env.now) place) (option_copied expr.entry) in
         Paired state.old.stored → MayBeOwned state.old.stored → IfOk result (λ i. Rooted state.old.stored state.new.stored i e) }
     ensures owners { MayBeOwned state.old.stored → IfOk result (λ i. MayBeOwned state.new.stored) }
+    ensures defined { Paired state.old.stored → MayBeOwned state.old.stored → Defined state.old.stored
+        → IfOk result (λ i. Defined state.new.stored) }
+    ensures mapped { Paired state.old.stored → ∥ Mapped state.old.stored ∥₁ → IfOk result (λ i. ∥ Mapped state.new.stored ∥₁) }
     ensures outside { IfOk result (λ i. Outside state.new) }
     ensures apart { Paired state.old.stored → ∥ MadeApart state.old.names state.old.stored ∥₁
         → IfOk result (λ i. ∥ MadeApart state.new.names state.new.stored ∥₁) }
     ensures too_large { let e = expr_part (spot_at (E.answers env.now) place) (option_copied expr.entry) in
         Paired state.old.stored → IsErrOf result StoreFault.Full → TooLarge state.old e }
+    ensures names { let e = expr_part (spot_at (E.answers env.now) place) (option_copied expr.entry) in
+        Paired state.old.stored → IfOk result (λ i. state.new.names ≡ state.old.names + (size_part e).names) }
     ensures stays { MayBeOwned state.old.stored → result ≢ Err StoreFault.Memory → Stays state.old.stored state.new.stored }
 {
     root_steps(alloc, env, place, state, expr)
@@ -118,16 +124,23 @@ fn lower_whole_path<E: LowerEnv>(
     ensures data { let p = whole_path (spot_at (E.answers env.now) place) path.now in
         Paired state.old.stored → IfOk result (λ r. ReadsBack state.new.stored r p) }
     ensures segments { Paired state.old.stored → IfOk result (λ r. BearsNames state.new.stored path.now r) }
+    ensures arguments { let at = spot_at (E.answers env.now) place in
+        Paired state.old.stored → IfOk result (λ r. TakesArguments state.new.stored at path.now r) }
     ensures rooted { let p = whole_path (spot_at (E.answers env.now) place) path.now in
         Paired state.old.stored → MayBeOwned state.old.stored → Outside state.old
         → IfOk result (λ r. PathRooted state.old.stored state.new.stored r p) }
     ensures owners { MayBeOwned state.old.stored → IfOk result (λ r. MayBeOwned state.new.stored) }
+    ensures defined { Paired state.old.stored → MayBeOwned state.old.stored → Outside state.old → Defined state.old.stored
+        → IfOk result (λ r. Defined state.new.stored) }
+    ensures mapped { Paired state.old.stored → ∥ Mapped state.old.stored ∥₁ → IfOk result (λ r. ∥ Mapped state.new.stored ∥₁) }
     ensures outside { Outside state.old → IfOk result (λ r. Outside state.new) }
     ensures apart { Paired state.old.stored → ∥ MadeApart state.old.names state.old.stored ∥₁
         → IfOk result (λ r. ∥ MadeApart state.new.names state.new.stored ∥₁) }
     ensures full { IsErrOf result StoreFault.Full → SomeEnd state.new }
     ensures too_large { let p = whole_path (spot_at (E.answers env.now) place) path.now in
         Paired state.old.stored → IsErrOf result StoreFault.Full → Short (whole_size p) state.old }
+    ensures names { let p = whole_path (spot_at (E.answers env.now) place) path.now in
+        Paired state.old.stored → IfOk result (λ r. state.new.names ≡ state.old.names + (whole_size p).names) }
     ensures stays { MayBeOwned state.old.stored → result ≢ Err StoreFault.Memory → Stays state.old.stored state.new.stored }
 {
     lower_path(alloc, env, place, state, path)
@@ -145,7 +158,10 @@ fn add_type(
     ensures no_room { IsErrOf result StoreFault.Full → NoRoomForType state.old.stored }
     ensures unchanged { IsErrOf result StoreFault.Full → state.new.stored ≡ state.old.stored }
     ensures scopes { result ≢ Err StoreFault.Memory → state.new.scopes ≡ state.old.scopes }
+    ensures names { result ≢ Err StoreFault.Memory → state.new.names ≡ state.old.names }
     ensures owners { MayBeOwned state.old.stored → IfOk result (λ i. MayBeOwned state.new.stored) }
+    ensures defined { Defined state.old.stored → IfOk result (λ i. Defined state.new.stored) }
+    ensures mapped { ∥ Mapped state.old.stored ∥₁ → IfOk result (λ i. ∥ Mapped state.new.stored ∥₁) }
     ensures outside { Outside state.old → IfOk result (λ i. Outside state.new) }
     ensures apart { Paired state.old.stored → ∥ MadeApart state.old.names state.old.stored ∥₁
         → IfOk result (λ i. ∥ MadeApart state.new.names state.new.stored ∥₁) }
@@ -165,6 +181,8 @@ pub struct ExprCollector<'db, E: LowerEnv> {
     failed: bool,
     ghost paired: { failed ≡ false → Paired state.stored },
     ghost owners: { failed ≡ false → MayBeOwned state.stored },
+    ghost defined: { failed ≡ false → Defined state.stored },
+    ghost mapped: { failed ≡ false → ∥ Mapped state.stored ∥₁ },
     ghost outside: { failed ≡ false → Outside state },
     ghost apart: { failed ≡ false → ∥ MadeApart state.names state.stored ∥₁ },
 }
@@ -231,15 +249,15 @@ impl<'db, E: LowerEnv> ExprCollector<'db, E> {
 
     /// Lowers a constant as a root of its own.
     ///
-    /// In each later store that keeps the problems of its bindings its expression does what the constant does, for every
-    /// answerer and every number of turns that a loop may take; what is stored stands for the tree, and faults, blocks,
-    /// calls of macros and ways of the source map come behind those of before. Each expression, type and pattern that it reaches
-    /// came with it, and is reached in one way only. Each binding that came is owned by the innermost closure, coroutine, `const`
-    /// block, length or argument around it, and where it stands in none of these, by the constant. `Memory` where a growth was
-    /// refused, `Full` where an arena has no room for the tree, or a path in the tree has more `super`s, a pattern more parts in
-    /// front of its two dots, a block more definitions of one name by `macro_rules`, or more names are made up, than 32 bits
-    /// count, `Failed` after an error, and then nothing changes. All that was stored is stored still, unless memory was refused,
-    /// each binding with what owns it, and a node leads to where it led, or to what came since.
+    /// In each later store that keeps the problems of its bindings its expression does what the constant does, for every answerer and every
+    /// number of turns that a loop may take; what is stored stands for the tree, and faults, blocks, calls of macros and ways of the source
+    /// map come behind those of before. Each expression, type and pattern that it reaches came with it, and is reached in one way only.
+    /// Each binding that came is owned by the innermost closure, coroutine, `const` block, length or argument around it, and where it
+    /// stands in none of these, by the constant. `Memory` where a growth was refused, `Full` where an arena has no room for the tree, or a
+    /// path in the tree has more `super`s, a pattern more parts in front of its two dots, a block more definitions of one name by
+    /// `macro_rules`, or more names are made up, than 32 bits count, `Failed` after an error, and then nothing changes. As many names are
+    /// made up as the tree needs, and no more. All that was stored is stored still, unless memory was refused, each binding with what owns
+    /// it, and a node leads to where it led, or to what came since.
     pub fn lower_const_arg(&mut self, arg: &ast::ConstArg) -> Result<ConstRef, LowerError>
         ensures calls { Calls self.old.failed self.old.state result self.new.state self.new.failed }
         ensures rooted { let e = expr_part (spot_at (E.answers self.old.db.now) self.old.place) arg.now in
@@ -247,6 +265,8 @@ impl<'db, E: LowerEnv> ExprCollector<'db, E> {
         ensures full { IsErrOf result LowerError.Full → SomeEnd self.new.state }
         ensures too_large { let e = expr_part (spot_at (E.answers self.old.db.now) self.old.place) arg.now in
             IsErrOf result LowerError.Full → TooLarge self.old.state e }
+        ensures names { let e = expr_part (spot_at (E.answers self.old.db.now) self.old.place) arg.now in
+            IfOk result (λ c. self.new.state.names ≡ self.old.state.names + (size_part e).names) }
         ensures stays { result ≢ Err LowerError.Memory → Stays self.old.state.stored self.new.state.stored }
         ensures db { self.new.db ≡ self.old.db }
         ensures place { self.new.place ≡ self.old.place }
@@ -269,17 +289,16 @@ impl<'db, E: LowerEnv> ExprCollector<'db, E> {
     /// Lowers a path (upstream's function of this name), or answers none where a segment that is read refuses it; what an
     /// `impl` in it becomes is the caller's choice.
     ///
-    /// It has the names of all segments that are read, those of use trees around it in front, with the arguments that stand
-    /// beside them, and begins where they say. Where no use tree stands around it or its trait, no segment of either is missing,
-    /// and the trait has no qualified type, its names are those of the written segments that bear one. `Memory` where a
-    /// growth was refused, `Full` where an arena has no room for its types, lifetimes and constants and the patterns in
-    /// them, or it has more `super`s, a pattern in it more parts in front of its two dots, a block in it more definitions of one
-    /// name by `macro_rules`, or more names are made up, than 32 bits count, `Failed` after an error. All that was stored is
-    /// stored still, unless memory was refused, and nothing comes behind it but the path's types, its lifetimes and its
-    /// constants, each of which is recorded as a root, with the patterns and bindings in them, what is wrong in it, the blocks
-    /// in its constants, and the calls of macros that are entered, each behind what else was expanded for it; so it is also
-    /// where the path is refused. Each of these bindings is owned by the innermost closure, coroutine, `const` block, length or
-    /// argument around it.
+    /// It has the names of all segments that are read, those of use trees around it in front, with the arguments that stand beside them,
+    /// and begins where they say. Where no use tree stands around it or its trait, no segment of either is missing, and the trait has no
+    /// qualified type, its names are those of the written segments that bear one; and where it has no trait, beside each stands what is
+    /// written behind its segment. `Memory` where a growth was refused, `Full` where an arena has no room for its types, lifetimes and
+    /// constants and the patterns in them, or it has more `super`s, a pattern in it more parts in front of its two dots, a block in it more
+    /// definitions of one name by `macro_rules`, or more names are made up, than 32 bits count, `Failed` after an error. All that was
+    /// stored is stored still, unless memory was refused, and nothing comes behind it but the path's types, its lifetimes and its
+    /// constants, each of which is recorded as a root, with the patterns and bindings in them, what is wrong in it, the blocks in its
+    /// constants, and the calls of macros that are entered, each behind what else was expanded for it; so it is also where the path is
+    /// refused. Each of these bindings is owned by the innermost closure, coroutine, `const` block, length or argument around it.
     pub fn lower_path<I: ImplTraitLower>(
         &mut self,
         path: &ast::Path,
@@ -289,11 +308,15 @@ impl<'db, E: LowerEnv> ExprCollector<'db, E> {
         ensures data { let at = spot_at (E.answers self.old.db.now) (becoming self.old.place (I.mode impl_trait.old)) in
             IfOk result (λ r. ReadsBack self.new.state.stored r (whole_path at path.now)) }
         ensures segments { IfOk result (λ r. BearsNames self.new.state.stored path.now r) }
+        ensures arguments { let at = spot_at (E.answers self.old.db.now) (becoming self.old.place (I.mode impl_trait.old)) in
+            IfOk result (λ r. TakesArguments self.new.state.stored at path.now r) }
         ensures rooted { let at = spot_at (E.answers self.old.db.now) (becoming self.old.place (I.mode impl_trait.old)) in
             IfOk result (λ r. PathRooted self.old.state.stored self.new.state.stored r (whole_path at path.now)) }
         ensures full { IsErrOf result LowerError.Full → SomeEnd self.new.state }
         ensures too_large { let at = spot_at (E.answers self.old.db.now) (becoming self.old.place (I.mode impl_trait.old)) in
             IsErrOf result LowerError.Full → Short (whole_size (whole_path at path.now)) self.old.state }
+        ensures names { let at = spot_at (E.answers self.old.db.now) (becoming self.old.place (I.mode impl_trait.old)) in
+            IfOk result (λ r. self.new.state.names ≡ self.old.state.names + (whole_size (whole_path at path.now)).names) }
         ensures stays { result ≢ Err LowerError.Memory → Stays self.old.state.stored self.new.state.stored }
         ensures impl_trait { impl_trait.new ≡ impl_trait.old }
         ensures db { self.new.db ≡ self.old.db }
@@ -320,6 +343,7 @@ impl<'db, E: LowerEnv> ExprCollector<'db, E> {
         ensures full { IsErrOf result LowerError.Full → NoRoomForType self.old.state.stored }
         ensures unchanged { IsErrOf result LowerError.Full → self.new.state.stored ≡ self.old.state.stored }
         ensures scopes { result ≢ Err LowerError.Memory → self.new.state.scopes ≡ self.old.state.scopes }
+        ensures names { result ≢ Err LowerError.Memory → self.new.state.names ≡ self.old.state.names }
         ensures db { self.new.db ≡ self.old.db }
         ensures place { self.new.place ≡ self.old.place }
     {
@@ -346,13 +370,15 @@ impl<'db, E: LowerEnv> ExprCollector<'db, E> {
         store
     }
 
-    /// The store and its source map, in which each number is in range and no name is made up twice, but for those that the parameters
-    /// of a closure with `async` or `gen` are handed in by, or `Failed` after an error. It takes no memory.
-    #[tactic(auto, using(crate::proofs::MadeNames::once_of))]
+    /// The store and its source map, in which each number is in range, each binding has the patterns that make it, and no name is made up
+    /// twice, but for those that the parameters of a closure with `async` or `gen` are handed in by, or `Failed` after an error. It takes
+    /// no memory.
+    #[tactic(auto, using(crate::proofs::MadeNames::once_of, crate::proofs::Meanings::definitions_of))]
     pub fn into_store(self) -> Result<(ExpressionStore, ExpressionStoreSourceMap), LowerError>
         ensures failed { self.entry.failed ≡ true → result ≡ Err LowerError.Failed }
         ensures works { self.entry.failed ≡ false
             → IsOkAnd result (λ r. (r.0 ≡ store_of self.entry.state.stored) × (r.1 ≡ map_of self.entry.state.stored)) }
+        ensures definitions { IfOk result (λ r. DefinitionsAre r.0.pats (length r.0.bindings) r.1.binding_definitions) }
         ensures made_once { IfOk result (λ r. ∥ MadeOnce r.0 [] ∥₁) }
         ensures in_range { IfOk result (λ r. InRange r.0 r.1) }
     {

@@ -39,6 +39,7 @@ pub trait ImplTraitLower {
         ensures full { IsErrOf result LowerError.Full → NoRoomForType collector.old.state.stored }
         ensures unchanged { IsErrOf result LowerError.Full → collector.new.state.stored ≡ collector.old.state.stored }
         ensures scopes { result ≢ Err LowerError.Memory → collector.new.state.scopes ≡ collector.old.state.scopes }
+        ensures names { result ≢ Err LowerError.Memory → collector.new.state.names ≡ collector.old.state.names }
         ensures db { collector.new.db ≡ collector.old.db }
         ensures place { collector.new.place ≡ collector.old.place };
 }
@@ -100,6 +101,7 @@ pub fn impl_trait_error_allocator<E: LowerEnv>(
     ensures full { IsErrOf result LowerError.Full → NoRoomForType collector.old.state.stored }
     ensures unchanged { IsErrOf result LowerError.Full → collector.new.state.stored ≡ collector.old.state.stored }
     ensures scopes { result ≢ Err LowerError.Memory → collector.new.state.scopes ≡ collector.old.state.scopes }
+    ensures names { result ≢ Err LowerError.Memory → collector.new.state.names ≡ collector.old.state.names }
     ensures db { collector.new.db ≡ collector.old.db }
     ensures place { collector.new.place ≡ collector.old.place }
 {

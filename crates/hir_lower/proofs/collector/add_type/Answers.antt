@@ -1,5 +1,5 @@
 use Rattle.hir_lower.proofs.TypeMeanings.{adds_if, apart_type_if, ends_of_type_if, may_be_owned_type_if, no_room_if, outside_type_if}
-use Rattle.hir_lower.proofs.TypeMeanings.{scopes_if, unchanged_if}
+use Rattle.hir_lower.proofs.TypeMeanings.{defined_type_if, mapped_type_if, names_of_type_if, scopes_if, unchanged_if}
 use Rattle.hir_lower.proofs.collector.add_type.Goals as goal
 
 pub returns-clause-adds : goal.returns-clause-adds
@@ -17,11 +17,20 @@ returns-clause-unchanged c = λ is. unchanged_if _ _ _ _ c.alloc_type.result c.a
 pub returns-clause-scopes : goal.returns-clause-scopes
 returns-clause-scopes c = λ n. scopes_if _ _ _ _ c.alloc_type.result c.alloc_type.ensures n
 
+pub returns-clause-names : goal.returns-clause-names
+returns-clause-names c = λ n. names_of_type_if _ _ _ _ c.alloc_type.result c.alloc_type.ensures n
+
 pub returns-clause-outside : goal.returns-clause-outside
 returns-clause-outside c = λ out. outside_type_if _ _ _ _ c.alloc_type.result c.alloc_type.ensures out
 
 pub returns-clause-apart : goal.returns-clause-apart
 returns-clause-apart c = λ d m. apart_type_if _ _ _ _ c.alloc_type.result c.alloc_type.ensures d m
+
+pub returns-clause-defined : goal.returns-clause-defined
+returns-clause-defined c = λ known. defined_type_if _ _ _ _ c.alloc_type.result c.alloc_type.ensures known
+
+pub returns-clause-mapped : goal.returns-clause-mapped
+returns-clause-mapped c = λ m. mapped_type_if _ _ _ _ c.alloc_type.result c.alloc_type.ensures m
 
 pub returns-clause-owners : goal.returns-clause-owners
 returns-clause-owners c = λ m. may_be_owned_type_if _ _ _ _ c.alloc_type.result c.alloc_type.ensures m

@@ -1,4 +1,5 @@
-use Rattle.hir_lower.proofs.Meanings.{apart_if, may_be_owned_if, outside_if, rooted_if, stays_unless, too_large_if}
+use Rattle.hir_lower.proofs.Meanings.{apart_if, defined_if, mapped_if, may_be_owned_if, names_if, outside_if, rooted_if, stays_unless}
+use Rattle.hir_lower.proofs.Meanings.{too_large_if}
 use Rattle.hir_lower.proofs.collector.lower_root.Goals as goal
 
 pub returns-clause-rooted : goal.returns-clause-rooted
@@ -13,8 +14,17 @@ returns-clause-stays g c = λ m n. stays_unless _ _ _ c.root_steps.result c.root
 pub returns-clause-too_large : goal.returns-clause-too_large
 returns-clause-too_large g c = λ d is. too_large_if _ _ _ c.root_steps.result c.root_steps.ensures d is
 
+pub returns-clause-names : goal.returns-clause-names
+returns-clause-names g c = λ d. names_if _ _ _ c.root_steps.result c.root_steps.ensures d
+
 pub returns-clause-apart : goal.returns-clause-apart
 returns-clause-apart g c = λ d m. apart_if _ _ _ c.root_steps.result c.root_steps.ensures d m
+
+pub returns-clause-defined : goal.returns-clause-defined
+returns-clause-defined g c = λ d m known. defined_if _ _ _ c.root_steps.result c.root_steps.ensures d m known
+
+pub returns-clause-mapped : goal.returns-clause-mapped
+returns-clause-mapped g c = λ d m. mapped_if _ _ _ c.root_steps.result c.root_steps.ensures d m
 
 pub returns-clause-owners : goal.returns-clause-owners
 returns-clause-owners g c = λ m. may_be_owned_if _ _ _ c.root_steps.result c.root_steps.ensures m

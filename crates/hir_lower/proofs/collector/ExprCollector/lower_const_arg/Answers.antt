@@ -6,5 +6,8 @@ returns-clause-rooted g c =
     let self = c.args.self.now in
     rw (← c.unboxed.ensures) (c.in_ok-expr.ensures.rooted (self.paired c.if-self.false) (self.owners c.if-self.false))
 
+pub returns-clause-names : goal.returns-clause-names
+returns-clause-names g c = rw (← c.unboxed.ensures) (c.in_ok-expr.ensures.names (c.args.self.now.paired c.if-self.false))
+
 pub returns-then-self-clause-stays : goal.returns-then-self-clause-stays
 returns-then-self-clause-stays g c = λ n. stays_refl _

@@ -6,11 +6,17 @@ use Rattle.hir_lower.proofs.collector.ExprCollector.lower_path.Goals as goal
 pub returns-clause-data : goal.returns-clause-data
 returns-clause-data g c = rw (← c.mode.ensures) (c.in_ok-lowered.ensures.data (c.args.self.now.paired c.if-self.false))
 
+pub returns-clause-arguments : goal.returns-clause-arguments
+returns-clause-arguments g c = rw (← c.mode.ensures) (c.in_ok-lowered.ensures.arguments (c.args.self.now.paired c.if-self.false))
+
 pub returns-clause-rooted : goal.returns-clause-rooted
 returns-clause-rooted g c =
     let self = c.args.self.now in
     rw (← c.mode.ensures)
     (c.in_ok-lowered.ensures.rooted (self.paired c.if-self.false) (self.owners c.if-self.false) (self.outside c.if-self.false))
+
+pub returns-clause-names : goal.returns-clause-names
+returns-clause-names g c = rw (← c.mode.ensures) (c.in_ok-lowered.ensures.names (c.args.self.now.paired c.if-self.false))
 
 pub returns-then-self-clause-stays : goal.returns-then-self-clause-stays
 returns-then-self-clause-stays g c = λ n. stays_refl _
