@@ -91,7 +91,8 @@ call_under_two [] h = refl
 call_under_two (a ∷ []) h = refl
 call_under_two (a ∷ b ∷ vs) h = absurd (omega arith)
 
-pub answer_under_three : (ks : List (Option Kind)) (ns : Items) (vs : List Value) → length vs < 3 → None ≡ answer_in ks ns (Some (items_view vs))
+pub answer_under_three : (ks : List (Option Kind)) (ns : Items) (vs : List Value) → length vs < 3
+    → None ≡ answer_in ks ns (Some (items_view vs))
 answer_under_three ks ns [] h = refl
 answer_under_three ks ns (a ∷ []) h = refl
 answer_under_three ks ns (a ∷ b ∷ []) h = refl
@@ -105,7 +106,8 @@ answer_three ks ns (a ∷ b ∷ []) h l = absurd (omega arith)
 answer_three ks ns (a ∷ b ∷ c ∷ []) h l = refl
 answer_three ks ns (a ∷ b ∷ c ∷ d ∷ vs) h l = absurd (omega arith)
 
-pub answer_over_five : (ks : List (Option Kind)) (ns : Items) (vs : List Value) → 6 ≤ length vs → None ≡ answer_in ks ns (Some (items_view vs))
+pub answer_over_five : (ks : List (Option Kind)) (ns : Items) (vs : List Value) → 6 ≤ length vs
+    → None ≡ answer_in ks ns (Some (items_view vs))
 answer_over_five ks ns [] h = absurd (omega arith)
 answer_over_five ks ns (a ∷ []) h = absurd (omega arith)
 answer_over_five ks ns (a ∷ b ∷ []) h = absurd (omega arith)

@@ -1,7 +1,7 @@
 //! Which stored parts the parameters of a function are whose body is a coroutine, and where the coroutine of a closure is stored.
 
 use crate::lowered::with_lowered;
-use crate::ways::node;
+use crate::ways::expr_at;
 use hir_lower::{Body, BodySourceMap};
 use hir_store::hir::{Expr, Pat, Statement};
 use hir_store::ids::{BindingId, ExprId, PatId};
@@ -95,7 +95,7 @@ fn what_was_written_is_bound_by_the_lets_in_front_of_the_body(rt: HostRuntime) {
 
 /// The numbers of the closure that node 2 leads to, and of the coroutine in it.
 fn closure_and_coroutine(body: &Body, source_map: &BodySourceMap) -> Option<(ExprId, ExprId)> {
-    let id = source_map.store.node_expr(node(2))?;
+    let id = expr_at(source_map, 2)?;
     match body.store.expr(id) {
         Some(Expr::Closure { body, .. }) => Some((id, *body)),
         _ => None,

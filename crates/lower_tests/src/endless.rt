@@ -6,7 +6,7 @@ ghost use Rattle.lower_tests.specs.Endless as spec;
 use crate::calls::counted;
 use crate::documents::with_document;
 use crate::lowered::{asked, lowered_item};
-use crate::ways::node;
+use crate::ways::{expr_at, node};
 use hir_base::node::{HirFileId, InFile, NodeId, PredId};
 use hir_env::env::LowerEnv;
 use hir_env::expand::{Expansion, FragmentKind, OuterMacro};
@@ -260,11 +260,11 @@ fn sizes_and_ways(body: &Body, source_map: &BodySourceMap) -> (Sizes, Led) {
         told: counted(map),
     };
     let led = Led {
-        stmt: map.node_expr(node(3)),
+        stmt: expr_at(source_map, 3),
         pat: map.node_pat(node(6)),
         ty: map.node_type(node(8)),
-        value: map.node_expr(node(10)),
-        tail: map.node_expr(node(12)),
+        value: expr_at(source_map, 10),
+        tail: expr_at(source_map, 12),
     };
     (sizes, led)
 }

@@ -1,7 +1,7 @@
 //! What the nodes of `const` blocks, repeat arrays, closures and coroutines lead to, and how much is stored for them.
 
 use crate::lowered::with_lowered;
-use crate::ways::node;
+use crate::ways::expr_at;
 use hir_lower::{Body, BodySourceMap};
 use hir_store::hir::{Array, Expr};
 use hir_store::ids::{ExprId, PatId, TypeRefId};
@@ -67,7 +67,7 @@ fn type_of(types: &[Option<TypeRefId>], at: usize) -> Option<TypeRefId> {
 }
 
 fn led_to(body: &Body, source_map: &BodySourceMap) -> Led {
-    let Some(id) = source_map.store.node_expr(node(2)) else {
+    let Some(id) = expr_at(source_map, 2) else {
         return Led::Nowhere;
     };
     match body.store.expr(id) {

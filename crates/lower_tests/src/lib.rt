@@ -44,6 +44,8 @@ mod patterns;
 #[cfg(test)]
 mod rewritten;
 #[cfg(test)]
+mod stacks;
+#[cfg(test)]
 mod streams;
 #[cfg(test)]
 mod targets;

@@ -2,7 +2,7 @@
 
 use crate::calls::counted;
 use crate::lowered::with_lowered;
-use crate::ways::node;
+use crate::ways::{expr_at, node};
 use hir_lower::{Body, BodySourceMap};
 use hir_store::ids::{ExprId, PatId, TypeRefId};
 
@@ -28,8 +28,7 @@ const SPLICED: &str = r#"{
 }"#;
 
 fn exprs_of_calls(_body: &Body, source_map: &BodySourceMap) -> [Option<ExprId>; 2] {
-    let map = &source_map.store;
-    [map.node_expr(node(3)), map.node_expr(node(5))]
+    [expr_at(source_map, 3), expr_at(source_map, 5)]
 }
 
 #[test]

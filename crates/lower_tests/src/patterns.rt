@@ -3,7 +3,7 @@
 use crate::lowered::with_lowered;
 use crate::ways::{Way, number_of, way};
 use hir_base::node::NodeId;
-use hir_lower::{Body, BodySourceMap};
+use hir_lower::{Body, BodySourceMap, Either};
 use hir_store::ids::{BindingId, ExprId, PatId};
 
 /// `fn f(&mut self, (1, 2..=, S { a: b }, cfg)) {}`, where `cfg` stands for a predicate.
@@ -74,12 +74,12 @@ fn parts_of_patterns_lead_to_what_they_become(rt: HostRuntime) {
     let parts = Parts {
         ways: [
             (None, Some(PatId(0))),
-            (Some(ExprId(0)), None),
+            (Some(Either::Left(ExprId(0))), None),
             (None, Some(PatId(1))),
-            (Some(ExprId(1)), None),
+            (Some(Either::Left(ExprId(1))), None),
             (None, None),
             (None, Some(PatId(2))),
-            (Some(ExprId(2)), Some(PatId(4))),
+            (Some(Either::Left(ExprId(2))), Some(PatId(4))),
         ],
         field: Some(NodeId(13)),
         param: Some((PatId(5), PatId(5))),

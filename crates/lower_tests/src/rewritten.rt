@@ -1,8 +1,8 @@
 //! What the nodes of `?`, `try` and `for` lead to, and how much is stored for them.
 
 use crate::lowered::with_lowered;
-use crate::ways::{Way, node, way};
-use hir_lower::{Body, BodySourceMap};
+use crate::ways::{Way, expr_at, way};
+use hir_lower::{Body, BodySourceMap, Either};
 use hir_store::hir::Expr;
 use hir_store::ids::ExprId;
 
@@ -95,7 +95,7 @@ enum Led {
 }
 
 fn led_to(body: &Body, source_map: &BodySourceMap) -> Led {
-    let Some(id) = source_map.store.node_expr(node(2)) else {
+    let Some(id) = expr_at(source_map, 2) else {
         return Led::Nowhere;
     };
     match body.store.expr(id) {
@@ -186,7 +186,7 @@ fn way_of_head(_body: &Body, source_map: &BodySourceMap) -> Way {
 
 #[test]
 fn the_head_of_a_for_leads_to_itself_and_nowhere_where_it_is_disabled(rt: HostRuntime) {
-    let head = (Some(ExprId(0)), None);
+    let head = (Some(Either::Left(ExprId(0))), None);
     assert!(rt; with_lowered(rt.alloc(), FOR, &way_of_head) == Ok(Some(head)));
     assert!(rt;
         with_lowered(rt.alloc(), FOR_OF_DISABLED_HEAD, &way_of_head) == Ok(Some((None, None)))
