@@ -5,6 +5,7 @@ pub mod TypeSteps
 pub mod Mapping
 pub mod PatSteps
 pub mod Steps
+pub mod Noted
 pub mod MadeSteps
 pub mod Constants
 pub mod Yields
