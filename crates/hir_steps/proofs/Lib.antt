@@ -9,6 +9,7 @@ pub mod Noted
 pub mod MadeSteps
 pub mod Constants
 pub mod Yields
+pub mod StillNotes
 pub mod Owning
 pub mod Opening
 pub mod Barriers
