@@ -5,10 +5,10 @@ pub mod TypeSteps
 pub mod Mapping
 pub mod PatSteps
 pub mod Steps
-pub mod Noted
 pub mod MadeSteps
 pub mod Constants
 pub mod Yields
+pub mod Noted
 pub mod StillNotes
 pub mod Owning
 pub mod Opening

@@ -35,7 +35,7 @@ pub record Idle {A : Type 0} (final : Stored) (ps : List Frame) (m m' : Mark) (a
 pub idle_of : {A : Type 0} {a : A} {p : Lowering A} → Correct p (IsPure a) → Correct p Idle
 idle_of h = correct_as h (λ final ps m m' b g row. record { still = row.still })
 
-pub correct_note_down : (f : Notes → Notes) → Correct (note_down f) (IsPure (tt {0}))
+pub correct_note_down : (f : Notes → Notes) → Correct (note_down f) (IsPure tt)
 unfolding note_down
 correct_note_down f = record {
   holds = λ final ps b r. record {
