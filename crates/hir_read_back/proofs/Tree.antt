@@ -19,10 +19,11 @@ use Rattle.hir_lower_form.specs.declared.walk.Reading.TheVariants.{Refused, Open
 use Rattle.hir_lower_form.specs.Lowering.{pure}
 use Rattle.hir_lower_form.specs.Walks as walks
 use Rattle.hir_lower_form.specs.Walks.{start, at_first, missing_name, self_type_name}
-use Rattle.hir_lower_form.specs.Paths.{whole}
+use Rattle.hir_lower_form.specs.Paths.{alias_of, whole}
 use Rattle.hir_lower_form.specs.Types.{no_lists}
 use Rattle.hir_lower_form.specs.Lower as lower
 use Rattle.hir_steps.proofs.Calls.{correct_note_gone}
+use Rattle.hir_steps.proofs.Noted.{correct_aliased}
 use Rattle.hir_steps.proofs.Steps.{Correct}
 use Rattle.hir_steps.proofs.Keeping.{part_any, present_any, each_any, block_part_any, contents_part_any, contents_any, fields_any}
 use Rattle.hir_steps.proofs.Keeping.{any, turn_any, spread_any, one_type_any, type_any, lower_path_any, args_any, top_any, arms_any}
@@ -177,7 +178,7 @@ mutual
       (λ final n r c is h. one_closed final n r c (item false (written.what false s)) is h) (behind_goes s)
 
   path_goes : (p : Path) (w : PathWalk) → Correct (lower.read_path p w) (Goes (Open w) (written.segments p))
-  path_goes (tree.path leading first rest use_) w =
+  path_goes (tree.path alias leading first rest use_) w =
       then_goes {add = λ is. item leading (written.what true first) ∷ written.items rest is} {more = written.outer use_}
       (then_goes {add = written.items rest} {more = λ is. item leading (written.what true first) ∷ is} (each_goes rest w)
       (λ final n r c is h. one_closed final n r c (item leading (written.what true first)) is h) (first_goes leading first))
@@ -189,7 +190,7 @@ mutual
 
   pub path_reads : (p : OptionPath) → Correct (lower.lower_path p) (PathIs (written.path_of p))
   path_reads tree.no_path = none_is
-  path_reads (tree.some_path p) = path_is {add = written.segments p} (path_goes p start)
+  path_reads (tree.some_path p) = correct_aliased (alias_of p) (path_is {add = written.segments p} (path_goes p start))
 
   -- ---- patterns of types
 
