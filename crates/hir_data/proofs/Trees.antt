@@ -82,7 +82,8 @@ within at = in_impl (free at)
 -- the `impl` at this node of this one segment
 abbrev impl_of : Spot → ℕ → Segment → Type_
 impl_of at n s =
-    let path = tree.some_path (tree.path false s tree.no_segments tree.no_path) in
+    let plain = tree.path None false s tree.no_segments tree.no_path in
+    let path = tree.some_path (of.with_alias (of.alias_at at.answers (within at).place plain) plain) in
     tree.impl_type (pointer at n) impl.Opaque (tree.more_bounds (tree.path_bound (pointer at 9) path false []) tree.no_bounds)
 
 outer_is : (at : Spot) (n : ℕ) (s : AstPathSegment)
@@ -161,8 +162,9 @@ reads_impls at = (
 reference_is : (at : Spot) (t : List ℕ)
     → reads_lifetime at t (of.lifetime_ref t)
 reference_is at t = ap (type_data None) (type_made at 0 _
-    ∙ ap (λ x. tree.ref_type (pointer at 0) (Some (record { pointer = pointer at 1; lifetime = of.lifetime_ref t })) Shared
-    (tree.some_type x)) (never_is at 2))
+    ∙ ap (λ x. tree.ref_type (pointer at 0)
+    (Some (record { pointer = pointer at 1; lifetime = of.lifetime_ref t; scope = at.place.lifetimes })) Shared (tree.some_type x))
+    (never_is at 2))
 
 pub reads_lifetimes : LifetimesOfTexts
 reads_lifetimes at = (
