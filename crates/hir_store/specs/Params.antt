@@ -1,5 +1,5 @@
 -- Generic parameters, found by name and counted.
-use Rattle.std.specs.Prelude.{ℕ, zero, suc, Bool, true, false, nat_lt, if◌then◌else◌, List, [], ◌∷◌, Option, Some, None}
+use Rattle.std.specs.Prelude.{ℕ, zero, suc, Bool, false, nat_lt, if◌then◌else◌, List, [], ◌∷◌, Option, Some, None}
 use Rattle.either.specs.declared.Either.{Either}
 use Rattle.either.specs.declared.Either.TheVariants.{Left, Right}
 use Rattle.hir_store.specs.Names.{same_name}
@@ -21,11 +21,6 @@ use Rattle.hir_store.specs.declared.generics.LifetimeBoundType.TheVariants as ki
 use Rattle.hir_store.specs.declared.generics.LifetimeParamData.{LifetimeParamData}
 use Rattle.hir_store.specs.declared.generics.WherePredicate.{WherePredicate}
 use Rattle.hir_store.specs.declared.generics.WherePredicate.TheVariants as predicate
-
--- the place of the first that fits, counted from a number
-abbrev pub first_that : {A : Type 0} → (A → Bool) → ℕ → List A → Option ℕ
-first_that fits k [] = None
-first_that fits k (x ∷ xs) = (if fits x then Some k else first_that fits (suc k) xs)
 
 abbrev pub is_called : Name → LifetimeParamData → Bool
 is_called n p = same_name p.name n

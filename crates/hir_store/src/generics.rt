@@ -1,10 +1,10 @@
 //! Generic parameters of items, and what is asked of types and lifetimes.
 
-ghost use Rattle.std.specs.Prelude.{◌≡◌, ◌↔◌, ◌∷◌, IsTrue, IfOk, Some, [], min};
+ghost use Rattle.std.specs.Prelude.{◌≡◌, ◌↔◌, IsTrue, IfOk, min, slice_get};
+ghost use Rattle.std.specs.List.{position_from};
 ghost use Rattle.std.specs.Option.{option_copied};
-ghost use Rattle.std.specs.Prelude.{slice_get};
 ghost use Rattle.hir_store.specs.declared.generics.LifetimeBoundType.TheVariants as bound_kind;
-ghost use Rattle.hir_store.specs.Params.{const_of, early_among, first_that, is_called, is_type_called, lifetime_found, name_of};
+ghost use Rattle.hir_store.specs.Params.{const_of, early_among, is_called, is_type_called, lifetime_found, name_of};
 ghost use Rattle.hir_store.specs.Params.{own_self, target_of, type_found, type_of};
 
 use crate::ids::{
@@ -349,7 +349,7 @@ fn early_among(mut left: &[LifetimeParamData]) -> u32
 
 /// The place of the first lifetime parameter of that name.
 fn lifetime_place(mut left: &[LifetimeParamData], name: &Name) -> Option<usize>
-    ensures { result ≡ first_that (is_called name.now) 0 left.entry.now }
+    ensures { result ≡ position_from (is_called name.now) 0 left.entry.now }
 {
     let mut at: usize = 0;
     while let [one, rest @ ..] = left {
@@ -364,7 +364,7 @@ fn lifetime_place(mut left: &[LifetimeParamData], name: &Name) -> Option<usize>
 
 /// The place of the first type parameter of that name.
 fn type_place(mut left: &[TypeOrConstParamData], name: &Name) -> Option<usize>
-    ensures { result ≡ first_that (is_type_called name.now) 0 left.entry.now }
+    ensures { result ≡ position_from (is_type_called name.now) 0 left.entry.now }
 {
     let mut at: usize = 0;
     while let [one, rest @ ..] = left {
@@ -436,7 +436,7 @@ impl GenericParams {
 
     /// The first type parameter of that name, as one of `parent`. None where there is none, or none below 4294967296.
     pub fn find_type_by_name(&self, name: &Name, parent: GenericDefId) -> Option<TypeParamId>
-        ensures { result ≡ type_found parent (first_that (is_type_called name.now) 0 self.now.type_or_consts) }
+        ensures { result ≡ type_found parent (position_from (is_type_called name.now) 0 self.now.type_or_consts) }
     {
         let at = type_place(self.type_or_consts.as_slice(), name)?;
         if at > u32::MAX as usize {
@@ -452,7 +452,7 @@ impl GenericParams {
         name: &Name,
         parent: GenericDefId,
     ) -> Option<LifetimeParamId>
-        ensures { result ≡ lifetime_found parent (first_that (is_called name.now) 0 self.now.lifetimes) }
+        ensures { result ≡ lifetime_found parent (position_from (is_called name.now) 0 self.now.lifetimes) }
     {
         let at = lifetime_place(self.lifetimes.as_slice(), name)?;
         if at > u32::MAX as usize {
