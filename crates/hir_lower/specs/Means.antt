@@ -176,10 +176,12 @@ pub record AddsType (old new : Stored) (i : TypeRefId) (ty : TypeRef) (at : Poin
 abbrev pub NoRoomForType : Stored → Type 0
 NoRoomForType old = old.types.limit ≤ length old.types.entries
 
--- what an `impl` with these bounds becomes
+-- What an `impl` with these bounds becomes that is stored by itself. A parameter has a number among others, of which none are handed in;
+-- so it is an error.
 abbrev pub becomes : ImplTrait → List TypeBound → TypeRef
 becomes mode.Error bounds = ty.Error
 becomes mode.Opaque bounds = ty.ImplTrait bounds
+becomes (mode.Argument def) bounds = ty.Error
 
 -- What stands in a later store for the constants of a lowered path: as for the tree of a root.
 pub record ConstantsLive (old new later : Stored) (p : OptionPath) : Type 0 where

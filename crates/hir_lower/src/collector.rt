@@ -23,7 +23,7 @@ use crate::error::LowerError;
 use crate::impl_trait::ImplTraitLower;
 use hir_base::node::{AstPtr, HirFileId, InFile};
 use hir_env::env::LowerEnv;
-use hir_env::place::{ImplTrait, LoweringMode, Place};
+use hir_env::place::{ImplTrait, LifetimeScope, LoweringMode, Place};
 use hir_lower_form::builder::BodyBuilder;
 use hir_lower_knot::knot::{collect_expr, lower_path};
 use hir_store::builder::ExpressionStoreBuilder;
@@ -240,6 +240,7 @@ impl<'db, E: LowerEnv> ExprCollector<'db, E> {
                 await_location: Some(AwaitLocation::Unknown),
                 impl_trait: ImplTrait::Error,
                 in_impl: false,
+                lifetimes: LifetimeScope::Nowhere,
                 left: db.expansion_limit(),
             },
             state: BodyBuilder::new(alloc, limit),
@@ -294,7 +295,8 @@ impl<'db, E: LowerEnv> ExprCollector<'db, E> {
     /// qualified type, its names are those of the written segments that bear one; and where it has no trait, beside each stands what is
     /// written behind its segment. `Memory` where a growth was refused, `Full` where an arena has no room for its types, lifetimes and
     /// constants and the patterns in them, or it has more `super`s, a pattern in it more parts in front of its two dots, a block in it more
-    /// definitions of one name by `macro_rules`, or more names are made up, than 32 bits count, `Failed` after an error. All that was
+    /// definitions of one name by `macro_rules`, or more names are made up, or more `impl`s become parameters, than 32 bits count,
+    /// `Failed` after an error. All that was
     /// stored is stored still, unless memory was refused, and nothing comes behind it but the path's types, its lifetimes and its
     /// constants, each of which is recorded as a root, with the patterns and bindings in them, what is wrong in it, the blocks in its
     /// constants, and the calls of macros that are entered, each behind what else was expanded for it; so it is also where the path is
