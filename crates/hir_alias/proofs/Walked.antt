@@ -94,14 +94,6 @@ step_less store find v ws t e =
 abbrev pub one_on : Visitor → List TypeRefId → TypeRefId → Visitor
 one_on v ws t = record v { notes = stepped v.lowered.now.store [] (found v.places) v.notes ws t }
 
--- what holds of a visitor of an alias all the time
-abbrev pub Walking : Visitor → TypeRefId → Visitor → Type 0
-Walking was root v = record {
-  same : v.lowered ≡ was.lowered;
-  placed : v.places ≡ was.places;
-  sound : SoundIn was.lowered.now.store was.lowered.now.generic_params.lifetimes root v.notes;
-}
-
 pub step_goes_on : (was v w : Visitor) (ws : List TypeRefId) (t root : TypeRefId)
     → ((n : Name) → found was.places n ≡ place_of was.lowered.now.generic_params.lifetimes n)
     → v.lowered ≡ was.lowered → v.places ≡ was.places → v.notes.work ≡ ws ++ t ∷ [] → w ≡ one_on v ws t

@@ -1,9 +1,9 @@
 //! What an alias is.
 
-ghost use Rattle.std.specs.Prelude.{◌≡◌, ◌↔◌, IfOk, IsTrue, true};
-ghost use Rattle.std.specs.Prelude.{slice_get};
+ghost use Rattle.std.specs.Prelude.{◌≡◌, ◌≢◌, ◌↔◌, Err, IfOk, IsTrue, slice_get, true};
 ghost use Rattle.hir_alias.specs.Alias.{Flags};
 ghost use Rattle.hir_alias.specs.Reaching.{Names};
+ghost use Rattle.hir_store.specs.declared.fault.StoreFault.TheVariants.{Full};
 
 use crate::visitor::Visitor;
 use hir_base::Seq;
@@ -11,7 +11,7 @@ use hir_store::fault::StoreFault;
 use hir_store::generics::GenericParams;
 use hir_store::ids::TypeRefId;
 use hir_store::store::ExpressionStore;
-use std::alloc::Global;
+use std::alloc::{AllocError, Global};
 use std::marker::Model;
 
 /// What an alias was lowered to.
@@ -60,11 +60,11 @@ impl Model for AliasSignature {
 }
 
 /// Walks the type of an alias, and answers for each of its lifetime parameters whether the type names it.
-fn flags_of(alloc: Global, lowered: &Lowered) -> Result<Seq<bool>, StoreFault>
+fn flags_of(alloc: Global, lowered: &Lowered) -> Result<Seq<bool>, AllocError>
     ensures { IfOk result (λ named. Flags lowered.now.store lowered.now.generic_params lowered.now.ty named) }
 {
     let mut visitor = Visitor::over(alloc, lowered);
-    visitor.walk()?;
+    visitor.walk_all()?;
     Ok(visitor.into_named())
 }
 
@@ -80,6 +80,7 @@ impl AliasSignature {
         ensures generic_params { IfOk result (λ alias. alias.generic_params ≡ generic_params) }
         ensures ty { IfOk result (λ alias. alias.ty ≡ ty) }
         ensures named { IfOk result (λ alias. Flags store generic_params ty alias.named) }
+        ensures memory { result ≢ Err Full }
     {
         let lowered = Lowered {
             store,

@@ -1,11 +1,12 @@
 //! The walk of an alias: which lifetime parameters its type names.
 
-ghost use Rattle.std.specs.Prelude.{◌≡◌, ◌↔◌, ◌+◌, ℕ, [], ◌++◌, ◌∷◌, IsTrue, IfOk, length, not, slice_get, slice_set, true};
+ghost use Rattle.std.specs.Prelude.{◌≡◌, ◌≢◌, ◌↔◌, Err, ℕ, [], ◌++◌, ◌∷◌, IsTrue, IfOk, length, not, slice_get, slice_set, true};
 ghost use Rattle.hir_alias.specs.Alias.{Flags};
 ghost use Rattle.hir_alias.specs.Noting.{SoundIn, falses, note_lifetime, note_parts, note_type};
 ghost use Rattle.hir_alias.specs.Placing.{found};
 ghost use Rattle.hir_alias.specs.Reaching.{place_of};
 ghost use Rattle.hir_store.specs.Parts.{parts_found};
+ghost use Rattle.hir_store.specs.declared.fault.StoreFault.TheVariants.{Full};
 ghost use Rattle.hir_store.specs.declared.name.Name.{Name as NameValue};
 
 use crate::places::Places;
@@ -58,16 +59,8 @@ impl StoreVisitor for Visitor<'_> {
 
     /// Puts the type on the list, unless it was put there before or the store has none of that number.
     fn on_type(&mut self, id: TypeRefId) -> Result<(), StoreFault> {
-        let at = id.0 as usize;
-        match self.notes.noted.get(at) {
-            None => Ok(()),
-            Some(true) => Ok(()),
-            Some(false) => {
-                self.notes.work.push(id)?;
-                self.notes.noted.set(at, true);
-                Ok(())
-            }
-        }
+        self.notes.put(id)?;
+        Ok(())
     }
 
     /// Notes the parameter that the lifetime names, where it names one.
@@ -94,6 +87,21 @@ impl Notes {
             noted: Seq::new(alloc),
             work: Seq::new(alloc),
             named: Seq::new(alloc),
+        }
+    }
+
+    fn put(&mut self, id: TypeRefId) -> Result<(), AllocError>
+        ensures { IfOk result (λ _. self.new ≡ note_type self.old id) }
+    {
+        let at = id.0 as usize;
+        match self.noted.get(at) {
+            None => Ok(()),
+            Some(true) => Ok(()),
+            Some(false) => {
+                self.work.push(id)?;
+                self.noted.set(at, true);
+                Ok(())
+            }
         }
     }
 
@@ -129,7 +137,7 @@ impl<'a> Visitor<'a> {
     }
 
     /// Notes that nothing is noted yet, and where the parameters stand.
-    fn begin(&mut self) -> Result<(), StoreFault>
+    fn begin(&mut self) -> Result<(), AllocError>
         ensures same { IfOk result (λ _. self.new.lowered ≡ self.old.lowered) }
         ensures places { IfOk result (λ _. (name : NameValue) → found self.new.places name
             ≡ place_of self.old.lowered.now.generic_params.lifetimes name) }
@@ -149,20 +157,23 @@ impl<'a> Visitor<'a> {
         Ok(())
     }
 
-    /// Notes the parts of a type.
+    /// Notes the parts of a type. What its own calls refuse is memory alone.
     #[tactic(auto, using(crate::proofs::Walked::handed_notes))]
-    fn step(&mut self, id: TypeRefId) -> Result<(), StoreFault>
+    fn step(&mut self, id: TypeRefId) -> Result<(), AllocError>
         ensures { IfOk result (λ _. self.new ≡ record self.old {
           notes = note_parts self.old.lowered.now.store.lifetimes (found self.old.places) self.old.notes
               (parts_found not (slice_get self.old.lowered.now.store.types id.0));
         }) }
     {
         let lowered = self.lowered;
-        visit_type_ref_children(&lowered.store, id, self)
+        match visit_type_ref_children(&lowered.store, id, self) {
+            Ok(()) => Ok(()),
+            Err(_) => Err(AllocError),
+        }
     }
 
     /// Goes on until the list is empty.
-    fn go_on(&mut self, root: TypeRefId) -> Result<(), StoreFault>
+    fn go_on(&mut self, root: TypeRefId) -> Result<(), AllocError>
         requires placed { (name : NameValue) → found self.old.places name ≡ place_of self.old.lowered.now.generic_params.lifetimes name }
         requires sound { SoundIn self.old.lowered.now.store self.old.lowered.now.generic_params.lifetimes root self.old.notes }
         ensures same { IfOk result (λ _. self.new.lowered ≡ self.old.lowered) }
@@ -175,8 +186,7 @@ impl<'a> Visitor<'a> {
         Ok(())
     }
 
-    /// Notes which lifetime parameters the alias's type names. It ends on every store. After an error nothing is said of them.
-    pub fn walk(&mut self) -> Result<(), StoreFault>
+    pub(crate) fn walk_all(&mut self) -> Result<(), AllocError>
         ensures same { IfOk result (λ _. self.new.lowered ≡ self.old.lowered) }
         ensures told { IfOk result (λ _. Flags self.old.lowered.now.store self.old.lowered.now.generic_params self.old.lowered.now.ty
             self.new.notes.named) }
@@ -185,10 +195,22 @@ impl<'a> Visitor<'a> {
         match self.lowered.ty {
             None => Ok(()),
             Some(root) => {
-                self.on_type(root)?;
+                self.notes.put(root)?;
                 self.go_on(root)
             }
         }
+    }
+
+    /// Notes which lifetime parameters the alias's type names. It ends on every store. After an error, which is that memory is refused,
+    /// nothing is said of them.
+    pub fn walk(&mut self) -> Result<(), StoreFault>
+        ensures same { IfOk result (λ _. self.new.lowered ≡ self.old.lowered) }
+        ensures told { IfOk result (λ _. Flags self.old.lowered.now.store self.old.lowered.now.generic_params self.old.lowered.now.ty
+            self.new.notes.named) }
+        ensures memory { result ≢ Err Full }
+    {
+        self.walk_all()?;
+        Ok(())
     }
 
     /// Whether the type names the lifetime parameter at this place; past the last one it doesn't.

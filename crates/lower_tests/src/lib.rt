@@ -2,6 +2,8 @@
 #![tactic(auto)]
 
 #[cfg(test)]
+mod alias;
+#[cfg(test)]
 mod arenas;
 #[cfg(test)]
 mod bindings;
