@@ -8,7 +8,8 @@ use Rattle.std.specs.Map.{lookup}
 use Rattle.std.specs.Ordering.{is_eq, eq_by_cmp, match_ordering}
 use Rattle.hir_store.specs.NameOrder.{name_cmp, name_total}
 use Rattle.hir_store.specs.Names.{same_name}
-use Rattle.hir_store.specs.Params.{first_that, is_called}
+use Rattle.std.specs.List.{position_from}
+use Rattle.hir_store.specs.Params.{is_called}
 use Rattle.hir_store.specs.declared.generics.LifetimeParamData.{LifetimeParamData}
 use Rattle.hir_store.specs.declared.name.Name.{Name}
 use Rattle.hir_store.specs.declared.name.Name.TheVariants as name
@@ -72,7 +73,7 @@ flipped p n = same_names p n ∙ (eq_by_cmp_equiv name_total).symm p n
 -- one more is said, and then the others
 first_by : (es : List (Name × ℕ)) (k : Name) (t : ℕ) (q : Name) (later before : Option ℕ) (b : Bool)
     → found es k ≡ before → eq_by_cmp name_cmp q k ≡ b
-    → or_later (found es q) (if b then Some t else later)
+    → or_later (found es q) (cond b (Some t) later)
     ≡ or_later (found (if is_some before then es else insert_entry name_cmp es k t) q) later
 first_by es k t q later (Some x) true is same =
     let found_it = found_alike es q k same ∙ is in
@@ -86,12 +87,12 @@ first_by es k t q later None false is same =
     sym (ap (λ m. or_later m later) (found_inserted es k t q ∙ ap (λ b. cond b (Some t) (found es q)) same))
 
 pub said_first : (es : List (Name × ℕ)) (p : LifetimeParamData) (ps : List LifetimeParamData) (k : ℕ) (n : Name)
-    → or_later (found es n) (first_that (is_called n) k (p ∷ ps)) ≡ or_later (found (with_first es p.name k) n) (first_that (is_called n) (k + 1) ps)
+    → or_later (found es n) (position_from (is_called n) k (p ∷ ps))
+    ≡ or_later (found (with_first es p.name k) n) (position_from (is_called n) (k + 1) ps)
 said_first es p ps k n =
-    let next : suc k ≡ k + 1 = omega arith in
-    ap (λ b. or_later (found es n) (if b then Some k else first_that (is_called n) (suc k) ps)) (flipped p.name n)
-    ∙ first_by es p.name k n (first_that (is_called n) (suc k) ps) (found es p.name) (eq_by_cmp name_cmp n p.name) refl refl
-    ∙ ap (λ j. or_later (found (with_first es p.name k) n) (first_that (is_called n) j ps)) next
+    let later = position_from (is_called n) (k + 1) ps in
+    ap (λ b. or_later (found es n) (cond b (Some k) later)) (flipped p.name n)
+    ∙ first_by es p.name k n later (found es p.name) (eq_by_cmp name_cmp n p.name) refl refl
 
 pub nothing_later : (es : List (Name × ℕ)) (n : Name) → or_later (found es n) None ≡ found es n
 nothing_later es n = by (found es n)

@@ -1,11 +1,12 @@
 -- What the visitor of an alias notes of parts.
-use Rattle.std.proofs.Common.{◌≡◌, ◌∙◌, refl, sym, ap, subst, ℕ, suc, ◌+◌, ◌<◌, Bool, true, false, if◌then◌else◌}
+use Rattle.std.proofs.Common.{◌≡◌, ◌∙◌, refl, sym, ap, subst, ℕ, ◌+◌, ◌<◌, Bool, true, false, cond}
 use Rattle.std.proofs.Common.{List, [], ◌∷◌, ◌++◌, Option, Some, None, length, arith, length-append}
 use Rattle.std.specs.Prelude.{slice_get, ◌↔◌, not}
 use Rattle.std.proofs.lemmas.Option.{none-some}
 use Rattle.hir_store.specs.Stored.{Store}
 use Rattle.hir_store.specs.Names.{same_name}
-use Rattle.hir_store.specs.Params.{first_that, is_called}
+use Rattle.std.specs.List.{position_from}
+use Rattle.hir_store.specs.Params.{is_called}
 use Rattle.hir_store.specs.Parts.{Part, a_type, a_lifetime, parts_found}
 use Rattle.hir_store.specs.Handed.{handed}
 use Rattle.hir_store.specs.declared.generics.GenericParams.{GenericParams}
@@ -36,14 +37,14 @@ handed_notes (a_lifetime l ∷ ps) v =
 -- ---- the place of a name is one of the parameters'
 
 found_within : (t : Bool) (k j : ℕ) (n : Name) (p : LifetimeParamData) (ps : List LifetimeParamData)
-    → (first_that (is_called n) (suc k) ps ≡ Some j → j < suc k + length ps)
-    → (if t then Some k else first_that (is_called n) (suc k) ps) ≡ Some j → j < k + length (p ∷ ps)
+    → (position_from (is_called n) (k + 1) ps ≡ Some j → j < k + 1 + length ps)
+    → cond t (Some k) (position_from (is_called n) (k + 1) ps) ≡ Some j → j < k + length (p ∷ ps)
 found_within true k j n p ps r h = let i : k ≡ j = some_inj h in omega arith
 found_within false k j n p ps r h = let i = r h in omega arith
 
-first_within : (k j : ℕ) (n : Name) (ps : List LifetimeParamData) → first_that (is_called n) k ps ≡ Some j → j < k + length ps
+first_within : (k j : ℕ) (n : Name) (ps : List LifetimeParamData) → position_from (is_called n) k ps ≡ Some j → j < k + length ps
 first_within k j n [] e = elim (none-some j e) [ ]
-first_within k j n (p ∷ ps) e = found_within (same_name p.name n) k j n p ps (first_within (suc k) j n ps) e
+first_within k j n (p ∷ ps) e = found_within (same_name p.name n) k j n p ps (first_within (k + 1) j n ps) e
 
 place_within : (params : List LifetimeParamData) (o : Option LifetimeRef) (j : ℕ) → place_by (place_of params) o ≡ Some j
     → j < length params

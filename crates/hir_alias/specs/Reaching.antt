@@ -2,7 +2,8 @@
 use Rattle.std.specs.Prelude.{ℕ, ◌≡◌, not, List, [], ◌∷◌, Option, Some, None}
 use Rattle.std.specs.Prelude.{slice_get, ◌⊎◌}
 use Rattle.hir_store.specs.Stored.{Store}
-use Rattle.hir_store.specs.Params.{first_that, is_called}
+use Rattle.std.specs.List.{position_from}
+use Rattle.hir_store.specs.Params.{is_called}
 use Rattle.hir_store.specs.Parts.{Part, a_type, a_lifetime, parts}
 use Rattle.hir_store.specs.declared.generics.LifetimeParamData.{LifetimeParamData}
 use Rattle.hir_store.specs.declared.ids.TypeRefId.{TypeRefId}
@@ -47,7 +48,7 @@ pub record Named (types : List TypeRef) (lifetimes : List LifetimeRef) (find : N
 
 -- the place of the first parameter of that name
 abbrev pub place_of : List LifetimeParamData → Name → Option ℕ
-place_of params n = first_that (is_called n) 0 params
+place_of params n = position_from (is_called n) 0 params
 
 -- an alias without type names none
 abbrev pub Names : Store → List LifetimeParamData → Option TypeRefId → ℕ → Type 0
