@@ -16,10 +16,10 @@ use Rattle.hir_env.specs.Answered.{Limit, Side, TypePat, OptionTypePat, TypePats
 use Rattle.hir_lower_form.specs.declared.args.ArgLists.{ArgLists}
 use Rattle.hir_lower_form.specs.declared.walk.PathWalk.{PathWalk}
 use Rattle.hir_lower_form.specs.declared.walk.Reading.TheVariants.{Refused, Open}
-use Rattle.hir_lower_form.specs.Lowering.{pure}
+use Rattle.hir_lower_form.specs.Lowering.{◌>>=◌, pure}
 use Rattle.hir_lower_form.specs.Walks as walks
 use Rattle.hir_lower_form.specs.Walks.{start, at_first, missing_name, self_type_name}
-use Rattle.hir_lower_form.specs.Paths.{alias_of, whole}
+use Rattle.hir_lower_form.specs.Paths.{alias_of, proceed, whole}
 use Rattle.hir_lower_form.specs.Types.{no_lists}
 use Rattle.hir_lower_form.specs.Lower as lower
 use Rattle.hir_steps.proofs.Calls.{correct_note_gone}
@@ -171,13 +171,13 @@ mutual
   behind_goes (tree.type_segment t) w = broken_goes false w
   behind_goes (tree.trait_segment t at p) w = broken_goes false w
 
-  each_goes : (ss : Segments) (w : PathWalk) → Correct (lower.read_each ss w) (Goes (Open w) (written.items ss))
+  pub each_goes : (ss : Segments) (w : PathWalk) → Correct (lower.read_each ss w) (Goes (Open w) (written.items ss))
   each_goes tree.no_segments w = goes_at_once (Open w) (λ final n is h. h)
   each_goes (tree.more_segments s ss) w =
       then_goes {add = written.items ss} {more = λ is. item false (written.what false s) ∷ is} (each_goes ss w)
       (λ final n r c is h. one_closed final n r c (item false (written.what false s)) is h) (behind_goes s)
 
-  path_goes : (p : Path) (w : PathWalk) → Correct (lower.read_path p w) (Goes (Open w) (written.segments p))
+  pub path_goes : (p : Path) (w : PathWalk) → Correct (lower.read_path p w) (Goes (Open w) (written.segments p))
   path_goes (tree.path alias leading first rest use_) w =
       then_goes {add = λ is. item leading (written.what true first) ∷ written.items rest is} {more = written.outer use_}
       (then_goes {add = written.items rest} {more = λ is. item leading (written.what true first) ∷ is} (each_goes rest w)
@@ -285,3 +285,11 @@ mutual
   expr_from (tree.match_expr at e arms) = sites.match_from at (part_any e) (arms_any [] arms)
   expr_from (tree.range_expr at form start end) = sites.range_from at form (present_any start) (present_any end)
   expr_from (tree.assign_expr at e t v) = sites.assign_from at (target_any t) (part_any v)
+
+-- the segments of a path, without those of the use tree around it
+pub own_goes : (leading : Bool) (first : Segment) (rest : Segments) (w : PathWalk)
+    → Correct (lower.read_each rest w >>= (λ r. proceed r (λ v. lower.read_segment true first (at_first leading v))))
+    (Goes (Open w) (λ is. item leading (written.what true first) ∷ written.items rest is))
+own_goes leading first rest w =
+    then_goes {add = written.items rest} {more = λ is. item leading (written.what true first) ∷ is} (each_goes rest w)
+    (λ final n r c is h. one_closed final n r c (item leading (written.what true first)) is h) (first_goes leading first)
