@@ -12,7 +12,8 @@ use Rattle.hir_lower_form.specs.Lowering.{Lowering, ◌>>=◌, ◌>>◌, pure, a
 use Rattle.hir_lower_form.specs.Lowering.{note_down, param_numbered, with_notes, with_stored}
 use Rattle.hir_lower_form.specs.Paths.{aliased, cut_back}
 use Rattle.hir_steps.proofs.Noted.{correct_cut_back, correct_input_end, correct_note_down}
-use Rattle.hir_steps.proofs.Yields.{Raises, Still, raises_begin, raises_end, raises_pure, raises_still, still_count_out, still_pure, still_then}
+use Rattle.hir_steps.proofs.Yields.{Raises, Still, raises_begin, raises_end, raises_pure, raises_still, still_count_out, still_pure}
+use Rattle.hir_steps.proofs.Yields.{still_then}
 use Rattle.hir_steps.proofs.Yields.{still_type}
 
 pub still_with_notes : {A : Type 0} {f : Notes → Lowering A} → ((n : Notes) → Still (f n)) → Still (with_notes f)
@@ -40,7 +41,8 @@ still_cut_back n places p = still_with_stored (λ s. still_note_down _)
 
 pub still_aliased : (alias : Option (List Bool)) {p : Lowering (Option HirPath)} → Still p → Still (aliased alias p)
 still_aliased None h = h
-still_aliased (Some places) h = still_then still_input_end (λ n. still_then h (λ p. still_then (still_cut_back n places p) (λ u. still_pure p)))
+still_aliased (Some places) h = still_then still_input_end
+    (λ n. still_then h (λ p. still_then (still_cut_back n places p) (λ u. still_pure p)))
 
 pub still_add_param : (x : TypeOrConstParamData) → Still (add_param x)
 unfolding add_param
