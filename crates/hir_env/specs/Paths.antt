@@ -192,6 +192,9 @@ alias_at env p x = alias_or_none env p (mod_path_of (tree.some_path x))
 abbrev pub with_alias : Option (List Bool) → Path → Path
 with_alias alias (tree.path _ leading first rest use_) = tree.path alias leading first rest use_
 
+abbrev pub alias_of : Path → Option (List Bool)
+alias_of (tree.path alias leading first rest use_) = alias
+
 -- segments
 
 abbrev pub context_at : Answers → Place → NodeId → CtxId

@@ -1,0 +1,4 @@
+pub mod Sets
+pub mod Kinds
+pub mod Worked
+pub mod Places

@@ -1,0 +1,154 @@
+-- Worked trees, as they are written: what is named in them by where they stand, what a path in an argument says of an alias, and what an
+-- `impl` there is.
+use Rattle.std.specs.Prelude.{◌≡◌, ℕ, codes, Bool, true, false, List, [], ◌∷◌, Option, Some, None}
+use Rattle.hir_syntax.specs.declared.ast.ElseBranch.TheOpen.{GenericArg-F, TypeKind-F}
+use Rattle.hir_syntax.specs.declared.ast.Path.{Path as AstPath, roll-Path}
+use Rattle.hir_syntax.specs.declared.ast.PathSegment.{PathSegment as AstPathSegment, roll-PathSegment}
+use Rattle.hir_syntax.specs.declared.ast.SegmentKind.TheVariants as segment
+use Rattle.hir_syntax.specs.declared.types.GenericArg.{roll-GenericArg}
+use Rattle.hir_syntax.specs.declared.types.PathType.{PathType as AstPathType, roll-PathType}
+use Rattle.hir_syntax.specs.declared.types.Type_.{Type_ as AstType_}
+use Rattle.hir_store.specs.declared.ids.GenericDefId.{GenericDefId}
+use Rattle.hir_store.specs.declared.ids.TypeAliasId.{TypeAliasId}
+use Rattle.hir_alias.specs.Alias.{Alias}
+use Rattle.hir_env.specs.declared.place.ImplTrait.TheVariants as impl
+use Rattle.hir_env.specs.declared.place.LifetimeScope.{LifetimeScope}
+use Rattle.hir_env.specs.declared.place.LifetimeScope.TheVariants as scope
+use Rattle.hir_env.specs.declared.resolved.Resolution.{Resolution}
+use Rattle.hir_env.specs.declared.resolved.Resolution.TheVariants as resolution
+use Rattle.hir_env.specs.Paths.{alias_of}
+use Rattle.hir_env.specs.Spot.{Spot}
+use Rattle.hir_env.specs.Whole.{answered_path, answered_type}
+use Rattle.hir_data.specs.Data as datum
+use Rattle.hir_data.specs.Trees.{called, impl_at, never_at, no_range, node, bare, pointer, reference_with, type_at, with_argument}
+use Rattle.hir_data.specs.Written.{type_data}
+use Rattle.hir_sets.specs.Sets.{LifetimeSets, chosen, none, one, sets_of_type}
+use Rattle.hir_sets.specs.Worked.{a}
+
+-- ---- trees
+
+-- `A<'a>`
+abbrev pub with_a : AstPathSegment
+with_a = with_argument (codes "A") (roll-GenericArg (GenericArg-F.LifetimeArg (record {
+  id = node 9;
+  range = no_range;
+  lifetime = Some (record { id = node 1; range = no_range; t = codes "'a" });
+})))
+
+abbrev pub path_of : List (Option AstPathSegment) → AstPath
+path_of ss = roll-Path (record { id = node 9; range = no_range; leading = false; use_ = None; segs = ss; in_macro = false })
+
+-- `A<'a>`, a type
+abbrev pub alone : AstType_
+alone = type_at 0 (TypeKind-F.PathType (Some (path_of (Some with_a ∷ []))))
+
+-- `A<'a>`, a trait
+abbrev pub trait_a : AstPathType
+trait_a = roll-PathType (record { id = node 9; range = no_range; path = Some (path_of (Some with_a ∷ [])) })
+
+-- `<&'a ! as A<'a>>`
+abbrev pub in_front : AstPathSegment
+in_front = roll-PathSegment (record {
+  id = node 9;
+  range = no_range;
+  seg = Some segment.Qualified;
+  name = None;
+  generics = None;
+  parens = None;
+  ret = None;
+  rtn = false;
+  ty = Some (reference_with (codes "'a"));
+  trait_ = Some trait_a;
+})
+
+-- `<&'a ! as A<'a>>::Q`
+abbrev pub projected : AstType_
+projected = type_at 0 (TypeKind-F.PathType (Some (path_of (Some in_front ∷ Some (bare (codes "Q")) ∷ []))))
+
+-- ---- where they stand
+
+-- where a lifetime counts there
+abbrev pub counting : LifetimeScope → Spot → Spot
+counting s at = record at { place = record at.place { lifetimes = s } }
+
+-- in no `impl`
+abbrev pub unhidden : Spot → Spot
+unhidden at = record at { place = record at.place { in_impl = false } }
+
+-- where each path stands for this, and each alias has this answer
+abbrev pub answering : Option Resolution → Option Alias → Spot → Spot
+answering r x at =
+    record at { answers = record at.answers { resolve = λ m n s. record { types = r; values = None; rest = None }; alias = λ n. x } }
+
+-- where each path is an alias
+abbrev pub aliasing : TypeAliasId → Option Alias → Spot → Spot
+aliasing n x at = answering (Some (resolution.TypeAlias n)) x at
+
+abbrev pub named_by : Spot → AstType_ → LifetimeSets
+named_by at t = sets_of_type (answered_type at t)
+
+-- ---- where a lifetime counts
+
+-- `&'a !`, wherever it stands
+abbrev pub CountsWhereItStands : Type 0
+CountsWhereItStands = (at : Spot) (s : LifetimeScope) → named_by (counting s at) (reference_with (codes "'a")) ≡ one s a
+
+-- `impl A<'a>`, where that is none inside of an `impl`
+abbrev pub of_impl : LifetimeScope → Spot → LifetimeSets
+of_impl s at = named_by (counting s (unhidden at)) (impl_at 0 with_a)
+
+abbrev pub CountsInImpls : Type 0
+CountsInImpls = (at : Spot)
+    → (of_impl scope.Nowhere at ≡ one scope.Output a)
+    × (of_impl scope.Bound at ≡ one scope.Bound a)
+    × (of_impl scope.Input at ≡ one scope.Bound a)
+    × (of_impl scope.Projection at ≡ one scope.Bound a)
+    × (of_impl scope.Output at ≡ one scope.Output a)
+
+-- `<&'a ! as A<'a>>::Q`, which names it twice
+abbrev pub of_projection : LifetimeScope → Spot → LifetimeSets
+of_projection s at = named_by (counting s at) projected
+
+abbrev pub CountsInProjections : Type 0
+CountsInProjections = (at : Spot)
+    → (of_projection scope.Input at ≡ none)
+    × (of_projection scope.Projection at ≡ none)
+    × (of_projection scope.Bound at ≡ record none { bounds = a ∷ a ∷ [] })
+    × (of_projection scope.Output at ≡ record none { output = a ∷ a ∷ [] })
+
+-- ---- aliases
+
+abbrev pub says : Spot → Option (List Bool) → Type 0
+says at places = alias_of (answered_path at (path_of (Some with_a ∷ []))) ≡ places
+
+-- In an argument a path that is an alias says which of its lifetime parameters its type names, and none where the alias has no answer. One
+-- that is something else, or nothing, and one that stands elsewhere says nothing.
+abbrev pub PathsSayAliases : Type 0
+PathsSayAliases = (at : Spot) (n : TypeAliasId) (x : Alias)
+    → says (counting scope.Input (aliasing n (Some x) at)) (Some x.named)
+    × says (counting scope.Input (aliasing n None at)) (Some [])
+    × says (counting scope.Input (answering (Some resolution.Struct) (Some x) at)) None
+    × says (counting scope.Input (answering None (Some x) at)) None
+    × says (counting scope.Nowhere (aliasing n (Some x) at)) None
+    × says (counting scope.Bound (aliasing n (Some x) at)) None
+    × says (counting scope.Projection (aliasing n (Some x) at)) None
+    × says (counting scope.Output (aliasing n (Some x) at)) None
+
+-- so of `A<'a>` that counts which the alias's type names
+abbrev pub AliasesCount : Type 0
+AliasesCount = (at : Spot) (n : TypeAliasId) (x : Alias)
+    → (named_by (counting scope.Input (aliasing n (Some x) at)) alone ≡ record none { input = chosen x.named (Some a ∷ []) })
+    × (named_by (counting scope.Input (aliasing n None at)) alone ≡ none)
+    × (named_by (counting scope.Input (answering None None at)) alone ≡ one scope.Input a)
+    × (named_by (counting scope.Output (aliasing n (Some x) at)) alone ≡ one scope.Output a)
+
+-- ---- an `impl` in an argument
+
+abbrev pub in_argument : GenericDefId → Spot → Spot
+in_argument def at = record at { place = record at.place { impl_trait = impl.Argument def; in_impl = false } }
+
+-- `impl A` is a parameter there
+abbrev pub ImplsAreParameters : Type 0
+ImplsAreParameters = (at : Spot) (def : GenericDefId)
+    → type_data None (answered_type (in_argument def at) (impl_at 0 (bare (codes "A"))))
+    ≡ datum.typed (Some (pointer at 0)) (datum.parameter_shape def)
