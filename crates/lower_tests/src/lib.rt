@@ -24,6 +24,8 @@ mod endless;
 #[cfg(test)]
 mod errors;
 #[cfg(test)]
+mod generics;
+#[cfg(test)]
 mod inner;
 #[cfg(test)]
 mod limits;
