@@ -7,12 +7,13 @@ ghost use Rattle.hir_store.specs.declared.name.Name.TheVariants as name;
 ghost use Rattle.hir_store.specs.Range.{HasBinding};
 ghost use Rattle.hir_env.specs.Answered as tree;
 ghost use Rattle.hir_env.specs.Whole.{answered_arg, answered_assoc_arg, arg_level, arg_list_level, arg_list_part, assoc_arg_level};
-ghost use Rattle.hir_env.specs.Whole.{bounds_part, generic_args_part, type_part};
+ghost use Rattle.hir_env.specs.Paths.{lifetime_arg_of};
+ghost use Rattle.hir_env.specs.Whole.{bounds_part, generic_args_part, type_arg_level, type_part};
 ghost use Rattle.hir_lower_form.specs.Lowering.{Lowers};
 ghost use Rattle.hir_lower_form.specs.Lower as spec;
 ghost use Rattle.hir_lower_form.specs.Types as forms;
-ghost use Rattle.hir_lower_form.specs.Methods.{HasLists, LowersArgs, at_place};
-ghost use Rattle.hir_lower_form.specs.Nests.{Each, KidsArg, KidsArgs, KidsAssoc, KidsBinding};
+ghost use Rattle.hir_lower_form.specs.Methods.{HasLists, LowersArgs, at_place, constant_at};
+ghost use Rattle.hir_lower_form.specs.Nests.{Each, KidsArg, KidsArgs, KidsAssoc, KidsBinding, KidsTypeArg};
 
 use crate::bounds::BoundsPart;
 use crate::lifetimes::lifetime;
@@ -63,10 +64,7 @@ fn assoc_form<P: LowerParts>(
     requires lists { HasLists state.old.stored lists }
     ensures { Lowers HasLists (spec.lower_arg lists (assoc_arg_level (P.spot lowerer.now.parts) node.now)) state.old result state.new }
 {
-    if node.params {
-        return Ok(lists);
-    }
-    let Some(name) = &node.name else {
+    let (false, Some(name)) = (node.params, &node.name) else {
         return Ok(lists);
     };
     let place = outside_impl(lowerer.parts.place());
@@ -87,6 +85,62 @@ fn assoc_arg<P: LowerParts>(
     assoc_form(lowerer, state, lists, node)
 }
 
+/// A type. What becomes of the lists stands in frames of its own here and below: as many are open as levels.
+#[inline(never)]
+fn type_arg<P: LowerParts>(
+    lowerer: &Lowerer<P>,
+    state: &mut BodyBuilder,
+    lists: ArgLists,
+    node: &ast::TypeArg,
+) -> Result<ArgLists, StoreFault>
+    requires parts { KidsTypeArg (P.can lowerer.now.parts) (P.spot lowerer.now.parts).place node.now }
+    requires lists { HasLists state.old.stored lists }
+    ensures { let level = tree.type_arg (type_arg_level (P.spot lowerer.now.parts) node.now) in
+        Lowers HasLists (spec.lower_arg lists level) state.old result state.new }
+{
+    let id = lowerer.type_or_error(state, lowerer.parts.place(), &None, node)?;
+    Ok(lists.with_arg(GenericArg::Type_(id))?)
+}
+
+/// A lifetime. One that isn't there is skipped.
+#[inline(never)]
+fn lifetime_arg<P: LowerParts>(
+    lowerer: &Lowerer<P>,
+    state: &mut BodyBuilder,
+    lists: ArgLists,
+    written: &Option<ast::Lifetime>,
+) -> Result<ArgLists, StoreFault>
+    requires lists { HasLists state.old.stored lists }
+    ensures { let level = lifetime_arg_of (P.spot lowerer.now.parts).place written.now in
+        Lowers HasLists (spec.lower_arg lists level) state.old result state.new }
+{
+    match written {
+        None => Ok(lists),
+        Some(written) => {
+            let id = lifetime(state, lowerer.parts.place(), written)?;
+            Ok(lists.with_arg(GenericArg::Lifetime(id))?)
+        }
+    }
+}
+
+/// A constant.
+#[inline(never)]
+fn const_arg<P: LowerParts>(
+    lowerer: &Lowerer<P>,
+    state: &mut BodyBuilder,
+    lists: ArgLists,
+    node: &ast::ConstArg,
+) -> Result<ArgLists, StoreFault>
+    requires parts { (P.can lowerer.now.parts).constant (P.spot lowerer.now.parts).place node.now }
+    requires lists { HasLists state.old.stored lists }
+    ensures { let level = tree.const_arg (constant_at (P.spot lowerer.now.parts) node.now) in
+        Lowers HasLists (spec.lower_arg lists level) state.old result state.new }
+{
+    let place = lowerer.parts.place();
+    let constant = lowerer.parts.collect_constant(state, place, node)?;
+    Ok(lists.with_arg(GenericArg::Const(constant))?)
+}
+
 fn arg_form<P: LowerParts>(
     lowerer: &Lowerer<P>,
     state: &mut BodyBuilder,
@@ -98,23 +152,10 @@ fn arg_form<P: LowerParts>(
     ensures { Lowers HasLists (spec.lower_arg lists (arg_level (P.spot lowerer.now.parts) node.now)) state.old result state.new }
 {
     match node {
-        ast::GenericArg::TypeArg(node) => {
-            let id = lowerer.type_or_error(state, lowerer.parts.place(), &None, node)?;
-            Ok(lists.with_arg(GenericArg::Type_(id))?)
-        }
+        ast::GenericArg::TypeArg(node) => type_arg(lowerer, state, lists, node),
         ast::GenericArg::AssocTypeArg(node) => assoc_arg(lowerer, state, lists, node),
-        ast::GenericArg::LifetimeArg(node) => match &node.lifetime {
-            None => Ok(lists),
-            Some(written) => {
-                let id = lifetime(state, lowerer.parts.place(), written)?;
-                Ok(lists.with_arg(GenericArg::Lifetime(id))?)
-            }
-        },
-        ast::GenericArg::ConstArg(node) => {
-            let place = lowerer.parts.place();
-            let constant = lowerer.parts.collect_constant(state, place, node)?;
-            Ok(lists.with_arg(GenericArg::Const(constant))?)
-        }
+        ast::GenericArg::LifetimeArg(node) => lifetime_arg(lowerer, state, lists, &node.lifetime),
+        ast::GenericArg::ConstArg(node) => const_arg(lowerer, state, lists, node),
     }
 }
 
