@@ -41,5 +41,8 @@ past_ribs (macro_rib d ∷ rs) = past_ribs rs
 past_ribs (barrier_rib ∷ rs) = past_ribs rs
 
 -- each open label exists
+abbrev pub RibsOf : Stored → List (Rib LabelId) → Type 0
+RibsOf s rs = past_ribs rs ≤ length s.labels.entries
+
 abbrev pub RibsExist : Builder → Type 0
-RibsExist b = past_ribs b.scopes ≤ length b.stored.labels.entries
+RibsExist b = RibsOf b.stored b.scopes

@@ -83,6 +83,11 @@ lifetime_names ls (arg.Type_ t ∷ as') = lifetime_names ls as'
 lifetime_names ls (arg.Lifetime l ∷ as') = name_of (slice_get ls l.0) ∷ lifetime_names ls as'
 lifetime_names ls (arg.Const c ∷ as') = lifetime_names ls as'
 
+-- the first name, where its place is chosen
+abbrev pub first_chosen : List Bool → Option Name → List Name
+first_chosen (true ∷ cs) (Some n) = n ∷ []
+first_chosen cs n = []
+
 -- the names at the chosen places
 abbrev pub chosen : List Bool → List (Option Name) → List Name
 chosen [] ns = []
