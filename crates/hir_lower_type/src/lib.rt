@@ -2,10 +2,10 @@
 #![tactic(auto)]
 
 pub mod args;
-mod bounds;
+pub mod bounds;
 mod calls;
 mod functions;
-mod lifetimes;
+pub mod lifetimes;
 mod part;
 pub mod places;
 mod simple;

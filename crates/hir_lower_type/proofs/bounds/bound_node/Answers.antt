@@ -1,6 +1,6 @@
 use Rattle.hir_env.proofs.PathLevels.{bound_is_level}
 use Rattle.hir_lower_form.specs.Methods.{at_place}
-use Rattle.hir_lower_type.proofs.bounds.bound.Goals as goal
+use Rattle.hir_lower_type.proofs.bounds.bound_node.Goals as goal
 
 pub returns : goal.returns
 returns g c =

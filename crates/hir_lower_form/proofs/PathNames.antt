@@ -21,13 +21,12 @@ use Rattle.hir_env.specs.PathNames as names
 use Rattle.hir_env.specs.PathNames.{mod_path_of, nothing_read, piece, read_piece, read_outward, read_rest, read_use, counted, supers_in}
 use Rattle.hir_env.specs.PathNames.{with_piece, own_self, refuses, behind_trait, no_names}
 use Rattle.hir_lower_form.specs.Builder.{Builder}
-use Rattle.hir_lower_form.specs.Lowering.{Checked, Lowering, go_on, ◌>>=◌, pure, alloc_type, count_out}
+use Rattle.hir_lower_form.specs.Lowering.{Checked, Lowering, go_on, ◌>>=◌, pure, alloc_type, count_out, input_end}
 use Rattle.hir_lower_form.specs.Paths as forms
-use Rattle.hir_lower_form.specs.Paths.{proceed, whole, with_trait, read_trait}
+use Rattle.hir_lower_form.specs.Paths.{aliased, alias_of, cut_back, proceed, whole, with_trait, read_trait}
 use Rattle.hir_lower_form.specs.Lower.{read_segment, read_each, read_path, read_option, lower_path, lower_type, lower_segment_args}
 use Rattle.hir_lower_form.specs.Walks as walks
-use Rattle.hir_lower_form.specs.Walks.{start, at_first, self_read, super_read, projected, mod_path, missing_name}
-use Rattle.hir_lower_pat.specs.Aims.{names_in, names_read}
+use Rattle.hir_lower_form.specs.Walks.{start, at_first, self_read, super_read, projected, mod_path, missing_name, names_in, names_read}
 use Rattle.hir_lower_form.specs.declared.walk.PathWalk.{PathWalk}
 use Rattle.hir_lower_form.specs.declared.walk.Reading.{Reading}
 use Rattle.hir_lower_form.specs.declared.walk.Reading.TheVariants.{Refused, Ended, Open}
@@ -67,6 +66,15 @@ gives_any p b = gives_some (p b).0
 -- after any steps
 gives_after : {A B : Type 0} (Q : B → Type 0) (p : Lowering A) (f : A → Lowering B) → ((a : A) → Gives Q (f a)) → Gives Q (p >>= f)
 gives_after Q p f h = gives_bind (λ a. Unit {0}) Q p f (gives_any p) (λ a u. h a)
+
+-- a path is what it is, whether it is an alias or not
+gives_aliased : (P : Option HirPath → Type 0) (alias : Option (List Bool)) (p : Lowering (Option HirPath)) → Gives P p
+    → Gives P (aliased alias p)
+gives_aliased P None p h = h
+gives_aliased P (Some places) p h =
+    gives_after P input_end (λ mark. p >>= (λ r. cut_back mark places r >>= (λ u. pure r)))
+    (λ mark. gives_bind P P p (λ r. cut_back mark places r >>= (λ u. pure r)) h
+    (λ r k. gives_after P (cut_back mark places r) (λ u. pure r) (λ u. gives_pure P r k)))
 
 -- ---- a walk, and what is read of the same segments
 
@@ -332,7 +340,7 @@ rest_ended (tree.more_segments s ss) r h =
 
 mutual
   path_refused : (p : Path) (r : names.Reading) → r.refused ≡ true → (read_outward p r).refused ≡ true
-  path_refused (tree.path leading first rest use_) r h =
+  path_refused (tree.path alias leading first rest use_) r h =
       use_refused use_ _ (closed_refused leading (piece true first) (read_rest rest r) (rest_refused rest r h))
 
   use_refused : (o : OptionPath) (r : names.Reading) → r.refused ≡ true → (read_use o r).refused ≡ true
@@ -341,7 +349,7 @@ mutual
 
 mutual
   path_ended : (p : Path) (r : names.Reading) → r.ended ≡ true → read_outward p r ≡ r
-  path_ended (tree.path leading first rest use_) r h =
+  path_ended (tree.path alias leading first rest use_) r h =
       ap (λ x. read_use use_ (read_piece leading (piece true first) x)) (rest_ended rest r h)
       ∙ (ap (read_use use_) (closed_ended leading (piece true first) r h) ∙ use_ended use_ r h)
 
@@ -434,7 +442,7 @@ mutual
       (λ q a. goes_on false (piece false s) (read_segment false s) (behind_goes s) q (read_rest ss r) a)
 
   path_goes : (p : Path) → Going (read_outward p) (read_path p)
-  path_goes (tree.path leading first rest use_) w r e h =
+  path_goes (tree.path alias leading first rest use_) w r e h =
       let own = read_piece leading (piece true first) (read_rest rest r) in
       let first_steps = λ (v : PathWalk). read_segment true first (at_first leading v) in
       gives_bind (λ q. Agrees q own) (λ q. Agrees q (read_use use_ own)) (read_each rest w >>= (λ q. proceed q first_steps))
@@ -454,10 +462,11 @@ mutual
 
   path_named : (o : OptionPath) → Gives (Named o) (lower_path o)
   path_named tree.no_path = λ b. refl
-  path_named (tree.some_path p) = gives_bind (λ q. Agrees q (read_outward p nothing_read)) (Named (tree.some_path p))
+  path_named (tree.some_path p) = gives_aliased (Named (tree.some_path p)) (alias_of p) (read_path p start >>= (λ q. pure (walks.path_read q)))
+      (gives_bind (λ q. Agrees q (read_outward p nothing_read)) (Named (tree.some_path p))
       (read_path p start) (λ q. pure (walks.path_read q))
       (path_goes p start nothing_read start_agrees.0 start_agrees.1)
-      (λ q a b. agreed_names q (read_outward p nothing_read) a)
+      (λ q a b. agreed_names q (read_outward p nothing_read) a))
 
 -- a path that was lowered has the names that are read of it
 pub lowered_names : (o : OptionPath) (b b' : Builder) (r : Option HirPath) → lower_path o b ≡ (Ok r, b')
