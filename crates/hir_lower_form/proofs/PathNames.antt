@@ -462,11 +462,19 @@ mutual
 
   path_named : (o : OptionPath) → Gives (Named o) (lower_path o)
   path_named tree.no_path = λ b. refl
-  path_named (tree.some_path p) = gives_aliased (Named (tree.some_path p)) (alias_of p) (read_path p start >>= (λ q. pure (walks.path_read q)))
+  path_named (tree.some_path p) =
+      gives_aliased (Named (tree.some_path p)) (alias_of p) (read_path p start >>= (λ q. pure (walks.path_read q)))
       (gives_bind (λ q. Agrees q (read_outward p nothing_read)) (Named (tree.some_path p))
       (read_path p start) (λ q. pure (walks.path_read q))
       (path_goes p start nothing_read start_agrees.0 start_agrees.1)
       (λ q a b. agreed_names q (read_outward p nothing_read) a))
+
+-- what is read of a path has them
+pub reading_names : (p : Path) (b b' : Builder) (r : Reading) → read_path p start b ≡ (Ok r, b')
+    → names_read (walks.path_read r) ≡ mod_path_of (tree.some_path p)
+reading_names p b b' r h =
+    agreed_names r (read_outward p nothing_read)
+    (subst (λ x. IfOk x.0 (λ q. Agrees q (read_outward p nothing_read))) h (path_goes p start nothing_read start_agrees.0 start_agrees.1 b))
 
 -- a path that was lowered has the names that are read of it
 pub lowered_names : (o : OptionPath) (b b' : Builder) (r : Option HirPath) → lower_path o b ≡ (Ok r, b')

@@ -10,7 +10,7 @@ ghost use Rattle.hir_lower_form.specs.Nests.{IfPresent};
 ghost use Rattle.hir_lower_form.specs.Methods.{LowersArgs, LowersPath, LowersTypeIfPresent, LowersTypeOpt, at_place};
 ghost use Rattle.hir_lower_form.specs.Paths.{cut_where};
 ghost use Rattle.hir_lower_form.specs.Paths as spec;
-ghost use Rattle.hir_lower_form.specs.Walks.{names_in};
+ghost use Rattle.hir_lower_form.specs.Walks.{names_in, names_read};
 
 use crate::builder::BodyBuilder;
 use crate::parts::{LowerParts, Lowerer};
@@ -98,17 +98,21 @@ impl<P: LowerParts> Lowerer<P> {
     }
 
     /// Where the path is an alias in an argument, of what was noted in it, behind the mark, the lifetimes stay that the alias's type names.
+    #[tactic(auto, using(crate::proofs::Aliases::cut_found, crate::proofs::Aliases::no_cut))]
     #[inline(never)]
     fn cut_alias(
         &self,
         state: &mut BodyBuilder,
         place: Place,
         mark: usize,
-        path: &Path,
+        path: &Option<Path>,
     ) -> Result<(), StoreFault>
-        ensures { let alias = alias_or_none (P.spot self.now.parts).answers place (names_in path.now) in
-            Lowers HasNone (cut_where mark alias (Some path.now)) state.old result state.new }
+        ensures { let alias = alias_or_none (P.spot self.now.parts).answers place (names_read path.now) in
+            Lowers HasNone (cut_where mark alias path.now) state.old result state.new }
     {
+        let Some(path) = path else {
+            return Ok(());
+        };
         let Some(args) = last_args(path) else {
             return Ok(());
         };
@@ -134,10 +138,9 @@ impl<P: LowerParts> Lowerer<P> {
     {
         let mark = state.input_end();
         let walk = PathWalk::new(self.alloc);
-        let path = path_read(self.parts.read_path(state, place, walk, node)?);
-        if let Some(path) = &path {
-            self.cut_alias(state, place, mark, path)?;
-        }
+        let reading = self.parts.read_path(state, place, walk, node)?;
+        let path = path_read(reading);
+        self.cut_alias(state, place, mark, &path)?;
         Ok(path)
     }
 

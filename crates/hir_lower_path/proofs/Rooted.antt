@@ -389,7 +389,8 @@ module _ (at : Spot) (node : AstSegment) (leading : Bool) (w v : PathWalk) (firs
   pub trait_segment_lowers : (y : AstPathType) (r : Checked Reading) → (out-PathSegment node).trait_ ≡ Some y → is_qualified kind_of ≡ true
       → Lowers HasReading (rooted root (is_bare (mod_path_of (path_type_level inner y).path))
       (read_segment true (qualified_segment (type_part inner (out-PathSegment node).ty) (Some (path_type_level inner y))) v)) old r new
-      → Lowers HasReading (rooted root (bare_segment leading kind_of (path_type_part inner (out-PathSegment node).trait_)) own_steps) old r new
+      → Lowers HasReading (rooted root (bare_segment leading kind_of (path_type_part inner (out-PathSegment node).trait_)) own_steps) old r
+      new
   trait_segment_lowers y r e q h =
       let o = out-PathSegment node in
       let part : path_type_part inner o.trait_ ≡ Some (path_type_level inner y) =
@@ -399,8 +400,8 @@ module _ (at : Spot) (node : AstSegment) (leading : Bool) (w v : PathWalk) (firs
       (read_segment true (kinded_segment at.answers at.place o.seg o.name a (type_part inner o.ty) t) (at_first leading w))) old r new)
       (sym part)
       (subst (λ u. Lowers HasReading (rooted root (bare_segment leading o.seg (Some (path_type_level inner y)))
-      (read_segment true (kinded_segment at.answers at.place o.seg o.name a (type_part inner o.ty) (Some (path_type_level inner y))) u)) old r
-      new) first
+      (read_segment true (kinded_segment at.answers at.place o.seg o.name a (type_part inner o.ty) (Some (path_type_level inner y))) u))
+      old r new) first
       (kinded_lowers o.seg o.name a (type_part inner o.ty) (path_type_level inner y) r q h))
 
   read_lowers : (bare own : Bool) (c r : Checked Reading) → own ≡ bare → ReadsSegment true (segment_level at node) v old c new
@@ -422,14 +423,16 @@ module _ (at : Spot) (node : AstSegment) (leading : Bool) (w v : PathWalk) (firs
 
   pub other_segment_lowers : (bare : Bool) (c r : Checked Reading) → is_qualified kind_of ≡ false → bare ≡ bare_segment leading kind_of None
       → ReadsSegment true (segment_level at node) v old c new → r ≡ if_read root bare c
-      → Lowers HasReading (rooted root (bare_segment leading kind_of (path_type_part inner (out-PathSegment node).trait_)) own_steps) old r new
+      → Lowers HasReading (rooted root (bare_segment leading kind_of (path_type_part inner (out-PathSegment node).trait_)) own_steps) old r
+      new
   other_segment_lowers bare c r q b h is =
       read_lowers bare (bare_segment leading kind_of (path_type_part inner (out-PathSegment node).trait_)) c r
       (no_trait_bare kind_of (path_type_part inner (out-PathSegment node).trait_) q ∙ sym b) h is
 
   pub traitless_segment_lowers : (bare : Bool) (c r : Checked Reading) → (out-PathSegment node).trait_ ≡ None
       → bare ≡ bare_segment leading kind_of None → ReadsSegment true (segment_level at node) v old c new → r ≡ if_read root bare c
-      → Lowers HasReading (rooted root (bare_segment leading kind_of (path_type_part inner (out-PathSegment node).trait_)) own_steps) old r new
+      → Lowers HasReading (rooted root (bare_segment leading kind_of (path_type_part inner (out-PathSegment node).trait_)) own_steps) old r
+      new
   traitless_segment_lowers bare c r e b h is =
       read_lowers bare (bare_segment leading kind_of (path_type_part inner (out-PathSegment node).trait_)) c r
       (ap (λ t. bare_segment leading kind_of (path_type_part inner t)) e ∙ sym b) h is
