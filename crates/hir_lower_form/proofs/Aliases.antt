@@ -11,7 +11,6 @@ use Rattle.hir_env.specs.declared.place.Place.{Place}
 use Rattle.hir_env.specs.Answers.{Answers}
 use Rattle.hir_env.specs.Answered as tree
 use Rattle.hir_env.specs.Answered.{Path}
-use Rattle.hir_env.specs.PathNames.{mod_path_of}
 use Rattle.hir_env.specs.Paths.{alias_at, alias_or_none, with_alias}
 use Rattle.hir_env.specs.Spot.{Spot}
 use Rattle.hir_env.specs.Whole.{answered_path}

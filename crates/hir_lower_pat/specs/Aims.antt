@@ -2,7 +2,6 @@
 use Rattle.std.specs.Prelude.{◌≡◌, if◌then◌else◌, Bool, true, false, List, Option, Some, None, is_none}
 use denote.Ref.{Bor, MutBor}
 use Rattle.hir_syntax.specs.declared.ast.Expr.{Expr as AstExpr}
-use Rattle.hir_syntax.specs.declared.ast.ExprKind.{out-ExprKind}
 use Rattle.hir_syntax.specs.declared.ast.ElseBranch.TheOpen.{ExprKind-F}
 use Rattle.hir_syntax.specs.declared.ast.Path.{Path as AstPath}
 use Rattle.hir_syntax.specs.declared.ast.RecordExprField.{RecordExprField as AstField, out-RecordExprField}
