@@ -11,10 +11,10 @@ use Rattle.hir_env.specs.declared.place.Place.{Place}
 use Rattle.hir_env.specs.Answers.{Answers}
 use Rattle.hir_env.specs.Answered as tree
 use Rattle.hir_env.specs.Answered.{Path}
-use Rattle.hir_env.specs.Paths.{alias_at, alias_or_none, with_alias}
+use Rattle.hir_env.specs.Paths.{alias_or_none}
 use Rattle.hir_env.specs.Spot.{Spot}
 use Rattle.hir_env.specs.Whole.{answered_path}
-use Rattle.hir_env.proofs.PathLevels.{path_is_level}
+use Rattle.hir_env.proofs.Aliases.{answered_alias}
 use Rattle.hir_lower_form.specs.Builder.{Builder}
 use Rattle.hir_lower_form.specs.Generics.{cut_args}
 use Rattle.hir_lower_form.specs.Lowering.{Checked, Lowering, go_on, ◌>>=◌, ◌>>◌, pure, Lowers, input_end, note_down, with_stored}
@@ -25,16 +25,6 @@ use Rattle.hir_lower_form.specs.Walks.{names_read, path_read, start}
 use Rattle.hir_lower_form.specs.declared.walk.Reading.{Reading}
 use Rattle.hir_lower_form.proofs.PathNames.{reading_names}
 use Rattle.hir_lower_form.proofs.Walked.{path_read_has}
-
--- what a path bears is what is answered of its names
-
-aliased_level : (env : Answers) (p : Place) (y : Path)
-    → let z = with_alias (alias_at env p y) y in alias_of z ≡ alias_at env p z
-aliased_level env p (tree.path a leading first rest use_) = refl
-
-pub alias_answered : (at : Spot) (x : AstPath) → alias_of (answered_path at x) ≡ alias_at at.answers at.place (answered_path at x)
-alias_answered at x =
-    subst (λ z. alias_of z ≡ alias_at at.answers at.place z) (sym (path_is_level at x)) (aliased_level at.answers at.place _)
 
 -- where no arguments stand beside the last name nothing is cut
 pub no_cut : (mark : ℕ) (a : Option (List Bool)) (p : HirPath) (b : Builder) → last_args p ≡ None
@@ -90,7 +80,7 @@ module _ (at : Spot) (x : AstPath) (old mid : Builder) (mark : ℕ) (m : input_e
   of_names r = alias_or_none at.answers at.place (names_read (path_read r))
 
   named_so : (r : Reading) → read_path y start old ≡ (Ok r, mid) → of_names r ≡ alias_of y
-  named_so r h = ap (alias_or_none at.answers at.place) (reading_names y old mid r h) ∙ sym (alias_answered at x)
+  named_so r h = ap (alias_or_none at.answers at.place) (reading_names y old mid r h) ∙ sym (answered_alias at x)
 
   then_cut : (r : Reading) → read_path y start old ≡ (Ok r, mid)
       → lower_path (tree.some_path y) old ≡ cut_then mark (of_names r) (path_read r) mid

@@ -12,8 +12,7 @@ use Rattle.hir_store.specs.declared.type_ref.TypeRef.TheVariants as ty
 use Rattle.hir_store.specs.declared.path.Path.{Path as HirPath}
 use Rattle.hir_store.specs.declared.path.Path.TheVariants.{BarePath, Normal, LangItem}
 use Rattle.hir_store.specs.declared.type_ref.LifetimeRef.{LifetimeRef}
-use Rattle.hir_env.specs.Answered as tree
-use Rattle.hir_env.specs.Answered.{Path}
+pub use Rattle.hir_env.specs.Paths.{alias_of}
 use Rattle.hir_lower_form.specs.declared.generics.Notes.{Notes}
 use Rattle.hir_lower_form.specs.Generics.{cut_args}
 use Rattle.hir_lower_form.specs.declared.walk.PathWalk.{PathWalk}
@@ -53,10 +52,6 @@ with_trait trait t at w = do
   read_trait t at w p
 
 -- ---- the whole path
-
--- where the path is an alias in an argument, the places of the lifetimes that its type names
-abbrev pub alias_of : Path → Option (List Bool)
-alias_of (tree.path alias leading first rest use_) = alias
 
 abbrev pub first_args : List (Option GenericArgs) → Option GenericArgs
 first_args [] = None

@@ -8,10 +8,11 @@ ghost use Rattle.hir_store.specs.Range.{HasPath, HasType};
 ghost use Rattle.hir_store.specs.declared.name.Name.TheVariants as name;
 ghost use Rattle.hir_env.specs.Answered as tree;
 ghost use Rattle.hir_env.specs.Paths.{crate_root_at, kinded_segment, named_segment, qualified_segment};
+ghost use Rattle.hir_env.specs.Paths as of;
 ghost use Rattle.hir_env.specs.Whole.{first_part, path_level, path_part, path_type_level, path_type_part, rest_part};
 ghost use Rattle.hir_env.specs.Whole.{segment_args_level, segment_level, segment_part, segments_part, type_part};
 ghost use Rattle.hir_lower_form.specs.Lowering.{Lowers};
-ghost use Rattle.hir_lower_form.specs.Methods.{HasReading, HasWalk, LowersPath, ReadsPath, ReadsSegment};
+ghost use Rattle.hir_lower_form.specs.Methods.{HasReading, HasWalk, LowersPath, ReadsPath, ReadsSegment, at_place};
 ghost use Rattle.hir_lower_form.specs.Nests.{IfPresent, KidsName, KidsPath, KidsPresent, KidsQualified, KidsSegment};
 ghost use Rattle.hir_lower_form.specs.Nests.{KidsSegments, KidsTrait};
 ghost use Rattle.hir_lower_form.specs.Lower as spec;
@@ -22,9 +23,11 @@ ghost use Rattle.hir_lower_form.specs.declared.walk.Reading.TheVariants.{Refused
 
 use crate::args::segment_args;
 use crate::local::called_path;
+use crate::places::inside_projection;
 use hir_base::node::InFile;
+use hir_env::place::Place;
 use hir_lower_form::builder::BodyBuilder;
-use hir_lower_form::parts::{LowerParts, Lowerer};
+use hir_lower_form::parts::{LowerParts, Lowerer, pointer_in};
 use hir_lower_form::walk::{PathWalk, Reading, crate_kind};
 use hir_store::fault::StoreFault;
 use hir_store::ids::TypeRefId;
@@ -106,12 +109,13 @@ fn name_form<P: LowerParts>(
 pub(crate) fn trait_path<P: LowerParts>(
     lowerer: &Lowerer<P>,
     state: &mut BodyBuilder,
+    place: Place,
     node: &ast::PathType,
 ) -> Result<Option<Path>, StoreFault>
-    requires { KidsTrait (P.can lowerer.now.parts) (P.spot lowerer.now.parts).place node.now }
-    ensures { LowersPath (path_type_level (P.spot lowerer.now.parts) node.now).path state.old result state.new }
+    requires { KidsTrait (P.can lowerer.now.parts) place node.now }
+    ensures { LowersPath (path_type_level (at_place (P.spot lowerer.now.parts) place) node.now).path state.old result state.new }
 {
-    lowerer.path_if_present(state, lowerer.parts.place(), &node.path)
+    lowerer.path_if_present(state, place, &node.path)
 }
 
 /// `<T as Trait>` with this path, which is stored as a type too.
@@ -119,6 +123,7 @@ pub(crate) fn trait_path<P: LowerParts>(
 pub(crate) fn projected_form<P: LowerParts>(
     lowerer: &Lowerer<P>,
     state: &mut BodyBuilder,
+    place: Place,
     walk: PathWalk,
     ty: TypeRefId,
     node: &ast::PathType,
@@ -127,10 +132,10 @@ pub(crate) fn projected_form<P: LowerParts>(
     requires walk { HasWalk state.old.stored walk }
     requires ty { HasType state.old.stored ty }
     requires path { HasPath state.old.stored path }
-    ensures { let at = (path_type_level (P.spot lowerer.now.parts) node.now).pointer in
+    ensures { let at = (path_type_level (at_place (P.spot lowerer.now.parts) place) node.now).pointer in
         Lowers HasReading (forms.read_trait ty at walk (Some path)) state.old result state.new }
 {
-    let at = lowerer.pointer(node.id, node.range);
+    let at = pointer_in(place, node.id, node.range);
     let _ = state.alloc_type(TypeRef::Path(path.copy(lowerer.alloc)?), Some(at))?;
     Ok(walk.projected(lowerer.alloc, ty, path)?)
 }
@@ -141,19 +146,20 @@ pub(crate) fn projected_form<P: LowerParts>(
 fn trait_form<P: LowerParts>(
     lowerer: &Lowerer<P>,
     state: &mut BodyBuilder,
+    place: Place,
     walk: PathWalk,
     ty: TypeRefId,
     node: &ast::PathType,
 ) -> Result<Reading, StoreFault>
-    requires parts { KidsTrait (P.can lowerer.now.parts) (P.spot lowerer.now.parts).place node.now }
+    requires parts { KidsTrait (P.can lowerer.now.parts) place node.now }
     requires walk { HasWalk state.old.stored walk }
     requires ty { HasType state.old.stored ty }
-    ensures { let level = path_type_level (P.spot lowerer.now.parts) node.now in
+    ensures { let level = path_type_level (at_place (P.spot lowerer.now.parts) place) node.now in
         Lowers HasReading (forms.with_trait (spec.lower_path level.path) ty level.pointer walk) state.old result state.new }
 {
-    match trait_path(lowerer, state, node)? {
+    match trait_path(lowerer, state, place, node)? {
         None => Ok(refused(walk)),
-        Some(path) => projected_form(lowerer, state, walk, ty, node, path),
+        Some(path) => projected_form(lowerer, state, place, walk, ty, node, path),
     }
 }
 
@@ -171,16 +177,17 @@ fn qualified_form<P: LowerParts>(
     requires parts { KidsQualified (P.can lowerer.now.parts) (P.spot lowerer.now.parts).place ty.now trait_.now }
     requires walk { HasWalk state.old.stored walk }
     ensures { let spot = P.spot lowerer.now.parts in
-        ReadsSegment first (qualified_segment (type_part spot ty.now) (path_type_part spot trait_.now)) walk state.old result state.new }
+        let inner = at_place spot (of.inside_projection spot.place) in
+        ReadsSegment first (qualified_segment (type_part inner ty.now) (path_type_part inner trait_.now)) walk state.old result state.new }
 {
     let (Some(ty), true) = (ty, first) else {
         return Ok(refused(walk));
     };
-    let place = lowerer.parts.place();
+    let place = inside_projection(lowerer.parts.place());
     let id = lowerer.parts.lower_type(state, place, &None, ty.get())?;
     match trait_ {
         None => Ok(walk.anchored(id)),
-        Some(node) => trait_form(lowerer, state, walk, id, node),
+        Some(node) => trait_form(lowerer, state, place, walk, id, node),
     }
 }
 
