@@ -11,6 +11,7 @@ use crate::listing::{Listed, body_listing, params_listing, path_listing, type_li
 use crate::mode::Mode;
 use hir_base::node::{AstPtr, HirFileId, InFile};
 use hir_env::env::LowerEnv;
+use hir_items::ast as items;
 use hir_lower::{ErrorImplTrait, ExprCollector, LowerError, lower_body, lower_type_ref};
 use hir_store::ids::{DefWithBodyId, FunctionId, ModuleId};
 use hir_store::path::Path;
@@ -38,12 +39,16 @@ fn listed_in<'a>(
 }
 
 /// The listing of a body.
-fn listed_body(alloc: Global, document: &Document, item: &ast::Fn) -> Result<String, Failure>
+fn listed_body(alloc: Global, document: &Document, item: &items::Fn) -> Result<String, Failure>
     ensures { IfErr result (λ e. (e ≡ Failure.Memory) ⊎ (e ≡ Failure.Full)) }
 {
     let node = AstPtr {
         node: item.id,
         range: item.range,
+    };
+    let body = match &item.body {
+        Some(body) => Some(body.get()),
+        None => None,
     };
     let (body, source_map) = lower_body(
         alloc,
@@ -53,7 +58,7 @@ fn listed_body(alloc: Global, document: &Document, item: &ast::Fn) -> Result<Str
         HirFileId(0),
         ModuleId(0),
         item.params.as_ref(),
-        item.body.as_ref(),
+        body,
         item.async_,
         item.gen_,
     )?;
