@@ -1,8 +1,9 @@
 -- What the steps answer exists.
 use Rattle.std.specs.Prelude.{List, Option, Some, None}
-use Rattle.hir_store.specs.Range.{HasBounds, HasType, HasTypeOption, HasTypes}
+use Rattle.hir_store.specs.Range.{HasBounds, HasConst, HasType, HasTypeOption, HasTypes}
 use Rattle.hir_store.specs.Stored.{Stored}
 use Rattle.hir_store.specs.declared.ids.TypeRefId.{TypeRefId}
+use Rattle.hir_store.specs.declared.type_ref.ConstRef.{ConstRef}
 use Rattle.hir_store.specs.declared.type_ref.TraitRef.{TraitRef}
 use Rattle.hir_store.specs.declared.type_ref.TypeBound.{TypeBound}
 use Rattle.hir_lower_item.specs.declared.function.Signature.{Signature}
@@ -19,3 +20,7 @@ HasImpl s x = HasType s x.0 × HasTraitOption s x.1
 
 abbrev pub HasAlias : Stored → List TypeBound × Option TypeRefId → Type 0
 HasAlias s x = HasBounds s x.0 × HasTypeOption s x.1
+
+abbrev pub HasConstOption : Stored → Option ConstRef → Type 0
+HasConstOption s None = Unit {0}
+HasConstOption s (Some c) = HasConst s c

@@ -1,6 +1,7 @@
 -- When a lifetime parameter is given: with the other arguments of its item, or at each call.
-use Rattle.std.specs.Prelude.{Bool, not, ◌&&◌, ◌||◌, if◌then◌else◌, List, map, min}
-use Rattle.std.specs.List.{contains_by}
+use Rattle.std.specs.Prelude.{◌≡◌, Bool, false, not, ◌&&◌, ◌||◌, if◌then◌else◌, List, [], ◌∷◌, ◌++◌, map, min}
+use Rattle.std.specs.BTreeSet.{BTreeSet, contains}
+use Rattle.hir_store.specs.NameOrder.{name_cmp}
 use Rattle.hir_store.specs.Names.{same_name}
 use Rattle.hir_store.specs.Params.{early_among}
 use Rattle.hir_store.specs.declared.generics.GenericParams.{GenericParams}
@@ -34,3 +35,26 @@ finished g = record {
   lifetimes = g.lifetimes;
   where_predicates = g.where_predicates;
 }
+
+-- ---- by sets
+
+-- the set has just these
+abbrev pub Has : BTreeSet Name → List Name → Type 0
+Has s names = (n : Name) → contains name_cmp s n ≡ among n names
+
+pub record Holds (bounds input output : BTreeSet Name) (named : NamedLifetimes) : Type 0 where
+  pub in_bounds : Has bounds named.bounds
+  pub in_input : Has input named.input
+  pub in_output : Has output named.output
+
+module _ (bounds input output : BTreeSet Name) where
+  abbrev pub late_in : Name → Bool
+  late_in n = not (contains name_cmp bounds n || (contains name_cmp output n && not (contains name_cmp input n)))
+
+  abbrev pub kind_in : LifetimeParamData → LifetimeParamData
+  kind_in l = if late_in l.name then record l { bound_type = LateBound } else l
+
+  -- behind those that are done
+  abbrev pub kinds_in : List LifetimeParamData → List LifetimeParamData → List LifetimeParamData
+  kinds_in done [] = done
+  kinds_in done (l ∷ ls) = kinds_in (done ++ kind_in l ∷ []) ls

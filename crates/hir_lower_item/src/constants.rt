@@ -1,12 +1,12 @@
 //! Parts that may be absent: names, types and constants.
 
 ghost use Rattle.std.specs.Prelude.{◌≡◌, IfOk, None, option_map};
-ghost use Rattle.hir_store.specs.Range.{HasConstOption};
 ghost use Rattle.hir_env.specs.Answering.{name_or_missing};
 ghost use Rattle.hir_env.specs.Whole.{answered_constant, type_part};
 ghost use Rattle.hir_lower_form.specs.Lowering.{Lowers};
 ghost use Rattle.hir_lower_form.specs.Methods.{LowersTypeIfPresent, LowersTypeOpt};
 ghost use Rattle.hir_lower_handlers.specs.Spots.{spot_at};
+ghost use Rattle.hir_lower_item.specs.Has.{HasConstOption};
 ghost use Rattle.hir_lower_item.specs.Lower.{present_constant};
 
 use hir_env::env::LowerEnv;

@@ -36,6 +36,7 @@ use std::alloc::{AllocError, Global};
 
 /// The types of a function: those of its parameters that are kept, `self` first, without a variadic one, and what it returns, where that is
 /// written or the function is a coroutine.
+#[derive(Drop)]
 pub struct Signature {
     pub args: Seq<TypeRefId>,
     pub ret: Option<TypeRefId>,
@@ -43,17 +44,6 @@ pub struct Signature {
     pub has_self: bool,
     /// Whether one of them is variadic.
     pub has_variadic: bool,
-}
-
-impl Drop for Signature {
-    fn drop(self) {
-        let Signature {
-            args: _,
-            ret: _,
-            has_self: _,
-            has_variadic: _,
-        } = self;
-    }
 }
 
 /// The path `Self`.

@@ -6,6 +6,7 @@ mod constants;
 mod coroutines;
 pub mod function;
 pub mod items;
+pub mod kinds;
 pub mod params;
 mod places;
 mod predicates;
