@@ -53,7 +53,7 @@ fn ask_of_type(
 ) -> Result<(), StoreFault>
     ensures { Lowers HasNone (spec.ask binder.now (Bounded.Type_ target) bound) state.old result state.new }
 {
-    match bound {
+    match &bound {
         TypeBound::Error | TypeBound::Use(_) => Ok(()),
         TypeBound::Path(_, _) | TypeBound::ForLifetime(_, _) | TypeBound::Lifetime(_) => {
             let lifetimes = copy_binder(binder)?;
@@ -75,12 +75,14 @@ fn ask_of_lifetime(
 ) -> Result<(), StoreFault>
     ensures { Lowers HasNone (spec.ask None (Bounded.Lifetime text.now target) bound) state.old result state.new }
 {
-    match bound {
+    match &bound {
         TypeBound::Lifetime(bound) => {
+            let bound = *bound;
             state.note_lifetime(LifetimeScope::Bound, text)?;
             state.add_predicate(WherePredicate::Lifetime { target, bound })
         }
-        _ => Ok(()),
+        TypeBound::Path(_, _) | TypeBound::ForLifetime(_, _) => Ok(()),
+        TypeBound::Use(_) | TypeBound::Error => Ok(()),
     }
 }
 
