@@ -15,7 +15,7 @@ use hir_env::place::Place;
 use hir_lower_form::builder::BodyBuilder;
 use hir_lower_form::parts::{LowerParts, Lowerer};
 use hir_lower_handlers::handlers::Handlers;
-use hir_lower_type::bounds::bound;
+use hir_lower_type::bounds::bound_node;
 use hir_store::fault::StoreFault;
 use hir_store::type_ref::{ConstRef, TypeBound};
 use hir_syntax::{Boxed, ast};
@@ -44,7 +44,7 @@ pub fn lower_bound<E: LowerEnv>(
             args: lower_arg_list::<E>,
         },
     };
-    bound(&lowerer, state, place, node)
+    bound_node(&lowerer, state, place, node)
 }
 
 /// The constant with this expression, which is missing where it is absent or a condition disables it.
