@@ -1,7 +1,6 @@
 -- What a path says of an alias is what is answered of it as it is read.
 use Rattle.std.proofs.Common.{◌≡◌, refl, sym, subst, Bool, List, Option}
 use Rattle.hir_syntax.specs.declared.ast.Path.{Path as AstPath, out-Path}
-use Rattle.hir_store.specs.declared.path.ModPath.{ModPath}
 use Rattle.hir_env.specs.declared.place.Place.{Place}
 use Rattle.hir_env.specs.Answers.{Answers}
 use Rattle.hir_env.specs.Answered as tree
