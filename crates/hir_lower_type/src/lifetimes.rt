@@ -17,7 +17,7 @@ use hir_syntax::{Seq, ast};
 use std::alloc::{AllocError, Global};
 
 /// What the text of a lifetime says.
-fn lifetime_ref(written: &ast::Lifetime) -> Result<LifetimeRef, AllocError>
+pub fn lifetime_ref(written: &ast::Lifetime) -> Result<LifetimeRef, AllocError>
     ensures { IfOk result (λ l. l ≡ of.lifetime_ref written.now.t) }
 {
     let text = written.t.as_str();
