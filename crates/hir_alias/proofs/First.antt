@@ -1,7 +1,9 @@
 -- Of places that are said of a name one after another the first is found.
-use Rattle.std.proofs.Common.{◌≡◌, ℕ, suc, Bool, true, false, ◌&&◌, if◌then◌else◌, cond, List, [], ◌∷◌, Option, Some, None, is_some}
-use Rattle.std.proofs.Common.{refl, sym, ap, ◌∙◌, true≢false, Ordering, Less, Equal, Greater, nat_eq, ◌+◌, arith}
-use Rattle.std.specs.BTreeMap.{insert_entry, is_at}
+use Rattle.std.proofs.Common.{◌≡◌, ℕ, Bool, true, false, ◌&&◌, if◌then◌else◌, cond, List, [], ◌∷◌, Option, Some, None, is_some}
+use Rattle.std.proofs.Common.{refl, sym, ap, ◌∙◌, true≢false, Ordering, Less, Equal, Greater, nat_eq, ◌+◌, ◌<◌, ◌≤◌, length, drop}
+use Rattle.std.specs.Prelude.{get_or}
+use Rattle.std.proofs.lemmas.List.{drop_all, drop_more}
+use Rattle.std.specs.BTreeMap.{insert_entry}
 use Rattle.std.specs.Cmp.{Equal-is, alike_right, eq_by_cmp_equiv}
 use Rattle.std.specs.Cmp.Lexicographic.{texts_ties}
 use Rattle.std.specs.Map.{lookup}
@@ -94,9 +96,24 @@ said_first es p ps k n =
     ap (λ b. or_later (found es n) (cond b (Some k) later)) (flipped p.name n)
     ∙ first_by es p.name k n later (found es p.name) (eq_by_cmp name_cmp n p.name) refl refl
 
-pub nothing_later : (es : List (Name × ℕ)) (n : Name) → or_later (found es n) None ≡ found es n
-nothing_later es n = by (found es n)
-  where
-    by : (o : Option ℕ) → or_later o None ≡ o
-    by (Some k) = refl
-    by None = refl
+-- the same of the parameter at a place
+pub said_next : (es : List (Name × ℕ)) (params : List LifetimeParamData) (i : ℕ) (p : LifetimeParamData) (k : ℕ) (n : Name)
+    → i < length params → p ≡ get_or params i p
+    → or_later (found es n) (position_from (is_called n) k (drop i params))
+    ≡ or_later (found (with_first es p.name k) n) (position_from (is_called n) (k + 1) (drop (i + 1) params))
+said_next es params i p k n within is =
+    ap (λ ps. or_later (found es n) (position_from (is_called n) k ps)) (drop_more params i p within)
+    ∙ ap (λ q. or_later (found es n) (position_from (is_called n) k (q ∷ drop (i + 1) params))) (sym is)
+    ∙ said_first es p (drop (i + 1) params) k n
+
+nothing_later : (o : Option ℕ) → or_later o None ≡ o
+nothing_later (Some k) = refl
+nothing_later None = refl
+
+pub said_all : (es : List (Name × ℕ)) (params : List LifetimeParamData) (i k : ℕ) (n : Name) → length params ≤ i
+    → or_later (found es n) (position_from (is_called n) k (drop i params)) ≡ position_from (is_called n) 0 params
+    → found es n ≡ position_from (is_called n) 0 params
+said_all es params i k n over said =
+    sym (nothing_later (found es n))
+    ∙ ap (λ ps. or_later (found es n) (position_from (is_called n) k ps)) (sym (drop_all i params over))
+    ∙ said

@@ -1,5 +1,5 @@
 -- What holds of the notes all the time.
-use Rattle.std.proofs.Common.{◌≡◌, ◌∙◌, refl, sym, ap, subst, inl, inr, ◌⊎◌, ℕ, zero, suc, ◌+◌, ◌<◌, ◌≤◌, Bool, if◌then◌else◌, true, false}
+use Rattle.std.proofs.Common.{◌≡◌, ◌∙◌, refl, sym, ap, subst, inl, inr, ◌⊎◌, ℕ, zero, suc, ◌+◌, ◌<◌, ◌≤◌, Bool, true, false}
 use Rattle.std.proofs.Common.{List, [], ◌∷◌, ◌++◌, Option, Some, None, length, arith, length-append}
 use Rattle.std.specs.Prelude.{slice_get, slice_set, get_or, not, ◌↔◌}
 use Rattle.std.proofs.lemmas.List.{set_past}
@@ -21,7 +21,7 @@ abbrev from_some : {A : Type 0} → A → Option A → A
 from_some d None = d
 from_some d (Some a) = a
 
-some_inj : {A : Type 0} {a b : A} → Some a ≡ Some b → a ≡ b
+pub some_inj : {A : Type 0} {a b : A} → Some a ≡ Some b → a ≡ b
 some_inj {A} {a} {b} e = ap (from_some a) e
 
 other_flag : Some true ≡ Some false → ⊥

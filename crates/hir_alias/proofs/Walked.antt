@@ -1,8 +1,9 @@
 -- What the visitor of an alias notes of parts.
 use Rattle.std.proofs.Common.{◌≡◌, ◌∙◌, refl, sym, ap, subst, ℕ, ◌+◌, ◌<◌, Bool, true, false, cond}
 use Rattle.std.proofs.Common.{List, [], ◌∷◌, ◌++◌, Option, Some, None, length, arith, length-append}
-use Rattle.std.specs.Prelude.{slice_get, ◌↔◌, not}
+use Rattle.std.specs.Prelude.{slice_get, not}
 use Rattle.std.proofs.lemmas.Option.{none-some}
+use denote.Ref.{Bor}
 use Rattle.hir_store.specs.Stored.{Store}
 use Rattle.hir_store.specs.Names.{same_name}
 use Rattle.std.specs.List.{position_from}
@@ -21,8 +22,8 @@ use Rattle.hir_alias.specs.declared.visitor.Visitor.{Visitor}
 use Rattle.hir_alias.specs.declared.visitor.Notes.{Notes}
 use Rattle.hir_alias.specs.Alias.{Flags}
 use Rattle.hir_alias.specs.Placing.{found}
-use Rattle.hir_alias.specs.Reaching.{Names, named_place, place_by, place_of}
-use Rattle.hir_alias.specs.Noting.{note_type, note_lifetime, note_parts, Met, Sound, SoundIn, falses, unseen}
+use Rattle.hir_alias.specs.Reaching.{named_place, place_by, place_of}
+use Rattle.hir_alias.specs.Noting.{note_type, note_lifetime, note_parts, SoundIn, falses, unseen}
 use Rattle.hir_alias.proofs.Noted.{sound_root, sound_step, met_lasts, left_parts, none_up, length_falses, named_at_the_end, some_inj}
 
 pub handed_notes : (ps : List Part) (v : Visitor)
@@ -54,6 +55,11 @@ place_within params (Some lifetime.Static) j e = elim (none-some j e) [ ]
 place_within params (Some lifetime.Placeholder) j e = elim (none-some j e) [ ]
 place_within params (Some lifetime.Error) j e = elim (none-some j e) [ ]
 
+-- the notes once the last type was taken from the list, and the parts of that were noted
+abbrev pub stepped : Store → (Name → Option ℕ) → Notes → List TypeRefId → TypeRefId → Notes
+stepped store find v ws t =
+    note_parts store.lifetimes find (record v { work = ws }) (parts_found not (slice_get store.types t.0))
+
 module _ (store : Store) (params : List LifetimeParamData) where
   within : (l : LifetimeRefId) (k : ℕ) → named_place store.lifetimes (place_of params) l ≡ Some k → k < length params
   within l k e = place_within params (slice_get store.lifetimes l.0) k e
@@ -66,13 +72,8 @@ module _ (store : Store) (params : List LifetimeParamData) where
   pub walk_begins : (root : TypeRefId) → SoundIn store params root (note_type begun root)
   walk_begins root = sound_root store.types store.lifetimes (place_of params) (length params) within root begun refl refl refl
 
-  -- the notes once the last type was taken from the list, and the parts of that were noted
-  abbrev pub stepped : (Name → Option ℕ) → Notes → List TypeRefId → TypeRefId → Notes
-  stepped find v ws t =
-      note_parts store.lifetimes find (record v { work = ws }) (parts_found not (slice_get store.types t.0))
-
   pub step_sound : (root : TypeRefId) (v : Notes) (ws : List TypeRefId) (t : TypeRefId) → v.work ≡ ws ++ t ∷ []
-      → SoundIn store params root v → SoundIn store params root (stepped (place_of params) v ws t)
+      → SoundIn store params root v → SoundIn store params root (stepped store (place_of params) v ws t)
   step_sound root v ws t e s = (
     sound_step store.types store.lifetimes (place_of params) (length params) within root v ws t e s.0,
     met_lasts store.types store.lifetimes (place_of params) (length params) within (record v { work = ws })
@@ -83,7 +84,7 @@ abbrev pub left : Notes → ℕ
 left n = unseen n.noted + length n.work
 
 pub step_less : (store : Store) (find : Name → Option ℕ) (v : Notes) (ws : List TypeRefId) (t : TypeRefId) → v.work ≡ ws ++ t ∷ []
-    → left (stepped store [] find v ws t) < left v
+    → left (stepped store find v ws t) < left v
 step_less store find v ws t e =
     let a = left_parts store.lifetimes find (record v { work = ws }) (parts_found not (slice_get store.types t.0)) in
     let b = ap length e in
@@ -93,7 +94,7 @@ step_less store find v ws t e =
 
 -- the visitor once the last type was taken from its list, and the parts of that were noted
 abbrev pub one_on : Visitor → List TypeRefId → TypeRefId → Visitor
-one_on v ws t = record v { notes = stepped v.lowered.now.store [] (found v.places) v.notes ws t }
+one_on v ws t = record v { notes = stepped v.lowered.now.store (found v.places) v.notes ws t }
 
 pub step_goes_on : (was v w : Visitor) (ws : List TypeRefId) (t root : TypeRefId)
     → ((n : Name) → found was.places n ≡ place_of was.lowered.now.generic_params.lifetimes n)
@@ -106,9 +107,9 @@ step_goes_on was v w ws t root placed same kept e k s =
     let params = was.lowered.now.generic_params.lifetimes in
     let P : Notes → Type 0 = SoundIn store params root in
     let find : found v.places ≡ place_of params = λ i n. (ap (λ ps. found ps n) kept ∙ placed n) i in
-    let there : w.notes ≡ stepped store params (place_of params) v.notes ws t =
-    ap (λ u. u.notes) k ∙ (λ i. stepped (same i).now.store [] (find i) v.notes ws t) in
-    (ap (λ u. u.lowered) k ∙ same, (ap (λ u. u.places) k ∙ kept, subst P (sym there) (step_sound store params root v.notes ws t e s)))
+    let there : w.notes ≡ stepped store (place_of params) v.notes ws t =
+    ap (λ u. u.notes) k ∙ (λ i. stepped (same i).now.store (find i) v.notes ws t) in
+    (ap (λ u. u.lowered) k ∙ same, ap (λ u. u.places) k ∙ kept, subst P (sym there) (step_sound store params root v.notes ws t e s))
 
 pub step_comes_down : (v w : Visitor) (ws : List TypeRefId) (t : TypeRefId) → v.notes.work ≡ ws ++ t ∷ [] → w ≡ one_on v ws t
     → left w.notes < left v.notes
@@ -130,3 +131,25 @@ names_none store params = record {
   counted = length_falses (length params.lifetimes);
   told = λ k. ((λ h. elim (none_up (length params.lifetimes) k h) [ ]), (λ n. elim n [ ]));
 }
+
+-- ---- at the beginning
+
+abbrev pub begun_at : Visitor → Notes
+begun_at was = begun was.lowered.now.store was.lowered.now.generic_params.lifetimes
+
+pub walk_started : (was v : Visitor) (w : Notes) (root : TypeRefId) → v.lowered ≡ was.lowered → v.notes ≡ begun_at was
+    → w ≡ note_type v.notes root → SoundIn v.lowered.now.store v.lowered.now.generic_params.lifetimes root w
+walk_started was v w root same e i =
+    let P : Notes → Type 0 = SoundIn was.lowered.now.store was.lowered.now.generic_params.lifetimes root in
+    let Q : Bor Lowered → Type 0 = λ l. SoundIn l.now.store l.now.generic_params.lifetimes root w in
+    subst Q (sym same) (subst P (sym (i ∙ ap (λ n. note_type n root) e))
+    (walk_begins was.lowered.now.store was.lowered.now.generic_params.lifetimes root))
+
+pub walk_of_none : (was v : Visitor) → v.lowered ≡ was.lowered → v.notes ≡ begun_at was → v.lowered.now.ty ≡ None
+    → Flags was.lowered.now.store was.lowered.now.generic_params was.lowered.now.ty v.notes.named
+walk_of_none was v same e i =
+    let l = was.lowered.now in
+    let there : l.ty ≡ None = ap (λ b. b.now.ty) (sym same) ∙ i in
+    let P : Option TypeRefId → Type 0 = λ ty. Flags l.store l.generic_params ty (begun_at was).named in
+    let Q : Notes → Type 0 = λ n. Flags l.store l.generic_params l.ty n.named in
+    subst Q (sym e) (subst P (sym there) (names_none l.store l.generic_params))

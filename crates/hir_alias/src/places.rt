@@ -62,16 +62,14 @@ impl Places {
     }
 
     /// The places of the parameters, of each name that of the first.
-    #[tactic(auto, using(crate::proofs::First::said_first, crate::proofs::First::nothing_later))]
-    pub fn of(alloc: Global, mut params: &[LifetimeParamData]) -> Result<Places, AllocError>
-        ensures { IfOk result (λ places. (name : NameValue) → found places name ≡ place_of params.entry.now name) }
+    pub fn of(alloc: Global, params: &[LifetimeParamData]) -> Result<Places, AllocError>
+        ensures { IfOk result (λ places. (name : NameValue) → found places name ≡ place_of params.now name) }
     {
         let mut done = Places::new(alloc);
         let mut at: usize = 0;
-        while let [one, rest @ ..] = params {
+        for one in params {
             done.insert(&one.name, at)?;
             at = at + 1;
-            params = rest;
         }
         Ok(done)
     }

@@ -10,7 +10,7 @@ loop-id-preserved c =
     let i = c.loop-id.invariant in
     let x = step_goes_on c.args.self.now c.loop-id.self c.step.new.self c.pop.new.self c.in-Some.id c.args.root
     c.requires.placed i.same i.placed c.in-Some.ensures c.in_ok-step.ensures i.sound in
-    record { same = x.0; placed = x.1.0; sound = x.1.1 }
+    record { same = x.0; placed = x.1; sound = x.2 }
 
 pub returns-clause-told : goal.returns-clause-told
 returns-clause-told c =
