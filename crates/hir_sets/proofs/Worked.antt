@@ -5,7 +5,7 @@ use Rattle.hir_env.specs.declared.place.LifetimeScope.{LifetimeScope}
 use Rattle.hir_env.specs.declared.place.LifetimeScope.TheVariants as scope
 use Rattle.hir_sets.specs.Sets.{one, sets_of_type}
 use Rattle.hir_sets.specs.Worked.{a, length_with}
-use Rattle.hir_sets.specs.Worked.{AliasConstrainsWhatItNames, BoundIsEarly, ConstantsCount, ConstrainedIsLate, ImplIsABound}
+use Rattle.hir_sets.specs.Worked.{AliasConstrainsWhatItNames, BoundIsEarly, ConstrainedIsLate, ImplIsABound}
 use Rattle.hir_sets.specs.Worked.{NamelessCountNowhere, ProjectionConstrainsNothing, RefusedConstrainsByAll, ReturnedAloneIsEarly}
 
 pub constrained_is_late : ConstrainedIsLate

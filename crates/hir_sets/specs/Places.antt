@@ -1,6 +1,6 @@
 -- Worked trees, as they are written: what is named in them by where they stand, what a path in an argument says of an alias, and what an
 -- `impl` there is.
-use Rattle.std.specs.Prelude.{◌≡◌, ℕ, codes, Bool, true, false, List, [], ◌∷◌, Option, Some, None}
+use Rattle.std.specs.Prelude.{◌≡◌, codes, Bool, false, List, [], ◌∷◌, Option, Some, None}
 use Rattle.hir_syntax.specs.declared.ast.ElseBranch.TheOpen.{GenericArg-F, TypeKind-F}
 use Rattle.hir_syntax.specs.declared.ast.Path.{Path as AstPath, roll-Path}
 use Rattle.hir_syntax.specs.declared.ast.PathSegment.{PathSegment as AstPathSegment, roll-PathSegment}
@@ -20,7 +20,7 @@ use Rattle.hir_env.specs.Paths.{alias_of}
 use Rattle.hir_env.specs.Spot.{Spot}
 use Rattle.hir_env.specs.Whole.{answered_path, answered_type}
 use Rattle.hir_data.specs.Data as datum
-use Rattle.hir_data.specs.Trees.{called, impl_at, never_at, no_range, node, bare, pointer, reference_with, type_at, with_argument}
+use Rattle.hir_data.specs.Trees.{impl_at, no_range, node, bare, pointer, reference_with, type_at, with_argument}
 use Rattle.hir_data.specs.Written.{type_data}
 use Rattle.hir_sets.specs.Sets.{LifetimeSets, chosen, none, one, sets_of_type}
 use Rattle.hir_sets.specs.Worked.{a}
