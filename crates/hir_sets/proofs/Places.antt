@@ -13,7 +13,7 @@ use Rattle.hir_data.specs.Trees.{bare, impl_at, no_range, node, pointer, referen
 use Rattle.hir_data.specs.Written.{type_data}
 use Rattle.hir_data.proofs.Trees.{type_made, path_made, segment_made, path_type_made, bound_made, arg_made, never_is, with_argument_is}
 use Rattle.hir_data.proofs.Trees.{segment_with, list_with}
-use Rattle.hir_sets.specs.Sets.{sets_of_type}
+use Rattle.hir_sets.specs.Fold.{noted_in_type}
 use Rattle.hir_sets.specs.Places.{alone, answering, aliasing, counting, in_argument, in_front, named_by, of_impl, of_projection, path_of}
 use Rattle.hir_sets.specs.Places.{projected, trait_a, unhidden, with_a}
 use Rattle.hir_sets.specs.Places.{AliasesCount, CountsInImpls, CountsInProjections, CountsWhereItStands, ImplsAreParameters}
@@ -52,31 +52,41 @@ alone_is at = type_made at 0 _ ∙ ap (λ p. tree.path_type (pointer at 0) (tree
 -- ---- where a lifetime counts
 
 pub counts_where_it_stands : CountsWhereItStands
-counts_where_it_stands at s = ap sets_of_type (reference_is (counting s at))
+counts_where_it_stands at s = ap noted_in_type (reference_is (counting s at))
 
 -- an `impl` of this path
 abbrev impl_of : Spot → Path → Type_
 impl_of at p = tree.impl_type (pointer at 0) at.place.impl_trait
     (tree.more_bounds (tree.path_bound (pointer at 9) (tree.some_path p) false []) tree.no_bounds)
 
-impl_is : (at : Spot) → answered_type (unhidden at) (impl_at 0 with_a)
-    ≡ impl_of at (one_of (in_impl (unhidden at)) (segment_a (in_impl (unhidden at))))
+-- it stands in none
+abbrev outside : Spot → Spot
+outside at = record at { place = record at.place { in_impl = false } }
+
+abbrev written_impl : Spot → Type_
+written_impl at = impl_of at (one_of (in_impl at) (segment_a (in_impl at)))
+
+impl_is : (at : Spot) → answered_type (outside at) (impl_at 0 with_a) ≡ written_impl (outside at)
 impl_is at =
-    let inner = in_impl (unhidden at) in
+    let inner = in_impl (outside at) in
     let mode = at.place.impl_trait in
-    type_made (unhidden at) 0 _
+    type_made (outside at) 0 _
     ∙ (ap (λ b. tree.impl_type (pointer at 0) mode (tree.more_bounds b tree.no_bounds)) (bound_made inner _)
     ∙ (ap (λ t. tree.impl_type (pointer at 0) mode (tree.more_bounds (tree.path_bound t.pointer t.path false []) tree.no_bounds))
     (path_type_made inner _)
     ∙ ap (impl_of at) (path_is inner)))
 
-impl_counts : (at : Spot) (s : LifetimeScope) → of_impl s at ≡ sets_of_type (impl_of at
-    (one_of (in_impl (unhidden (counting s at))) (segment_a (in_impl (unhidden (counting s at))))))
-impl_counts at s = ap sets_of_type (impl_is (counting s at))
+impl_counts : (at : Spot) (s : LifetimeScope) → of_impl s at ≡ noted_in_type (written_impl (counting s (unhidden at)))
+impl_counts at s = ap noted_in_type (impl_is (counting s (unhidden at)))
 
 pub counts_in_impls : CountsInImpls
-counts_in_impls at = (impl_counts at scope.Nowhere, impl_counts at scope.Bound, impl_counts at scope.Input,
-    impl_counts at scope.Projection, impl_counts at scope.Output)
+counts_in_impls at = (
+  impl_counts at scope.Nowhere,
+  impl_counts at scope.Bound,
+  impl_counts at scope.Input,
+  impl_counts at scope.Projection,
+  impl_counts at scope.Output,
+)
 
 -- ---- projections
 
@@ -118,8 +128,8 @@ projected_is at = type_made at 0 _
 
 -- nothing stands beside its last name
 unaliased : (at : Spot) (s : LifetimeScope) (alias : Option (List Bool)) → let here = counting s at in
-    sets_of_type (typed_path here (with_alias alias (plain_two (front here) last_of_two)))
-    ≡ sets_of_type (typed_path here (plain_two (front here) last_of_two))
+    noted_in_type (typed_path here (with_alias alias (plain_two (front here) last_of_two)))
+    ≡ noted_in_type (typed_path here (plain_two (front here) last_of_two))
 unaliased at scope.Nowhere None = refl
 unaliased at scope.Nowhere (Some places) = refl
 unaliased at scope.Bound None = refl
@@ -132,14 +142,18 @@ unaliased at scope.Output None = refl
 unaliased at scope.Output (Some places) = refl
 
 projection_counts : (at : Spot) (s : LifetimeScope) → let here = counting s at in
-    of_projection s at ≡ sets_of_type (typed_path here (plain_two (front here) last_of_two))
+    of_projection s at ≡ noted_in_type (typed_path here (plain_two (front here) last_of_two))
 projection_counts at s =
     let here = counting s at in
-    ap sets_of_type (projected_is here) ∙ unaliased at s (alias_at here.answers here.place (plain_two (front here) last_of_two))
+    ap noted_in_type (projected_is here) ∙ unaliased at s (alias_at here.answers here.place (plain_two (front here) last_of_two))
 
 pub counts_in_projections : CountsInProjections
-counts_in_projections at = (projection_counts at scope.Input, projection_counts at scope.Projection,
-    projection_counts at scope.Bound, projection_counts at scope.Output)
+counts_in_projections at = (
+  projection_counts at scope.Input,
+  projection_counts at scope.Projection,
+  projection_counts at scope.Bound,
+  projection_counts at scope.Output,
+)
 
 -- ---- aliases
 
@@ -158,8 +172,8 @@ paths_say_aliases at n x = (
   said (counting scope.Output (aliasing n (Some x) at)),
 )
 
-alone_counts : (at : Spot) → named_by at alone ≡ sets_of_type (typed_path at (one_of at (segment_a at)))
-alone_counts at = ap sets_of_type (alone_is at)
+alone_counts : (at : Spot) → named_by at alone ≡ noted_in_type (typed_path at (one_of at (segment_a at)))
+alone_counts at = ap noted_in_type (alone_is at)
 
 pub aliases_count : AliasesCount
 aliases_count at n x = (
@@ -172,4 +186,6 @@ aliases_count at n x = (
 -- ---- an `impl` in an argument
 
 pub impls_are_parameters : ImplsAreParameters
-impls_are_parameters at def = ap (type_data None) (type_made (in_argument def at) 0 _)
+impls_are_parameters at def =
+    let is = impl_is (in_argument def at) in
+    (ap (type_data None) is, ap noted_in_type is)

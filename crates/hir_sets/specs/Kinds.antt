@@ -4,7 +4,16 @@ use Rattle.hir_store.specs.Names.{same_name}
 use Rattle.hir_store.specs.declared.generics.LifetimeBoundType.{LifetimeBoundType}
 use Rattle.hir_store.specs.declared.generics.LifetimeBoundType.TheVariants.{EarlyBound, LateBound}
 use Rattle.hir_store.specs.declared.name.Name.{Name}
-use Rattle.hir_sets.specs.Sets.{LifetimeSets}
+use Rattle.hir_sets.specs.Noting.{Noting}
+
+-- the names in bounds, in arguments and in what is returned; their order doesn't count
+pub record LifetimeSets : Type 0 where
+  pub bounds : List Name
+  pub input : List Name
+  pub output : List Name
+
+abbrev pub sets_of : Noting → LifetimeSets
+sets_of n = record { bounds = n.bounds; input = n.input; output = n.output }
 
 abbrev pub among : Name → List Name → Bool
 among n [] = false

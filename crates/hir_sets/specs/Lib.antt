@@ -1,4 +1,5 @@
-pub mod Sets
+pub mod Noting
+pub mod Fold
 pub mod Kinds
 pub mod Worked
 pub mod Places

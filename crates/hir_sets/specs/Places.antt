@@ -22,7 +22,8 @@ use Rattle.hir_env.specs.Whole.{answered_path, answered_type}
 use Rattle.hir_data.specs.Data as datum
 use Rattle.hir_data.specs.Trees.{impl_at, no_range, node, bare, pointer, reference_with, type_at, with_argument}
 use Rattle.hir_data.specs.Written.{type_data}
-use Rattle.hir_sets.specs.Sets.{LifetimeSets, chosen, none, one, sets_of_type}
+use Rattle.hir_sets.specs.Noting.{Noting, chosen, none, one_name}
+use Rattle.hir_sets.specs.Fold.{noted_in_type}
 use Rattle.hir_sets.specs.Worked.{a}
 
 -- ---- trees
@@ -71,9 +72,9 @@ projected = type_at 0 (TypeKind-F.PathType (Some (path_of (Some in_front ∷ Som
 abbrev pub counting : LifetimeScope → Spot → Spot
 counting s at = record at { place = record at.place { lifetimes = s } }
 
--- in no `impl`
+-- in no `impl`, where one stays
 abbrev pub unhidden : Spot → Spot
-unhidden at = record at { place = record at.place { in_impl = false } }
+unhidden at = record at { place = record at.place { impl_trait = impl.Opaque; in_impl = false } }
 
 -- where each path stands for this, and each alias has this answer
 abbrev pub answering : Option Resolution → Option Alias → Spot → Spot
@@ -84,29 +85,29 @@ answering r x at =
 abbrev pub aliasing : TypeAliasId → Option Alias → Spot → Spot
 aliasing n x at = answering (Some (resolution.TypeAlias n)) x at
 
-abbrev pub named_by : Spot → AstType_ → LifetimeSets
-named_by at t = sets_of_type (answered_type at t)
+abbrev pub named_by : Spot → AstType_ → Noting
+named_by at t = noted_in_type (answered_type at t)
 
 -- ---- where a lifetime counts
 
 -- `&'a !`, wherever it stands
 abbrev pub CountsWhereItStands : Type 0
-CountsWhereItStands = (at : Spot) (s : LifetimeScope) → named_by (counting s at) (reference_with (codes "'a")) ≡ one s a
+CountsWhereItStands = (at : Spot) (s : LifetimeScope) → named_by (counting s at) (reference_with (codes "'a")) ≡ one_name s a
 
--- `impl A<'a>`, where that is none inside of an `impl`
-abbrev pub of_impl : LifetimeScope → Spot → LifetimeSets
+-- `impl A<'a>`
+abbrev pub of_impl : LifetimeScope → Spot → Noting
 of_impl s at = named_by (counting s (unhidden at)) (impl_at 0 with_a)
 
 abbrev pub CountsInImpls : Type 0
 CountsInImpls = (at : Spot)
-    → (of_impl scope.Nowhere at ≡ one scope.Output a)
-    × (of_impl scope.Bound at ≡ one scope.Bound a)
-    × (of_impl scope.Input at ≡ one scope.Bound a)
-    × (of_impl scope.Projection at ≡ one scope.Bound a)
-    × (of_impl scope.Output at ≡ one scope.Output a)
+    → (of_impl scope.Nowhere at ≡ one_name scope.Output a)
+    × (of_impl scope.Bound at ≡ one_name scope.Bound a)
+    × (of_impl scope.Input at ≡ one_name scope.Bound a)
+    × (of_impl scope.Projection at ≡ one_name scope.Bound a)
+    × (of_impl scope.Output at ≡ one_name scope.Output a)
 
 -- `<&'a ! as A<'a>>::Q`, which names it twice
-abbrev pub of_projection : LifetimeScope → Spot → LifetimeSets
+abbrev pub of_projection : LifetimeScope → Spot → Noting
 of_projection s at = named_by (counting s at) projected
 
 abbrev pub CountsInProjections : Type 0
@@ -139,16 +140,19 @@ abbrev pub AliasesCount : Type 0
 AliasesCount = (at : Spot) (n : TypeAliasId) (x : Alias)
     → (named_by (counting scope.Input (aliasing n (Some x) at)) alone ≡ record none { input = chosen x.named (Some a ∷ []) })
     × (named_by (counting scope.Input (aliasing n None at)) alone ≡ none)
-    × (named_by (counting scope.Input (answering None None at)) alone ≡ one scope.Input a)
-    × (named_by (counting scope.Output (aliasing n (Some x) at)) alone ≡ one scope.Output a)
+    × (named_by (counting scope.Input (answering None None at)) alone ≡ one_name scope.Input a)
+    × (named_by (counting scope.Output (aliasing n (Some x) at)) alone ≡ one_name scope.Output a)
 
 -- ---- an `impl` in an argument
 
 abbrev pub in_argument : GenericDefId → Spot → Spot
-in_argument def at = record at { place = record at.place { impl_trait = impl.Argument def; in_impl = false } }
+in_argument def at =
+    record at { place = record at.place { impl_trait = impl.Argument def; in_impl = false; lifetimes = scope.Input } }
 
--- `impl A` is a parameter there
+-- `impl A<'a>` is a parameter there, with one bound
 abbrev pub ImplsAreParameters : Type 0
 ImplsAreParameters = (at : Spot) (def : GenericDefId)
-    → type_data None (answered_type (in_argument def at) (impl_at 0 (bare (codes "A"))))
-    ≡ datum.typed (Some (pointer at 0)) (datum.parameter_shape def)
+    → (type_data None (answered_type (in_argument def at) (impl_at 0 with_a))
+    ≡ datum.typed (Some (pointer at 0)) (datum.parameter_shape def))
+    × (named_by (in_argument def at) (impl_at 0 with_a)
+    ≡ record none { impls = record { parent = def; at = pointer at 0; bounds = 1 } ∷ []; bounds = a ∷ [] })

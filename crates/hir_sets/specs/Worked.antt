@@ -1,19 +1,22 @@
 -- Worked functions: the lifetimes that they name, and the kinds of their lifetime parameters.
 use Rattle.std.specs.Prelude.{◌≡◌, codes, Bool, true, false, List, [], ◌∷◌, Option, Some, None}
 use Rattle.hir_store.specs.Pointers.{Pointer}
+use Rattle.hir_store.specs.declared.generics.LifetimeBoundType.{LifetimeBoundType}
 use Rattle.hir_store.specs.declared.generics.LifetimeBoundType.TheVariants.{EarlyBound, LateBound}
+use Rattle.hir_store.specs.declared.ids.GenericDefId.{GenericDefId}
 use Rattle.hir_store.specs.declared.hir.Mutability.TheVariants.{Shared}
 use Rattle.hir_store.specs.declared.name.Name.{Name}
 use Rattle.hir_store.specs.declared.name.Name.TheVariants as name
 use Rattle.hir_store.specs.declared.type_ref.LifetimeRef.{LifetimeRef}
 use Rattle.hir_store.specs.declared.type_ref.LifetimeRef.TheVariants as lifetime
-use Rattle.hir_env.specs.declared.place.ImplTrait.{ImplTrait}
+use Rattle.hir_env.specs.declared.place.ImplTrait.TheVariants.{Error, Opaque, Argument}
 use Rattle.hir_env.specs.declared.place.LifetimeScope.{LifetimeScope}
 use Rattle.hir_env.specs.declared.place.LifetimeScope.TheVariants as scope
 use Rattle.hir_env.specs.Answered as tree
 use Rattle.hir_env.specs.Answered.{Arg, Args, Lifetime, OptionPath, Segment, Segments, SegmentArgs, Type_}
-use Rattle.hir_sets.specs.Sets.{LifetimeSets, both, none, one, sets_of_bound, sets_of_lifetime, sets_of_type}
-use Rattle.hir_sets.specs.Kinds.{bound_kind}
+use Rattle.hir_sets.specs.Noting.{Impl, Noting, none, one_name, of_lifetime, ◌⊕◌}
+use Rattle.hir_sets.specs.Fold.{noted_in_bound, noted_in_type}
+use Rattle.hir_sets.specs.Kinds.{bound_kind, sets_of}
 
 abbrev pub a : Name
 a = name.Text (codes "'a")
@@ -50,32 +53,35 @@ path_of_two alias s t = tree.some_path (tree.path alias false s (tree.more_segme
 abbrev pub path_of_one : Option (List Bool) → Segment → OptionPath
 path_of_one alias s = tree.some_path (tree.path alias false s tree.no_segments tree.no_path)
 
+abbrev pub kind : Noting → Name → LifetimeBoundType
+kind n x = bound_kind (sets_of n) x
+
 -- ---- arguments and what is returned
 
 -- `fn f<'a>(_: &'a !) -> &'a !`
 abbrev pub ConstrainedIsLate : Type 0
 ConstrainedIsLate = (at : Pointer)
-    → bound_kind (both (sets_of_type (reference_in at scope.Input a)) (sets_of_type (reference_in at scope.Output a))) a ≡ LateBound
+    → kind (noted_in_type (reference_in at scope.Input a) ⊕ noted_in_type (reference_in at scope.Output a)) a ≡ LateBound
 
 -- `fn f<'a>() -> &'a !`, and `fn f<'a>()`
 abbrev pub ReturnedAloneIsEarly : Type 0
 ReturnedAloneIsEarly = (at : Pointer)
-    → (bound_kind (sets_of_type (reference_in at scope.Output a)) a ≡ EarlyBound)
-    × (bound_kind none a ≡ LateBound)
+    → (kind (noted_in_type (reference_in at scope.Output a)) a ≡ EarlyBound)
+    × (kind none a ≡ LateBound)
 
 -- `fn f<'a: 'b, 'b>(_: &'a !)`, whose bound names the parameter that it is of once more
 abbrev pub BoundIsEarly : Type 0
 BoundIsEarly = (at : Pointer)
-    → let bound = both (sets_of_bound (tree.lifetime_bound (named_in at scope.Bound b))) (one scope.Bound a) in
-    let sets = both bound (sets_of_type (reference_in at scope.Input a)) in
-    (bound_kind sets a ≡ EarlyBound) × (bound_kind sets b ≡ EarlyBound)
+    → let bound = noted_in_bound (tree.lifetime_bound (named_in at scope.Bound b)) ⊕ one_name scope.Bound a in
+    let sets = bound ⊕ noted_in_type (reference_in at scope.Input a) in
+    (kind sets a ≡ EarlyBound) × (kind sets b ≡ EarlyBound)
 
 -- `'static`, `'_` and one that is an error aren't named
 abbrev pub NamelessCountNowhere : Type 0
 NamelessCountNowhere = (at : Pointer) (s : LifetimeScope)
-    → (sets_of_lifetime (lifetime_in at s lifetime.Static) ≡ none)
-    × (sets_of_lifetime (lifetime_in at s lifetime.Placeholder) ≡ none)
-    × (sets_of_lifetime (lifetime_in at s lifetime.Error) ≡ none)
+    → (of_lifetime (lifetime_in at s lifetime.Static) ≡ none)
+    × (of_lifetime (lifetime_in at s lifetime.Placeholder) ≡ none)
+    × (of_lifetime (lifetime_in at s lifetime.Error) ≡ none)
 
 -- ---- projections
 
@@ -88,7 +94,7 @@ projection at = tree.path_type at (path_of_two None
 -- beside `-> &'a !`
 abbrev pub ProjectionConstrainsNothing : Type 0
 ProjectionConstrainsNothing = (at : Pointer)
-    → bound_kind (both (sets_of_type (projection at)) (sets_of_type (reference_in at scope.Output a))) a ≡ EarlyBound
+    → kind (noted_in_type (projection at) ⊕ noted_in_type (reference_in at scope.Output a)) a ≡ EarlyBound
 
 -- ---- aliases
 
@@ -98,27 +104,27 @@ alias_named at places = tree.path_type at (path_of_one (Some places)
     (with_lifetimes (lifetime_in at scope.Input lifetime.Static ∷ named_in at scope.Input a ∷ named_in at scope.Input b ∷ [])))
 
 -- beside `-> (&'a !, &'b !)`
-abbrev pub with_alias : Pointer → List Bool → LifetimeSets
-with_alias at places = both (sets_of_type (alias_named at places))
-    (both (sets_of_type (reference_in at scope.Output a)) (sets_of_type (reference_in at scope.Output b)))
+abbrev pub with_alias : Pointer → List Bool → Noting
+with_alias at places = noted_in_type (alias_named at places)
+    ⊕ (noted_in_type (reference_in at scope.Output a) ⊕ noted_in_type (reference_in at scope.Output b))
 
 -- where its type names the third parameter, where it names the first, and where it has no answer
 abbrev pub AliasConstrainsWhatItNames : Type 0
 AliasConstrainsWhatItNames = (at : Pointer)
-    → (bound_kind (with_alias at (false ∷ false ∷ true ∷ [])) a ≡ EarlyBound)
-    × (bound_kind (with_alias at (false ∷ false ∷ true ∷ [])) b ≡ LateBound)
-    × (bound_kind (with_alias at (true ∷ [])) a ≡ EarlyBound)
-    × (bound_kind (with_alias at []) a ≡ EarlyBound)
-    × (bound_kind (with_alias at []) b ≡ EarlyBound)
+    → (kind (with_alias at (false ∷ false ∷ true ∷ [])) a ≡ EarlyBound)
+    × (kind (with_alias at (false ∷ false ∷ true ∷ [])) b ≡ LateBound)
+    × (kind (with_alias at (true ∷ [])) a ≡ EarlyBound)
+    × (kind (with_alias at []) a ≡ EarlyBound)
+    × (kind (with_alias at []) b ≡ EarlyBound)
 
 -- in an argument `A<'a>::Q`, one that is refused behind `A<'a>`, and `Q::A<'a>`, where these are aliases whose types name nothing:
 -- nothing stands beside the last name of the first, and of one that is refused all counts
 abbrev pub RefusedConstrainsByAll : Type 0
 RefusedConstrainsByAll = (at : Pointer)
     → let s = with_lifetimes (named_in at scope.Input a ∷ []) in
-    (sets_of_type (tree.path_type at (path_of_two (Some []) s bare)) ≡ one scope.Input a)
-    × (sets_of_type (tree.path_type at (path_of_two (Some []) tree.broken_segment s)) ≡ one scope.Input a)
-    × (sets_of_type (tree.path_type at (path_of_two (Some []) bare s)) ≡ none)
+    (noted_in_type (tree.path_type at (path_of_two (Some []) s bare)) ≡ one_name scope.Input a)
+    × (noted_in_type (tree.path_type at (path_of_two (Some []) tree.broken_segment s)) ≡ one_name scope.Input a)
+    × (noted_in_type (tree.path_type at (path_of_two (Some []) bare s)) ≡ none)
 
 -- ---- constants
 
@@ -130,15 +136,30 @@ length_with at s =
     tree.array_type at (tree.constant (tree.some_expr (tree.block_expr block))) (tree.some_type (tree.leaf_type at tree.never_leaf))
 
 abbrev pub ConstantsCount : Type 0
-ConstantsCount = (at : Pointer) (s : LifetimeScope) → sets_of_type (length_with at s) ≡ one s a
+ConstantsCount = (at : Pointer) (s : LifetimeScope) → noted_in_type (length_with at s) ≡ one_name s a
 
--- ---- bounds
+-- ---- `impl`s
 
 -- `impl A<'a> + 'b` in an argument, and `dyn A<'a>` there
-abbrev pub ImplIsABound : Type 0
-ImplIsABound = (at : Pointer) (mode : ImplTrait)
+abbrev pub ImplsNote : Type 0
+ImplsNote = (at : Pointer) (def : GenericDefId)
     → let inner = tree.path_bound at (path_of_one None (with_lifetimes (named_in at scope.Bound a ∷ []))) false [] in
     let bounds = tree.more_bounds inner (tree.more_bounds (tree.lifetime_bound (named_in at scope.Bound b)) tree.no_bounds) in
     let own = tree.path_bound at (path_of_one None (with_lifetimes (named_in at scope.Input a ∷ []))) false [] in
-    (sets_of_type (tree.impl_type at mode bounds) ≡ record none { bounds = a ∷ b ∷ [] })
-    × (sets_of_type (tree.dyn_type at (tree.more_bounds own tree.no_bounds)) ≡ one scope.Input a)
+    let parameter : Impl = record { parent = def; at = at; bounds = 2 } in
+    (noted_in_type (tree.impl_type at (Argument def) bounds) ≡ record none { impls = parameter ∷ []; bounds = a ∷ b ∷ [] })
+    × (noted_in_type (tree.impl_type at Opaque bounds) ≡ record none { bounds = a ∷ b ∷ [] })
+    × (noted_in_type (tree.impl_type at Error bounds) ≡ record none { bounds = a ∷ b ∷ [] })
+    × (noted_in_type (tree.dyn_type at (tree.more_bounds own tree.no_bounds)) ≡ one_name scope.Input a)
+
+-- `impl A<T = impl Q>` in an argument: the inner one is a parameter in front
+abbrev pub InnerImplsFirst : Type 0
+InnerImplsFirst = (at inside : Pointer) (def : GenericDefId)
+    → let within = tree.more_bounds (tree.path_bound inside (path_of_one None bare) false []) tree.no_bounds in
+    let binding = tree.assoc_arg a tree.no_arg_list false (tree.some_type (tree.impl_type inside (Argument def) within)) tree.no_bounds in
+    let args = tree.segment_args (tree.some_arg_list (tree.more_args binding tree.no_args)) tree.no_parens false in
+    let trait = tree.path_bound at (path_of_one None (tree.name_segment b tt args)) false [] in
+    noted_in_type (tree.impl_type at (Argument def) (tree.more_bounds trait tree.no_bounds))
+    ≡ record none {
+      impls = record { parent = def; at = inside; bounds = 1 } ∷ record { parent = def; at = at; bounds = 1 } ∷ [];
+    }

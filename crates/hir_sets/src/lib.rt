@@ -1,9 +1,10 @@
-//! The lifetimes that a tree names, by where they count, and whether a lifetime parameter is bound early or late. Nothing here runs: what
-//! is said is in `specs`, and each function's contract is a row of it.
+//! What is noted of a tree: the lifetimes that it names, by where they count, and the parameters that its `impl`s become; and whether a
+//! lifetime parameter is bound early or late. Nothing here runs: what is said is in `specs`, and each function's contract is a row of it.
 #![tactic(auto)]
 
-ghost use Rattle.hir_sets.specs.Worked.{AliasConstrainsWhatItNames, BoundIsEarly, ConstantsCount, ConstrainedIsLate, ImplIsABound};
-ghost use Rattle.hir_sets.specs.Worked.{NamelessCountNowhere, ProjectionConstrainsNothing, RefusedConstrainsByAll, ReturnedAloneIsEarly};
+ghost use Rattle.hir_sets.specs.Worked.{AliasConstrainsWhatItNames, BoundIsEarly, ConstantsCount, ConstrainedIsLate, ImplsNote};
+ghost use Rattle.hir_sets.specs.Worked.{InnerImplsFirst, NamelessCountNowhere, ProjectionConstrainsNothing, RefusedConstrainsByAll};
+ghost use Rattle.hir_sets.specs.Worked.{ReturnedAloneIsEarly};
 ghost use Rattle.hir_sets.specs.Places.{AliasesCount, CountsInImpls, CountsInProjections, CountsWhereItStands, ImplsAreParameters};
 ghost use Rattle.hir_sets.specs.Places.{PathsSayAliases};
 
@@ -48,9 +49,14 @@ pub fn constants_count()
     ensures { ConstantsCount }
 {}
 
-/// An `impl` in an argument names in bounds, and a `dyn` as an argument.
-pub fn impl_is_a_bound()
-    ensures { ImplIsABound }
+/// An `impl` in an argument is a parameter, named in bounds with as many as it has; a `dyn` names as an argument.
+pub fn impls_note()
+    ensures { ImplsNote }
+{}
+
+/// An `impl` inside of another one becomes a parameter in front of it.
+pub fn inner_impls_first()
+    ensures { InnerImplsFirst }
 {}
 
 /// A lifetime counts by the place of its type.
