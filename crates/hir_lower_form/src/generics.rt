@@ -111,7 +111,7 @@ fn push_first(
     flags: &[bool],
     lifetime: Option<&LifetimeRef>,
 ) -> Result<(), AllocError>
-    ensures { OnOk result (names.new ≡ names.old ++ first_chosen flags.now (name_of (option_copied lifetime))) }
+    ensures { OnOk result (names.new ≡ names.old ++ first_chosen flags.now (name_of (option_copied lifetime.entry))) }
 {
     match (flags, lifetime) {
         ([true, ..], Some(LifetimeRef::Named(name))) => names.push(name.clone()?),

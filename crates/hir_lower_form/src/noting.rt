@@ -45,7 +45,7 @@ fn param_type(parent: GenericDefId, number: u32) -> TypeRef
 
 /// The flags of an alias that is known.
 fn flags(alias: Option<&AliasSignature>) -> &[bool]
-    ensures { result.now ≡ flags_of (option_copied alias) }
+    ensures { result.now ≡ flags_of (option_copied alias.entry) }
 {
     match alias {
         None => &[],
@@ -180,7 +180,7 @@ impl BodyBuilder {
         alias: Option<&AliasSignature>,
         args: &GenericArgs,
     ) -> Result<(), StoreFault>
-        ensures { Lowers HasNone (cut_with mark (flags_of (option_copied alias)) args.now) self.old result self.new }
+        ensures { Lowers HasNone (cut_with mark (flags_of (option_copied alias.entry)) args.now) self.old result self.new }
     {
         let input = &mut self.notes.named.input;
         cut(input, mark);
