@@ -1,10 +1,11 @@
 -- What is generic in items: parameters and conditions, and the lists of them.
-use Rattle.std.specs.Prelude.{ℕ, List, codes, Option, Some, None, option_and_then}
-use Rattle.serde_json.specs.Data.{Data}
-use Rattle.serde_json.specs.Find.{get}
+use Rattle.std.specs.Prelude.{ℕ, List, Bool, false, codes, Option, Some, None, is_some, option_and_then, if◌then◌else◌}
+use Rattle.serde_json.specs.Data.{Data, Items}
+use Rattle.serde_json.specs.Find.{get, get_item}
 use Rattle.hir_items.specs.declared.ast.GenericParam.{GenericParam}
 use Rattle.hir_items.specs.declared.ast.GenericParam.TheVariants as param
 use Rattle.hir_items.specs.declared.ast.WherePred.{WherePred}
+use Rattle.hir_syntax.specs.declared.types.ForBinder.{ForBinder}
 use Rattle.json_faults.specs.Values.{small_of}
 use Rattle.json_kinds.specs.declared.kind.ItemNode.{ItemNode}
 use Rattle.json_kinds.specs.declared.kind.ItemNode.TheVariants as item
@@ -28,16 +29,39 @@ generic_param h item.LifetimeParam = Some (param.LifetimeParam h.id h.range
     (list_in h as_bound (codes "bounds")))
 generic_param h _ = None
 
-unfoldable pub where_pred : Here → ItemNode → Option WherePred
-where_pred h item.WherePred = Some (record {
+abbrev pub index_in : List ℕ → Data → Option ℕ
+index_in name d = option_and_then small_of (get name d)
+
+abbrev has_params : Option Data → Bool
+has_params None = false
+has_params (Some d) = is_some (get (codes "params") d)
+
+-- the binder at an index has a list
+abbrev pub has_list : Items → ℕ → Bool
+has_list ns at = has_params (get_item at ns)
+
+abbrev list_of_binder : Items → Option ℕ → Bool
+list_of_binder ns None = false
+list_of_binder ns (Some at) = has_list ns at
+
+-- a condition names a binder that has a list
+abbrev pub has_binder : Items → Data → Bool
+has_binder ns d = list_of_binder ns (index_in (codes "binder") d)
+
+-- the binder of a condition; one whose list is absent is none
+abbrev pub binder : Items → Here → Option ForBinder
+binder ns h = if has_binder ns h.value then part_in h as_binder (codes "binder") else None
+
+unfoldable pub where_pred : Items → Here → ItemNode → Option WherePred
+where_pred ns h item.WherePred = Some (record {
   id = h.id;
   range = h.range;
   ty = part_in h as_type (codes "ty");
   lifetime = part_in h as_lifetime (codes "lifetime");
-  binder = part_in h as_binder (codes "binder");
+  binder = binder ns h;
   bounds = list_in h as_bound (codes "bounds");
 })
-where_pred h _ = None
+where_pred ns h _ = None
 
 -- what a list of parameters holds, where its node is one
 abbrev generics_of : Option Kind → List GenericParam → Option (List GenericParam)
@@ -45,7 +69,7 @@ generics_of (Some (kind.Item item.GenericParamList)) params = Some params
 generics_of _ params = None
 
 abbrev pub generics_at : Listed → ℕ → Option (List GenericParam)
-generics_at l at = generics_of (kind_of l at) (list_at l generic_param (codes "params") at)
+generics_at l at = generics_of (kind_of l at) (list_at l (λ _ h k. generic_param h k) (codes "params") at)
 
 -- what a list of conditions holds, where its node is one
 abbrev where_of : Option Kind → List WherePred → Option (List WherePred)
@@ -54,9 +78,6 @@ where_of _ preds = None
 
 abbrev pub where_at : Listed → ℕ → Option (List WherePred)
 where_at l at = where_of (kind_of l at) (list_at l where_pred (codes "preds") at)
-
-abbrev pub index_in : List ℕ → Data → Option ℕ
-index_in name d = option_and_then small_of (get name d)
 
 -- the generic parameters of an item
 abbrev pub generics : Listed → Data → Option (List GenericParam)

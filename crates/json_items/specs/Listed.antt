@@ -26,12 +26,12 @@ module _ (l : Listed) where
   kind_of at = kind_at l.kinds at
 
   -- what stands at a node, by its kind
-  abbrev pub part_at : {T : Type 0} → (Here → ItemNode → Option T) → ℕ → Option T
+  abbrev pub part_at : {T : Type 0} → (Items → Here → ItemNode → Option T) → ℕ → Option T
   part_at said at = option_and_then
-      (λ d. option_and_then (said (node_at l.part at d)) (item_kind (kind_of at)))
+      (λ d. option_and_then (said l.nodes (node_at l.part at d)) (item_kind (kind_of at)))
       (get_item at l.nodes)
 
-  abbrev pub child : {T : Type 0} → (Here → ItemNode → Option T) → Data → Option T
+  abbrev pub child : {T : Type 0} → (Items → Here → ItemNode → Option T) → Data → Option T
   child said d = option_and_then (part_at said) (small_of d)
 
   -- the values in a field of the node at an index
@@ -39,5 +39,5 @@ module _ (l : Listed) where
   values name at = option_and_then (λ d. option_and_then as_array (get name d)) (get_item at l.nodes)
 
   -- what they name
-  abbrev pub list_at : {T : Type 0} → (Here → ItemNode → Option T) → List ℕ → ℕ → List T
+  abbrev pub list_at : {T : Type 0} → (Items → Here → ItemNode → Option T) → List ℕ → ℕ → List T
   list_at said name at = listed (child said) (values name at)

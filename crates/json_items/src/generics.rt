@@ -1,15 +1,16 @@
 //! Generic parameters and conditions, and the lists of them.
 
 ghost use Rattle.std.specs.Prelude.{◌≡◌};
-ghost use Rattle.serde_json.specs.View.{view};
+ghost use Rattle.serde_json.specs.View.{view, items_view};
 ghost use Rattle.json_nodes.specs.Kept.{Kept};
 ghost use Rattle.json_items.specs.Generics as spec;
 ghost use Rattle.json_items.specs.Lists.{listed};
 
 use crate::listed::{ItemPart, ListedNodes};
 use hir_items::ast::{GenericParam, GenericParamList, WhereClause, WherePred};
+use hir_syntax::ast::ForBinder;
 use json_faults::kinds::kind_at;
-use json_faults::value::small;
+use json_faults::value::{item_at, small};
 use json_kinds::kind::{ItemNode, Kind};
 use json_nodes::fields::{All, Fields, InBox, One};
 use json_nodes::name_parts::{Lifetimes, Names};
@@ -63,17 +64,61 @@ fn generic_param<F: Fields>(node: &F, refused: &mut bool, kind: ItemNode) -> Opt
     }
 }
 
+/// The index in a field.
+fn index_in(node: &Value, field: &str) -> Option<u32>
+    ensures { result ≡ spec.index_in field.now (view node.now) }
+{
+    small(node.get(field)?)
+}
+
+/// Whether the binder at an index has a list.
+fn has_list(nodes: &[Value], at: u32) -> bool
+    ensures { result ≡ spec.has_list (items_view nodes.now) at }
+{
+    match item_at(nodes, at as usize) {
+        Some(binder) => binder.get("params").is_some(),
+        None => false,
+    }
+}
+
+/// Whether a condition names a binder that has a list.
+fn has_binder(nodes: &[Value], node: &Value) -> bool
+    ensures { result ≡ spec.has_binder (items_view nodes.now) (view node.now) }
+{
+    match index_in(node, "binder") {
+        Some(at) => has_list(nodes, at),
+        None => false,
+    }
+}
+
+/// The binder of a condition. One whose list is absent is none.
+fn binder<F: Fields>(nodes: &[Value], node: &F, refused: &mut bool) -> Option<ForBinder>
+    requires { F.can node.now }
+    ensures { Kept refused.old refused.new (result ≡ spec.binder (items_view nodes.now) (F.here node.now)) }
+{
+    if has_binder(nodes, node.value()) {
+        node.field::<One<Binders>>(refused, "binder")
+    } else {
+        None
+    }
+}
+
 /// A condition.
 #[tactic(auto, unfolding(crate::specs::Generics::where_pred))]
-fn where_pred<F: Fields>(node: &F, refused: &mut bool, kind: ItemNode) -> Option<WherePred>
+fn where_pred<F: Fields>(
+    nodes: &[Value],
+    node: &F,
+    refused: &mut bool,
+    kind: ItemNode,
+) -> Option<WherePred>
     requires { F.can node.now }
-    ensures { Kept refused.old refused.new (result ≡ spec.where_pred (F.here node.now) kind) }
+    ensures { Kept refused.old refused.new (result ≡ spec.where_pred (items_view nodes.now) (F.here node.now) kind) }
 {
     match kind {
         ItemNode::WherePred => {
             let ty = node.field::<InBox<Types>>(refused, "ty");
             let lifetime = node.field::<One<Lifetimes>>(refused, "lifetime");
-            let binder = node.field::<One<Binders>>(refused, "binder");
+            let binder = binder(nodes, node, refused);
             let bounds = node.field::<All<Bounds>>(refused, "bounds");
             Some(WherePred {
                 id: node.id(),
@@ -97,9 +142,14 @@ pub struct WherePreds;
 impl ItemPart for GenericParams {
     type Held = GenericParam;
 
-    ghost said = { spec.generic_param };
+    ghost said = { λ _ h kind. spec.generic_param h kind };
 
-    fn read<F: Fields>(node: &F, refused: &mut bool, kind: ItemNode) -> Option<GenericParam> {
+    fn read<F: Fields>(
+        _nodes: &[Value],
+        node: &F,
+        refused: &mut bool,
+        kind: ItemNode,
+    ) -> Option<GenericParam> {
         generic_param(node, refused, kind)
     }
 }
@@ -109,8 +159,13 @@ impl ItemPart for WherePreds {
 
     ghost said = { spec.where_pred };
 
-    fn read<F: Fields>(node: &F, refused: &mut bool, kind: ItemNode) -> Option<WherePred> {
-        where_pred(node, refused, kind)
+    fn read<F: Fields>(
+        nodes: &[Value],
+        node: &F,
+        refused: &mut bool,
+        kind: ItemNode,
+    ) -> Option<WherePred> {
+        where_pred(nodes, node, refused, kind)
     }
 }
 
@@ -146,13 +201,6 @@ fn where_at<P: ReadParts>(
         }
         _ => None,
     }
-}
-
-/// The index in a field.
-fn index_in(node: &Value, field: &str) -> Option<u32>
-    ensures { result ≡ spec.index_in field.now (view node.now) }
-{
-    small(node.get(field)?)
 }
 
 /// The generic parameters of an item.

@@ -21,17 +21,23 @@ use std::alloc::Global;
 /// What a list in an item may hold.
 pub trait ItemPart {
     ghost use Rattle.std.specs.Prelude.{Option};
+    ghost use Rattle.serde_json.specs.Data.{Items};
     ghost use Rattle.json_kinds.specs.declared.kind.ItemNode.{ItemNode as NodeKind};
     ghost use Rattle.json_nodes.specs.Parts.{Here};
 
     type Held;
 
-    /// What a node of a kind says.
-    ghost said: { Here → NodeKind → Option Self.Held };
+    /// What a node of a kind says, which stands among others.
+    ghost said: { Items → Here → NodeKind → Option Self.Held };
 
-    fn read<F: Fields>(node: &F, refused: &mut bool, kind: ItemNode) -> Option<Self::Held>
+    fn read<F: Fields>(
+        nodes: &[Value],
+        node: &F,
+        refused: &mut bool,
+        kind: ItemNode,
+    ) -> Option<Self::Held>
         requires { F.can node.now }
-        ensures { Kept refused.old refused.new (result ≡ said (F.here node.now) kind) };
+        ensures { Kept refused.old refused.new (result ≡ said (items_view nodes.now) (F.here node.now) kind) };
 }
 
 /// The nodes of a list with their kinds, and what reads the parts of those that stand in the lists of items.
@@ -67,7 +73,8 @@ impl<P: ReadParts> ListedNodes<'_, '_, '_, P> {
         let Some(kind) = self.item_kind(at) else {
             return None;
         };
-        I::read(&node_at(self.alloc, self.parts, value, at), refused, kind)
+        let node = node_at(self.alloc, self.parts, value, at);
+        I::read(self.nodes, &node, refused, kind)
     }
 
     /// The part that a value names by its index.
