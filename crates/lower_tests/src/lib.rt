@@ -28,6 +28,10 @@ mod generics;
 #[cfg(test)]
 mod inner;
 #[cfg(test)]
+mod item_trees;
+#[cfg(test)]
+mod items;
+#[cfg(test)]
 mod limits;
 #[cfg(test)]
 mod listings;

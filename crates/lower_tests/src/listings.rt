@@ -42,6 +42,7 @@ fn listed(
         source_map,
         lang_items: &items,
         sources: true,
+        params: None,
     };
     body_listing(alloc, listed, None, &[])
 }

@@ -65,6 +65,7 @@ fn listed(alloc: Global, body: &Body, source_map: &BodySourceMap) -> Result<Stri
         source_map: &source_map.store,
         lang_items: &items,
         sources: false,
+        params: None,
     };
     body_listing(alloc, listed, None, body.params.as_slice())
 }

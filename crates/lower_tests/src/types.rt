@@ -50,6 +50,7 @@ fn listed_in<'a>(
         source_map,
         lang_items,
         sources: false,
+        params: None,
     }
 }
 
