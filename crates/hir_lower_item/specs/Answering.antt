@@ -131,8 +131,11 @@ abbrev pub binder_name : Option AstLifetime → Name
 binder_name None = name.Missing
 binder_name (Some l) = name.Text l.t
 
+abbrev pub binder_names : List (Option AstLifetime) → Binder
+binder_names ls = map binder_name ls
+
 abbrev pub where_binder : AstForBinder → Binder
-where_binder b = map binder_name b.params
+where_binder b = binder_names b.params
 
 abbrev pub predicate_of : Spot → GenericDefId → Option AstType → Option AstLifetime → Option AstForBinder → List AstTypeBound → Predicate
 predicate_of at def (Some t) l b bs =

@@ -132,15 +132,22 @@ fn binder_name(lifetime: &Option<ast::Lifetime>) -> Result<Name, AllocError>
     }
 }
 
+fn binder_names(alloc: Global, mut left: &[Option<ast::Lifetime>]) -> Result<Seq<Name>, AllocError>
+    ensures { IfOk result (λ names. names ≡ of.binder_names left.entry.now) }
+{
+    let mut names = Seq::new(alloc);
+    while let [one, rest @ ..] = left {
+        names.push(binder_name(one)?)?;
+        left = rest;
+    }
+    Ok(names)
+}
+
 /// The names of a `for<..>`.
 fn where_binder(alloc: Global, binder: &ast::ForBinder) -> Result<Seq<Name>, AllocError>
     ensures { IfOk result (λ names. names ≡ of.where_binder binder.now) }
 {
-    let mut names = Seq::new(alloc);
-    for lifetime in binder.params.as_slice() {
-        names.push(binder_name(lifetime)?)?;
-    }
-    Ok(names)
+    binder_names(alloc, binder.params.as_slice())
 }
 
 /// The names of a `for<..>`, where one stands there.
