@@ -19,7 +19,6 @@ use Rattle.hir_lower_form.specs.Generics.{cut_args, naming}
 use Rattle.hir_lower_form.specs.Lowering.{Lowering, ◌>>=◌, ◌>>◌, pure, add_param, argument_form, becoming, count_out, input_end, note_down}
 use Rattle.hir_lower_form.specs.Lowering.{param_numbered, with_notes, with_stored}
 use Rattle.hir_lower_form.specs.Paths.{aliased, cut_back, cut_path, last_args}
-use Rattle.hir_lower_form.specs.Walks.{args_of}
 use Rattle.hir_one_result.specs.Size.{Size, nothing, a_param, an_impl}
 use Rattle.hir_one_result.proofs.Owners.{no_owners}
 use Rattle.hir_one_result.proofs.Rooms.{Takes, takes_begin, takes_end, takes_pure, takes_then, takes_type}
@@ -50,7 +49,7 @@ args_keep mark places ls (Some a) n = refl
 
 pub cut_keeps : (mark : ℕ) (places : List Bool) (ls : List LifetimeRef) (p : Option HirPath) → KeepsParams (cut_path mark places ls p)
 cut_keeps mark places ls None n = refl
-cut_keeps mark places ls (Some p) n = args_keep mark places ls (last_args (args_of p)) n
+cut_keeps mark places ls (Some p) n = args_keep mark places ls (last_args p) n
 
 pub takes_note_down : (f : Notes → Notes) → KeepsParams f → Takes nothing (note_down f)
 unfolding note_down

@@ -39,7 +39,7 @@ use Rattle.hir_lower_form.specs.Types.{TypeSteps, error_type, unit_type, lower_l
 use Rattle.hir_lower_form.specs.Types.{over_form, array_type_form, tuple_type_form, path_type_form, ref_type_form, fn_type_form}
 use Rattle.hir_lower_form.specs.Types.{impl_type_form, dyn_type_form, add_arg, add_binding, is_none_of, yielded, binding_form}
 use Rattle.hir_lower_form.specs.Types.{path_bound_of, path_bound_form}
-use Rattle.hir_one_result.specs.Size.{Size, nothing, a_type, a_lifetime, a_super, ◌∪◌, if_so}
+use Rattle.hir_one_result.specs.Size.{Size, an_impl, nothing, a_type, a_lifetime, a_super, ◌∪◌, if_so}
 use Rattle.hir_one_result.specs.PathRoom as room
 use Rattle.hir_one_result.specs.Room.{Short}
 use Rattle.hir_one_result.specs.PathRoom.{Seen, Read, refused, ended, goes_on, after, at_first, anew, one_more, self_read, found}
