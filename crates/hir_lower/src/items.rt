@@ -1,5 +1,15 @@
 //! Items: functions, traits, implementations, aliases of types, and generic parameters by themselves.
 
+ghost use Rattle.std.specs.Prelude.{◌≡◌, ◌≢◌, Err, IfOk, IfErr, IsErrOf, option_copied};
+ghost use Rattle.hir_store.specs.Range.{InRange};
+ghost use Rattle.hir_store.specs.declared.ids.GenericDefId.TheVariants as definition;
+ghost use Rattle.hir_env.specs.declared.place.LoweringMode.TheVariants as mode_of;
+ghost use Rattle.hir_lower_item.specs.Answering as of;
+ghost use Rattle.hir_lower_item.specs.Kinds as kinds;
+ghost use Rattle.hir_lower_item.specs.Lower as steps;
+ghost use Rattle.hir_lower.specs.Items.{ItemFromNothing, as_noted, item_spot, signature};
+ghost use Rattle.hir_lower.specs.Roots.{RefusedAtEnd, outside_body};
+
 use crate::error::LowerError;
 use hir_base::node::{HirFileId, InFile};
 use hir_env::env::LowerEnv;
@@ -29,7 +39,9 @@ fn item_place<E: LowerEnv>(
     file_id: HirFileId,
     module_id: ModuleId,
     mode: LoweringMode,
-) -> Place {
+) -> Place
+    ensures { result ≡ outside_body (E.answers db.now) file_id module_id mode }
+{
     Place {
         file_id,
         module_id,
@@ -43,7 +55,9 @@ fn item_place<E: LowerEnv>(
 }
 
 /// The parameters that were noted, each lifetime early bound.
-fn early_params(notes: Notes) -> GenericParams {
+fn early_params(notes: Notes) -> GenericParams
+    ensures { result ≡ kinds.finished (as_noted notes) }
+{
     let Notes { generics, named: _ } = notes;
     finished(generics)
 }
@@ -58,7 +72,16 @@ pub fn lower_generic_params<E: LowerEnv>(
     param_list: Option<&GenericParamList>,
     where_clause: Option<&WhereClause>,
     mode: LoweringMode,
-) -> Result<(ExpressionStore, GenericParams, ExpressionStoreSourceMap), LowerError> {
+) -> Result<(ExpressionStore, GenericParams, ExpressionStoreSourceMap), LowerError>
+    ensures made { let at = item_spot (E.answers db.now) file_id inside mode in
+        let p = steps.lower_generics def (of.answered_generics at def (option_copied param_list.entry) (option_copied where_clause.entry)) in
+        IfOk result (λ r. ItemFromNothing p as_noted 4294967295 tt r.1 r.0 r.2) }
+    ensures in_range { IfOk result (λ r. InRange r.0 r.2) }
+    ensures full { let at = item_spot (E.answers db.now) file_id inside mode in
+        let p = steps.lower_generics def (of.answered_generics at def (option_copied param_list.entry) (option_copied where_clause.entry)) in
+        IsErrOf result LowerError.Full → RefusedAtEnd p 4294967295 }
+    ensures own { result ≢ Err LowerError.Failed }
+{
     let place = item_place(db, file_id, inside, mode);
     let mut state = BodyBuilder::new(alloc, u32::MAX);
     match generics(alloc, db, place, &mut state, def, param_list, where_clause) {
@@ -90,7 +113,14 @@ pub fn lower_impl<E: LowerEnv>(
         GenericParams,
     ),
     LowerError,
-> {
+>
+    ensures made { let at = item_spot (E.answers db.now) item.entry.file_id inside mode_of.Analysis in
+        IfOk result (λ r. ItemFromNothing (steps.lower_impl (definition.ImplId id) (of.answered_impl at (definition.ImplId id) item.entry.value.now)) as_noted 4294967295 (r.2, r.3) r.4 r.0 r.1) }
+    ensures in_range { IfOk result (λ r. InRange r.0 r.1) }
+    ensures full { let at = item_spot (E.answers db.now) item.entry.file_id inside mode_of.Analysis in
+        IsErrOf result LowerError.Full → RefusedAtEnd (steps.lower_impl (definition.ImplId id) (of.answered_impl at (definition.ImplId id) item.entry.value.now)) 4294967295 }
+    ensures own { result ≢ Err LowerError.Failed }
+{
     let place = item_place(db, item.file_id, inside, LoweringMode::Analysis);
     let def = GenericDefId::ImplId(id);
     let mut state = BodyBuilder::new(alloc, u32::MAX);
@@ -114,7 +144,14 @@ pub fn lower_trait<E: LowerEnv>(
     inside: ModuleId,
     item: InFile<&Trait>,
     id: TraitId,
-) -> Result<(ExpressionStore, ExpressionStoreSourceMap, GenericParams), LowerError> {
+) -> Result<(ExpressionStore, ExpressionStoreSourceMap, GenericParams), LowerError>
+    ensures made { let at = item_spot (E.answers db.now) item.entry.file_id inside mode_of.Analysis in
+        IfOk result (λ r. ItemFromNothing (steps.lower_trait (definition.TraitId id) (of.answered_trait at (definition.TraitId id) item.entry.value.now)) as_noted 4294967295 tt r.2 r.0 r.1) }
+    ensures in_range { IfOk result (λ r. InRange r.0 r.1) }
+    ensures full { let at = item_spot (E.answers db.now) item.entry.file_id inside mode_of.Analysis in
+        IsErrOf result LowerError.Full → RefusedAtEnd (steps.lower_trait (definition.TraitId id) (of.answered_trait at (definition.TraitId id) item.entry.value.now)) 4294967295 }
+    ensures own { result ≢ Err LowerError.Failed }
+{
     let place = item_place(db, item.file_id, inside, LoweringMode::Analysis);
     let def = GenericDefId::TraitId(id);
     let mut state = BodyBuilder::new(alloc, u32::MAX);
@@ -147,7 +184,14 @@ pub fn lower_type_alias<E: LowerEnv>(
         Option<TypeRefId>,
     ),
     LowerError,
-> {
+>
+    ensures made { let at = item_spot (E.answers db.now) item.entry.file_id ((E.answers db.now).module_of container) mode_of.Analysis in
+        IfOk result (λ r. ItemFromNothing (steps.lower_alias (definition.TypeAliasId id) (of.answered_alias at (definition.TypeAliasId id) container item.entry.value.now)) as_noted 4294967295 (r.3, r.4) r.2 r.0 r.1) }
+    ensures in_range { IfOk result (λ r. InRange r.0 r.1) }
+    ensures full { let at = item_spot (E.answers db.now) item.entry.file_id ((E.answers db.now).module_of container) mode_of.Analysis in
+        IsErrOf result LowerError.Full → RefusedAtEnd (steps.lower_alias (definition.TypeAliasId id) (of.answered_alias at (definition.TypeAliasId id) container item.entry.value.now)) 4294967295 }
+    ensures own { result ≢ Err LowerError.Failed }
+{
     let inside = db.module_of(container);
     let place = item_place(db, item.file_id, inside, LoweringMode::Analysis);
     let def = GenericDefId::TypeAliasId(id);
@@ -166,7 +210,10 @@ pub fn lower_type_alias<E: LowerEnv>(
 }
 
 /// The parameters of a function that was lowered.
-fn function_params(alloc: Global, notes: Notes) -> Result<GenericParams, LowerError> {
+fn function_params(alloc: Global, notes: Notes) -> Result<GenericParams, LowerError>
+    ensures made { IfOk result (λ params. params ≡ kinds.finished (kinds.of_kinds notes)) }
+    ensures refused { IfErr result (λ e. e ≡ LowerError.Memory) }
+{
     match of_kinds(alloc, notes) {
         Ok(generics) => Ok(finished(generics)),
         Err(_) => Err(LowerError::Memory),
@@ -191,7 +238,14 @@ pub fn lower_function<E: LowerEnv>(
         bool,
     ),
     LowerError,
-> {
+>
+    ensures made { let at = item_spot (E.answers db.now) item.entry.file_id inside mode_of.Analysis in
+        IfOk result (λ r. ItemFromNothing (steps.lower_function (definition.FunctionId id) (of.answered_function at (definition.FunctionId id) item.entry.value.now)) kinds.of_kinds 4294967295 (signature r.3 r.4 r.5 r.6) r.2 r.0 r.1) }
+    ensures in_range { IfOk result (λ r. InRange r.0 r.1) }
+    ensures full { let at = item_spot (E.answers db.now) item.entry.file_id inside mode_of.Analysis in
+        IsErrOf result LowerError.Full → RefusedAtEnd (steps.lower_function (definition.FunctionId id) (of.answered_function at (definition.FunctionId id) item.entry.value.now)) 4294967295 }
+    ensures own { result ≢ Err LowerError.Failed }
+{
     let place = item_place(db, item.file_id, inside, LoweringMode::Analysis);
     let def = GenericDefId::FunctionId(id);
     let mut state = BodyBuilder::new(alloc, u32::MAX);
