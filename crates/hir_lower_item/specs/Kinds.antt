@@ -1,27 +1,21 @@
 -- When a lifetime parameter is given: with the other arguments of its item, or at each call.
-use Rattle.std.specs.Prelude.{◌≡◌, Bool, false, not, ◌&&◌, ◌||◌, if◌then◌else◌, List, [], ◌∷◌, ◌++◌, map, min}
+use Rattle.std.specs.Prelude.{◌≡◌, Bool, not, ◌&&◌, ◌||◌, List, [], ◌∷◌, ◌++◌, map, min}
 use Rattle.std.specs.BTreeSet.{BTreeSet, contains}
 use Rattle.hir_store.specs.NameOrder.{name_cmp}
-use Rattle.hir_store.specs.Names.{same_name}
 use Rattle.hir_store.specs.Params.{early_among}
 use Rattle.hir_store.specs.declared.generics.GenericParams.{GenericParams}
-use Rattle.hir_store.specs.declared.generics.LifetimeBoundType.TheVariants.{LateBound}
 use Rattle.hir_store.specs.declared.generics.LifetimeParamData.{LifetimeParamData}
 use Rattle.hir_store.specs.declared.name.Name.{Name}
+use Rattle.hir_sets.specs.Kinds.{LifetimeSets, among, bound_kind, kind_by}
 use Rattle.hir_lower_form.specs.declared.generics.GenericLists.{GenericLists}
 use Rattle.hir_lower_form.specs.declared.generics.NamedLifetimes.{NamedLifetimes}
 use Rattle.hir_lower_form.specs.declared.generics.Notes.{Notes}
 
-abbrev pub among : Name → List Name → Bool
-among n [] = false
-among n (x ∷ xs) = same_name x n || among n xs
-
--- A lifetime stays early bound where a bound names it, and where what is returned names it and no argument constrains it.
-abbrev pub late : NamedLifetimes → Name → Bool
-late s n = not (among n s.bounds || (among n s.output && not (among n s.input)))
+abbrev pub named_sets : NamedLifetimes → LifetimeSets
+named_sets n = record { bounds = n.bounds; input = n.input; output = n.output }
 
 abbrev pub of_kind : NamedLifetimes → LifetimeParamData → LifetimeParamData
-of_kind s l = if late s l.name then record l { bound_type = LateBound } else l
+of_kind n l = record l { bound_type = bound_kind (named_sets n) l.name }
 
 -- those of a function
 abbrev pub of_kinds : Notes → GenericLists
@@ -48,11 +42,11 @@ pub record Holds (bounds input output : BTreeSet Name) (named : NamedLifetimes) 
   pub in_output : Has output named.output
 
 module _ (bounds input output : BTreeSet Name) where
-  abbrev pub late_in : Name → Bool
-  late_in n = not (contains name_cmp bounds n || (contains name_cmp output n && not (contains name_cmp input n)))
+  abbrev pub early_in : Name → Bool
+  early_in n = contains name_cmp bounds n || (contains name_cmp output n && not (contains name_cmp input n))
 
   abbrev pub kind_in : LifetimeParamData → LifetimeParamData
-  kind_in l = if late_in l.name then record l { bound_type = LateBound } else l
+  kind_in l = record l { bound_type = kind_by (early_in l.name) }
 
   -- behind those that are done
   abbrev pub kinds_in : List LifetimeParamData → List LifetimeParamData → List LifetimeParamData

@@ -4,6 +4,7 @@ ghost use Rattle.std.specs.Prelude.{◌≡◌, [], IfOk};
 ghost use Rattle.std.specs.BTreeSet.{contains};
 ghost use Rattle.hir_store.specs.NameOrder.{name_cmp};
 ghost use Rattle.hir_store.specs.declared.name.Name.{Name as StoredName};
+ghost use Rattle.hir_sets.specs.Kinds.{among};
 ghost use Rattle.hir_lower_item.specs.Kinds as spec;
 ghost use Rattle.hir_lower_item.specs.Kinds.{Holds};
 
@@ -16,7 +17,7 @@ use std::collections::BTreeSet;
 
 /// These names as a set, in which a look-up takes the logarithm of how many there are, whatever they are.
 fn set_of(alloc: Global, names: Seq<Name>) -> Result<BTreeSet<Name>, AllocError>
-    ensures { IfOk result (λ s. (n : StoredName) → contains name_cmp s n ≡ spec.among n names) }
+    ensures { IfOk result (λ s. (n : StoredName) → contains name_cmp s n ≡ among n names) }
 {
     let mut left = names;
     let mut set = BTreeSet::new(alloc);
@@ -50,22 +51,21 @@ impl NamedSets {
         })
     }
 
-    /// Whether no bound names the lifetime, nor what is returned where no argument constrains it.
-    fn is_late(&self, name: &Name) -> bool
-        ensures { result ≡ spec.late_in self.now.bounds self.now.input self.now.output name.now }
+    /// Whether a bound names the lifetime, or what is returned does and no argument constrains it.
+    fn is_early(&self, name: &Name) -> bool
+        ensures { result ≡ spec.early_in self.now.bounds self.now.input self.now.output name.now }
     {
-        !(self.bounds.contains(name)
-            || (self.output.contains(name) && !self.input.contains(name)))
+        self.bounds.contains(name) || (self.output.contains(name) && !self.input.contains(name))
     }
 
     fn of_kind(&self, param: &LifetimeParamData) -> Result<LifetimeParamData, AllocError>
         ensures { IfOk result (λ p. p ≡ spec.kind_in self.now.bounds self.now.input self.now.output param.now) }
     {
         let name = param.name.clone()?;
-        let bound_type = if self.is_late(&param.name) {
-            LifetimeBoundType::LateBound
+        let bound_type = if self.is_early(&param.name) {
+            LifetimeBoundType::EarlyBound
         } else {
-            param.bound_type
+            LifetimeBoundType::LateBound
         };
         Ok(LifetimeParamData { name, bound_type })
     }

@@ -2,7 +2,7 @@ use Rattle.std.proofs.Common.{◌≡◌, ◌||◌, length}
 use Rattle.std.specs.BTreeSet.{contains}
 use Rattle.hir_store.specs.NameOrder.{name_cmp}
 use Rattle.hir_store.specs.declared.name.Name.{Name}
-use Rattle.hir_lower_item.specs.Kinds.{among}
+use Rattle.hir_sets.specs.Kinds.{among}
 use Rattle.hir_lower_item.proofs.kinds.set_of.Given as goal
 
 -- what was taken out is in the set
