@@ -32,7 +32,8 @@ use Rattle.hir_noted.proofs.Logic.{Notes, notes_begin, notes_end, notes_pure, no
 use Rattle.hir_noted.proofs.PatForms.{missing_pat_notes}
 use Rattle.hir_noted.proofs.TypeForms.{error_notes}
 use Rattle.hir_noted.proofs.Steps.{notes_close, notes_close_barrier, notes_count_def, notes_enter_block, notes_expr, notes_note_yield}
-use Rattle.hir_noted.proofs.Steps.{notes_open_barrier, notes_open_macro, notes_owning, notes_point_pat, notes_point_type, notes_told, notes_type}
+use Rattle.hir_noted.proofs.Steps.{notes_open_barrier, notes_open_macro, notes_owning, notes_point_pat, notes_point_type, notes_told}
+use Rattle.hir_noted.proofs.Steps.{notes_type}
 
 -- ---- calls
 

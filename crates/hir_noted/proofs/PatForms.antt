@@ -37,7 +37,8 @@ use Rattle.hir_noted.specs.Fold.{if_read}
 use Rattle.hir_noted.specs.Noting.{Noting, none, ◌⊕◌}
 use Rattle.hir_noted.proofs.Forms.{where_notes}
 use Rattle.hir_noted.proofs.Logic.{Notes, notes_as, notes_end, notes_pure, notes_then}
-use Rattle.hir_noted.proofs.Steps.{notes_binding, notes_count_out, notes_define, notes_expr, notes_made_pat, notes_pat, notes_point_pat_field}
+use Rattle.hir_noted.proofs.Steps.{notes_binding, notes_count_out, notes_define, notes_expr, notes_made_pat, notes_pat}
+use Rattle.hir_noted.proofs.Steps.{notes_point_pat_field}
 use Rattle.hir_noted.proofs.Steps.{notes_point_target, notes_problem, notes_report, notes_type}
 
 pub missing_pat_notes : Notes none missing_pat

@@ -160,7 +160,8 @@ module _ (s : Stored) (d : ℕ) where
 
   list_names : (a : Option GenericArgs) → names_stored a ≡ names_in_list (a_list s (within s d) a)
   list_names None = refl
-  list_names (Some a) = ap Some (names_are (out-GenericArgs a).args ∙ ap names_in_args (sym (args_out (store_of s) (map_of s) (within s d) a)))
+  list_names (Some a) = ap Some (names_are (out-GenericArgs a).args
+      ∙ ap names_in_args (sym (args_out (store_of s) (map_of s) (within s d) a)))
 
   last_read : (as' : List (Option GenericArgs)) → names_stored (last_args as') ≡ data_last (lists s d as')
   last_read [] = refl

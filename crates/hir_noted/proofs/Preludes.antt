@@ -33,7 +33,8 @@ use Rattle.hir_steps.specs.Keeps.{Paired}
 use Rattle.hir_store.proofs.Extending.{extends_refl}
 use Rattle.hir_noted.specs.Noting.{Noting, none, ◌⊕◌}
 use Rattle.hir_noted.proofs.Logic.{Notes, noted_none, notes_begin, notes_end, notes_pure, notes_then}
-use Rattle.hir_noted.proofs.Steps.{notes_binding, notes_close_barrier, notes_define, notes_expr, notes_made_number, notes_made_pat, notes_open_barrier}
+use Rattle.hir_noted.proofs.Steps.{notes_binding, notes_close_barrier, notes_define, notes_expr, notes_made_number, notes_made_pat}
+use Rattle.hir_noted.proofs.Steps.{notes_open_barrier}
 use Rattle.hir_noted.proofs.Steps.{notes_owning, notes_pat}
 
 -- ---- preludes

@@ -24,10 +24,13 @@ use Rattle.hir_scope.specs.Ribs.{Rib, Target, reachable, unreachable, undeclared
 use Rattle.hir_lower_form.specs.Builder.{Builder}
 use Rattle.hir_lower_form.specs.Calls.{note, note_gone, told}
 use Rattle.hir_lower_form.specs.Lowering.{Checked, Lowering, ◌>>=◌, pure, stored, alloc_binding, alloc_expr, alloc_made, alloc_made_pat}
-use Rattle.hir_lower_form.specs.Lowering.{alloc_pat, alloc_type, bindings_end, close, close_barrier, count_def, count_out, define, enter_block}
-use Rattle.hir_lower_form.specs.Lowering.{enter_root, found_or_fault, jump_target, leave_root, made_number, note_yield, open_as, open_barrier}
+use Rattle.hir_lower_form.specs.Lowering.{alloc_pat, alloc_type, bindings_end, close, close_barrier, count_def, count_out, define}
+use Rattle.hir_lower_form.specs.Lowering.{enter_block}
+use Rattle.hir_lower_form.specs.Lowering.{enter_root, found_or_fault, jump_target, leave_root, made_number, note_yield, open_as}
+use Rattle.hir_lower_form.specs.Lowering.{open_barrier}
 use Rattle.hir_lower_form.specs.Lowering.{open_label, open_macro, open_try, open_try_as, open_try_named, outside_root, own, owning, point}
-use Rattle.hir_lower_form.specs.Lowering.{point_field, point_pat, point_pat_field, point_target, point_type, record_root, report, report_await}
+use Rattle.hir_lower_form.specs.Lowering.{point_field, point_pat, point_pat_field, point_target, point_type, record_root, report}
+use Rattle.hir_lower_form.specs.Lowering.{report_await}
 use Rattle.hir_lower_form.specs.Lowering.{set_problem, try_target}
 use Rattle.hir_steps.specs.Calls.{Expansions}
 use Rattle.hir_steps.specs.Keeps.{Paired}
@@ -43,7 +46,8 @@ use Rattle.hir_steps.proofs.Steps.{Opens, correct_alloc, correct_alloc_type, cor
 use Rattle.hir_steps.proofs.Steps.{correct_point_field, correct_report, correct_report_await, correct_target, opens}
 use Rattle.std.proofs.Common.{sym, subst}
 use Rattle.hir_noted.specs.Noting.{Noting, none}
-use Rattle.hir_noted.proofs.Logic.{LeavesTo, Notes, NotesTo, Quiet, noted_none, notes_begin, notes_end, notes_pure, notes_quiet, notes_stored}
+use Rattle.hir_noted.proofs.Logic.{LeavesTo, Notes, NotesTo, Quiet, noted_none, notes_begin, notes_end, notes_pure, notes_quiet}
+use Rattle.hir_noted.proofs.Logic.{notes_stored}
 use Rattle.hir_noted.proofs.Logic.{quiet_pure, quiet_stored, quiet_then}
 
 -- ---- what is stored

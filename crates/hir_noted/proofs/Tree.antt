@@ -69,7 +69,8 @@ use Rattle.hir_noted.proofs.Forms.{loop_notes, method_call_notes, missing_notes,
 use Rattle.hir_noted.proofs.Forms.{paren_notes, path_notes, record_notes, repeat_notes, rooted_notes, turn_notes, value_notes}
 use Rattle.hir_noted.proofs.PathForms.{Behind, aliased_notes, at_start, behind_any, beside_notes, counted_notes, read_then}
 use Rattle.hir_noted.proofs.PathForms.{whole_notes}
-use Rattle.hir_noted.proofs.TypeForms.{Gives, gives_less, gives_pure, gives_then, array_notes, binding_notes, dyn_notes, error_notes, fn_notes, impl_notes, lifetime_notes}
+use Rattle.hir_noted.proofs.TypeForms.{Gives, gives_less, gives_pure, gives_then, array_notes, binding_notes, dyn_notes, error_notes}
+use Rattle.hir_noted.proofs.TypeForms.{fn_notes, impl_notes, lifetime_notes}
 use Rattle.hir_noted.proofs.TypeForms.{over_notes, parens_notes, path_bound_notes, path_type_notes, ref_notes, tuple_notes, unit_notes}
 use Rattle.hir_noted.proofs.TypeForms.{uses_note, with_trait_notes}
 use Rattle.hir_noted.proofs.PatForms.{alone_notes, arm_notes, array_target_notes, assign_notes, before_notes, bind_notes}

@@ -37,7 +37,8 @@ use Rattle.hir_env.specs.Answered.{UseRead}
 use Rattle.hir_lower_form.specs.Builder.{Builder}
 use Rattle.hir_lower_form.specs.Generics.{naming, predicates_of, unnamed_param, with_bounds, with_param}
 use Rattle.hir_lower_form.specs.Lowering as steps
-use Rattle.hir_lower_form.specs.Lowering.{Checked, go_on, pure, ◌>>◌, add_param, alloc_lifetime, argument_form, count_out, note_down, param_numbered}
+use Rattle.hir_lower_form.specs.Lowering.{Checked, go_on, pure, ◌>>◌, add_param, alloc_lifetime, argument_form, count_out, note_down}
+use Rattle.hir_lower_form.specs.Lowering.{param_numbered}
 use Rattle.hir_lower_form.specs.Lowering.{param_type, with_notes}
 use Rattle.hir_lower_form.specs.Types.{error_type, lower_lifetime, lower_use, lower_uses, unit_type}
 use Rattle.hir_steps.specs.Keeps.{Paired}
@@ -46,7 +47,8 @@ use Rattle.hir_steps.proofs.Logic.{Holds}
 use Rattle.hir_steps.proofs.TypeSteps.{AllocatedType, correct_alloc_lifetime, correct_alloc_type}
 use Rattle.hir_noted.specs.Fold.{becoming, of_use, of_uses}
 use Rattle.hir_noted.specs.Noting.{Impl, Noted, Noting, none, ◌⊕◌, of_lifetime, of_lifetime_option, one_name, one_ref}
-use Rattle.hir_noted.proofs.Logic.{LeavesTo, Notes, NotesTo, noted_none, notes_begin, notes_by, notes_end, notes_pure, notes_stored, notes_then}
+use Rattle.hir_noted.proofs.Logic.{LeavesTo, Notes, NotesTo, noted_none, notes_begin, notes_by, notes_end, notes_pure, notes_stored}
+use Rattle.hir_noted.proofs.Logic.{notes_then}
 use Rattle.hir_noted.proofs.Steps.{notes_type, quiet_type}
 
 pub error_notes : Notes none error_type
@@ -63,7 +65,8 @@ notes_lifetime : (l : LifetimeRef) (at : Option Pointer) → Notes none (alloc_l
 unfolding alloc_lifetime
 notes_lifetime l at = notes_stored (correct_alloc_lifetime l at)
 
-noted_name : (s : LifetimeScope) (n : Name) (b : Builder) → Noted (one_name s n) b (record b { notes = naming s (lifetime.Named n) b.notes })
+noted_name : (s : LifetimeScope) (n : Name) (b : Builder)
+    → Noted (one_name s n) b (record b { notes = naming s (lifetime.Named n) b.notes })
 noted_name scope.Nowhere n b = noted_none (extends_refl b.stored) refl
 noted_name scope.Bound n b = record {
   stays = extends_refl b.stored;
