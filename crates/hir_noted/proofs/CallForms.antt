@@ -26,7 +26,7 @@ use Rattle.hir_store.specs.declared.ids.MacroDefId.{MacroDefId}
 use Rattle.hir_env.specs.Answered.{Stmt}
 use Rattle.hir_lower_form.specs.Calls.{behind, define_form, inside_macro}
 use Rattle.hir_lower_form.specs.Lowering.{Lowering}
-use Rattle.hir_noted.specs.Noting.{Noting, none, ◌⊕◌}
+use Rattle.hir_sets.specs.Noting.{Noting, none, ◌⊕◌}
 use Rattle.hir_noted.proofs.Forms.{paren_notes}
 use Rattle.hir_noted.proofs.Logic.{Notes, notes_begin, notes_end, notes_pure, notes_then}
 use Rattle.hir_noted.proofs.PatForms.{missing_pat_notes}

@@ -41,8 +41,8 @@ use Rattle.hir_read_back.proofs.Now.{answered}
 use Rattle.hir_read_back.proofs.Tree.{path_reads}
 use Rattle.hir_read_back.proofs.Walk.{Answers}
 use Rattle.hir_steps.proofs.Logic.{mark}
-use Rattle.hir_noted.specs.Fold.{if_read}
-use Rattle.hir_noted.specs.Noting.{Noting, none, ◌⊕◌}
+use Rattle.hir_sets.specs.Fold.{if_read}
+use Rattle.hir_sets.specs.Noting.{Noting, none, ◌⊕◌}
 use Rattle.hir_noted.proofs.Logic.{Notes, NotesTo, notes_begin, notes_by, notes_end, notes_pure, notes_then}
 use Rattle.hir_noted.proofs.Steps.{notes_close, notes_close_barrier, notes_enter_block, notes_enter_root, notes_expr, notes_jump_target}
 use Rattle.hir_noted.proofs.Steps.{notes_leave_root, notes_open_barrier, notes_open_label, notes_owning, notes_point, notes_point_field}

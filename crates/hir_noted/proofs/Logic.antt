@@ -15,7 +15,8 @@ use Rattle.hir_steps.specs.Keeps.{Paired}
 use Rattle.hir_steps.proofs.Formals.{found_stays}
 use Rattle.hir_steps.proofs.Frames.{Frame, frames, ribs_frames}
 use Rattle.hir_steps.proofs.Logic.{Rel, Holds, Correct}
-use Rattle.hir_noted.specs.Noting.{Fits, Impl, Noted, Noting, OfParam, none, unnamed, ◌⊕◌}
+use Rattle.hir_sets.specs.Noting.{Impl, Noting, none, ◌⊕◌}
+use Rattle.hir_noted.specs.Lists.{Fits, Noted, OfParam, unnamed}
 
 -- ---- one after another
 

@@ -15,7 +15,7 @@ use Rattle.hir_lower_form.specs.Lowering.{Lowering, ◌>>=◌, alloc_made, made_
 use Rattle.hir_lower_form.specs.Made.{made_path_form, made_bind_form, item_call_form, flow_arm_form, residual_form, question_form}
 use Rattle.hir_lower_form.specs.Made.{value_or_unit, wrapped_form, try_block_form, typed_try_form, made_reference_form, next_form}
 use Rattle.hir_lower_form.specs.Made.{done_arm_form, gives_arm_form, for_turn_form, made_loop_form, for_form}
-use Rattle.hir_noted.specs.Noting.{Noting, none, ◌⊕◌}
+use Rattle.hir_sets.specs.Noting.{Noting, none, ◌⊕◌}
 use Rattle.hir_noted.proofs.Forms.{opened_notes}
 use Rattle.hir_noted.proofs.Logic.{Notes, notes_begin, notes_end, notes_pure, notes_then}
 use Rattle.hir_noted.proofs.Steps.{notes_binding, notes_close, notes_define, notes_enter_block, notes_expr, notes_made, notes_made_number}

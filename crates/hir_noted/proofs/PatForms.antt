@@ -33,8 +33,8 @@ use Rattle.hir_lower_form.specs.Targets.{alloc_target}
 use Rattle.hir_lower_form.specs.Types.{TypeSteps, pattern_type_form}
 use Rattle.std.proofs.Common.{sym}
 use Rattle.hir_data.specs.Written.{path_of}
-use Rattle.hir_noted.specs.Fold.{if_read}
-use Rattle.hir_noted.specs.Noting.{Noting, none, ◌⊕◌}
+use Rattle.hir_sets.specs.Fold.{if_read}
+use Rattle.hir_sets.specs.Noting.{Noting, none, ◌⊕◌}
 use Rattle.hir_noted.proofs.Forms.{where_notes}
 use Rattle.hir_noted.proofs.Logic.{Notes, notes_as, notes_end, notes_pure, notes_then}
 use Rattle.hir_noted.proofs.Steps.{notes_binding, notes_count_out, notes_define, notes_expr, notes_made_pat, notes_pat}

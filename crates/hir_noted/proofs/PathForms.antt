@@ -34,8 +34,10 @@ use Rattle.hir_read_back.proofs.Now.{answered}
 use Rattle.hir_read_back.proofs.Walk.{Answers, Says, begins, lists}
 use Rattle.hir_steps.specs.Keeps.{Paired}
 use Rattle.hir_steps.proofs.Logic.{Correct, mark}
-use Rattle.hir_noted.specs.Fold.{if_open, names_among, names_in_args, names_in_list, names_last, names_of_args, text_of, unless}
-use Rattle.hir_noted.specs.Noting.{Noted, Noting, none, ◌⊕◌, cut}
+use Rattle.hir_sets.specs.Fold.{if_open, names_among, names_in_args, names_in_list, names_last, names_of_args, text_of, unless}
+use Rattle.hir_sets.specs.Noting as noting
+use Rattle.hir_sets.specs.Noting.{Noting, none, ◌⊕◌, cut}
+use Rattle.hir_noted.specs.Lists.{Noted}
 use Rattle.hir_noted.proofs.Logic.{Notes, NotesTo, behind_none, noted_both, noted_none, notes_as, notes_begin, notes_by, notes_end}
 use Rattle.hir_noted.proofs.Logic.{notes_pure, notes_then, notes_to_both}
 use Rattle.hir_noted.proofs.Steps.{notes_count_out}
@@ -177,6 +179,13 @@ abbrev cut_named : ℕ → List Bool → Option (List (Option Name)) → Notices
 cut_named mark places None k = k
 cut_named mark places (Some ns) k = kept_input mark (chosen places ns) k
 
+same_chosen : (cs : List Bool) (ns : List (Option Name)) → chosen cs ns ≡ noting.chosen cs ns
+same_chosen [] ns = refl
+same_chosen (c ∷ cs) [] = refl
+same_chosen (true ∷ cs) (Some n ∷ ns) = ap (λ xs. n ∷ xs) (same_chosen cs ns)
+same_chosen (true ∷ cs) (None ∷ ns) = same_chosen cs ns
+same_chosen (false ∷ cs) (n ∷ ns) = same_chosen cs ns
+
 noted_cut : (places : List Bool) (names : Option (List (Option Name))) {n : Noting} {b c : Builder} → Noted n b c
     → Noted (cut (Some places) names n) b (record c { notes = cut_named (length b.notes.named.input) places names c.notes })
 noted_cut places None h = h
@@ -189,7 +198,8 @@ noted_cut places (Some ns) {n = n} {b = b} h = record {
   fits = h.fits;
   bounds = h.bounds;
   input = ap (λ xs. take (length b.notes.named.input) xs ++ chosen places ns) h.input
-      ∙ ap (λ xs. xs ++ chosen places ns) (take-append_seam b.notes.named.input n.input);
+      ∙ (ap (λ xs. xs ++ chosen places ns) (take-append_seam b.notes.named.input n.input)
+      ∙ ap (λ xs. b.notes.named.input ++ xs) (same_chosen places ns));
   output = h.output;
 }
 

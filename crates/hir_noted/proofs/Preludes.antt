@@ -31,7 +31,7 @@ use Rattle.hir_store.specs.Stored.{Stored}
 use Rattle.hir_lower_form.specs.Preludes.{pat_source}
 use Rattle.hir_steps.specs.Keeps.{Paired}
 use Rattle.hir_store.proofs.Extending.{extends_refl}
-use Rattle.hir_noted.specs.Noting.{Noting, none, ◌⊕◌}
+use Rattle.hir_sets.specs.Noting.{Noting, none, ◌⊕◌}
 use Rattle.hir_noted.proofs.Logic.{Notes, noted_none, notes_begin, notes_end, notes_pure, notes_then}
 use Rattle.hir_noted.proofs.Steps.{notes_binding, notes_close_barrier, notes_define, notes_expr, notes_made_number, notes_made_pat}
 use Rattle.hir_noted.proofs.Steps.{notes_open_barrier}

@@ -45,7 +45,7 @@ use Rattle.hir_steps.proofs.PatSteps.{correct_point_pat_field, correct_set_probl
 use Rattle.hir_steps.proofs.Steps.{Opens, correct_alloc, correct_alloc_type, correct_count_out, correct_enter_block, correct_point}
 use Rattle.hir_steps.proofs.Steps.{correct_point_field, correct_report, correct_report_await, correct_target, opens}
 use Rattle.std.proofs.Common.{sym, subst}
-use Rattle.hir_noted.specs.Noting.{Noting, none}
+use Rattle.hir_sets.specs.Noting.{Noting, none}
 use Rattle.hir_noted.proofs.Logic.{LeavesTo, Notes, NotesTo, Quiet, noted_none, notes_begin, notes_end, notes_pure, notes_quiet}
 use Rattle.hir_noted.proofs.Logic.{notes_stored}
 use Rattle.hir_noted.proofs.Logic.{quiet_pure, quiet_stored, quiet_then}

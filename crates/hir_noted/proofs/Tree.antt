@@ -42,24 +42,24 @@ use Rattle.hir_lower_form.specs.Pats as forms
 use Rattle.hir_lower_form.specs.Pats.{Elements, Table, no_elements, no_names, next_alternative}
 use Rattle.std.proofs.Common.{◌+◌, suc, arith, length, length-append}
 use Rattle.hir_lower_form.specs.Builder.{Builder}
-use Rattle.hir_lower_form.specs.Paths.{alias_of}
+use Rattle.hir_env.specs.Paths.{alias_of}
 use Rattle.hir_lower_form.specs.Walks.{at_first}
 use Rattle.hir_data.specs.Rule.{Item}
 use Rattle.hir_data.specs.Written.{items, list_data, path_of, segments}
 use Rattle.hir_read_back.proofs.Going.{path_is}
 use Rattle.hir_read_back.proofs.Tree.{each_goes, list_reads, own_goes, path_goes}
-use Rattle.hir_noted.specs.Fold.{count, front, noted_in}
-use Rattle.hir_noted.specs.Fold.{noted_in_arg, noted_in_args, noted_in_arm, noted_in_arms, noted_in_beside, noted_in_block}
-use Rattle.hir_noted.specs.Fold.{noted_in_block_part, noted_in_bound, noted_in_bounds, noted_in_constant, noted_in_each}
-use Rattle.hir_noted.specs.Fold.{noted_in_each_arg, noted_in_field, noted_in_fields, noted_in_guard, noted_in_limit, noted_in_outer}
-use Rattle.hir_noted.specs.Fold.{noted_in_output, noted_in_param, noted_in_params, noted_in_parens, noted_in_part, noted_in_parts}
-use Rattle.hir_noted.specs.Fold.{noted_in_pat, noted_in_pat_field, noted_in_pat_fields, noted_in_path, noted_in_pats}
-use Rattle.hir_noted.specs.Fold.{noted_in_present_type, noted_in_segment, noted_in_segments, noted_in_side, noted_in_spread}
-use Rattle.hir_noted.specs.Fold.{noted_in_stmt, noted_in_stmts, noted_in_target, noted_in_target_field, noted_in_target_fields}
-use Rattle.hir_noted.specs.Fold.{noted_in_targets, noted_in_top, noted_in_type, noted_in_type_part, noted_in_type_pat}
-use Rattle.hir_noted.specs.Fold.{noted_in_type_pat_part, noted_in_type_pats, noted_in_whole}
+use Rattle.hir_sets.specs.Fold.{count, front, noted_in}
+use Rattle.hir_sets.specs.Fold.{noted_in_arg, noted_in_args, noted_in_arm, noted_in_arms, noted_in_beside, noted_in_block}
+use Rattle.hir_sets.specs.Fold.{noted_in_block_part, noted_in_bound, noted_in_bounds, noted_in_constant, noted_in_each}
+use Rattle.hir_sets.specs.Fold.{noted_in_each_arg, noted_in_field, noted_in_fields, noted_in_guard, noted_in_limit, noted_in_outer}
+use Rattle.hir_sets.specs.Fold.{noted_in_output, noted_in_param, noted_in_params, noted_in_parens, noted_in_part, noted_in_parts}
+use Rattle.hir_sets.specs.Fold.{noted_in_pat, noted_in_pat_field, noted_in_pat_fields, noted_in_path, noted_in_pats}
+use Rattle.hir_sets.specs.Fold.{noted_in_present_type, noted_in_segment, noted_in_segments, noted_in_side, noted_in_spread}
+use Rattle.hir_sets.specs.Fold.{noted_in_stmt, noted_in_stmts, noted_in_target, noted_in_target_field, noted_in_target_fields}
+use Rattle.hir_sets.specs.Fold.{noted_in_targets, noted_in_top, noted_in_type, noted_in_type_part, noted_in_type_pat}
+use Rattle.hir_sets.specs.Fold.{noted_in_type_pat_part, noted_in_type_pats, noted_in_whole}
 use Rattle.hir_noted.specs.Laws.{BoundsNoted, ExprsNoted, PathsNoted, TypesNoted}
-use Rattle.hir_noted.specs.Noting.{Noting, ◌⊕◌, none}
+use Rattle.hir_sets.specs.Noting.{Noting, ◌⊕◌, none}
 use Rattle.hir_noted.proofs.Logic.{Notes, behind_none, both_assoc, noted_by, notes_as, notes_end, notes_pure, notes_then}
 use Rattle.hir_noted.proofs.Steps.{notes_expr, notes_gone, notes_note, notes_told, notes_made_pat, notes_pat, notes_report, notes_type}
 use Rattle.hir_noted.proofs.Forms.{some_notes}

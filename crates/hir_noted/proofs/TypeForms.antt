@@ -45,8 +45,9 @@ use Rattle.hir_steps.specs.Keeps.{Paired}
 use Rattle.hir_steps.proofs.Frames.{Frame, frames, ribs_frames}
 use Rattle.hir_steps.proofs.Logic.{Holds}
 use Rattle.hir_steps.proofs.TypeSteps.{AllocatedType, correct_alloc_lifetime, correct_alloc_type}
-use Rattle.hir_noted.specs.Fold.{becoming, of_use, of_uses}
-use Rattle.hir_noted.specs.Noting.{Impl, Noted, Noting, none, ◌⊕◌, of_lifetime, of_lifetime_option, one_name, one_ref}
+use Rattle.hir_sets.specs.Fold.{becoming, of_use, of_uses}
+use Rattle.hir_sets.specs.Noting.{Impl, Noting, none, ◌⊕◌, of_lifetime, of_lifetime_option, one_name, one_ref}
+use Rattle.hir_noted.specs.Lists.{Noted}
 use Rattle.hir_noted.proofs.Logic.{LeavesTo, Notes, NotesTo, noted_none, notes_begin, notes_by, notes_end, notes_pure, notes_stored}
 use Rattle.hir_noted.proofs.Logic.{notes_then}
 use Rattle.hir_noted.proofs.Steps.{notes_type, quiet_type}

@@ -8,8 +8,8 @@ use Rattle.hir_env.specs.Answered.{Binder, Bound, OptionExpr, OptionPath, Option
 use Rattle.hir_lower_form.specs.Builder.{Builder}
 use Rattle.hir_lower_form.specs.Lower.{lower_bound, lower_part, lower_path, type_part}
 use Rattle.hir_steps.specs.Keeps.{Paired}
-use Rattle.hir_noted.specs.Fold.{noted_in_bound, noted_in_part, noted_in_type_part, noted_in_whole}
-use Rattle.hir_noted.specs.Noting.{Noted}
+use Rattle.hir_sets.specs.Fold.{noted_in_bound, noted_in_part, noted_in_type_part, noted_in_whole}
+use Rattle.hir_noted.specs.Lists.{Noted}
 
 -- from any builder on in which each entry has its source
 

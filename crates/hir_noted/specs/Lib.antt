@@ -1,3 +1,2 @@
-pub mod Noting
-pub mod Fold
+pub mod Lists
 pub mod Laws
