@@ -1,27 +1,22 @@
 -- What calls of macros, closures and definitions of macros note: as much as what stands in them.
-use Rattle.std.proofs.Common.{◌∙◌, refl, sym, ap, subst, List, [], ◌++◌}
 use Rattle.hir_store.specs.Pointers.{Pointer}
-use Rattle.hir_store.specs.declared.diagnostics.ExpressionStoreDiagnostics.{ExpressionStoreDiagnostics}
 use Rattle.hir_store.specs.declared.ids.PatId.{PatId}
 use Rattle.hir_store.specs.declared.ids.TypeRefId.{TypeRefId}
 use Rattle.hir_env.specs.Answered as tree
 use Rattle.hir_env.specs.Answered.{Called, Entered, Gone}
-use Rattle.hir_lower_form.specs.Calls.{note, note_gone, told}
 use Rattle.hir_lower_form.specs.Forms.{ExprSteps, called_form, uncalled_form}
-use Rattle.hir_lower_form.specs.Lowering.{Lowering, point_pat, point_type}
+use Rattle.hir_lower_form.specs.Lowering.{Lowering}
 use Rattle.hir_lower_form.specs.Pats.{called_pat_form, uncalled_pat}
 use Rattle.hir_lower_form.specs.Types.{TypeSteps, called_type_form, uncalled_type}
-use Rattle.std.proofs.Common.{◌∙◌, ap, List, ◌∷◌, ◌++◌, Bool, Option, Some, None}
+use Rattle.std.proofs.Common.{Bool, Option, Some, None}
 use Rattle.hir_store.specs.declared.hir.CoroutineKind.{CoroutineKind}
 use Rattle.hir_store.specs.declared.ids.BlockId.{BlockId}
 use Rattle.hir_store.specs.declared.ids.ExprId.{ExprId}
 use Rattle.hir_lower_form.specs.declared.closures.ClosureParams.{ClosureParams}
-use Rattle.hir_lower_form.specs.Forms.{stored_closure}
 use Rattle.hir_lower_form.specs.Lower.{ExprSteps, StoredContents, closure_form, coroutine_block_form, coroutine_form, param_form}
 use Rattle.hir_lower_form.specs.Lower.{yield_form}
 use Rattle.hir_lower_form.specs.Lowering.{Lowering, owning}
-use Rattle.hir_store.specs.declared.hir.Expr.TheVariants as hir
-use Rattle.std.proofs.Common.{ap, ℕ, List, ◌∷◌, Option, Some}
+use Rattle.std.proofs.Common.{ℕ, Option, Some}
 use Rattle.hir_store.specs.declared.ids.MacroDefId.{MacroDefId}
 use Rattle.hir_env.specs.Answered.{Stmt}
 use Rattle.hir_lower_form.specs.Calls.{behind, define_form, inside_macro}

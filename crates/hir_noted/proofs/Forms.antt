@@ -1,8 +1,8 @@
 -- What expressions note: as much as their parts, in the order in which these are lowered.
-use Rattle.std.proofs.Common.{◌≡◌, ◌∙◌, refl, sym, ap, subst, List, [], ◌∷◌, ◌++◌, append_assoc, append-nil, Option, Some, None, option_map}
-use Rattle.std.proofs.Common.{Bool, true, false, ◌⊎◌, inl, inr}
+use Rattle.std.proofs.Common.{◌≡◌, refl, subst, List, Option, Some, None}
+use Rattle.std.proofs.Common.{Bool, true, false}
 use Rattle.hir_store.specs.Pointers.{Pointer}
-use Rattle.hir_store.specs.Stored.{Stored, store_of, map_of}
+use Rattle.hir_store.specs.Stored.{Stored}
 use Rattle.hir_store.specs.declared.hir.Expr.{Expr as HirExpr}
 use Rattle.hir_store.specs.declared.hir.LoopSource.{LoopSource}
 use Rattle.hir_store.specs.declared.ids.ExprId.{ExprId}
@@ -10,15 +10,12 @@ use Rattle.hir_store.specs.declared.ids.LabelId.{LabelId}
 use Rattle.hir_store.specs.declared.ids.BlockId.{BlockId}
 use Rattle.hir_store.specs.declared.ids.HygieneId.{HygieneId}
 use Rattle.hir_store.specs.declared.path.Path.{Path}
-use Rattle.hir_store.specs.declared.diagnostics.ExpressionStoreDiagnostics.{ExpressionStoreDiagnostics}
-use Rattle.hir_store.specs.declared.diagnostics.ExpressionStoreDiagnostics.TheVariants.{UndeclaredLabel, UnreachableLabel}
-use Rattle.hir_store.specs.declared.diagnostics.ExpressionStoreDiagnostics.TheVariants.{AwaitOutsideOfAsync}
 use Rattle.hir_store.specs.declared.diagnostics.AwaitLocation.{AwaitLocation}
 use Rattle.hir_store.specs.declared.name.Name.{Name}
 use Rattle.hir_env.specs.Answered as tree
 use Rattle.hir_env.specs.Answered.{Label, Jump, OptionPath}
-use Rattle.hir_lower_form.specs.Lowering.{Lowering, ◌>>=◌, pure, alloc_expr, point, report, report_await, enter_block, open_label, close}
-use Rattle.hir_lower_form.specs.Lowering.{jump_target, owning, point_field}
+use Rattle.hir_lower_form.specs.Lowering.{Lowering, ◌>>=◌, open_label, close}
+use Rattle.hir_lower_form.specs.Lowering.{owning}
 use Rattle.hir_lower_form.specs.Lower.{ExprSteps, StoredContents, missing, some, if_form, loop_form, turn_form, call_form}
 use Rattle.hir_lower_form.specs.Lower.{continue_form, break_form}
 use Rattle.hir_lower_form.specs.Lower.{operand_form, operands_form, value_form, list_form, method_call_form, await_form, paren_form}
@@ -28,12 +25,9 @@ use Rattle.hir_store.specs.declared.hir.RecordLitField.{RecordLitField}
 use Rattle.hir_store.specs.declared.hir.RecordSpread.{RecordSpread}
 use Rattle.hir_store.specs.declared.path.GenericArgs.{GenericArgs}
 use Rattle.hir_store.specs.declared.type_ref.ConstRef.{ConstRef}
-use Rattle.hir_data.specs.Reading.{stored_path}
-use Rattle.hir_data.specs.Written.{written_path}
-use Rattle.hir_read_back.proofs.Now.{path_now}
 use Rattle.hir_lower_form.specs.Types.{TypeSteps}
 use Rattle.hir_lower_form.specs.Ranges.{inner_form}
-use Rattle.std.proofs.Common.{ℕ, subst, absurd}
+use Rattle.std.proofs.Common.{ℕ, subst}
 use Rattle.hir_store.proofs.Extending.{extends_refl}
 use Rattle.hir_data.specs.Rule.{PathRead}
 use Rattle.hir_data.specs.Written.{path_of}
@@ -43,7 +37,7 @@ use Rattle.hir_read_back.proofs.Walk.{Answers}
 use Rattle.hir_steps.proofs.Logic.{mark}
 use Rattle.hir_sets.specs.Fold.{if_read}
 use Rattle.hir_sets.specs.Noting.{Noting, none, ◌⊕◌}
-use Rattle.hir_noted.proofs.Logic.{Notes, NotesTo, notes_begin, notes_by, notes_end, notes_pure, notes_then}
+use Rattle.hir_noted.proofs.Logic.{if_there, Notes, NotesTo, notes_begin, notes_by, notes_end, notes_pure, notes_then}
 use Rattle.hir_noted.proofs.Steps.{notes_close, notes_close_barrier, notes_enter_block, notes_enter_root, notes_expr, notes_jump_target}
 use Rattle.hir_noted.proofs.Steps.{notes_leave_root, notes_open_barrier, notes_open_label, notes_owning, notes_point, notes_point_field}
 use Rattle.hir_noted.proofs.Steps.{notes_report_await}
@@ -54,18 +48,18 @@ pub opened_notes : {A B : Type 0} {D : Noting} (l : Label) {p : LabelId → Lowe
 opened_notes l h k = notes_begin (notes_open_label l) (λ n. notes_end (h n) (λ a. notes_begin notes_close (λ u. k n a)))
 
 -- where the path became this
-same_read : {D : Noting} (final : Stored) (n : ℕ) (x : Option PathRead) (o : Option Path) → Answers final n x o → if_read o D ≡ if_read x D
-same_read final n None None h = refl
-same_read final n None (Some o) h = absurd h
-same_read final n (Some x) None h = absurd h
-same_read final n (Some x) (Some o) h = refl
+same_read : (D : Noting) (final : Stored) (n : ℕ) (x : Option PathRead) (o : Option Path) → Answers final n x o → if_there o D ≡ if_read x D
+same_read D final n None None h = refl
+same_read D final n None (Some o) h = absurd h
+same_read D final n (Some x) None h = absurd h
+same_read D final n (Some x) (Some o) h = refl
 
 -- what is noted where the path is read, behind what the path notes
 pub where_notes : (p : OptionPath) {A : Type 0} {W D : Noting} {f : Option Path → Lowering A} → Notes W (lower_path p)
-    → ((o : Option Path) → Notes (if_read o D) (f o)) → Notes (W ⊕ if_read (path_of p) D) (lower_path p >>= f)
-where_notes p {D = D} {f = f} hp h = notes_by hp (λ b o c d e is.
+    → ((o : Option Path) → Notes (if_there o D) (f o)) → Notes (W ⊕ if_read (path_of p) D) (lower_path p >>= f)
+where_notes p {D = D} {f = f} hp h = notes_by (if_read (path_of p) D) f hp (λ b o c d e is.
     let read = answered (path_reads p) b c o d is c.stored (extends_refl c.stored) in
-    subst (λ n. NotesTo n c (f o c).0 (f o c).1) (same_read c.stored (mark c).entries (path_of p) o read.is) ((h o).at c e))
+    subst (λ n. NotesTo n c (f o c).0 (f o c).1) (same_read D c.stored (mark c).entries (path_of p) o read.is) ((h o).at c e))
 
 pub some_notes : {A : Type 0} {D : Noting} {p : Lowering A} → Notes D p → Notes D (some p)
 some_notes h = notes_end h (λ a. notes_pure (Some a))
@@ -170,7 +164,7 @@ module _ (at : Pointer) where
   offset_of_notes names ht = notes_end ht (λ t. notes_expr _ _)
 
   record_of_notes : {D : Noting} {c : Lowering StoredFields} → Notes D c → (p : Option Path)
-      → Notes (if_read p D) (record_of at c p)
+      → Notes (if_there p D) (record_of at c p)
   record_of_notes h None = missing_notes
   record_of_notes h (Some p) = notes_end h (λ r. notes_expr _ _)
 
@@ -188,7 +182,7 @@ module _ (at : Pointer) where
   pub await_notes : (location : Option AwaitLocation) {D : Noting} {e : ExprSteps} → Notes D e
       → Notes D (await_form at location e)
   unfolding await_form
-  await_notes location h = notes_then h (λ i. notes_end (notes_report_await at location) (λ u. notes_expr _ _))
+  await_notes location h = notes_end h (λ i. notes_begin (notes_report_await at location) (λ u. notes_expr _ _))
 
   pub block_form_notes : (is_unsafe : Bool) (label : Option LabelId) (number : Option BlockId) {D : Noting}
       {c : Lowering StoredContents} → Notes D c

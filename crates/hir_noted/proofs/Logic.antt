@@ -1,11 +1,8 @@
 -- Steps by what they note: the logic.
-use Rattle.std.proofs.Common.{◌≡◌, ◌∙◌, refl, sym, ap, subst, ℕ, suc, ◌+◌, arith, length, map, length-append, List, [], ◌∷◌, ◌++◌}
-use Rattle.std.proofs.Common.{append-nil, append_assoc, slice_get, Option, Some, None, Ok, Err}
-use Rattle.hir_store.specs.Arenas.{Prefix}
+use Rattle.std.proofs.Common.{◌≡◌, ◌∙◌, refl, sym, ap, subst, ℕ, suc, ◌+◌, arith, length, length-append, List, [], ◌∷◌, ◌++◌}
+use Rattle.std.proofs.Common.{append-nil, append_assoc, Option, Some, None, Ok, Err}
 use Rattle.hir_store.specs.Stored.{Stored}
-use Rattle.hir_store.specs.Storing as storing
 use Rattle.hir_store.specs.Storing.{Extends, Storing}
-use Rattle.hir_store.specs.declared.generics.TypeOrConstParamData.{TypeOrConstParamData}
 use Rattle.hir_store.specs.declared.generics.WherePredicate.{WherePredicate}
 use Rattle.hir_store.proofs.Extending.{extends_refl, extends_trans}
 use Rattle.hir_lower_form.specs.Builder.{Builder}
@@ -16,7 +13,7 @@ use Rattle.hir_steps.proofs.Formals.{found_stays}
 use Rattle.hir_steps.proofs.Frames.{Frame, frames, ribs_frames}
 use Rattle.hir_steps.proofs.Logic.{Rel, Holds, Correct}
 use Rattle.hir_sets.specs.Noting.{Impl, Noting, none, ◌⊕◌}
-use Rattle.hir_noted.specs.Lists.{Fits, Noted, OfParam, unnamed}
+use Rattle.hir_noted.specs.Lists.{Fits, Noted, unnamed}
 
 -- ---- one after another
 
@@ -58,26 +55,26 @@ fits_append (i ∷ is) js ps qs k l s e f g = record {
 }
 
 -- a list that goes on twice
-twice : {A : Type 0} {xs ys zs : List A} (a b : List A) → ys ≡ xs ++ a → zs ≡ ys ++ b → zs ≡ xs ++ (a ++ b)
-twice {xs = xs} a b e f = f ∙ (ap (λ t. t ++ b) e ∙ append_assoc xs a b)
+twice : {A : Type 0} (xs : List A) {ys zs : List A} (a b : List A) → ys ≡ xs ++ a → zs ≡ ys ++ b → zs ≡ xs ++ (a ++ b)
+twice xs a b e f = f ∙ (ap (λ t. t ++ b) e ∙ append_assoc xs a b)
 
 pub noted_both : {m n : Noting} {b c d : Builder} → Noted m b c → Noted n c d → Noted (m ⊕ n) b d
 noted_both {m = m} {n = n} {b = b} {c = c} {d = d} g h =
     let first = length b.notes.generics.type_or_consts in
     let then = length c.notes.generics.type_or_consts in
     let at : then ≡ first + length m.impls = ap length g.params
-        ∙ (length-append b.notes.generics.type_or_consts (unnamed m.impls) ∙ ap (λ k. first + k) (length_unnamed m.impls)) in record {
+    ∙ (length-append b.notes.generics.type_or_consts (unnamed m.impls) ∙ ap (λ k. first + k) (length_unnamed m.impls)) in record {
       stays = extends_trans g.stays h.stays;
-      params = twice (unnamed m.impls) (unnamed n.impls) g.params h.params
+      params = twice b.notes.generics.type_or_consts (unnamed m.impls) (unnamed n.impls) g.params h.params
           ∙ ap (λ xs. b.notes.generics.type_or_consts ++ xs) (sym (unnamed_append m.impls n.impls));
       lifetimes = h.lifetimes ∙ g.lifetimes;
       added = g.added ++ h.added;
-      predicates = twice g.added h.added g.predicates h.predicates;
+      predicates = twice b.notes.generics.where_predicates g.added h.added g.predicates h.predicates;
       fits = fits_append m.impls n.impls g.added h.added first then d.stored at
           (fits_stays m.impls g.added first h.stays g.fits) h.fits;
-      bounds = twice m.bounds n.bounds g.bounds h.bounds;
-      input = twice m.input n.input g.input h.input;
-      output = twice m.output n.output g.output h.output;
+      bounds = twice b.notes.named.bounds m.bounds n.bounds g.bounds h.bounds;
+      input = twice b.notes.named.input m.input n.input g.input h.input;
+      output = twice b.notes.named.output m.output n.output g.output h.output;
     }
 
 -- what is noted stays
@@ -120,28 +117,28 @@ NotesTo n b (Err e) c = Unit {0}
 pub record Notes {A : Type 0} (n : Noting) (p : Lowering A) : Type 0 where
   pub at : (b : Builder) → Paired b.stored → NotesTo n b (p b).0 (p b).1
 
-pub notes_to_both : {A : Type 0} {m n : Noting} (b c : Builder) → Noted m b c → (o : Checked A) (d : Builder) → NotesTo n c o d
+pub notes_to_both : {A : Type 0} {m : Noting} (n : Noting) (b c : Builder) → Noted m b c → (o : Checked A) (d : Builder) → NotesTo n c o d
     → NotesTo (m ⊕ n) b o d
-notes_to_both b c g (Ok a) d h = (h.0, noted_both g h.1)
-notes_to_both b c g (Err e) d h = tt
+notes_to_both n b c g (Ok a) d h = (h.0, noted_both g h.1)
+notes_to_both n b c g (Err e) d h = tt
 
 pub notes_then : {A B : Type 0} {m n : Noting} {p : Lowering A} {f : A → Lowering B} → Notes m p → ((a : A) → Notes n (f a))
     → Notes (m ⊕ n) (p >>= f)
 notes_then {A = A} {m = m} {n = n} {p = p} {f = f} h k = record { at = λ b d. by b (p b).0 (p b).1 (h.at b d) }
   where
     by : (b : Builder) (o : Checked A) (c : Builder) → NotesTo m b o c → NotesTo (m ⊕ n) b (go_on o c f).0 (go_on o c f).1
-    by b (Ok a) c x = notes_to_both b c x.1 (f a c).0 (f a c).1 ((k a).at c x.0)
+    by b (Ok a) c x = notes_to_both n b c x.1 (f a c).0 (f a c).1 ((k a).at c x.0)
     by b (Err e) c x = tt
 
 -- where what the second is depends on what the first answers
-pub notes_by : {A B : Type 0} {m n : Noting} {p : Lowering A} {f : A → Lowering B} → Notes m p
+pub notes_by : {A B : Type 0} {m : Noting} (n : Noting) {p : Lowering A} (f : A → Lowering B) → Notes m p
     → ((b : Builder) (a : A) (c : Builder) → Paired b.stored → Paired c.stored → p b ≡ (Ok a, c) → NotesTo n c (f a c).0 (f a c).1)
     → Notes (m ⊕ n) (p >>= f)
-notes_by {A = A} {m = m} {n = n} {p = p} {f = f} h k = record { at = λ b d. by b d (p b).0 (p b).1 refl (h.at b d) }
+notes_by {A = A} {m = m} n {p = p} f h k = record { at = λ b d. by b d (p b).0 (p b).1 refl (h.at b d) }
   where
     by : (b : Builder) → Paired b.stored → (o : Checked A) (c : Builder) → p b ≡ (o, c) → NotesTo m b o c
         → NotesTo (m ⊕ n) b (go_on o c f).0 (go_on o c f).1
-    by b d (Ok a) c is x = notes_to_both b c x.1 (f a c).0 (f a c).1 (k b a c d x.0 is)
+    by b d (Ok a) c is x = notes_to_both n b c x.1 (f a c).0 (f a c).1 (k b a c d x.0 is)
     by b d (Err e) c is x = tt
 
 -- the same, otherwise told
@@ -159,6 +156,11 @@ notes_end {n = n} h k = notes_as (behind_none n) (notes_then h k)
 
 pub notes_pure : {A : Type 0} (a : A) → Notes none (pure a)
 notes_pure a = record { at = λ b d. (d, noted_none (extends_refl b.stored) refl) }
+
+-- where something is there
+abbrev pub if_there : {A : Type 0} → Option A → Noting → Noting
+if_there None n = none
+if_there (Some a) n = n
 
 -- ---- steps in which nothing is noted
 
@@ -203,8 +205,8 @@ notes_quiet {p = p} {R = R} h q = record {
 }
 
 -- what only stores
-pub notes_stored : {A : Type 0} {p : Storing A} {R : Rel A} → Correct (stored p) R → Notes none (stored p)
-notes_stored {p = p} h = notes_quiet h (quiet_stored p)
+pub notes_stored : {A : Type 0} (p : Storing A) {R : Rel A} → Correct (stored p) R → Notes none (stored p)
+notes_stored p h = notes_quiet h (quiet_stored p)
 
 -- what it comes to
 pub noted_by : {A : Type 0} {n : Noting} {p : Lowering A} → Notes n p → (b c : Builder) (a : A) → Paired b.stored → p b ≡ (Ok a, c)

@@ -1,8 +1,7 @@
 -- What is made up for `for`, `?` and `try` notes nothing beside what their parts do.
-use Rattle.std.proofs.Common.{◌∙◌, refl, ap, ℕ, Bool, List, [], ◌∷◌, ◌++◌, Option, Some, None}
+use Rattle.std.proofs.Common.{ℕ, Bool, Option, Some, None}
 use Rattle.hir_binding.specs.declared.binding.BindingAnnotation.{BindingAnnotation}
 use Rattle.hir_store.specs.Pointers.{Pointer}
-use Rattle.hir_store.specs.declared.hir.Expr.{Expr as HirExpr}
 use Rattle.hir_store.specs.declared.ids.BlockId.{BlockId}
 use Rattle.hir_store.specs.declared.ids.ExprId.{ExprId}
 use Rattle.hir_store.specs.declared.ids.LabelId.{LabelId}
@@ -11,7 +10,7 @@ use Rattle.hir_store.specs.declared.ids.PatId.{PatId}
 use Rattle.hir_store.specs.declared.ids.TypeRefId.{TypeRefId}
 use Rattle.hir_env.specs.Answered.{ForItems, Label, QuestionItems}
 use Rattle.hir_lower_form.specs.Forms.{ExprSteps, StoredContents}
-use Rattle.hir_lower_form.specs.Lowering.{Lowering, ◌>>=◌, alloc_made, made_number, try_target, open_try, close}
+use Rattle.hir_lower_form.specs.Lowering.{Lowering, ◌>>=◌, open_try, close}
 use Rattle.hir_lower_form.specs.Made.{made_path_form, made_bind_form, item_call_form, flow_arm_form, residual_form, question_form}
 use Rattle.hir_lower_form.specs.Made.{value_or_unit, wrapped_form, try_block_form, typed_try_form, made_reference_form, next_form}
 use Rattle.hir_lower_form.specs.Made.{done_arm_form, gives_arm_form, for_turn_form, made_loop_form, for_form}
@@ -122,4 +121,3 @@ unfolding for_form
 for_notes at head_at items label hh hp hb = notes_then hh (λ h. notes_begin (item_call_notes head_at (Some items.into_iter) h)
     (λ i. notes_then hp (λ p. notes_begin notes_made_number (λ n. notes_begin (made_bind_notes _ n)
     (λ q. notes_end (made_loop_notes at label (for_turn_notes at items n p hb)) (λ l. notes_expr _ _))))))
-

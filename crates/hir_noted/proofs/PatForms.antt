@@ -1,9 +1,7 @@
 -- What patterns, ranges and what is assigned to note: as much as their parts, in the order in which these are lowered.
-use Rattle.std.proofs.Common.{◌≡◌, ◌∙◌, refl, sym, ap, subst, ℕ, suc, Bool, true, false, List, [], ◌∷◌, ◌++◌, Option, Some, None}
+use Rattle.std.proofs.Common.{◌≡◌, refl, sym, ℕ, suc, Bool, true, false, List, [], ◌∷◌, Option, Some, None}
 use Rattle.hir_base.specs.declared.op.RangeOp.{RangeOp}
-use Rattle.hir_binding.specs.declared.binding.BindingProblems.{BindingProblems}
 use Rattle.hir_store.specs.Pointers.{Pointer}
-use Rattle.hir_store.specs.declared.diagnostics.ExpressionStoreDiagnostics.TheVariants.{FruInDestructuringAssignment}
 use Rattle.hir_store.specs.declared.hir.MatchArm.{MatchArm}
 use Rattle.hir_store.specs.declared.ids.BindingId.{BindingId}
 use Rattle.hir_store.specs.declared.ids.ExprId.{ExprId}
@@ -13,18 +11,16 @@ use Rattle.hir_store.specs.declared.ids.PatId.{PatId}
 use Rattle.hir_store.specs.declared.ids.TypeRefId.{TypeRefId}
 use Rattle.hir_store.specs.declared.name.Name.{Name}
 use Rattle.hir_store.specs.declared.name.Name.TheVariants as name
-use Rattle.hir_store.specs.declared.pat.Binding.{Binding}
 use Rattle.hir_store.specs.declared.pat.Pat.{Pat as HirPat}
 use Rattle.hir_store.specs.declared.pat.RecordFieldPat.{RecordFieldPat}
 use Rattle.hir_store.specs.declared.path.Path.{Path as HirPath}
 use Rattle.hir_env.specs.Answered as tree
 use Rattle.hir_env.specs.Answered.{Origin, OptionPath, PatUnary, RangeForm, Signed, Use}
 use Rattle.hir_env.specs.Targets.{origin, source_of}
-use Rattle.hir_data.specs.Written.{written_path}
 use Rattle.hir_lower_form.specs.Forms.{ExprSteps, let_form, match_form, arm_form, assign_form, let_stmt_form}
 use Rattle.hir_lower_form.specs.Lower.{lower_path}
-use Rattle.hir_lower_form.specs.Lowering.{Lowering, ◌>>=◌, pure, alloc_made_pat, alloc_pat, alloc_binding, define, set_problem}
-use Rattle.hir_lower_form.specs.Lowering.{point_pat_field, point_target}
+use Rattle.hir_lower_form.specs.Lowering.{Lowering, ◌>>=◌, pure}
+use Rattle.hir_lower_form.specs.Lowering.{point_target}
 use Rattle.hir_lower_form.specs.Pats as forms
 use Rattle.hir_lower_form.specs.Pats.{Elements, Key, Notes as Notices, PatSteps, Table, missing_pat}
 use Rattle.hir_lower_form.specs.Ranges as ranges
@@ -36,7 +32,7 @@ use Rattle.hir_data.specs.Written.{path_of}
 use Rattle.hir_sets.specs.Fold.{if_read}
 use Rattle.hir_sets.specs.Noting.{Noting, none, ◌⊕◌}
 use Rattle.hir_noted.proofs.Forms.{where_notes}
-use Rattle.hir_noted.proofs.Logic.{Notes, notes_as, notes_end, notes_pure, notes_then}
+use Rattle.hir_noted.proofs.Logic.{if_there, Notes, notes_as, notes_end, notes_pure, notes_then}
 use Rattle.hir_noted.proofs.Steps.{notes_binding, notes_count_out, notes_define, notes_expr, notes_made_pat, notes_pat}
 use Rattle.hir_noted.proofs.Steps.{notes_point_pat_field}
 use Rattle.hir_noted.proofs.Steps.{notes_point_target, notes_problem, notes_report, notes_type}
@@ -65,7 +61,7 @@ name_notes u t = known_notes u t (forms.binding_of (forms.key_of u) t)
 settle_from_notes : (noted : Notices) (number : ℕ) (es : List (Key × BindingId))
     → Notes none (forms.settle_from noted number es)
 settle_from_notes noted number [] = notes_pure tt
-settle_from_notes noted number (e ∷ es) = notes_end (notes_problem _ _) (λ u. settle_from_notes notes (suc number) es)
+settle_from_notes noted number (e ∷ es) = notes_end (notes_problem _ _) (λ u. settle_from_notes noted (suc number) es)
 
 pub settle_notes : Each none forms.settle
 unfolding forms.settle
@@ -133,25 +129,25 @@ module _ (at : Pointer) where
       (λ es. notes_end (notes_pat _ (Some at)) (λ i. notes_pure (i, r.1))))
 
   struct_of_notes : (comma : Bool) {D : Noting} {p : Table → Lowering (Elements × Table)} → Each D p → (t : Table)
-      → (o : Option HirPath) → Notes (if_read o D) (forms.tuple_struct_of at comma p o t)
+      → (o : Option HirPath) → Notes (if_there o D) (forms.tuple_struct_of at comma p o t)
   struct_of_notes comma h t None = alone_notes missing_pat_notes t
   struct_of_notes comma h t (Some o) = notes_end (h t) (λ r. notes_end (elements_note comma r.0)
       (λ es. notes_end (notes_pat _ (Some at)) (λ i. notes_pure (i, r.1))))
 
   pub tuple_struct_notes : (comma : Bool) (q : OptionPath) {W D : Noting} {p : Table → Lowering (Elements × Table)}
       → Notes W (lower_path q) → Each D p
-      → Each (λ ss. W ss ++ if_read (written_path q) (D ss)) (forms.tuple_struct_form at comma p (lower_path q))
+      → Each (W ⊕ if_read (path_of q) D) (forms.tuple_struct_form at comma p (lower_path q))
   unfolding forms.tuple_struct_form
   tuple_struct_notes comma q hq h t = where_notes q hq (λ o. struct_of_notes comma h t o)
 
   record_pat_of_notes : (dots : Bool) {D : Noting} {fs : Table → Lowering (List RecordFieldPat × Table)} → Each D fs
-      → (t : Table) → (o : Option HirPath) → Notes (if_read o D) (forms.record_pat_of at dots fs o t)
+      → (t : Table) → (o : Option HirPath) → Notes (if_there o D) (forms.record_pat_of at dots fs o t)
   record_pat_of_notes dots h t None = alone_notes missing_pat_notes t
   record_pat_of_notes dots h t (Some o) = notes_end (h t) (λ r. notes_end (notes_pat _ (Some at)) (λ i. notes_pure (i, r.1)))
 
   pub record_pat_notes : (dots : Bool) (q : OptionPath) {W D : Noting}
       {fs : Table → Lowering (List RecordFieldPat × Table)} → Notes W (lower_path q) → Each D fs
-      → Each (λ ss. W ss ++ if_read (written_path q) (D ss)) (forms.record_pat_form at dots fs (lower_path q))
+      → Each (W ⊕ if_read (path_of q) D) (forms.record_pat_form at dots fs (lower_path q))
   unfolding forms.record_pat_form
   record_pat_notes dots q hq h t = where_notes q hq (λ o. record_pat_of_notes dots h t o)
 
@@ -161,13 +157,13 @@ module _ (at : Pointer) where
 
   pub slice_pat_notes : {D E F : Noting} {b a : Table → Lowering (List PatId × Table)}
       {m : Table → Lowering (Option PatId × Table)} → Each D b → Each E m → Each F a
-      → Each (λ ss. D ss ++ (E ss ++ F ss)) (forms.slice_pat_form at b m a)
+      → Each (D ⊕ (E ⊕ F)) (forms.slice_pat_form at b m a)
   unfolding forms.slice_pat_form
   slice_pat_notes hb hm ha t = notes_then (hb t) (λ b. notes_then (hm b.1) (λ m. notes_end (ha m.1)
       (λ a. notes_end (notes_pat _ (Some at)) (λ i. notes_pure (i, a.1)))))
 
   pub or_notes : {D E : Noting} {p : PatSteps} {later : List PatId → Table → Lowering (List PatId × Table)} → Each D p
-      → ((done : List PatId) → Each E (later done)) → Each (λ ss. D ss ++ E ss) (forms.or_form at p later)
+      → ((done : List PatId) → Each E (later done)) → Each (D ⊕ E) (forms.or_form at p later)
   unfolding forms.or_form
   or_notes h hs t = notes_then (h (forms.enter_or t)) (λ r. notes_end (hs (r.0 ∷ []) r.1)
       (λ rs. notes_end (or_of_notes at rs.0) (λ i. notes_pure (i, forms.leave_or rs.1))))
@@ -284,7 +280,7 @@ module _ (at : Origin) where
   tuple_target_notes h = notes_end h (λ r. notes_end (elements_note false r) (λ es. target_notes _ at))
 
   call_target_of_notes : {D : Noting} {ps : Lowering Elements} → Notes D ps → (o : Option HirPath)
-      → Notes (if_read o D) (targets.call_target_of at ps o)
+      → Notes (if_there o D) (targets.call_target_of at ps o)
   call_target_of_notes h None = notes_made_pat _ at.call
   call_target_of_notes h (Some o) = notes_end h (λ r. notes_end (elements_note false r) (λ es. target_notes _ at))
 
@@ -310,7 +306,7 @@ module _ (at : Origin) where
 
   record_target_of_notes : (dots : Bool) (spread : Option Pointer) {D : Noting} {fs : Lowering (List RecordFieldPat)}
       → Notes D fs → (o : Option HirPath)
-      → Notes (if_read o D) (targets.record_target_of at dots spread fs o)
+      → Notes (if_there o D) (targets.record_target_of at dots spread fs o)
   record_target_of_notes dots spread h None = notes_made_pat _ at.call
   record_target_of_notes dots spread h (Some o) =
       notes_then (spread_notes spread) (λ u. notes_end h (λ fs. target_notes _ at))
@@ -342,4 +338,3 @@ pub before_notes : (item : Option LangItemId) {D : Noting} {e : ExprSteps} → N
     → Notes D (ranges.before_form item e)
 unfolding ranges.before_form
 before_notes item h = notes_end h (λ e. notes_end (notes_expr _ None) (λ f. notes_expr _ None))
-

@@ -1,6 +1,5 @@
 -- What stands in front of the body of a closure that is a coroutine notes nothing, and the closure what its parts do.
-use Rattle.std.proofs.Common.{◌∙◌, refl, ap, Bool, true, false, List, [], ◌∷◌, ◌++◌, Option, Some, None}
-use Rattle.hir_store.specs.Bindings.{binding_id}
+use Rattle.std.proofs.Common.{refl, Bool, true, false, List, [], ◌∷◌, ◌++◌, Option, Some, None}
 use Rattle.hir_store.specs.Pointers.{Pointer}
 use Rattle.hir_store.specs.declared.hir.CoroutineKind.{CoroutineKind}
 use Rattle.hir_store.specs.declared.hir.CoroutineSource.{CoroutineSource}
@@ -15,21 +14,20 @@ use Rattle.hir_store.specs.declared.name.Name.{Name}
 use Rattle.hir_store.specs.declared.name.Name.TheVariants.{Generated}
 use Rattle.hir_store.specs.declared.pat.Binding.{Binding}
 use Rattle.hir_store.specs.declared.pat.Pat.{Pat}
-use Rattle.hir_env.specs.Answered.{Formals, OptionExpr}
 use Rattle.hir_lower_form.specs.declared.closures.ClosureParams.{ClosureParams}
 use Rattle.hir_lower_form.specs.declared.preludes.Handed.{Handed}
 use Rattle.hir_lower_form.specs.declared.preludes.OwnName.{OwnName}
 use Rattle.hir_lower_form.specs.declared.preludes.Prelude.{Prelude}
 use Rattle.hir_lower_form.specs.Forms.{ExprSteps, root_hygiene}
-use Rattle.hir_lower_form.specs.Lower.{lower_part}
 use Rattle.hir_lower_form.specs.Lowering.{Lowering, owning}
 use Rattle.hir_lower_form.specs.Preludes as forms
 use Rattle.hir_lower_form.specs.Preludes.{alloc_beside, coroutine_closure_form, handed_as, handed_form, let_form, let_param, let_params}
 use Rattle.hir_lower_form.specs.Preludes.{let_self, lower_handed, made_coroutine_form, name_form, no_prelude, stored_coroutine_closure}
 use Rattle.hir_lower_form.specs.Preludes.{two_lets_form, within_form}
+use Rattle.std.proofs.Common.{Ok, slice_get}
+use Rattle.hir_store.specs.Pointers.{flattened}
 use Rattle.hir_store.specs.Stored.{Stored}
 use Rattle.hir_lower_form.specs.Preludes.{pat_source}
-use Rattle.hir_steps.specs.Keeps.{Paired}
 use Rattle.hir_store.proofs.Extending.{extends_refl}
 use Rattle.hir_sets.specs.Noting.{Noting, none, ◌⊕◌}
 use Rattle.hir_noted.proofs.Logic.{Notes, noted_none, notes_begin, notes_end, notes_pure, notes_then}

@@ -1,6 +1,7 @@
 -- Steps that note nothing, one by one.
 use Rattle.std.proofs.Common.{◌≡◌, ◌^◌, refl, ℕ, suc, nat_lt, Bool, true, false, if◌then◌else◌, List, Option, Some, None, Ok, Err}
 use Rattle.hir_binding.specs.declared.binding.BindingProblems.{BindingProblems}
+use Rattle.hir_store.specs.Bindings.{binding_id}
 use Rattle.hir_store.specs.Pointers.{Pointer}
 use Rattle.hir_store.specs.Stored.{store_of}
 use Rattle.hir_store.specs.Storing as storing
@@ -23,7 +24,7 @@ use Rattle.hir_env.specs.Answered.{Called, Entered, Gone, Jump, Label}
 use Rattle.hir_scope.specs.Ribs.{Rib, Target, reachable, unreachable, undeclared, target, try_rib}
 use Rattle.hir_lower_form.specs.Builder.{Builder}
 use Rattle.hir_lower_form.specs.Calls.{note, note_gone, told}
-use Rattle.hir_lower_form.specs.Lowering.{Checked, Lowering, ◌>>=◌, pure, stored, alloc_binding, alloc_expr, alloc_made, alloc_made_pat}
+use Rattle.hir_lower_form.specs.Lowering.{Checked, Lowering, pure, alloc_binding, alloc_expr, alloc_made, alloc_made_pat}
 use Rattle.hir_lower_form.specs.Lowering.{alloc_pat, alloc_type, bindings_end, close, close_barrier, count_def, count_out, define}
 use Rattle.hir_lower_form.specs.Lowering.{enter_block}
 use Rattle.hir_lower_form.specs.Lowering.{enter_root, found_or_fault, jump_target, leave_root, made_number, note_yield, open_as}
@@ -37,14 +38,13 @@ use Rattle.hir_steps.specs.Keeps.{Paired}
 use Rattle.hir_steps.proofs.Calls.{Only, correct_only, correct_point_pat, correct_point_target, correct_point_type, only_gone, only_note}
 use Rattle.hir_steps.proofs.Calls.{only_told}
 use Rattle.hir_steps.proofs.Frames.{rib}
-use Rattle.hir_steps.proofs.Logic.{correct_pure}
 use Rattle.hir_steps.proofs.MadeSteps.{correct_alloc_made, correct_made_number, correct_try_target, made_label, opens_try}
-use Rattle.hir_steps.proofs.Owning.{correct_bindings_end, correct_own}
+use Rattle.hir_steps.proofs.Owning.{correct_own}
 use Rattle.hir_steps.proofs.PatSteps.{correct_alloc_binding, correct_alloc_made_pat, correct_alloc_pat, correct_define}
 use Rattle.hir_steps.proofs.PatSteps.{correct_point_pat_field, correct_set_problem}
-use Rattle.hir_steps.proofs.Steps.{Opens, correct_alloc, correct_alloc_type, correct_count_out, correct_enter_block, correct_point}
+use Rattle.hir_steps.proofs.Steps.{Opens, correct_alloc, correct_alloc_type, correct_enter_block, correct_point}
 use Rattle.hir_steps.proofs.Steps.{correct_point_field, correct_report, correct_report_await, correct_target, opens}
-use Rattle.std.proofs.Common.{sym, subst}
+use Rattle.std.proofs.Common.{sym, subst, length}
 use Rattle.hir_sets.specs.Noting.{Noting, none}
 use Rattle.hir_noted.proofs.Logic.{LeavesTo, Notes, NotesTo, Quiet, noted_none, notes_begin, notes_end, notes_pure, notes_quiet}
 use Rattle.hir_noted.proofs.Logic.{notes_stored}
@@ -54,19 +54,19 @@ use Rattle.hir_noted.proofs.Logic.{quiet_pure, quiet_stored, quiet_then}
 
 pub notes_expr : (e : Expr) (at : Option Pointer) → Notes none (alloc_expr e at)
 unfolding alloc_expr
-notes_expr e at = notes_stored (correct_alloc e at)
+notes_expr e at = notes_stored (storing.alloc_expr e at) (correct_alloc e at)
 
 pub notes_made : (e : Expr) (at : Option Pointer) → Notes none (alloc_made e at)
 unfolding alloc_made
-notes_made e at = notes_stored (correct_alloc_made e at)
+notes_made e at = notes_stored (storing.alloc_made e at) (correct_alloc_made e at)
 
 pub notes_pat : (p : Pat) (at : Option Pointer) → Notes none (alloc_pat p at)
 unfolding alloc_pat
-notes_pat p at = notes_stored (correct_alloc_pat p at)
+notes_pat p at = notes_stored (storing.alloc_pat p at) (correct_alloc_pat p at)
 
 pub notes_made_pat : (p : Pat) (at : Option Pointer) → Notes none (alloc_made_pat p at)
 unfolding alloc_made_pat
-notes_made_pat p at = notes_stored (correct_alloc_made_pat p at)
+notes_made_pat p at = notes_stored (storing.alloc_made_pat p at) (correct_alloc_made_pat p at)
 
 pub quiet_type : (t : TypeRef) (at : Option Pointer) → Quiet (alloc_type t at)
 unfolding alloc_type
@@ -74,43 +74,43 @@ quiet_type t at = quiet_stored (storing.alloc_type t at)
 
 pub notes_type : (t : TypeRef) (at : Option Pointer) → Notes none (alloc_type t at)
 unfolding alloc_type
-notes_type t at = notes_stored (correct_alloc_type t at)
+notes_type t at = notes_stored (storing.alloc_type t at) (correct_alloc_type t at)
 
 pub notes_binding : (b : Binding) → Notes none (alloc_binding b)
 unfolding alloc_binding
-notes_binding b = notes_stored (correct_alloc_binding b)
+notes_binding b = notes_stored (storing.alloc_binding b) (correct_alloc_binding b)
 
 pub notes_define : (i : BindingId) (p : PatId) → Notes none (define i p)
 unfolding define
-notes_define i p = notes_stored (correct_define i p)
+notes_define i p = notes_stored (storing.define i p) (correct_define i p)
 
 pub notes_problem : (i : BindingId) (problem : Option BindingProblems) → Notes none (set_problem i problem)
 unfolding set_problem
-notes_problem i problem = notes_stored (correct_set_problem i problem)
+notes_problem i problem = notes_stored (storing.set_problem i problem) (correct_set_problem i problem)
 
 pub notes_point : (at : Pointer) (i : ExprId) → Notes none (point at i)
 unfolding point
-notes_point at i = notes_stored (correct_point at i)
+notes_point at i = notes_stored (storing.point at i) (correct_point at i)
 
 pub notes_point_field : (i : ExprId) (at : Pointer) → Notes none (point_field i at)
 unfolding point_field
-notes_point_field i at = notes_stored (correct_point_field i at)
+notes_point_field i at = notes_stored (storing.point_field i at) (correct_point_field i at)
 
 pub notes_point_pat : (at : Pointer) (i : PatId) → Notes none (point_pat at i)
 unfolding point_pat
-notes_point_pat at i = notes_stored (correct_point_pat at i)
+notes_point_pat at i = notes_stored (storing.point_pat at i) (correct_point_pat at i)
 
 pub notes_point_target : (at : Pointer) (i : PatId) → Notes none (point_target at i)
 unfolding point_target
-notes_point_target at i = notes_stored (correct_point_target at i)
+notes_point_target at i = notes_stored (storing.point_target at i) (correct_point_target at i)
 
 pub notes_point_type : (at : Pointer) (i : TypeRefId) → Notes none (point_type at i)
 unfolding point_type
-notes_point_type at i = notes_stored (correct_point_type at i)
+notes_point_type at i = notes_stored (storing.point_type at i) (correct_point_type at i)
 
 pub notes_point_pat_field : (i : PatId) (at : Pointer) → Notes none (point_pat_field i at)
 unfolding point_pat_field
-notes_point_pat_field i at = notes_stored (correct_point_pat_field i at)
+notes_point_pat_field i at = notes_stored (storing.point_pat_field i at) (correct_point_pat_field i at)
 
 quiet_report : (d : ExpressionStoreDiagnostics) → Quiet (report d)
 unfolding report
@@ -171,7 +171,7 @@ left_alone {b = b} e h a d = (subst Paired (sym e) d, noted_none (subst (Extends
 
 pub notes_close : Notes none close
 unfolding close
-notes_close = record { at = λ b d. left_alone refl refl tt d }
+notes_close = record { at = λ b d. left_alone refl refl (tt {0}) d }
 
 pub notes_open_barrier : Notes none open_barrier
 unfolding open_barrier
@@ -187,7 +187,7 @@ notes_enter_root = record { at = λ b d. left_alone refl refl b.in_root d }
 
 notes_outside_root : Notes none outside_root
 unfolding outside_root
-notes_outside_root = record { at = λ b d. left_alone refl refl tt d }
+notes_outside_root = record { at = λ b d. left_alone refl refl (tt {0}) d }
 
 notes_record_root : (i : ExprId) → Notes none (record_root i)
 unfolding record_root storing.record_root
@@ -205,15 +205,15 @@ notes_leave_root false i = notes_begin (notes_record_root i) (λ u. notes_outsid
 
 pub notes_open_macro : (d : MacroDefId) → Notes none (open_macro d)
 unfolding open_macro
-notes_open_macro d = record { at = λ b p. left_alone refl refl tt p }
+notes_open_macro d = record { at = λ b p. left_alone refl refl (tt {0}) p }
 
 pub notes_note_yield : Notes none note_yield
 unfolding note_yield
-notes_note_yield = record { at = λ b d. left_alone refl refl tt d }
+notes_note_yield = record { at = λ b d. left_alone refl refl (tt {0}) d }
 
 pub notes_bindings_end : Notes none bindings_end
 unfolding bindings_end
-notes_bindings_end = record { at = λ b d. left_alone refl refl _ d }
+notes_bindings_end = record { at = λ b d. left_alone refl refl (binding_id (length b.stored.bindings.entries)) d }
 
 quiet_try_target : Quiet try_target
 unfolding try_target
@@ -290,7 +290,7 @@ notes_gone why = only_quiet (only_gone why)
 
 notes_own : (start : BindingId) (i : ExprId) → Notes none (own start i)
 unfolding own
-notes_own start i = notes_stored (correct_own start i)
+notes_own start i = notes_stored (storing.own start i) (correct_own start i)
 
 pub notes_owning : {A : Type 0} (owner : A → ExprId) {n : Noting} {p : Lowering A} → Notes n p → Notes n (owning owner p)
 unfolding owning

@@ -1,12 +1,8 @@
 -- What lowering a tree notes is what is read off it: by induction, a line for each kind.
-use Rattle.std.proofs.Common.{◌≡◌, ◌∙◌, refl, sym, ap, List, [], ◌∷◌, ◌++◌, append_assoc, append-nil, option_to_list, Option, Some, None}
+use Rattle.std.proofs.Common.{◌≡◌, refl, sym, List, [], ◌∷◌, ◌++◌, Option, Some, None}
 use Rattle.std.proofs.Common.{Bool, true, false, true≢false}
-use Rattle.hir_store.specs.Stored.{Stored}
-use Rattle.hir_store.specs.declared.hir.CoroutineKind.{CoroutineKind}
 use Rattle.hir_store.specs.declared.hir.Statement.{Statement}
 use Rattle.hir_store.specs.declared.ids.ExprId.{ExprId}
-use Rattle.hir_store.specs.declared.ids.BlockId.{BlockId}
-use Rattle.hir_store.proofs.Extending.{extends_refl}
 use Rattle.hir_env.specs.Answered as tree
 use Rattle.hir_store.specs.declared.hir.RecordLitField.{RecordLitField}
 use Rattle.hir_lower_form.specs.Lower.{lower_fields, lower_field, lower_spread, ExprSteps, kept, lower, lower_part, present, kept_part}
@@ -17,7 +13,7 @@ use Rattle.hir_lower_form.specs.Lower.{lower_bounds, lower_bound, lower_arms, lo
 use Rattle.hir_lower_form.specs.Lower.{lower_alternatives, pat_part, present_pat, lower_pats, lower_elements, lower_later, lower_pat_fields}
 use Rattle.hir_lower_form.specs.Lower.{lower_pat_field}
 use Rattle.hir_lower_form.specs.Lower.{lower_side, lower_type_pat_part, lower_type_pat, lower_type_pats, lower_limit, limit_side}
-use Rattle.hir_lower_form.specs.Lower.{lower_target, lower_targets, lower_target_fields, lower_target_field, some}
+use Rattle.hir_lower_form.specs.Lower.{lower_target, lower_targets, lower_target_fields, lower_target_field}
 use Rattle.hir_env.specs.Answered.{Fields, Field, Spread, Expr, OptionExpr, Exprs, Block, OptionBlock, Stmts, Stmt, Type_, OptionType}
 use Rattle.hir_env.specs.Answered.{Parts, Path, OptionPath, Segments, Segment, SegmentArgs, OptionParens, OptionRet, OptionArgs, Args, Arg}
 use Rattle.hir_env.specs.Answered.{Bounds, Bound, Constant, Binder, Arms, Arm, Guard, Pat, OptionPat, Pats, PatFields, PatField, Side}
@@ -25,7 +21,6 @@ use Rattle.hir_env.specs.Answered.{TypePat, OptionTypePat, TypePats, Limit, Targ
 use Rattle.hir_env.specs.Answered.{Formals, Param, Params}
 use Rattle.hir_env.specs.Targets.{head_pointer}
 use Rattle.hir_lower_form.specs.Lowering.{Lowering}
-use Rattle.hir_data.specs.Written.{written_path}
 use Rattle.hir_store.specs.Pointers.{Pointer}
 use Rattle.hir_lower_form.specs.Walks.{start, super_read}
 use Rattle.hir_store.specs.declared.ids.TypeRefId.{TypeRefId}
@@ -41,7 +36,6 @@ use Rattle.hir_store.specs.declared.ids.PatId.{PatId}
 use Rattle.hir_lower_form.specs.Pats as forms
 use Rattle.hir_lower_form.specs.Pats.{Elements, Table, no_elements, no_names, next_alternative}
 use Rattle.std.proofs.Common.{◌+◌, suc, arith, length, length-append}
-use Rattle.hir_lower_form.specs.Builder.{Builder}
 use Rattle.hir_env.specs.Paths.{alias_of}
 use Rattle.hir_lower_form.specs.Walks.{at_first}
 use Rattle.hir_data.specs.Rule.{Item}
@@ -89,11 +83,14 @@ use Rattle.hir_noted.proofs.Preludes.{coroutine_closure_notes}
 -- a bound for each
 bounds_counted : (done : List TypeBound) (bs : Bounds) → Gives (λ r. length r ≡ length done + count bs) (lower_bounds done bs)
 bounds_counted done tree.no_bounds = gives_pure done (omega arith)
-bounds_counted done (tree.more_bounds b bs) = gives_then (λ x. by x (bounds_counted (done ++ x ∷ []) bs))
+bounds_counted done (tree.more_bounds b bs) = gives_then (lower_bound b) (λ x. by x (bounds_counted (done ++ x ∷ []) bs))
   where
     by : (x : TypeBound) → Gives (λ r. length r ≡ length (done ++ x ∷ []) + count bs) (lower_bounds (done ++ x ∷ []) bs)
         → Gives (λ r. length r ≡ length done + suc (count bs)) (lower_bounds (done ++ x ∷ []) bs)
     by x h = gives_less (λ r e. let n = length-append done (x ∷ []) in omega (arith, e, n)) h
+
+all_counted : (bs : Bounds) → Gives (λ r. length r ≡ count bs) (lower_bounds [] bs)
+all_counted bs = gives_less (λ r e. omega (arith, e)) (bounds_counted [] bs)
 
 kept_noted : (e : Expr) {p : ExprSteps} → Notes (noted_in e) p → Notes (noted_in e) (kept e p)
 kept_noted (tree.disabled_expr why e) h = notes_end (notes_gone why) (λ u. notes_pure None)
@@ -117,7 +114,7 @@ mutual
   one_type_noted b (tree.path_type at p) = path_type_notes at (whole_noted p)
   one_type_noted b (tree.ref_type at l mutability t) = ref_notes at l mutability (type_noted None t)
   one_type_noted b (tree.fn_type at head ts r) = fn_notes at b head (or_unit_noted r) (parts_noted [] ts)
-  one_type_noted b (tree.impl_type at mode bs) = impl_notes at mode (count bs) (bounds_noted [] bs) (bounds_counted [] bs)
+  one_type_noted b (tree.impl_type at mode bs) = impl_notes at mode (count bs) (bounds_noted [] bs) (all_counted bs)
   one_type_noted b (tree.nested_impl at) = notes_type _ _
   one_type_noted b (tree.dyn_type at bs) = dyn_notes at (bounds_noted [] bs)
   one_type_noted b (tree.pattern_type at t own p) = pattern_type_notes at (type_noted None t) (type_pat_part_noted p)
@@ -231,7 +228,7 @@ mutual
   type_pat_noted (tree.other_type_pat at) = notes_pat _ _
 
   type_pat_part_noted : (p : OptionTypePat) → Notes (noted_in_type_pat_part p) (lower_type_pat_part p)
-  type_pat_part_noted tree.no_type_pat = missing_pat_notes entered
+  type_pat_part_noted tree.no_type_pat = missing_pat_notes
   type_pat_part_noted (tree.some_type_pat p) = type_pat_noted p
 
   type_pats_noted : (done : List PatId) (ps : TypePats) → Notes (noted_in_type_pats ps) (lower_type_pats done ps)
@@ -244,11 +241,11 @@ mutual
   limit_noted (tree.before_limit item s) = inner_notes (before_notes item (limit_side_noted s))
 
   limit_side_noted : (s : Side) → Notes (noted_in_side s) (limit_side s)
-  limit_side_noted tree.no_side = missing_notes entered
+  limit_side_noted tree.no_side = missing_notes
   limit_side_noted (tree.literal_side at l) = literal_limit_notes at l
   limit_side_noted (tree.name_side at n _) = name_limit_notes at n
   limit_side_noted (tree.path_side at p) = path_limit_notes at (whole_noted p)
-  limit_side_noted tree.other_side = missing_notes entered
+  limit_side_noted tree.other_side = missing_notes
 
   node_noted : (e : Expr) → Notes (noted_in e) (lower e)
   node_noted (tree.disabled_expr why e) = notes_end (notes_gone why) (λ u. missing_notes)
@@ -259,7 +256,7 @@ mutual
   node_noted (tree.for_expr at items label _ p h b) =
       for_notes at (head_pointer at h) items label (part_noted h) (top_noted p) (part_noted b)
   node_noted (tree.question_expr at items e) = question_notes at items (part_noted e)
-  node_noted (tree.itemless_expr at) = missing_notes entered
+  node_noted (tree.itemless_expr at) = missing_notes
   node_noted (tree.try_expr at item tree.no_type number ss e) =
       notes_as (sym (behind_none _)) (try_block_notes at item false number (contents_noted [] ss (kept_part_noted e)))
   node_noted (tree.try_expr at item (tree.some_type t) number ss e) =
@@ -311,7 +308,7 @@ mutual
   one_param_noted l (tree.param p t) = param_notes l (top_noted p) (present_type_noted t)
 
   part_noted : (e : OptionExpr) → Notes (noted_in_part e) (lower_part e)
-  part_noted tree.no_expr = missing_notes entered
+  part_noted tree.no_expr = missing_notes
   part_noted (tree.some_expr e) = node_noted e
 
   present_noted : (e : OptionExpr) → Notes (noted_in_part e) (present e)
@@ -357,7 +354,7 @@ mutual
       labelled_notes label (λ n. block_form_notes at is_unsafe n number (contents_noted [] ss (kept_part_noted e)))
 
   block_part_noted : (b : OptionBlock) → Notes (noted_in_block_part b) (lower_block_part b)
-  block_part_noted tree.no_block = missing_notes entered
+  block_part_noted tree.no_block = missing_notes
   block_part_noted (tree.some_block b) = block_noted b
 
   present_block_noted : (b : OptionBlock) → Notes (noted_in_block_part b) (present_block b)
@@ -447,7 +444,7 @@ mutual
   side_noted tree.other_side = notes_pure None
 
   pub top_noted : (p : OptionPat) → Notes (noted_in_top p) (lower_top p)
-  top_noted tree.no_pat = missing_pat_notes entered
+  top_noted tree.no_pat = missing_pat_notes
   top_noted (tree.some_pat p) =
       notes_end (pat_noted p no_names) (λ r. notes_end (settle_notes r.1) (λ u. notes_pure r.0))
 

@@ -1,12 +1,10 @@
 -- What lifetimes, types, arguments and bounds note: a lifetime its name, an `impl` in an argument a parameter, and all else what is in it.
-use Rattle.std.proofs.Common.{subst, Bool, true, false, List, ◌++◌, Option, Some, None, is_some}
-use Rattle.hir_lower_form.specs.Walks as walks
+use Rattle.std.proofs.Common.{subst, Bool, true, false, List, ◌++◌, Option, Some, None}
 use Rattle.hir_lower_form.specs.Paths as steps
 use Rattle.hir_lower_form.specs.Lowering.{Lowering, ◌>>=◌, alloc_type}
 use Rattle.hir_lower_form.specs.Types.{array_type_form, lower_lifetime_option, path_bound_of, path_bound_form, binding_form, TypeSteps}
 use Rattle.hir_lower_form.specs.Types.{over_form, tuple_type_form, path_type_form, ref_type_form, fn_type_form, impl_type_form}
 use Rattle.hir_lower_form.specs.Types.{dyn_type_form}
-use Rattle.hir_store.specs.declared.type_ref.TypeRef.{TypeRef}
 use Rattle.hir_store.specs.declared.type_ref.ConstRef.{ConstRef}
 use Rattle.hir_store.specs.Pointers.{Pointer}
 use Rattle.hir_store.specs.declared.hir.Mutability.{Mutability}
@@ -18,10 +16,9 @@ use Rattle.hir_store.specs.declared.type_ref.TypeBound.{TypeBound}
 use Rattle.hir_env.specs.declared.place.ImplTrait.{ImplTrait}
 use Rattle.hir_env.specs.Answered.{Binder, FnHead, Lifetime, TypeUnary}
 use Rattle.hir_lower_form.specs.declared.walk.PathWalk.{PathWalk}
-use Rattle.hir_lower_form.specs.declared.walk.Reading.{Reading}
-use Rattle.hir_lower_form.specs.declared.walk.Reading.TheVariants.{Refused, Ended, Open}
+use Rattle.hir_lower_form.specs.declared.walk.Reading.TheVariants.{Refused}
 use Rattle.hir_lower_form.specs.Paths.{proceed, whole, counted, with_trait, parens_form, or_else, segment_args_form}
-use Rattle.std.proofs.Common.{◌≡◌, ◌∙◌, refl, sym, ap, subst, ℕ, ◌+◌, ◌∷◌, [], length, arith, append-nil, nat_lt, slice_get, Ok, Err}
+use Rattle.std.proofs.Common.{◌≡◌, ◌∙◌, refl, sym, ap, subst, ℕ, ◌∷◌, [], length, append-nil, nat_lt, slice_get, Ok, Err}
 use Rattle.hir_store.specs.Storing as storing
 use Rattle.hir_store.specs.Storing.{Extends}
 use Rattle.hir_store.specs.declared.ids.GenericDefId.{GenericDefId}
@@ -36,13 +33,13 @@ use Rattle.hir_env.specs.Answered as tree
 use Rattle.hir_env.specs.Answered.{UseRead}
 use Rattle.hir_lower_form.specs.Builder.{Builder}
 use Rattle.hir_lower_form.specs.Generics.{naming, predicates_of, unnamed_param, with_bounds, with_param}
-use Rattle.hir_lower_form.specs.Lowering as steps
+use Rattle.hir_lower_form.specs.Lowering as lowering
 use Rattle.hir_lower_form.specs.Lowering.{Checked, go_on, pure, ◌>>◌, add_param, alloc_lifetime, argument_form, count_out, note_down}
 use Rattle.hir_lower_form.specs.Lowering.{param_numbered}
 use Rattle.hir_lower_form.specs.Lowering.{param_type, with_notes}
 use Rattle.hir_lower_form.specs.Types.{error_type, lower_lifetime, lower_use, lower_uses, unit_type}
 use Rattle.hir_steps.specs.Keeps.{Paired}
-use Rattle.hir_steps.proofs.Frames.{Frame, frames, ribs_frames}
+use Rattle.hir_steps.proofs.Frames.{frames, ribs_frames}
 use Rattle.hir_steps.proofs.Logic.{Holds}
 use Rattle.hir_steps.proofs.TypeSteps.{AllocatedType, correct_alloc_lifetime, correct_alloc_type}
 use Rattle.hir_sets.specs.Fold.{becoming, of_use, of_uses}
@@ -64,7 +61,7 @@ unit_notes = notes_type _ None
 
 notes_lifetime : (l : LifetimeRef) (at : Option Pointer) → Notes none (alloc_lifetime l at)
 unfolding alloc_lifetime
-notes_lifetime l at = notes_stored (correct_alloc_lifetime l at)
+notes_lifetime l at = notes_stored (storing.alloc_lifetime l at) (correct_alloc_lifetime l at)
 
 noted_name : (s : LifetimeScope) (n : Name) (b : Builder)
     → Noted (one_name s n) b (record b { notes = naming s (lifetime.Named n) b.notes })
@@ -200,7 +197,7 @@ module _ (def : GenericDefId) (at : Pointer) (n : ℕ) (bs : List TypeBound) (co
   argument_notes = record { at = λ b d. numbered_to b d (nat_lt (place b) 4294967295) }
 
 pub becoming_notes : (mode : ImplTrait) (at : Pointer) (n : ℕ) (bs : List TypeBound) → length bs ≡ n
-    → Notes (becoming mode at n) (steps.becoming at mode bs)
+    → Notes (becoming mode at n) (lowering.becoming at mode bs)
 becoming_notes becomes.Error at n bs e = notes_type _ _
 becoming_notes becomes.Opaque at n bs e = notes_type _ _
 becoming_notes (becomes.Argument def) at n bs e = argument_notes def at n bs e
@@ -218,8 +215,8 @@ pub record Gives {A : Type 0} (P : A → Type 0) (p : Lowering A) : Type 0 where
 pub gives_pure : {A : Type 0} {P : A → Type 0} (a : A) → P a → Gives P (pure a)
 gives_pure a h = record { gives = λ b. h }
 
-pub gives_then : {A B : Type 0} {P : B → Type 0} {p : Lowering A} {f : A → Lowering B} → ((a : A) → Gives P (f a)) → Gives P (p >>= f)
-gives_then {A = A} {P = P} {p = p} {f = f} h = record { gives = λ b. by (p b).0 (p b).1 }
+pub gives_then : {A B : Type 0} {P : B → Type 0} (p : Lowering A) {f : A → Lowering B} → ((a : A) → Gives P (f a)) → Gives P (p >>= f)
+gives_then {A = A} {P = P} p {f = f} h = record { gives = λ b. by (p b).0 (p b).1 }
   where
     by : (o : Checked A) (c : Builder) → GivesTo P (go_on o c f).0
     by (Ok a) c = (h a).gives c
@@ -235,7 +232,7 @@ gives_less {A = A} {P = P} {Q = Q} {p = p} less h = record { gives = λ b. by (p
 pub impl_notes : (at : Pointer) (mode : ImplTrait) (n : ℕ) {D : Noting} {bs : Lowering (List TypeBound)} → Notes D bs
     → Gives (λ r. length r ≡ n) bs → Notes (D ⊕ becoming mode at n) (impl_type_form at mode bs)
 unfolding impl_type_form
-impl_notes at mode n h g = notes_by h
+impl_notes at mode n h g = notes_by (becoming mode at n) (λ r. lowering.becoming at mode r) h
     (λ b r c d e is. (becoming_notes mode at n r (subst (λ o. GivesTo (λ r. length r ≡ n) o.0) is (g.gives b))).at c e)
 
 -- types
