@@ -19,7 +19,11 @@ use hir_store::name::Name;
 use hir_syntax::ast;
 
 /// What is wrong with a jump of this name, at this node, that has no target.
-pub(crate) fn jump_fault(cause: NoTarget, name: Name, node: InFile<AstPtr>) -> ExpressionStoreDiagnostics
+pub(crate) fn jump_fault(
+    cause: NoTarget,
+    name: Name,
+    node: InFile<AstPtr>,
+) -> ExpressionStoreDiagnostics
     ensures { result ≡ step.jump_fault cause node name }
 {
     match cause {

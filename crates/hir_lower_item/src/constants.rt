@@ -59,14 +59,7 @@ pub(crate) fn type_if_present<E: LowerEnv>(
 {
     match part {
         None => Ok(None),
-        Some(part) => Ok(Some(lower_type_node(
-            alloc,
-            env,
-            place,
-            state,
-            &None,
-            part.get(),
-        )?)),
+        Some(part) => Ok(Some(lower_type_node(alloc, env, place, state, &None, part.get())?)),
     }
 }
 

@@ -66,11 +66,7 @@ fn given_args(
 }
 
 /// The path of the trait of a coroutine, with the type that it gives.
-fn coroutine_path(
-    alloc: Global,
-    kind: CoroutineKind,
-    given: TypeRefId,
-) -> Result<Path, AllocError>
+fn coroutine_path(alloc: Global, kind: CoroutineKind, given: TypeRefId) -> Result<Path, AllocError>
     ensures { IfOk result (λ p. p ≡ spec.coroutine_path kind given) }
 {
     let segments = trait_names(alloc, kind)?;

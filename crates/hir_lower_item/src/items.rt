@@ -46,7 +46,17 @@ pub fn trait_form<E: LowerEnv>(
     let name = Name::Text(Text::new(alloc, "Self")?);
     let from = TypeParamProvenance::TraitSelf;
     let inside = in_self_bounds(def, place);
-    type_param_form(alloc, env, inside, state, def, name, None, from, &node.bounds)?;
+    type_param_form(
+        alloc,
+        env,
+        inside,
+        state,
+        def,
+        name,
+        None,
+        from,
+        &node.bounds,
+    )?;
     let list = node.generics.as_ref();
     let clause = node.where_.as_ref();
     generics(alloc, env, place, state, def, list, clause)
@@ -182,6 +192,11 @@ pub fn alias_form<E: LowerEnv>(
     let clause = node.where_.as_ref();
     generics(alloc, env, place, state, def, list, clause)?;
     let ty = type_if_present(alloc, env, inside, state, &node.ty)?;
-    report_missing(state, pointer(place, node.id, node.range), container, &node.ty)?;
+    report_missing(
+        state,
+        pointer(place, node.id, node.range),
+        container,
+        &node.ty,
+    )?;
     Ok((bounds, ty))
 }

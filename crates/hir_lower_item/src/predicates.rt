@@ -182,7 +182,15 @@ fn of_type<E: LowerEnv>(
     let names = binder_if_present(alloc, binder)?;
     let target = Bounded::Type_(id);
     let inside = in_bounds(def, place);
-    ask_each(alloc, env, inside, state, &names, &target, bounds.as_slice())
+    ask_each(
+        alloc,
+        env,
+        inside,
+        state,
+        &names,
+        &target,
+        bounds.as_slice(),
+    )
 }
 
 /// A predicate of a lifetime.
@@ -219,7 +227,16 @@ fn predicate<E: LowerEnv>(
     match (&node.ty, &node.lifetime) {
         (Some(ty), _) => {
             let ty = ty.get();
-            of_type(alloc, env, place, state, def, ty, &node.binder, &node.bounds)
+            of_type(
+                alloc,
+                env,
+                place,
+                state,
+                def,
+                ty,
+                &node.binder,
+                &node.bounds,
+            )
         }
         (None, Some(written)) => {
             of_lifetime(alloc, env, place, state, def, written, &node.bounds)

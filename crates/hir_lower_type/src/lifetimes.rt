@@ -79,10 +79,7 @@ fn binder_names(alloc: Global, mut left: &[Option<ast::Lifetime>]) -> Result<Seq
 
 /// The names that a binder introduces, none where it is absent.
 #[inline(never)]
-pub fn binder(
-    alloc: Global,
-    written: &Option<ast::ForBinder>,
-) -> Result<Seq<Name>, AllocError>
+pub fn binder(alloc: Global, written: &Option<ast::ForBinder>) -> Result<Seq<Name>, AllocError>
     ensures { IfOk result (λ names. names ≡ of.binder_of written.now) }
 {
     match written {

@@ -7,8 +7,8 @@ use hir_env::expand::{Expansion, FragmentKind, OuterMacro};
 use hir_env::lang::LangItems;
 use hir_env::resolved::{Resolved, Shadow};
 use hir_store::ids::{
-    BlockId, CfgId, CrateId, CtxId, DefWithBodyId, HygieneId, ItemContainerId, MacroDefId, ModuleId,
-    TypeAliasId,
+    BlockId, CfgId, CrateId, CtxId, DefWithBodyId, HygieneId, ItemContainerId, MacroDefId,
+    ModuleId, TypeAliasId,
 };
 use hir_store::name::Name;
 use hir_store::path::ModPath;

@@ -22,8 +22,8 @@ use hir_store::source_map::ExpressionStoreSourceMap;
 use hir_store::store::ExpressionStore;
 use hir_syntax::ast;
 use printer::Printer;
-pub use signatures::Signature;
 use shown::Shown;
+pub use signatures::Signature;
 use std::alloc::{AllocError, Global};
 
 /// What is listed: a store with its source map, the language's items by whose names those in it are printed, and whether

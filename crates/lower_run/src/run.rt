@@ -210,12 +210,7 @@ fn listed_function(alloc: Global, document: &Document, item: &Fn) -> Result<Stri
 }
 
 /// The listing of a function or of its body.
-fn listed_item(
-    alloc: Global,
-    mode: Mode,
-    document: &Document,
-    item: &Fn,
-) -> Result<String, Failure>
+fn listed_item(alloc: Global, mode: Mode, document: &Document, item: &Fn) -> Result<String, Failure>
     ensures { IfErr result (λ e. (e ≡ Failure.Memory) ⊎ (e ≡ Failure.Full)) }
 {
     match mode {
@@ -235,8 +230,9 @@ fn lowered_alias(
         file_id: HirFileId(0),
         value: &alias.item,
     };
-    let (store, source_map, params, bounds, ty) =
-        lower_type_alias(alloc, env, container, written, alias.id)?;
+    let (store, source_map, params, bounds, ty) = lower_type_alias(
+        alloc, env, container, written, alias.id,
+    )?;
     drop(source_map);
     drop(bounds);
     match AliasSignature::new(alloc, store, params, ty) {

@@ -31,11 +31,7 @@ fn params(alloc: Global, names: &[&str]) -> Result<GenericParams, AllocError> {
             bound_type: LifetimeBoundType::EarlyBound,
         })?;
     }
-    Ok(GenericParams::new(
-        Seq::new(alloc),
-        lifetimes,
-        Seq::new(alloc),
-    ))
+    Ok(GenericParams::new(Seq::new(alloc), lifetimes, Seq::new(alloc)))
 }
 
 /// Of the first three places, whether the type names the parameter there.
@@ -74,11 +70,7 @@ fn alias_of(
     AliasSignature::new(alloc, store, params(alloc, names)?, ty)
 }
 
-fn named_by(
-    alloc: Global,
-    names: &[&str],
-    ty: Option<TypeRefId>,
-) -> Result<Named, StoreFault> {
+fn named_by(alloc: Global, names: &[&str], ty: Option<TypeRefId>) -> Result<Named, StoreFault> {
     let alias = alias_of(alloc, names, ty)?;
     Ok(flags(&alias))
 }

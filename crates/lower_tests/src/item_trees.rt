@@ -4,8 +4,8 @@ use hir_base::node::{NodeId, TextRange};
 use hir_base::{Boxed, Seq, Text};
 use hir_items::ast::{GenericParam, GenericParamList, Impl, Trait, TypeAlias, WherePred};
 use hir_syntax::ast::{
-    BoundKind, GenericArg, GenericArgList, Name, Path, PathSegment, PathType, SegmentKind, TypeBound,
-    TypeKind, Type_,
+    BoundKind, GenericArg, GenericArgList, Name, Path, PathSegment, PathType, SegmentKind, Type_,
+    TypeBound, TypeKind,
 };
 use std::alloc::{AllocError, Global};
 

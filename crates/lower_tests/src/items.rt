@@ -63,8 +63,13 @@ fn impl_listed(alloc: Global) -> Result<String, Fail> {
         file_id: HirFileId(0),
         value: &item,
     };
-    let (store, source_map, self_type, trait_, params) =
-        lower_impl(alloc, &env, ModuleId(0), written, ImplId(0))?;
+    let (store, source_map, self_type, trait_, params) = lower_impl(
+        alloc,
+        &env,
+        ModuleId(0),
+        written,
+        ImplId(0),
+    )?;
     match trait_ {
         Some(trait_) => {
             let types = [self_type, trait_.path];
@@ -101,8 +106,13 @@ fn told_of_alias(
         file_id: HirFileId(0),
         value: &item,
     };
-    let (_store, source_map, _params, _bounds, _ty) =
-        lower_type_alias(alloc, &env, container, written, TypeAliasId(0))?;
+    let (_store, source_map, _params, _bounds, _ty) = lower_type_alias(
+        alloc,
+        &env,
+        container,
+        written,
+        TypeAliasId(0),
+    )?;
     let faults = source_map.diagnostics();
     let kind = match faults.first() {
         Some(ExpressionStoreDiagnostics::MissingBody { kind, .. }) => Some(*kind),
@@ -114,14 +124,20 @@ fn told_of_alias(
 #[test]
 fn self_is_the_first_parameter_of_a_trait(rt: HostRuntime) -> Result<(), Fail> {
     let text = trait_listed(rt.alloc())?;
-    assert_eq!(rt; text.as_str(), "type 0 Self list\ntype 1 T list\nwhere Self: A\nret -\n");
+    assert_eq!(rt;
+        text.as_str(),
+        "type 0 Self list\ntype 1 T list\nwhere Self: A\nret -\n"
+    );
     Ok(())
 }
 
 #[test]
 fn impl_has_its_type_and_its_trait(rt: HostRuntime) -> Result<(), Fail> {
     let text = impl_listed(rt.alloc())?;
-    assert_eq!(rt; text.as_str(), "type 0 T list\nwhere T: A\narg S\narg Tr::<T>\nret -\n");
+    assert_eq!(rt;
+        text.as_str(),
+        "type 0 T list\nwhere T: A\narg S\narg Tr::<T>\nret -\n"
+    );
     Ok(())
 }
 

@@ -85,11 +85,7 @@ impl<'a> Printer<'a> {
     }
 
     /// Prints the line of the parameter of a number.
-    fn param(
-        &mut self,
-        number: usize,
-        param: &'a TypeOrConstParamData,
-    ) -> Result<(), AllocError> {
+    fn param(&mut self, number: usize, param: &'a TypeOrConstParamData) -> Result<(), AllocError> {
         match param {
             TypeOrConstParamData::TypeParamData(param) => {
                 self.writer.numbered("type ", number)?;
