@@ -1,10 +1,25 @@
 -- What the entry functions make of items.
 use Rattle.std.specs.Prelude.{◌≡◌, ℕ, Bool, List, Option, Ok}
 use Rattle.hir_base.specs.declared.node.HirFileId.{HirFileId}
+use Rattle.hir_items.specs.declared.ast.Fn.{Fn}
+use Rattle.hir_items.specs.declared.ast.GenericParam.{GenericParam}
+use Rattle.hir_items.specs.declared.ast.Impl.{Impl}
+use Rattle.hir_items.specs.declared.ast.Trait.{Trait}
+use Rattle.hir_items.specs.declared.ast.TypeAlias.{TypeAlias}
+use Rattle.hir_items.specs.declared.ast.WherePred.{WherePred}
 use Rattle.hir_store.specs.Stored.{Store, SourceMap, map_of, store_of}
 use Rattle.hir_store.specs.declared.generics.GenericParams.{GenericParams}
+use Rattle.hir_store.specs.declared.ids.FunctionId.{FunctionId}
+use Rattle.hir_store.specs.declared.ids.GenericDefId.{GenericDefId}
+use Rattle.hir_store.specs.declared.ids.GenericDefId.TheVariants as definition
+use Rattle.hir_store.specs.declared.ids.ImplId.{ImplId}
+use Rattle.hir_store.specs.declared.ids.ItemContainerId.{ItemContainerId}
 use Rattle.hir_store.specs.declared.ids.ModuleId.{ModuleId}
+use Rattle.hir_store.specs.declared.ids.TraitId.{TraitId}
+use Rattle.hir_store.specs.declared.ids.TypeAliasId.{TypeAliasId}
 use Rattle.hir_store.specs.declared.ids.TypeRefId.{TypeRefId}
+use Rattle.hir_store.specs.declared.type_ref.TraitRef.{TraitRef}
+use Rattle.hir_store.specs.declared.type_ref.TypeBound.{TypeBound}
 use Rattle.hir_env.specs.Answers.{Answers}
 use Rattle.hir_env.specs.Spot.{Spot}
 use Rattle.hir_env.specs.declared.place.LoweringMode.{LoweringMode}
@@ -13,13 +28,34 @@ use Rattle.hir_lower_form.specs.Lowering.{Lowering}
 use Rattle.hir_lower_form.specs.declared.generics.GenericLists.{GenericLists}
 use Rattle.hir_lower_form.specs.declared.generics.Notes.{Notes}
 use Rattle.hir_lower_handlers.specs.Spots.{spot_at}
+use Rattle.hir_lower_item.specs.Answering.{answered_alias, answered_function, answered_generics, answered_impl, answered_trait}
 use Rattle.hir_lower_item.specs.Kinds.{finished}
+use Rattle.hir_lower_item.specs.Lower.{lower_alias, lower_function, lower_generics, lower_impl, lower_trait}
 use Rattle.hir_lower_item.specs.declared.function.Signature.{Signature}
 use Rattle.hir_lower.specs.Roots.{outside_body}
 
 -- where the parts of an item are read
 abbrev pub item_spot : Answers → HirFileId → ModuleId → LoweringMode → Spot
 item_spot env file inside mode = spot_at env (outside_body env file inside mode)
+
+-- ---- the steps, of an item that is read there
+
+abbrev pub generics_at : Spot → GenericDefId → Option (List GenericParam) → Option (List WherePred) → Lowering (Unit {0})
+generics_at at def ps ws = lower_generics def (answered_generics at def ps ws)
+
+abbrev pub impl_at : Spot → ImplId → Impl → Lowering (TypeRefId × Option TraitRef)
+impl_at at id x = let def = definition.ImplId id in lower_impl def (answered_impl at def x)
+
+abbrev pub trait_at : Spot → TraitId → Trait → Lowering (Unit {0})
+trait_at at id x = let def = definition.TraitId id in lower_trait def (answered_trait at def x)
+
+abbrev pub alias_at : Spot → TypeAliasId → ItemContainerId → TypeAlias → Lowering (List TypeBound × Option TypeRefId)
+alias_at at id container x = let def = definition.TypeAliasId id in lower_alias def (answered_alias at def container x)
+
+abbrev pub function_at : Spot → FunctionId → Fn → Lowering Signature
+function_at at id x = let def = definition.FunctionId id in lower_function def (answered_function at def x)
+
+-- ---- what they make
 
 -- the parameters of all items but functions: each lifetime is early bound
 abbrev pub as_noted : Notes → GenericLists

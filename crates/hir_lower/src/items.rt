@@ -2,12 +2,10 @@
 
 ghost use Rattle.std.specs.Prelude.{◌≡◌, ◌≢◌, Err, IfOk, IfErr, IsErrOf, option_copied};
 ghost use Rattle.hir_store.specs.Range.{InRange};
-ghost use Rattle.hir_store.specs.declared.ids.GenericDefId.TheVariants as definition;
 ghost use Rattle.hir_env.specs.declared.place.LoweringMode.TheVariants as mode_of;
-ghost use Rattle.hir_lower_item.specs.Answering as of;
 ghost use Rattle.hir_lower_item.specs.Kinds as kinds;
-ghost use Rattle.hir_lower_item.specs.Lower as steps;
-ghost use Rattle.hir_lower.specs.Items.{ItemFromNothing, as_noted, item_spot, signature};
+ghost use Rattle.hir_lower.specs.Items.{ItemFromNothing, alias_at, as_noted, function_at, generics_at, impl_at, item_spot, signature};
+ghost use Rattle.hir_lower.specs.Items.{trait_at};
 ghost use Rattle.hir_lower.specs.Roots.{RefusedAtEnd, outside_body};
 
 use crate::error::LowerError;
@@ -62,7 +60,18 @@ fn early_params(notes: Notes) -> GenericParams
     finished(generics)
 }
 
-/// Lowers generic parameters by themselves (upstream's function of this name).
+/// Lowers generic parameters by themselves (upstream's function of this name): the parameters, as they are written, and then what a where
+/// clause asks.
+///
+/// A condition is asked about each parameter at its own node; one that is disabled leaves a fault alone. An `impl` in a bound becomes an
+/// unnamed parameter, behind those inside of its own bounds. A bound that is an error or a `use<..>` becomes no predicate, nor does a trait
+/// of a lifetime. Each lifetime is early bound. Each number in store and source map is in range.
+///
+/// What is answered is what the description of the steps makes, from nothing: parameters, predicates, store and source map are determined
+/// by the tree and the answers. Of the stored types and constants no more is claimed here.
+///
+/// `Memory` where a growth was refused; `Full` only where an arena has reached its limit, or there is no number more for a parameter, a
+/// name that is made up, or what else is counted; never `Failed`. What was stored until then is dropped.
 pub fn lower_generic_params<E: LowerEnv>(
     alloc: Global,
     db: &E,
@@ -74,11 +83,11 @@ pub fn lower_generic_params<E: LowerEnv>(
     mode: LoweringMode,
 ) -> Result<(ExpressionStore, GenericParams, ExpressionStoreSourceMap), LowerError>
     ensures made { let at = item_spot (E.answers db.now) file_id inside mode in
-        let p = steps.lower_generics def (of.answered_generics at def (option_copied param_list.entry) (option_copied where_clause.entry)) in
+        let p = generics_at at def (option_copied param_list.entry) (option_copied where_clause.entry) in
         IfOk result (λ r. ItemFromNothing p as_noted 4294967295 tt r.1 r.0 r.2) }
     ensures in_range { IfOk result (λ r. InRange r.0 r.2) }
     ensures full { let at = item_spot (E.answers db.now) file_id inside mode in
-        let p = steps.lower_generics def (of.answered_generics at def (option_copied param_list.entry) (option_copied where_clause.entry)) in
+        let p = generics_at at def (option_copied param_list.entry) (option_copied where_clause.entry) in
         IsErrOf result LowerError.Full → RefusedAtEnd p 4294967295 }
     ensures own { result ≢ Err LowerError.Failed }
 {
@@ -97,7 +106,14 @@ pub fn lower_generic_params<E: LowerEnv>(
     }
 }
 
-/// Lowers an `impl` (upstream's function of this name).
+/// Lowers an `impl` (upstream's function of this name): its type, which is an error where it is absent, its trait, and then its parameters
+/// and what its where clause asks.
+///
+/// The trait is read only where it is written as a path as it stands; none is answered for another form, nor for a path that is absent or
+/// refused. Of parameters and predicates, of ranges and of what is claimed, the same is so as for `lower_generic_params`.
+///
+/// `Memory` where a growth was refused; `Full` only where an arena has reached its limit, or there is no number more for a parameter, a
+/// name that is made up, or what else is counted; never `Failed`. What was stored until then is dropped.
 pub fn lower_impl<E: LowerEnv>(
     alloc: Global,
     db: &E,
@@ -115,10 +131,12 @@ pub fn lower_impl<E: LowerEnv>(
     LowerError,
 >
     ensures made { let at = item_spot (E.answers db.now) item.entry.file_id inside mode_of.Analysis in
-        IfOk result (λ r. ItemFromNothing (steps.lower_impl (definition.ImplId id) (of.answered_impl at (definition.ImplId id) item.entry.value.now)) as_noted 4294967295 (r.2, r.3) r.4 r.0 r.1) }
+        let p = impl_at at id item.entry.value.now in
+        IfOk result (λ r. ItemFromNothing p as_noted 4294967295 (r.2, r.3) r.4 r.0 r.1) }
     ensures in_range { IfOk result (λ r. InRange r.0 r.1) }
     ensures full { let at = item_spot (E.answers db.now) item.entry.file_id inside mode_of.Analysis in
-        IsErrOf result LowerError.Full → RefusedAtEnd (steps.lower_impl (definition.ImplId id) (of.answered_impl at (definition.ImplId id) item.entry.value.now)) 4294967295 }
+        let p = impl_at at id item.entry.value.now in
+        IsErrOf result LowerError.Full → RefusedAtEnd p 4294967295 }
     ensures own { result ≢ Err LowerError.Failed }
 {
     let place = item_place(db, item.file_id, inside, LoweringMode::Analysis);
@@ -137,7 +155,13 @@ pub fn lower_impl<E: LowerEnv>(
     }
 }
 
-/// Lowers a trait (upstream's function of this name).
+/// Lowers a trait (upstream's function of this name): `Self`, which is its first parameter, with a predicate for each bound of the trait,
+/// and then its other parameters and what its where clause asks.
+///
+/// Of parameters and predicates, of ranges and of what is claimed, the same is so as for `lower_generic_params`.
+///
+/// `Memory` where a growth was refused; `Full` only where an arena has reached its limit, or there is no number more for a parameter, a
+/// name that is made up, or what else is counted; never `Failed`. What was stored until then is dropped.
 pub fn lower_trait<E: LowerEnv>(
     alloc: Global,
     db: &E,
@@ -146,10 +170,12 @@ pub fn lower_trait<E: LowerEnv>(
     id: TraitId,
 ) -> Result<(ExpressionStore, ExpressionStoreSourceMap, GenericParams), LowerError>
     ensures made { let at = item_spot (E.answers db.now) item.entry.file_id inside mode_of.Analysis in
-        IfOk result (λ r. ItemFromNothing (steps.lower_trait (definition.TraitId id) (of.answered_trait at (definition.TraitId id) item.entry.value.now)) as_noted 4294967295 tt r.2 r.0 r.1) }
+        let p = trait_at at id item.entry.value.now in
+        IfOk result (λ r. ItemFromNothing p as_noted 4294967295 tt r.2 r.0 r.1) }
     ensures in_range { IfOk result (λ r. InRange r.0 r.1) }
     ensures full { let at = item_spot (E.answers db.now) item.entry.file_id inside mode_of.Analysis in
-        IsErrOf result LowerError.Full → RefusedAtEnd (steps.lower_trait (definition.TraitId id) (of.answered_trait at (definition.TraitId id) item.entry.value.now)) 4294967295 }
+        let p = trait_at at id item.entry.value.now in
+        IsErrOf result LowerError.Full → RefusedAtEnd p 4294967295 }
     ensures own { result ≢ Err LowerError.Failed }
 {
     let place = item_place(db, item.file_id, inside, LoweringMode::Analysis);
@@ -168,7 +194,14 @@ pub fn lower_trait<E: LowerEnv>(
     }
 }
 
-/// Lowers an alias of a type (upstream's function of this name).
+/// Lowers an alias of a type (upstream's function of this name): its bounds, its parameters and what its where clause asks, and then its
+/// type, where one is written.
+///
+/// An alias of a module or an `impl` owes a type; where it lacks one, that is told last. Of parameters and predicates, of ranges and of
+/// what is claimed, the same is so as for `lower_generic_params`.
+///
+/// `Memory` where a growth was refused; `Full` only where an arena has reached its limit, or there is no number more for a parameter, a
+/// name that is made up, or what else is counted; never `Failed`. What was stored until then is dropped.
 pub fn lower_type_alias<E: LowerEnv>(
     alloc: Global,
     db: &E,
@@ -186,10 +219,12 @@ pub fn lower_type_alias<E: LowerEnv>(
     LowerError,
 >
     ensures made { let at = item_spot (E.answers db.now) item.entry.file_id ((E.answers db.now).module_of container) mode_of.Analysis in
-        IfOk result (λ r. ItemFromNothing (steps.lower_alias (definition.TypeAliasId id) (of.answered_alias at (definition.TypeAliasId id) container item.entry.value.now)) as_noted 4294967295 (r.3, r.4) r.2 r.0 r.1) }
+        let p = alias_at at id container item.entry.value.now in
+        IfOk result (λ r. ItemFromNothing p as_noted 4294967295 (r.3, r.4) r.2 r.0 r.1) }
     ensures in_range { IfOk result (λ r. InRange r.0 r.1) }
     ensures full { let at = item_spot (E.answers db.now) item.entry.file_id ((E.answers db.now).module_of container) mode_of.Analysis in
-        IsErrOf result LowerError.Full → RefusedAtEnd (steps.lower_alias (definition.TypeAliasId id) (of.answered_alias at (definition.TypeAliasId id) container item.entry.value.now)) 4294967295 }
+        let p = alias_at at id container item.entry.value.now in
+        IsErrOf result LowerError.Full → RefusedAtEnd p 4294967295 }
     ensures own { result ≢ Err LowerError.Failed }
 {
     let inside = db.module_of(container);
@@ -220,7 +255,19 @@ fn function_params(alloc: Global, notes: Notes) -> Result<GenericParams, LowerEr
     }
 }
 
-/// Lowers the types of a function (upstream's function of this name).
+/// Lowers the types of a function (upstream's function of this name): its parameters and what its where clause asks; the types of what it
+/// is given, of `self` first; what it returns; whether it has a `self`, and whether it is variadic.
+///
+/// Of what it is given a condition is asked at each node, and all faults are told before the types are read; those that are disabled have
+/// no type, nor has a variadic one. An `impl` among these types becomes an unnamed parameter. `self` without a type is `Self`, or a
+/// reference to it. A function with `async`, `gen` or both returns an `impl` of the trait of its coroutine, of what is written there, or of `()`.
+///
+/// A lifetime parameter is late bound, unless a bound names it, or what is returned names it and nothing that is given does: a projection
+/// doesn't count, and of an alias only the lifetimes that its type names. Of parameters and predicates, of ranges and of what is claimed,
+/// the same is so as for `lower_generic_params`.
+///
+/// `Memory` where a growth was refused; `Full` only where an arena has reached its limit, or there is no number more for a parameter, a
+/// name that is made up, or what else is counted; never `Failed`. What was stored until then is dropped.
 pub fn lower_function<E: LowerEnv>(
     alloc: Global,
     db: &E,
@@ -240,10 +287,12 @@ pub fn lower_function<E: LowerEnv>(
     LowerError,
 >
     ensures made { let at = item_spot (E.answers db.now) item.entry.file_id inside mode_of.Analysis in
-        IfOk result (λ r. ItemFromNothing (steps.lower_function (definition.FunctionId id) (of.answered_function at (definition.FunctionId id) item.entry.value.now)) kinds.of_kinds 4294967295 (signature r.3 r.4 r.5 r.6) r.2 r.0 r.1) }
+        let p = function_at at id item.entry.value.now in
+        IfOk result (λ r. ItemFromNothing p kinds.of_kinds 4294967295 (signature r.3 r.4 r.5 r.6) r.2 r.0 r.1) }
     ensures in_range { IfOk result (λ r. InRange r.0 r.1) }
     ensures full { let at = item_spot (E.answers db.now) item.entry.file_id inside mode_of.Analysis in
-        IsErrOf result LowerError.Full → RefusedAtEnd (steps.lower_function (definition.FunctionId id) (of.answered_function at (definition.FunctionId id) item.entry.value.now)) 4294967295 }
+        let p = function_at at id item.entry.value.now in
+        IsErrOf result LowerError.Full → RefusedAtEnd p 4294967295 }
     ensures own { result ≢ Err LowerError.Failed }
 {
     let place = item_place(db, item.file_id, inside, LoweringMode::Analysis);
