@@ -4,9 +4,7 @@ use Rattle.hir_syntax.specs.declared.ast.Path.{Path as AstPath}
 use Rattle.hir_store.specs.declared.path.Path.{Path as HirPath}
 use Rattle.hir_store.specs.declared.path.GenericArgs.{GenericArgs}
 use Rattle.hir_store.specs.declared.fault.StoreFault.{StoreFault}
-use Rattle.hir_store.specs.Past.{Past, past_path, past_present}
-use Rattle.hir_store.specs.Range.{Grows, Has, HasNone}
-use Rattle.hir_store.specs.Stored.{Stored}
+use Rattle.hir_store.specs.Range.{Grows, HasPathOption}
 use Rattle.hir_env.specs.declared.place.Place.{Place}
 use Rattle.hir_env.specs.Answers.{Answers}
 use Rattle.hir_env.specs.Answered as tree
@@ -19,12 +17,11 @@ use Rattle.hir_lower_form.specs.Builder.{Builder}
 use Rattle.hir_lower_form.specs.Generics.{cut_args}
 use Rattle.hir_lower_form.specs.Lowering.{Checked, Lowering, go_on, ◌>>=◌, ◌>>◌, pure, Lowers, input_end, note_down, with_stored}
 use Rattle.hir_lower_form.specs.Lower.{lower_path, read_path}
-use Rattle.hir_lower_form.specs.Paths.{aliased, alias_of, cut_back, cut_where, cut_with, last_args}
+use Rattle.hir_lower_form.specs.Paths.{aliased, alias_of, cut_back, cut_where, cut_with, last_args, path_cut}
 use Rattle.hir_lower_form.specs.Methods.{LowersPath, ReadsPath}
 use Rattle.hir_lower_form.specs.Walks.{names_read, path_read, start}
 use Rattle.hir_lower_form.specs.declared.walk.Reading.{Reading}
 use Rattle.hir_lower_form.proofs.PathNames.{reading_names}
-use Rattle.hir_lower_form.proofs.Walked.{path_read_has}
 
 -- where no arguments stand beside the last name nothing is cut
 pub no_cut : (mark : ℕ) (a : Option (List Bool)) (p : HirPath) (b : Builder) → last_args p ≡ None
@@ -44,29 +41,23 @@ cut_found mark places p a h = ap (λ o. with_stored (λ s. note_down (cut_args m
 abbrev whole : Lowering Reading → Lowering (Option HirPath)
 whole read = read >>= (λ r. pure (path_read r))
 
-abbrev cut_then : ℕ → Option (List Bool) → Option HirPath → Lowering (Option HirPath)
-cut_then mark a p = cut_where mark a p >> pure p
-
 cut_after : (places : List Bool) (mark : ℕ) (q : Checked Reading) (b : Builder)
     → let o = go_on q b (λ r. pure (path_read r)) in
-    go_on o.0 o.1 (λ p. cut_back mark places p >> pure p) ≡ go_on q b (λ r. cut_then mark (Some places) (path_read r))
+    go_on o.0 o.1 (λ p. cut_back mark places p >> pure p) ≡ go_on q b (λ r. path_cut mark (Some places) (path_read r))
 cut_after places mark (Ok r) b = refl
 cut_after places mark (Err e) b = refl
 
 uncut : (mark : ℕ) (q : Checked Reading) (b : Builder)
-    → go_on q b (λ r. pure (path_read r)) ≡ go_on q b (λ r. cut_then mark None (path_read r))
+    → go_on q b (λ r. pure (path_read r)) ≡ go_on q b (λ r. path_cut mark None (path_read r))
 uncut mark (Ok r) b = refl
 uncut mark (Err e) b = refl
 
 read_then : (a : Option (List Bool)) (read : Lowering Reading) (mark : ℕ) (old : Builder) → input_end old ≡ (Ok mark, old)
-    → aliased a (whole read) old ≡ go_on (read old).0 (read old).1 (λ r. cut_then mark a (path_read r))
+    → aliased a (whole read) old ≡ go_on (read old).0 (read old).1 (λ r. path_cut mark a (path_read r))
 read_then None read mark old h = uncut mark (read old).0 (read old).1
 read_then (Some places) read mark old h =
     ap (λ o. go_on o.0 o.1 (λ m. whole read >>= (λ p. cut_back m places p >> pure p))) h
     ∙ cut_after places mark (read old).0 (read old).1
-
-later : (s t : Stored) (p : Past) → Grows s t → Has s p → Has t p
-later s t p g h = grind (arith)
 
 grown : (old mid new : Builder) → Grows old.stored mid.stored → Grows mid.stored new.stored → Grows old.stored new.stored
 grown old mid new a b = grind (arith)
@@ -83,32 +74,21 @@ module _ (at : Spot) (x : AstPath) (old mid : Builder) (mark : ℕ) (m : input_e
   named_so r h = ap (alias_or_none at.answers at.place) (reading_names y old mid r h) ∙ sym (answered_alias at x)
 
   then_cut : (r : Reading) → read_path y start old ≡ (Ok r, mid)
-      → lower_path (tree.some_path y) old ≡ cut_then mark (of_names r) (path_read r) mid
+      → lower_path (tree.some_path y) old ≡ path_cut mark (of_names r) (path_read r) mid
   then_cut r h =
       read_then (alias_of y) (read_path y start) mark old m
-      ∙ (ap (λ o. go_on o.0 o.1 (λ q. cut_then mark (alias_of y) (path_read q))) h
-      ∙ ap (λ a. cut_then mark a (path_read r) mid) (sym (named_so r h)))
+      ∙ (ap (λ o. go_on o.0 o.1 (λ q. path_cut mark (alias_of y) (path_read q))) h
+      ∙ ap (λ a. path_cut mark a (path_read r) mid) (sym (named_so r h)))
 
-  pub path_lowers : (new : Builder) (r : Reading) → ReadsPath y start old (Ok r) mid
-      → Lowers HasNone (cut_where mark (of_names r) (path_read r)) mid (Ok tt) new
-      → LowersPath (tree.some_path y) old (Ok (path_read r)) new
-  path_lowers new r h k = (
-    then_cut r h.0 ∙ ap (λ o. go_on o.0 o.1 (λ u. pure (path_read r))) k.0,
-    grown old mid new h.1 k.1,
-    later mid.stored new.stored (past_present past_path (path_read r)) k.1 (path_read_has mid.stored r h.2),
-  )
-
-  pub cut_fails : (new : Builder) (r : Reading) (e : StoreFault) → ReadsPath y start old (Ok r) mid
-      → Lowers HasNone (cut_where mark (of_names r) (path_read r)) mid (Err e) new
-      → LowersPath (tree.some_path y) old (Err e) new
-  cut_fails new r e h k = λ n. (
-    then_cut r h.0 ∙ ap (λ o. go_on o.0 o.1 (λ u. pure (path_read r))) (k n).0,
-    (k n).1,
-  )
+  pub path_lowers : (new : Builder) (r : Reading) (p : Checked (Option HirPath)) → ReadsPath y start old (Ok r) mid
+      → Lowers HasPathOption (path_cut mark (of_names r) (path_read r)) mid p new
+      → LowersPath (tree.some_path y) old p new
+  path_lowers new r (Ok p) h k = (then_cut r h.0 ∙ k.0, grown old mid new h.1 k.1, k.2)
+  path_lowers new r (Err e) h k = λ n. (then_cut r h.0 ∙ (k n).0, (k n).1)
 
   pub reading_fails : (e : StoreFault) → ReadsPath y start old (Err e) mid → LowersPath (tree.some_path y) old (Err e) mid
   reading_fails e h = λ n. (
     read_then (alias_of y) (read_path y start) mark old m
-        ∙ ap (λ o. go_on o.0 o.1 (λ q. cut_then mark (alias_of y) (path_read q))) (h n).0,
+    ∙ ap (λ o. go_on o.0 o.1 (λ q. path_cut mark (alias_of y) (path_read q))) (h n).0,
     (h n).1,
   )

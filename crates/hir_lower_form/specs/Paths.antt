@@ -80,6 +80,12 @@ abbrev pub cut_where : ℕ → Option (List Bool) → Option HirPath → Lowerin
 cut_where mark None p = pure tt
 cut_where mark (Some places) p = cut_back mark places p
 
+-- a path that is read
+abbrev pub path_cut : ℕ → Option (List Bool) → Option HirPath → Lowering (Option HirPath)
+path_cut mark alias p = do
+  cut_where mark alias p
+  pure p
+
 -- a path, where it is an alias in an argument with the places of the lifetimes that its type names
 abbrev pub aliased : Option (List Bool) → Lowering (Option HirPath) → Lowering (Option HirPath)
 aliased None path = path

@@ -1,20 +1,21 @@
 //! Types, paths and arguments that may be absent.
 
 ghost use Rattle.std.specs.Prelude.{◌≡◌, Some, option_copied};
-ghost use Rattle.hir_store.specs.Range.{HasNone};
+ghost use Rattle.hir_store.specs.Range.{HasNone, HasPathOption};
 ghost use Rattle.hir_env.specs.Answered.{some_path};
 ghost use Rattle.hir_env.specs.Paths.{alias_or_none};
 ghost use Rattle.hir_env.specs.Whole.{answered_path, arg_list_part, path_part, type_part};
 ghost use Rattle.hir_lower_form.specs.Lowering.{Lowers};
 ghost use Rattle.hir_lower_form.specs.Nests.{IfPresent};
-ghost use Rattle.hir_lower_form.specs.Methods.{LowersArgs, LowersPath, LowersTypeIfPresent, LowersTypeOpt, at_place};
-ghost use Rattle.hir_lower_form.specs.Paths.{cut_where};
+ghost use Rattle.hir_lower_form.specs.Methods.{HasReading, LowersArgs, LowersPath, LowersTypeIfPresent, LowersTypeOpt, at_place};
+ghost use Rattle.hir_lower_form.specs.Paths.{cut_where, path_cut};
 ghost use Rattle.hir_lower_form.specs.Paths as spec;
 ghost use Rattle.hir_lower_form.specs.Walks.{names_in, names_read};
+ghost use Rattle.hir_lower_form.specs.Walks.{path_read as read_of};
 
 use crate::builder::BodyBuilder;
 use crate::parts::{LowerParts, Lowerer};
-use crate::walk::{PathWalk, path_read};
+use crate::walk::{PathWalk, Reading, path_read};
 use hir_env::place::Place;
 use hir_store::fault::StoreFault;
 use hir_store::ids::TypeRefId;
@@ -125,6 +126,26 @@ impl<P: LowerParts> Lowerer<P> {
         }
     }
 
+    /// The path that was read at this place, or none where it is refused; it is cut behind the mark. (It is a function of its own since
+    /// what calls it is open at each level of a path.)
+    #[tactic(auto, using(crate::proofs::Walked::path_read_has))]
+    #[inline(never)]
+    fn whole_path(
+        &self,
+        state: &mut BodyBuilder,
+        place: Place,
+        mark: usize,
+        reading: Reading,
+    ) -> Result<Option<Path>, StoreFault>
+        requires { HasReading state.old.stored reading }
+        ensures { let alias = alias_or_none (P.spot self.now.parts).answers place (names_read (read_of reading)) in
+            Lowers HasPathOption (path_cut mark alias (read_of reading)) state.old result state.new }
+    {
+        let path = path_read(reading);
+        self.cut_alias(state, place, mark, &path)?;
+        Ok(path)
+    }
+
     /// The whole path, read at this place, or none where it is refused.
     #[inline(never)]
     pub fn lower_path(
@@ -138,10 +159,10 @@ impl<P: LowerParts> Lowerer<P> {
     {
         let mark = state.input_end();
         let walk = PathWalk::new(self.alloc);
-        let reading = self.parts.read_path(state, place, walk, node)?;
-        let path = path_read(reading);
-        self.cut_alias(state, place, mark, &path)?;
-        Ok(path)
+        match self.parts.read_path(state, place, walk, node) {
+            Ok(reading) => self.whole_path(state, place, mark, reading),
+            Err(fault) => Err(fault),
+        }
     }
 
     /// The path, read at this place, or none where it is absent or refused.
