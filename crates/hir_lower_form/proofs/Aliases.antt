@@ -89,6 +89,6 @@ module _ (at : Spot) (x : AstPath) (old mid : Builder) (mark : ℕ) (m : input_e
   pub reading_fails : (e : StoreFault) → ReadsPath y start old (Err e) mid → LowersPath (tree.some_path y) old (Err e) mid
   reading_fails e h = λ n. (
     read_then (alias_of y) (read_path y start) mark old m
-    ∙ ap (λ o. go_on o.0 o.1 (λ q. path_cut mark (alias_of y) (path_read q))) (h n).0,
+        ∙ ap (λ o. go_on o.0 o.1 (λ q. path_cut mark (alias_of y) (path_read q))) (h n).0,
     (h n).1,
   )
