@@ -1,12 +1,10 @@
 -- Paths that are aliases in arguments.
-use Rattle.std.proofs.Common.{arith, ◌≡◌, ◌∙◌, refl, sym, ap, subst, ℕ, Bool, List, Option, Some, None, Ok, Err}
+use Rattle.std.proofs.Common.{arith, ◌≡◌, ◌∙◌, refl, sym, ap, ℕ, Bool, List, Option, Some, None, Ok, Err}
 use Rattle.hir_syntax.specs.declared.ast.Path.{Path as AstPath}
 use Rattle.hir_store.specs.declared.path.Path.{Path as HirPath}
 use Rattle.hir_store.specs.declared.path.GenericArgs.{GenericArgs}
 use Rattle.hir_store.specs.declared.fault.StoreFault.{StoreFault}
 use Rattle.hir_store.specs.Range.{Grows, HasPathOption}
-use Rattle.hir_env.specs.declared.place.Place.{Place}
-use Rattle.hir_env.specs.Answers.{Answers}
 use Rattle.hir_env.specs.Answered as tree
 use Rattle.hir_env.specs.Answered.{Path}
 use Rattle.hir_env.specs.Paths.{alias_or_none}
