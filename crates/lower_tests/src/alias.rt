@@ -1,5 +1,8 @@
 //! Aliases: which lifetime parameters a type names, by calls, and asked of an object.
 
+ghost use Rattle.std.specs.Prelude.{IfOk};
+ghost use Rattle.hir_store.specs.Range.{HasType};
+
 use hir_alias::signature::AliasSignature;
 use hir_alias::visitor::Visitor;
 use hir_base::{Seq, Text};
@@ -16,7 +19,6 @@ use hir_store::path::{
 use hir_store::type_ref::{LifetimeRef, RefType, TypeRef};
 use hir_tables::table::TableEnv;
 use std::alloc::{AllocError, Global};
-use std::test::Fail;
 
 fn name(alloc: Global, text: &str) -> Result<Name, AllocError> {
     Ok(Name::Text(Text::new(alloc, text)?))
@@ -45,9 +47,13 @@ fn flags(alias: &AliasSignature) -> Named {
     ]
 }
 
-/// The store of `&'b ()`, in which `()` is the first type and the reference the second.
-fn reference(alloc: Global) -> Result<ExpressionStoreBuilder, StoreFault> {
-    let mut builder = ExpressionStoreBuilder::new(alloc, 10);
+/// Stores `()`, and `&'b ()`, whose number is answered.
+fn store_reference(
+    alloc: Global,
+    builder: &mut ExpressionStoreBuilder,
+) -> Result<TypeRefId, StoreFault>
+    ensures { IfOk result (λ ty. HasType builder.new ty) }
+{
     let ty = builder.alloc_type(TypeRef::Tuple(Seq::new(alloc)), None)?;
     let lifetime = builder.alloc_lifetime(LifetimeRef::Named(name(alloc, "'b")?), None)?;
     let reference = RefType {
@@ -55,17 +61,18 @@ fn reference(alloc: Global) -> Result<ExpressionStoreBuilder, StoreFault> {
         lifetime: Some(lifetime),
         mutability: Mutability::Shared,
     };
-    builder.alloc_type(TypeRef::Reference(reference), None)?;
-    Ok(builder)
+    builder.alloc_type(TypeRef::Reference(reference), None)
 }
 
-/// An alias with parameters of these names, whose type is that of this number in the store of `&'b ()`.
+/// An alias with parameters of these names, whose type is that of this number in a store of `()`, which is the first, and `&'b ()`.
 fn alias_of(
     alloc: Global,
     names: &[&str],
     ty: Option<TypeRefId>,
 ) -> Result<AliasSignature, StoreFault> {
-    let (store, source_map) = reference(alloc)?.finish();
+    let mut builder = ExpressionStoreBuilder::new(alloc, 2);
+    store_reference(alloc, &mut builder)?;
+    let (store, source_map) = builder.finish();
     drop(source_map);
     AliasSignature::new(alloc, store, params(alloc, names)?, ty)
 }
@@ -138,16 +145,57 @@ fn arguments_with_self_are_passed_over(rt: HostRuntime) {
     assert!(rt; path_named(rt.alloc(), true) == Ok([false; 3]));
 }
 
-/// A pair of `&'b ()`, a pair of that pair, and so on: so many of them have more than a million million million types written out.
+/// Stores a pair of a type and itself.
+fn pair(
+    alloc: Global,
+    builder: &mut ExpressionStoreBuilder,
+    ty: TypeRefId,
+) -> Result<TypeRefId, StoreFault>
+    requires { HasType builder.old ty }
+    ensures { IfOk result (λ pair. HasType builder.new pair) }
+{
+    let fields = Seq::from_slice(alloc, &[ty, ty])?;
+    builder.alloc_type(TypeRef::Tuple(fields), None)
+}
+
+/// A pair of pairs, four times.
+fn pairs(
+    alloc: Global,
+    builder: &mut ExpressionStoreBuilder,
+    ty: TypeRefId,
+) -> Result<TypeRefId, StoreFault>
+    requires { HasType builder.old ty }
+    ensures { IfOk result (λ pair. HasType builder.new pair) }
+{
+    let once = pair(alloc, builder, ty)?;
+    let twice = pair(alloc, builder, once)?;
+    let again = pair(alloc, builder, twice)?;
+    pair(alloc, builder, again)
+}
+
+/// The same, sixteen times.
+fn more_pairs(
+    alloc: Global,
+    builder: &mut ExpressionStoreBuilder,
+    ty: TypeRefId,
+) -> Result<TypeRefId, StoreFault>
+    requires { HasType builder.old ty }
+    ensures { IfOk result (λ pair. HasType builder.new pair) }
+{
+    let once = pairs(alloc, builder, ty)?;
+    let twice = pairs(alloc, builder, once)?;
+    let again = pairs(alloc, builder, twice)?;
+    pairs(alloc, builder, again)
+}
+
+/// The same, 64 times: written out, the type has more than a million million million references.
 fn pairs_named(alloc: Global) -> Result<Named, StoreFault> {
-    let mut builder = reference(alloc)?;
-    let mut last = builder.alloc_type(TypeRef::Never, None)?;
-    for _ in 0..64 {
-        let mut pair = Seq::new(alloc);
-        pair.push(last)?;
-        pair.push(last)?;
-        last = builder.alloc_type(TypeRef::Tuple(pair), None)?;
-    }
+    let mut builder = ExpressionStoreBuilder::new(alloc, 66);
+    let reference = store_reference(alloc, &mut builder)?;
+    let once = more_pairs(alloc, &mut builder, reference)?;
+    let twice = more_pairs(alloc, &mut builder, once)?;
+    let again = more_pairs(alloc, &mut builder, twice)?;
+    let last = more_pairs(alloc, &mut builder, again)?;
     let (store, source_map) = builder.finish();
     drop(source_map);
     let alias = AliasSignature::new(alloc, store, params(alloc, &["'a", "'b"])?, Some(last))?;
@@ -156,7 +204,7 @@ fn pairs_named(alloc: Global) -> Result<Named, StoreFault> {
 
 #[test]
 fn a_type_is_gone_into_once(rt: HostRuntime) {
-    assert!(rt; pairs_named(rt.alloc()).is_ok());
+    assert!(rt; pairs_named(rt.alloc()) == Ok([false, true, false]));
 }
 
 /// What a visitor says before and after it walks.
