@@ -4,7 +4,7 @@ ghost use Rattle.std.specs.Prelude.{◌≡◌, IfOk};
 ghost use Rattle.hir_syntax.specs.declared.ast.PathSegment.{out-PathSegment};
 ghost use Rattle.hir_store.specs.Range.{HasArgsOption, HasType};
 ghost use Rattle.hir_env.specs.Whole.{parens_part, ret_part, segment_args_level, type_args_part};
-ghost use Rattle.hir_lower_form.specs.Lowering.{Lowers};
+ghost use Rattle.hir_lower_form.specs.Lowering.{Lowers, ◌>>=◌, pure};
 ghost use Rattle.hir_lower_form.specs.Lower as spec;
 ghost use Rattle.hir_lower_form.specs.Paths as forms;
 ghost use Rattle.hir_lower_form.specs.Methods.{LowersParts};
@@ -93,8 +93,31 @@ fn parens<P: LowerParts>(
     Ok(Some(sugared_args(lowerer.alloc, tuple, output)?))
 }
 
+/// These arguments, or else `(A) -> C`, or else `(..)`.
+#[inline(never)]
+fn found_or_parens<P: LowerParts>(
+    lowerer: &Lowerer<P>,
+    state: &mut BodyBuilder,
+    node: &ast::PathSegment,
+    found: Option<GenericArgs>,
+) -> Result<Option<GenericArgs>, StoreFault>
+    requires parts { let level = out-PathSegment node.now in
+        KidsParens (P.can lowerer.now.parts) (P.spot lowerer.now.parts).place level.parens level.ret }
+    requires found { HasArgsOption state.old.stored found }
+    ensures { let level = out-PathSegment node.now in
+        let parens = spec.parens_part (parens_part (P.spot lowerer.now.parts) level.parens level.ret) in
+        Lowers HasArgsOption (forms.or_else found parens >>= (λ p. pure (forms.or_notation p level.rtn))) state.old result state.new }
+{
+    let found = match found {
+        Some(args) => Some(args),
+        None => parens(lowerer, state, &node.parens, &node.ret)?,
+    };
+    Ok(or_notation(lowerer.alloc, found, node.rtn))
+}
+
 /// Of `<..>`, `(A) -> C` and `(..)` the first that yields any.
 #[tactic(auto, unfolding(hir_lower_form::specs::Paths::segment_args_form))]
+#[inline(never)]
 pub(crate) fn segment_args<P: LowerParts>(
     lowerer: &Lowerer<P>,
     state: &mut BodyBuilder,
@@ -105,9 +128,6 @@ pub(crate) fn segment_args<P: LowerParts>(
         Lowers HasArgsOption (spec.lower_segment_args level) state.old result state.new }
 {
     let place = lowerer.parts.place();
-    let found = match lowerer.args_if_present(state, place, &node.generics)? {
-        Some(args) => Some(args),
-        None => parens(lowerer, state, &node.parens, &node.ret)?,
-    };
-    Ok(or_notation(lowerer.alloc, found, node.rtn))
+    let found = lowerer.args_if_present(state, place, &node.generics)?;
+    found_or_parens(lowerer, state, node, found)
 }
