@@ -6,6 +6,7 @@ pub mod bounds;
 mod calls;
 mod functions;
 pub mod lifetimes;
+pub mod one_arg;
 mod part;
 pub mod places;
 mod simple;
