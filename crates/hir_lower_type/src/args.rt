@@ -82,6 +82,7 @@ fn assoc_arg<P: LowerParts>(
     assoc_form(lowerer, state, node)
 }
 
+#[inline(never)]
 fn type_arg<P: LowerParts>(
     lowerer: &Lowerer<P>,
     state: &mut BodyBuilder,
@@ -114,6 +115,7 @@ fn lifetime_arg<P: LowerParts>(
     }
 }
 
+#[inline(never)]
 fn const_arg<P: LowerParts>(
     lowerer: &Lowerer<P>,
     state: &mut BodyBuilder,
@@ -128,6 +130,7 @@ fn const_arg<P: LowerParts>(
     Ok(OneArg::Arg(GenericArg::Const(constant)))
 }
 
+#[inline(never)]
 fn arg_form<P: LowerParts>(
     lowerer: &Lowerer<P>,
     state: &mut BodyBuilder,
