@@ -143,9 +143,12 @@ lower_generics def g = do
 abbrev pub self_text : Name
 self_text = name.Text (codes "Self")
 
+abbrev pub self_param : GenericDefId → Bounds → Lowering (Unit {0})
+self_param def bs = type_param_form def self_text None provenance.TraitSelf bs
+
 abbrev pub lower_trait : GenericDefId → Trait → Lowering (Unit {0})
 lower_trait def x = do
-  type_param_form def self_text None provenance.TraitSelf x.bounds
+  self_param def x.bounds
   lower_generics def x.generics
 
 -- a path that is refused is no trait

@@ -7,6 +7,7 @@ ghost use Rattle.hir_lower_form.specs.Lower.{lower_bounds};
 ghost use Rattle.hir_lower_form.specs.Lowering.{Lowers};
 ghost use Rattle.hir_lower_handlers.specs.Spots.{spot_at};
 ghost use Rattle.hir_lower_item.specs.Answering as of;
+ghost use Rattle.hir_lower_item.specs.Answering.{at_place};
 ghost use Rattle.hir_lower_item.specs.Has.{HasAlias, HasImpl, HasTraitOption};
 ghost use Rattle.hir_lower_item.specs.Lower as spec;
 
@@ -31,6 +32,24 @@ use hir_store::type_ref::{TraitRef, TypeBound, TypeRef};
 use hir_syntax::{Boxed, Seq, Text, ast};
 use std::alloc::Global;
 
+/// The parameter that the `Self` of a trait is, with these bounds.
+fn self_param<E: LowerEnv>(
+    alloc: Global,
+    env: &E,
+    place: Place,
+    state: &mut BodyBuilder,
+    def: GenericDefId,
+    bounds: &Seq<ast::TypeBound>,
+) -> Result<(), StoreFault>
+    ensures { let at = at_place (of.in_self_bounds def) (spot_at (E.answers env.now) place) in
+        Lowers HasNone (spec.self_param def (bounds_part at bounds.now)) state.old result state.new }
+{
+    let name = Name::Text(Text::new(alloc, "Self")?);
+    let from = TypeParamProvenance::TraitSelf;
+    let inside = in_self_bounds(def, place);
+    type_param_form(alloc, env, inside, state, def, name, None, from, bounds)
+}
+
 /// The parameters and the predicates of a trait, of which `Self` is the first parameter.
 pub fn trait_form<E: LowerEnv>(
     alloc: Global,
@@ -43,23 +62,10 @@ pub fn trait_form<E: LowerEnv>(
     ensures { let at = spot_at (E.answers env.now) place in
         Lowers HasNone (spec.lower_trait def (of.answered_trait at def node.now)) state.old result state.new }
 {
-    let name = Name::Text(Text::new(alloc, "Self")?);
-    let from = TypeParamProvenance::TraitSelf;
-    let inside = in_self_bounds(def, place);
-    type_param_form(
-        alloc,
-        env,
-        inside,
-        state,
-        def,
-        name,
-        None,
-        from,
-        &node.bounds,
-    )?;
-    let list = node.generics.as_ref();
-    let clause = node.where_.as_ref();
-    generics(alloc, env, place, state, def, list, clause)
+    let params = node.generics.as_ref();
+    let asked = node.where_.as_ref();
+    self_param(alloc, env, place, state, def, &node.bounds)?;
+    generics(alloc, env, place, state, def, params, asked)
 }
 
 /// The path is stored as a type from this node; one that is refused is no trait.
