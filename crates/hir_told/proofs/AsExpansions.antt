@@ -1,5 +1,5 @@
 -- Which calls of macros are entered: an instance, by that of lists, of which these are alike in all scopes.
-use Rattle.std.proofs.Common.{◌≡◌, ◌∙◌, refl, sym, [], ◌++◌, append-nil, Option, Some, None, Ok}
+use Rattle.std.proofs.Common.{◌≡◌, ◌∙◌, refl, sym, [], ◌++◌, append-nil, Option, Some, None, Ok, List}
 use Rattle.hir_store.specs.Stored.{Stored}
 use Rattle.hir_store.specs.declared.expansions.ExpandedCall.{ExpandedCall}
 use Rattle.hir_store.specs.declared.ids.BlockId.{BlockId}
@@ -50,7 +50,7 @@ expanded = record {
   both = λ xs ys us vs e f. λ i. e i ++ f i;
 }
 
-impls : (at : Pointer) (mode : ImplTrait) (bounds : List TypeBound)
+pub impls : (at : Pointer) (mode : ImplTrait) (bounds : List TypeBound)
     → Correct (becoming at mode bounds) (Tells expanded (λ ss. grade_impl expansions mode at))
 impls at becomes.Error bounds = (tells_graded expanded).impl_is at becomes.Error bounds
 impls at becomes.Opaque bounds = (tells_graded expanded).impl_is at becomes.Opaque bounds

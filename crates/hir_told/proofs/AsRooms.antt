@@ -1,7 +1,7 @@
 -- As much as is told is stored, or there is no room for it: an instance. Of steps that make an expression it is claimed besides that it is
 -- the last one.
 use Rattle.std.proofs.Common.{◌≡◌, refl, sym, subst, add-one, ℕ, suc, ◌^◌, nat_lt, if◌then◌else◌, Bool, true, false}
-use Rattle.std.proofs.Common.{[], Option, Some, None, Ok, Err}
+use Rattle.std.proofs.Common.{[], Option, Some, None, Ok, Err, List}
 use Rattle.std.proofs.lemmas.Bool.{ltb-false}
 use Rattle.hir_binding.specs.declared.binding.BindingAnnotation.{BindingAnnotation}
 use Rattle.hir_store.specs.Pointers.{Pointer}
@@ -71,7 +71,7 @@ given {A = A} {P = P} {n = n} {p = p} h t = record { tells = λ b d. by b (p b).
 
 -- ---- what an `impl` becomes
 
-impls : (at : Pointer) (mode : ImplTrait) (bounds : List TypeBound) → Takes (grade_impl sizes mode at) (becoming at mode bounds)
+pub impls : (at : Pointer) (mode : ImplTrait) (bounds : List TypeBound) → Takes (grade_impl sizes mode at) (becoming at mode bounds)
 impls at becomes.Error bounds = becoming_takes at becomes.Error bounds
 impls at becomes.Opaque bounds = becoming_takes at becomes.Opaque bounds
 impls at (becomes.Argument def) bounds = becoming_takes at (becomes.Argument def) bounds

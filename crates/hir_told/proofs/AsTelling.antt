@@ -90,7 +90,7 @@ module _ {X : Type 0} (L : Listing X) where
 
   -- ---- what an `impl` becomes
 
-  impls_tell : (at : Pointer) (mode : ImplTrait) (bounds : List TypeBound)
+  pub impls_tell : (at : Pointer) (mode : ImplTrait) (bounds : List TypeBound)
       → Correct (becoming at mode bounds) (Tells L (grade_impl (listed L.of_faults L.of_block L.of_told) mode at))
   impls_tell at becomes.Error bounds = tells_aside L (aside_type _ (Some at))
   impls_tell at becomes.Opaque bounds = tells_aside L (aside_type _ (Some at))

@@ -1,5 +1,5 @@
 -- Whether a `yield` stands in it: an instance, beside that made names stay apart.
-use Rattle.std.proofs.Common.{◌≡◌, ◌∙◌, ap, subst, ◌||◌, ℕ, Bool, false, Some, None, Ok, Err}
+use Rattle.std.proofs.Common.{◌≡◌, ◌∙◌, ap, subst, ◌||◌, ℕ, Bool, false, Some, None, Ok, Err, List}
 use Rattle.hir_binding.specs.declared.binding.BindingAnnotation.{BindingAnnotation}
 use Rattle.hir_store.specs.Pointers.{Pointer}
 use Rattle.hir_store.specs.declared.ids.LabelId.{LabelId}
@@ -85,7 +85,7 @@ try_raises at typed k of b {f = f} hs hp t more = raises_begin (raises_open_try 
     raises_where hp t (λ r is. raises_begin raises_close (λ v. subst (λ x. Raises (k x) (f n r)) is (more n r)))))
 
 -- nor in what an `impl` becomes
-impls : (at : Pointer) (mode : ImplTrait) (bounds : List TypeBound) → Notes (grade_impl yields mode at) (becoming at mode bounds)
+pub impls : (at : Pointer) (mode : ImplTrait) (bounds : List TypeBound) → Notes (grade_impl yields mode at) (becoming at mode bounds)
 impls at becomes.Error bounds = off (apart_graded.impl_is at becomes.Error bounds) (still_becoming at becomes.Error bounds)
 impls at becomes.Opaque bounds = off (apart_graded.impl_is at becomes.Opaque bounds) (still_becoming at becomes.Opaque bounds)
 impls at (becomes.Argument def) bounds =
