@@ -102,7 +102,7 @@ dots_noted_none (tree.leaf_pat at form) e = refl
 dots_noted_none p e = absurd (true≢false (sym e))
 
 mutual
-  one_type_noted : (b : Option Binder) (t : Type_) → Notes (noted_in_type t) (lower_type b t)
+  pub one_type_noted : (b : Option Binder) (t : Type_) → Notes (noted_in_type t) (lower_type b t)
   one_type_noted b (tree.paren_type t) = type_noted b t
   one_type_noted b (tree.macro_type at c tree.no_type) = uncalled_type_notes at c
   one_type_noted b (tree.macro_type at c (tree.some_type t)) = called_type_notes at c (one_type_noted b t)
@@ -123,7 +123,7 @@ mutual
   type_noted b tree.no_type = error_notes
   type_noted b (tree.some_type t) = one_type_noted b t
 
-  present_type_noted : (t : OptionType) → Notes (noted_in_present_type t) (present_type t)
+  pub present_type_noted : (t : OptionType) → Notes (noted_in_present_type t) (present_type t)
   present_type_noted tree.no_type = notes_pure None
   present_type_noted (tree.some_type t) = notes_end (one_type_noted None t) (λ i. notes_pure (Some i))
 
@@ -182,7 +182,7 @@ mutual
   parens_noted tree.no_parens = notes_pure None
   parens_noted (tree.some_parens ts r) = parens_notes (parts_noted [] ts) (output_noted r)
 
-  output_noted : (r : OptionRet) → Notes (noted_in_output r) (output_part r)
+  pub output_noted : (r : OptionRet) → Notes (noted_in_output r) (output_part r)
   output_noted tree.no_ret = unit_notes
   output_noted (tree.some_ret t) = type_noted None t
 
@@ -203,17 +203,17 @@ mutual
       notes_end (binding_notes name dots (args_noted as') (present_type_noted t) (bounds_noted [] bs))
       (λ b. notes_pure _)
 
-  bounds_noted : (done : List TypeBound) (bs : Bounds) → Notes (noted_in_bounds bs) (lower_bounds done bs)
+  pub bounds_noted : (done : List TypeBound) (bs : Bounds) → Notes (noted_in_bounds bs) (lower_bounds done bs)
   bounds_noted done tree.no_bounds = notes_pure done
   bounds_noted done (tree.more_bounds b bs) = notes_then (bound_noted b) (λ x. bounds_noted _ bs)
 
-  bound_noted : (b : Bound) → Notes (noted_in_bound b) (lower_bound b)
+  pub bound_noted : (b : Bound) → Notes (noted_in_bound b) (lower_bound b)
   bound_noted tree.error_bound = notes_pure _
   bound_noted (tree.path_bound at p maybe binder) = path_bound_notes at maybe binder (whole_noted p)
   bound_noted (tree.lifetime_bound l) = notes_end (lifetime_notes l) (λ i. notes_pure _)
   bound_noted (tree.use_bound us) = notes_end (uses_note [] us) (λ xs. notes_pure _)
 
-  constant_noted : (c : Constant) → Notes (noted_in_constant c) (lower_constant c)
+  pub constant_noted : (c : Constant) → Notes (noted_in_constant c) (lower_constant c)
   constant_noted (tree.constant e) = constant_notes (part_noted e)
 
   rooted_noted : (c : Constant) → Notes (noted_in_constant c) (lower_rooted c)
