@@ -60,6 +60,7 @@ fn settle(statements: &mut Seq<Statement>, tail: Option<ExprId>) -> Option<ExprI
 }
 
 /// The statements, and then the tail, behind which the definitions among them are closed.
+#[inline(always)]
 pub(crate) fn flat_contents<P: LowerParts>(
     lowerer: &Lowerer<P>,
     state: &mut BodyBuilder,
@@ -184,7 +185,6 @@ pub fn block_node<P: LowerParts>(
 
 /// A block with a label, if it has one, and with no modifier.
 #[tactic(auto, unfolding(hir_lower_form::specs::Forms::labelled))]
-#[inline(never)]
 fn labelled_block<P: LowerParts, N: WrittenBlock>(
     lowerer: &Lowerer<P>,
     state: &mut BodyBuilder,
@@ -210,7 +210,6 @@ fn labelled_block<P: LowerParts, N: WrittenBlock>(
 }
 
 /// An unsafe block, of which no label counts.
-#[inline(never)]
 fn unsafe_block<P: LowerParts, N: WrittenBlock>(
     lowerer: &Lowerer<P>,
     state: &mut BodyBuilder,
