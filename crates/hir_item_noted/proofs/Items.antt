@@ -41,7 +41,8 @@ use Rattle.hir_lower_item.specs.Items as item
 use Rattle.hir_lower_item.specs.Items.{Alias, Argument, Function, Generics, Impl, Param, Predicate, Receiver, Trait}
 use Rattle.hir_lower_item.specs.Lower as steps
 use Rattle.hir_item_noted.specs.Fold.{bounded, const_param, is_type, noted_in_alias, noted_in_argument, noted_in_arguments}
-use Rattle.hir_item_noted.specs.Fold.{noted_in_bounds_of, noted_in_each, noted_in_function, noted_in_generics, noted_in_impl, noted_in_param}
+use Rattle.hir_item_noted.specs.Fold.{noted_in_bounds_of, noted_in_each, noted_in_function, noted_in_generics, noted_in_impl}
+use Rattle.hir_item_noted.specs.Fold.{noted_in_param}
 use Rattle.hir_item_noted.specs.Fold.{noted_in_params, noted_in_predicate, noted_in_predicates, noted_in_receiver, noted_in_trait}
 use Rattle.hir_item_noted.specs.Fold.{nothing, of_part, one_param, type_param, ◌⊞◌, noted_in_default, noted_in_trait_path}
 use Rattle.hir_item_noted.proofs.Logic.{Steps, steps_begin, steps_end, steps_given, steps_lifetime_param, steps_param, steps_part}
@@ -69,7 +70,8 @@ asked_of_type binder t (bound.Path p m) = steps_predicate _
 asked_of_type binder t (bound.ForLifetime ns p) = steps_predicate _
 asked_of_type binder t (bound.Lifetime l) = steps_predicate _
 
-each_asked : (binder : Option Binder) (t : TypeRefId) (bs : Bounds) → Steps (noted_in_each bs) (steps.ask_each binder (bounded_by.Type_ t) bs)
+each_asked : (binder : Option Binder) (t : TypeRefId) (bs : Bounds)
+    → Steps (noted_in_each bs) (steps.ask_each binder (bounded_by.Type_ t) bs)
 each_asked binder t tree.no_bounds = steps_pure tt
 each_asked binder t (tree.more_bounds b bs) = steps_then (steps_part (bound_noted b)) (λ y.
     steps_begin (asked_of_type binder t y) (λ u. each_asked binder t bs))
@@ -98,7 +100,8 @@ gives_other : (at : Pointer) (maybe : Bool) (binder : Binder) (r : Option HirPat
 gives_other at maybe binder None = gives_pure _ tt
 gives_other at maybe binder (Some p) = gives_then (alloc_type _ _) (λ id. gives_pure _ (other_path maybe binder id))
 
-gives_path : (at : Pointer) (maybe : Bool) (binder : Binder) (p : Lowering (Option HirPath)) → Gives Other (path_bound_form at maybe binder p)
+gives_path : (at : Pointer) (maybe : Bool) (binder : Binder) (p : Lowering (Option HirPath))
+    → Gives Other (path_bound_form at maybe binder p)
 unfolding path_bound_form
 gives_path at maybe binder p = gives_then p (gives_other at maybe binder)
 
@@ -195,7 +198,8 @@ generics_noted def g = steps_then (all_noted def g.params) (λ u. predicates_not
 -- ---- traits, implementations and aliases
 
 pub trait_noted : (def : GenericDefId) (x : Trait) → Steps (noted_in_trait x) (steps.lower_trait def x)
-trait_noted def x = steps_then (type_param_noted def steps.self_text None provenance.TraitSelf x.bounds) (λ u. generics_noted def x.generics)
+trait_noted def x = steps_then (type_param_noted def steps.self_text None provenance.TraitSelf x.bounds)
+    (λ u. generics_noted def x.generics)
 
 trait_stored : (at : Pointer) (p : Option HirPath) → Steps nothing (steps.stored_trait at p)
 trait_stored at None = steps_pure None
