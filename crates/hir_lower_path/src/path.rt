@@ -269,6 +269,7 @@ fn word_form<P: LowerParts>(
     }
 }
 
+#[inline(always)]
 pub(crate) fn segment_form<P: LowerParts>(
     lowerer: &Lowerer<P>,
     state: &mut BodyBuilder,
@@ -333,7 +334,6 @@ fn segments<P: LowerParts>(
 }
 
 /// The segments of a path, without those of the use tree around it.
-#[inline(never)]
 fn own_segments<P: LowerParts>(
     lowerer: &Lowerer<P>,
     state: &mut BodyBuilder,
