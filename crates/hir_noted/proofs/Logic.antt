@@ -32,7 +32,7 @@ fits_stays (i ∷ is) ps k e f = record {
   bounds = f.bounds;
   others = f.others;
   are = f.are;
-  counted = f.counted;
+  read = λ final x. f.read final (extends_trans e x);
   stands = found_stays e.types.entries f.target.0 _ f.stands;
   from = found_stays e.types.sources f.target.0 _ f.from;
   rest_fits = fits_stays is f.others (suc k) e f.rest_fits;
@@ -48,7 +48,7 @@ fits_append (i ∷ is) js ps qs k l s e f g = record {
   bounds = f.bounds;
   others = f.others ++ qs;
   are = ap (λ xs. xs ++ qs) f.are ∙ append_assoc (predicates_of f.target f.bounds) f.others qs;
-  counted = f.counted;
+  read = f.read;
   stands = f.stands;
   from = f.from;
   rest_fits = fits_append is js f.others qs (suc k) l s (omega (arith, e)) f.rest_fits g;
@@ -64,6 +64,7 @@ noted_both {m = m} {n = n} {b = b} {c = c} {d = d} g h =
     let then = length c.notes.generics.type_or_consts in
     let at : then ≡ first + length m.impls = ap length g.params
     ∙ (length-append b.notes.generics.type_or_consts (unnamed m.impls) ∙ ap (λ k. first + k) (length_unnamed m.impls)) in record {
+      paired = λ p. h.paired (g.paired p);
       stays = extends_trans g.stays h.stays;
       params = twice b.notes.generics.type_or_consts (unnamed m.impls) (unnamed n.impls) g.params h.params
           ∙ ap (λ xs. b.notes.generics.type_or_consts ++ xs) (sym (unnamed_append m.impls n.impls));
@@ -78,8 +79,9 @@ noted_both {m = m} {n = n} {b = b} {c = c} {d = d} g h =
     }
 
 -- what is noted stays
-pub noted_none : {b c : Builder} → Extends b.stored c.stored → c.notes ≡ b.notes → Noted none b c
-noted_none {b = b} e h = record {
+pub noted_none : {b c : Builder} → (Paired b.stored → Paired c.stored) → Extends b.stored c.stored → c.notes ≡ b.notes → Noted none b c
+noted_none {b = b} pairs e h = record {
+  paired = pairs;
   stays = e;
   params = ap (λ n. n.generics.type_or_consts) h ∙ sym (append-nil b.notes.generics.type_or_consts);
   lifetimes = ap (λ n. n.generics.lifetimes) h;
@@ -155,7 +157,7 @@ pub notes_end : {A B : Type 0} {n : Noting} {p : Lowering A} {f : A → Lowering
 notes_end {n = n} h k = notes_as (behind_none n) (notes_then h k)
 
 pub notes_pure : {A : Type 0} (a : A) → Notes none (pure a)
-notes_pure a = record { at = λ b d. (d, noted_none (extends_refl b.stored) refl) }
+notes_pure a = record { at = λ b d. (d, noted_none (λ p. p) (extends_refl b.stored) refl) }
 
 -- where something is there
 abbrev pub if_there : {A : Type 0} → Option A → Noting → Noting
@@ -195,7 +197,7 @@ quiet_then {A = A} {p = p} {f = f} h k = record { quiet = λ b. by b (p b).0 (p 
 -- a step of which something is so keeps the pairs and what is stored
 quiet_to : {A : Type 0} (R : Rel A) (final : Stored) (ps : List Frame) (b : Builder) (o : Checked A) (c : Builder) → Holds R final ps b o c
     → LeavesTo b o c → Paired b.stored → NotesTo none b o c
-quiet_to R final ps b (Ok a) c h e d = (h.kept.paired d, noted_none h.kept.stays e)
+quiet_to R final ps b (Ok a) c h e d = (h.kept.paired d, noted_none h.kept.paired h.kept.stays e)
 quiet_to R final ps b (Err e) c h u d = tt
 
 pub notes_quiet : {A : Type 0} {p : Lowering A} {R : Rel A} → Correct p R → Quiet p → Notes none p

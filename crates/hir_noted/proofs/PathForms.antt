@@ -98,12 +98,12 @@ read_then {is = is} {add = add} {w = w} {m = m} {n = n} {p = p} {f = f} h goes k
     reached Refused c d says = (
       d,
       subst (λ x. Noted x c c) (sym (closed_none (add is) n
-          (refused_read (add is) (says c.stored (extends_refl c.stored))))) (noted_none (extends_refl c.stored) refl),
+          (refused_read (add is) (says c.stored (extends_refl c.stored))))) (noted_none (λ p. p) (extends_refl c.stored) refl),
     )
     reached (Ended v) c d says = (
       d,
       subst (λ x. Noted x c c) (sym (closed_none (add is) n
-          (ap (λ e. e || refused (add is)) (says c.stored (extends_refl c.stored)).0))) (noted_none (extends_refl c.stored) refl),
+          (ap (λ e. e || refused (add is)) (says c.stored (extends_refl c.stored)).0))) (noted_none (λ p. p) (extends_refl c.stored) refl),
     )
     reached (Open v) c d says =
         let now = says c.stored (extends_refl c.stored) in
@@ -232,6 +232,7 @@ noted_cut : (places : List Bool) (names : Option (List (Option Name))) {n : Noti
     → Noted (cut (Some places) names n) b (record c { notes = cut_named (length b.notes.named.input) places names c.notes })
 noted_cut places None h = h
 noted_cut places (Some ns) {n = n} {b = b} h = record {
+  paired = h.paired;
   stays = h.stays;
   params = h.params;
   lifetimes = h.lifetimes;

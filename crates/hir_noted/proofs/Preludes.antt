@@ -39,7 +39,7 @@ use Rattle.hir_noted.proofs.Steps.{notes_owning, notes_pat}
 
 -- what is only seen by what is stored
 notes_seen : {A : Type 0} (tells : Stored → A) → Notes none (λ b. (Ok (tells b.stored), b))
-notes_seen tells = record { at = λ b d. (d, noted_none (extends_refl b.stored) refl) }
+notes_seen tells = record { at = λ b d. (d, noted_none (λ p. p) (extends_refl b.stored) refl) }
 
 notes_own_name : (p : PatId) → Notes none (forms.own_name_of p)
 unfolding forms.own_name_of

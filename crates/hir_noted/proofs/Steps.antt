@@ -44,7 +44,7 @@ use Rattle.hir_steps.proofs.PatSteps.{correct_alloc_binding, correct_alloc_made_
 use Rattle.hir_steps.proofs.PatSteps.{correct_point_pat_field, correct_set_problem}
 use Rattle.hir_steps.proofs.Steps.{Opens, correct_alloc, correct_alloc_type, correct_enter_block, correct_point}
 use Rattle.hir_steps.proofs.Steps.{correct_point_field, correct_report, correct_report_await, correct_target, opens}
-use Rattle.std.proofs.Common.{sym, subst, length}
+use Rattle.std.proofs.Common.{sym, subst, length, [], ◌∷◌, ◌++◌}
 use Rattle.hir_sets.specs.Noting.{Noting, none}
 use Rattle.hir_noted.proofs.Logic.{LeavesTo, Notes, NotesTo, Quiet, noted_none, notes_begin, notes_end, notes_pure, notes_quiet}
 use Rattle.hir_noted.proofs.Logic.{notes_stored}
@@ -167,7 +167,7 @@ notes_count_def k = counted (nat_lt (suc k) (2 ^ 32))
 
 -- what leaves what is stored
 left_alone : {b c : Builder} → c.stored ≡ b.stored → c.notes ≡ b.notes → {A : Type 0} (a : A) → Paired b.stored → NotesTo none b (Ok a) c
-left_alone {b = b} e h a d = (subst Paired (sym e) d, noted_none (subst (Extends b.stored) (sym e) (extends_refl b.stored)) h)
+left_alone {b = b} e h a d = (subst Paired (sym e) d, noted_none (subst Paired (sym e)) (subst (Extends b.stored) (sym e) (extends_refl b.stored)) h)
 
 pub notes_close : Notes none close
 unfolding close
@@ -192,10 +192,10 @@ notes_outside_root = record { at = λ b d. left_alone refl refl (tt {0}) d }
 notes_record_root : (i : ExprId) → Notes none (record_root i)
 unfolding record_root storing.record_root
 notes_record_root i = record {
-  at = λ b d. (
-    record { exprs = d.exprs; labels = d.labels; pats = d.pats; types = d.types; lifetimes = d.lifetimes },
-    noted_none (extends_root b.stored (root_at (store_of b.stored) i)) refl,
-  );
+  at = λ b d.
+      let pairs : Paired b.stored → Paired (record b.stored { roots = b.stored.roots ++ root_at (store_of b.stored) i ∷ [] }) =
+      λ d. record { exprs = d.exprs; labels = d.labels; pats = d.pats; types = d.types; lifetimes = d.lifetimes } in
+      (pairs d, noted_none pairs (extends_root b.stored (root_at (store_of b.stored) i)) refl);
 }
 
 pub notes_leave_root : (outer : Bool) (i : ExprId) → Notes none (leave_root outer i)
@@ -226,7 +226,7 @@ notes_try_target = notes_quiet correct_try_target quiet_try_target
 
 opened_to : (made : ℕ) (r : LabelId → Rib LabelId) (l : Label) (b : Builder) (o : Checked LabelId) (c : Builder) → Opens made r l b o c
     → LeavesTo b o c → Paired b.stored → NotesTo none b o c
-opened_to made r l b (Ok n) c h e d = (h.paired d, noted_none h.stays e)
+opened_to made r l b (Ok n) c h e d = (h.paired d, noted_none h.paired h.stays e)
 opened_to made r l b (Err e) c h u d = tt
 
 quiet_open_as : (l : Label) (i : LabelId) → Quiet (open_as l i)

@@ -39,10 +39,11 @@ use Rattle.std.proofs.Common.{◌+◌, suc, arith, length, length-append}
 use Rattle.hir_env.specs.Paths.{alias_of}
 use Rattle.hir_lower_form.specs.Walks.{at_first}
 use Rattle.hir_data.specs.Rule.{Item}
-use Rattle.hir_data.specs.Written.{items, list_data, path_of, segments}
+use Rattle.hir_data.specs.Written.{bounds_data, items, list_data, path_of, segments}
 use Rattle.hir_read_back.proofs.Going.{path_is}
-use Rattle.hir_read_back.proofs.Tree.{each_goes, list_reads, own_goes, path_goes}
-use Rattle.hir_sets.specs.Fold.{count, front, noted_in}
+use Rattle.hir_read_back.proofs.Layers.{pushed_all}
+use Rattle.hir_read_back.proofs.Tree.{bounds_read, each_goes, list_reads, own_goes, path_goes}
+use Rattle.hir_sets.specs.Fold.{front, noted_in}
 use Rattle.hir_sets.specs.Fold.{noted_in_arg, noted_in_args, noted_in_arm, noted_in_arms, noted_in_beside, noted_in_block}
 use Rattle.hir_sets.specs.Fold.{noted_in_block_part, noted_in_bound, noted_in_bounds, noted_in_constant, noted_in_each}
 use Rattle.hir_sets.specs.Fold.{noted_in_each_arg, noted_in_field, noted_in_fields, noted_in_guard, noted_in_limit, noted_in_outer}
@@ -52,7 +53,7 @@ use Rattle.hir_sets.specs.Fold.{noted_in_present_type, noted_in_segment, noted_i
 use Rattle.hir_sets.specs.Fold.{noted_in_stmt, noted_in_stmts, noted_in_target, noted_in_target_field, noted_in_target_fields}
 use Rattle.hir_sets.specs.Fold.{noted_in_targets, noted_in_top, noted_in_type, noted_in_type_part, noted_in_type_pat}
 use Rattle.hir_sets.specs.Fold.{noted_in_type_pat_part, noted_in_type_pats, noted_in_whole}
-use Rattle.hir_noted.specs.Laws.{BoundsNoted, ExprsNoted, PathsNoted, TypesNoted}
+use Rattle.hir_noted.specs.Laws.{BoundsNoted, ConstantsNoted, ExprsNoted, PathsNoted, TypesNoted}
 use Rattle.hir_sets.specs.Noting.{Noting, ◌⊕◌, none}
 use Rattle.hir_noted.proofs.Logic.{Notes, behind_none, both_assoc, noted_by, notes_as, notes_end, notes_pure, notes_then}
 use Rattle.hir_noted.proofs.Steps.{notes_expr, notes_gone, notes_note, notes_told, notes_made_pat, notes_pat, notes_report, notes_type}
@@ -63,7 +64,7 @@ use Rattle.hir_noted.proofs.Forms.{loop_notes, method_call_notes, missing_notes,
 use Rattle.hir_noted.proofs.Forms.{paren_notes, path_notes, record_notes, repeat_notes, rooted_notes, turn_notes, value_notes}
 use Rattle.hir_noted.proofs.PathForms.{Behind, aliased_notes, at_start, behind_any, beside_notes, counted_notes, read_then}
 use Rattle.hir_noted.proofs.PathForms.{whole_notes}
-use Rattle.hir_noted.proofs.TypeForms.{Gives, gives_less, gives_pure, gives_then, array_notes, binding_notes, dyn_notes, error_notes}
+use Rattle.hir_noted.proofs.TypeForms.{array_notes, binding_notes, dyn_notes, error_notes}
 use Rattle.hir_noted.proofs.TypeForms.{fn_notes, impl_notes, lifetime_notes}
 use Rattle.hir_noted.proofs.TypeForms.{over_notes, parens_notes, path_bound_notes, path_type_notes, ref_notes, tuple_notes, unit_notes}
 use Rattle.hir_noted.proofs.TypeForms.{uses_note, with_trait_notes}
@@ -79,18 +80,6 @@ use Rattle.hir_noted.proofs.MadeForms.{for_notes, question_notes, try_block_note
 use Rattle.hir_noted.proofs.CallForms.{behind_notes, called_notes, called_pat_notes, called_type_notes, closure_notes, coroutine_notes}
 use Rattle.hir_noted.proofs.CallForms.{define_notes, param_notes, uncalled_notes, uncalled_pat_notes, uncalled_type_notes, yield_notes}
 use Rattle.hir_noted.proofs.Preludes.{coroutine_closure_notes}
-
--- a bound for each
-bounds_counted : (done : List TypeBound) (bs : Bounds) → Gives (λ r. length r ≡ length done + count bs) (lower_bounds done bs)
-bounds_counted done tree.no_bounds = gives_pure done (omega arith)
-bounds_counted done (tree.more_bounds b bs) = gives_then (lower_bound b) (λ x. by x (bounds_counted (done ++ x ∷ []) bs))
-  where
-    by : (x : TypeBound) → Gives (λ r. length r ≡ length (done ++ x ∷ []) + count bs) (lower_bounds (done ++ x ∷ []) bs)
-        → Gives (λ r. length r ≡ length done + suc (count bs)) (lower_bounds (done ++ x ∷ []) bs)
-    by x h = gives_less (λ r e. let n = length-append done (x ∷ []) in omega (arith, e, n)) h
-
-all_counted : (bs : Bounds) → Gives (λ r. length r ≡ count bs) (lower_bounds [] bs)
-all_counted bs = gives_less (λ r e. omega (arith, e)) (bounds_counted [] bs)
 
 kept_noted : (e : Expr) {p : ExprSteps} → Notes (noted_in e) p → Notes (noted_in e) (kept e p)
 kept_noted (tree.disabled_expr why e) h = notes_end (notes_gone why) (λ u. notes_pure None)
@@ -114,7 +103,7 @@ mutual
   one_type_noted b (tree.path_type at p) = path_type_notes at (whole_noted p)
   one_type_noted b (tree.ref_type at l mutability t) = ref_notes at l mutability (type_noted None t)
   one_type_noted b (tree.fn_type at head ts r) = fn_notes at b head (or_unit_noted r) (parts_noted [] ts)
-  one_type_noted b (tree.impl_type at mode bs) = impl_notes at mode (count bs) (bounds_noted [] bs) (all_counted bs)
+  one_type_noted b (tree.impl_type at mode bs) = impl_notes at mode (bounds_data bs) (bounds_noted [] bs) (pushed_all (bounds_read bs []))
   one_type_noted b (tree.nested_impl at) = notes_type _ _
   one_type_noted b (tree.dyn_type at bs) = dyn_notes at (bounds_noted [] bs)
   one_type_noted b (tree.pattern_type at t own p) = pattern_type_notes at (type_noted None t) (type_pat_part_noted p)
@@ -490,6 +479,9 @@ paths_noted p b c r d is = noted_by (whole_noted p) b c r d is
 
 pub bounds_are_noted : BoundsNoted
 bounds_are_noted x b c r d is = noted_by (bound_noted x) b c r d is
+
+pub constants_noted : ConstantsNoted
+constants_noted x b c r d is = noted_by (constant_noted x) b c r d is
 
 pub exprs_noted : ExprsNoted
 exprs_noted e b c i d is = noted_by (part_noted e) b c i d is

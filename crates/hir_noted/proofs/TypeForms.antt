@@ -44,7 +44,12 @@ use Rattle.hir_steps.proofs.Logic.{Holds}
 use Rattle.hir_steps.proofs.TypeSteps.{AllocatedType, correct_alloc_lifetime, correct_alloc_type}
 use Rattle.hir_sets.specs.Fold.{becoming, of_use, of_uses}
 use Rattle.hir_sets.specs.Noting.{Impl, Noting, none, ◌⊕◌, of_lifetime, of_lifetime_option, one_name, one_ref}
-use Rattle.hir_noted.specs.Lists.{Noted}
+use Rattle.hir_data.specs.Data.{BoundsData}
+use Rattle.hir_read_back.proofs.Layers.{Reads, many_bounds}
+use Rattle.hir_read_back.proofs.Now.{answered}
+use Rattle.hir_store.proofs.Extending.{extends_trans}
+use Rattle.hir_steps.proofs.Logic.{Correct, correct_in_store}
+use Rattle.hir_noted.specs.Lists.{ReadAs, all_entries, Noted}
 use Rattle.hir_noted.proofs.Logic.{LeavesTo, Notes, NotesTo, noted_none, notes_begin, notes_by, notes_end, notes_pure, notes_stored}
 use Rattle.hir_noted.proofs.Logic.{notes_then}
 use Rattle.hir_noted.proofs.Steps.{notes_type, quiet_type}
@@ -65,8 +70,9 @@ notes_lifetime l at = notes_stored (storing.alloc_lifetime l at) (correct_alloc_
 
 noted_name : (s : LifetimeScope) (n : Name) (b : Builder)
     → Noted (one_name s n) b (record b { notes = naming s (lifetime.Named n) b.notes })
-noted_name scope.Nowhere n b = noted_none (extends_refl b.stored) refl
+noted_name scope.Nowhere n b = noted_none (λ p. p) (extends_refl b.stored) refl
 noted_name scope.Bound n b = record {
+  paired = λ p. p;
   stays = extends_refl b.stored;
   params = sym (append-nil b.notes.generics.type_or_consts);
   lifetimes = refl;
@@ -78,6 +84,7 @@ noted_name scope.Bound n b = record {
   output = sym (append-nil b.notes.named.output);
 }
 noted_name scope.Input n b = record {
+  paired = λ p. p;
   stays = extends_refl b.stored;
   params = sym (append-nil b.notes.generics.type_or_consts);
   lifetimes = refl;
@@ -88,8 +95,9 @@ noted_name scope.Input n b = record {
   input = refl;
   output = sym (append-nil b.notes.named.output);
 }
-noted_name scope.Projection n b = noted_none (extends_refl b.stored) refl
+noted_name scope.Projection n b = noted_none (λ p. p) (extends_refl b.stored) refl
 noted_name scope.Output n b = record {
+  paired = λ p. p;
   stays = extends_refl b.stored;
   params = sym (append-nil b.notes.generics.type_or_consts);
   lifetimes = refl;
@@ -103,9 +111,9 @@ noted_name scope.Output n b = record {
 
 noted_ref : (s : LifetimeScope) (l : LifetimeRef) (b : Builder) → Noted (one_ref s l) b (record b { notes = naming s l b.notes })
 noted_ref s (lifetime.Named n) b = noted_name s n b
-noted_ref s lifetime.Static b = noted_none (extends_refl b.stored) refl
-noted_ref s lifetime.Placeholder b = noted_none (extends_refl b.stored) refl
-noted_ref s lifetime.Error b = noted_none (extends_refl b.stored) refl
+noted_ref s lifetime.Static b = noted_none (λ p. p) (extends_refl b.stored) refl
+noted_ref s lifetime.Placeholder b = noted_none (λ p. p) (extends_refl b.stored) refl
+noted_ref s lifetime.Error b = noted_none (λ p. p) (extends_refl b.stored) refl
 
 pub notes_naming : (s : LifetimeScope) (l : LifetimeRef) → Notes (one_ref s l) (note_down (naming s l))
 unfolding note_down
@@ -129,14 +137,11 @@ uses_note done (u ∷ us) = notes_then (use_notes u) (λ x. uses_note _ us)
 
 -- ---- `impl`s
 
-abbrev impl : GenericDefId → Pointer → ℕ → Impl
-impl def at n = record { parent = def; at = at; bounds = n }
-
 -- with a parameter more
 abbrev with_unnamed : Builder → Builder
 with_unnamed b = record b { notes = with_param unnamed_param b.notes }
 
-module _ (def : GenericDefId) (at : Pointer) (n : ℕ) (bs : List TypeBound) (counted : length bs ≡ n) where
+module _ (def : GenericDefId) (at : Pointer) (x : BoundsData) (bs : List TypeBound) where
   -- the number of the parameter
   abbrev place : Builder → ℕ
   place b = length b.notes.generics.type_or_consts
@@ -145,16 +150,17 @@ module _ (def : GenericDefId) (at : Pointer) (n : ℕ) (bs : List TypeBound) (co
   abbrev add_bounds : TypeRefId → Lowering TypeRefId
   add_bounds t = note_down (with_bounds t bs) >> pure t
 
-  stored_to : (b : Builder) → Paired b.stored → (o : Checked TypeRefId) (c : Builder)
+  stored_to : (b : Builder) → Paired b.stored → ReadAs b.stored bs x → (o : Checked TypeRefId) (c : Builder)
       → Holds (AllocatedType (param_type def (place b)) (Some at)) c.stored (frames b.scopes) (with_unnamed b) o c
       → LeavesTo (with_unnamed b) o c
-      → NotesTo (becoming (becomes.Argument def) at n) b (go_on o c add_bounds).0 (go_on o c add_bounds).1
+      → NotesTo (becoming (becomes.Argument def) at x) b (go_on o c add_bounds).0 (go_on o c add_bounds).1
   unfolding note_down
-  stored_to b d (Ok i) c x q =
-      let row = x.in_final d (extends_refl c.stored) in (
-        x.kept.paired d,
+  stored_to b d read (Ok i) c h q =
+      let row = h.in_final d (extends_refl c.stored) in (
+        h.kept.paired d,
         record {
-          stays = x.kept.stays;
+          paired = h.kept.paired;
+          stays = h.kept.stays;
           params = ap (λ k. k.generics.type_or_consts) q;
           lifetimes = ap (λ k. k.generics.lifetimes) q;
           added = predicates_of i bs;
@@ -164,7 +170,7 @@ module _ (def : GenericDefId) (at : Pointer) (n : ℕ) (bs : List TypeBound) (co
             bounds = bs;
             others = [];
             are = sym (append-nil (predicates_of i bs));
-            counted = counted;
+            read = λ final pre. read final (extends_trans h.kept.stays pre);
             stands = ap (λ k. slice_get c.stored.types.entries k) row.number ∙ row.here;
             from = ap (λ k. slice_get c.stored.types.sources k) row.number ∙ row.from;
             rest_fits = refl;
@@ -174,66 +180,46 @@ module _ (def : GenericDefId) (at : Pointer) (n : ℕ) (bs : List TypeBound) (co
           output = ap (λ k. k.named.output) q ∙ sym (append-nil b.notes.named.output);
         },
       )
-  stored_to b d (Err e) c x q = tt
+  stored_to b d read (Err e) c h q = tt
 
   -- the type of the parameter, and what must hold of it
   abbrev typed_as : ℕ → Lowering TypeRefId
   typed_as k = alloc_type (param_type def k) (Some at) >>= add_bounds
 
-  numbered_to : (b : Builder) → Paired b.stored → (room : Bool)
+  numbered_to : (b : Builder) → Paired b.stored → ReadAs b.stored bs x → (room : Bool)
       → let p = param_numbered unnamed_param (place b) room >>= typed_as in
-      NotesTo (becoming (becomes.Argument def) at n) b (p b).0 (p b).1
+      NotesTo (becoming (becomes.Argument def) at x) b (p b).0 (p b).1
   unfolding note_down count_out
-  numbered_to b d true =
+  numbered_to b d read true =
       let step = alloc_type (param_type def (place b)) (Some at) in
       let c = with_unnamed b in
-      stored_to b d (step c).0 (step c).1
+      stored_to b d read (step c).0 (step c).1
       ((correct_alloc_type (param_type def (place b)) (Some at)).holds (step c).1.stored (frames b.scopes) c (ribs_frames b.scopes))
       ((quiet_type (param_type def (place b)) (Some at)).quiet c)
-  numbered_to b d false = tt
+  numbered_to b d read false = tt
 
-  pub argument_notes : Notes (becoming (becomes.Argument def) at n) (argument_form def at bs)
+  argument_to : (b : Builder) → Paired b.stored → ReadAs b.stored bs x
+      → NotesTo (becoming (becomes.Argument def) at x) b (argument_form def at bs b).0 (argument_form def at bs b).1
   unfolding argument_form add_param with_notes
-  argument_notes = record { at = λ b d. numbered_to b d (nat_lt (place b) 4294967295) }
+  argument_to b d read = numbered_to b d read (nat_lt (place b) 4294967295)
 
-pub becoming_notes : (mode : ImplTrait) (at : Pointer) (n : ℕ) (bs : List TypeBound) → length bs ≡ n
-    → Notes (becoming mode at n) (lowering.becoming at mode bs)
-becoming_notes becomes.Error at n bs e = notes_type _ _
-becoming_notes becomes.Opaque at n bs e = notes_type _ _
-becoming_notes (becomes.Argument def) at n bs e = argument_notes def at n bs e
+-- where its bounds read back so
+becoming_to : (mode : ImplTrait) (at : Pointer) (x : BoundsData) (bs : List TypeBound) (b : Builder) → Paired b.stored → ReadAs b.stored bs x
+    → NotesTo (becoming mode at x) b (lowering.becoming at mode bs b).0 (lowering.becoming at mode bs b).1
+becoming_to becomes.Error at x bs b d read = (notes_type _ _).at b d
+becoming_to becomes.Opaque at x bs b d read = (notes_type _ _).at b d
+becoming_to (becomes.Argument def) at x bs b d read = argument_to def at x bs b d read
 
--- ---- what steps answer
+pub bounds_read_as : {x : BoundsData} {p : Lowering (List TypeBound)} → Correct p (Reads many_bounds x) → (b c : Builder) (bs : List TypeBound)
+    → Paired b.stored → p b ≡ (Ok bs, c) → ReadAs c.stored bs x
+bounds_read_as h b c bs d is = λ final pre.
+    let row = answered (correct_in_store h) b c bs d is final pre in row.rel.is (all_entries final) row.entries
 
-abbrev pub GivesTo : {A : Type 0} → (A → Type 0) → Checked A → Type 0
-GivesTo P (Ok a) = P a
-GivesTo P (Err e) = Unit {0}
-
--- wherever it answers
-pub record Gives {A : Type 0} (P : A → Type 0) (p : Lowering A) : Type 0 where
-  pub gives : (b : Builder) → GivesTo P (p b).0
-
-pub gives_pure : {A : Type 0} {P : A → Type 0} (a : A) → P a → Gives P (pure a)
-gives_pure a h = record { gives = λ b. h }
-
-pub gives_then : {A B : Type 0} {P : B → Type 0} (p : Lowering A) {f : A → Lowering B} → ((a : A) → Gives P (f a)) → Gives P (p >>= f)
-gives_then {A = A} {P = P} p {f = f} h = record { gives = λ b. by (p b).0 (p b).1 }
-  where
-    by : (o : Checked A) (c : Builder) → GivesTo P (go_on o c f).0
-    by (Ok a) c = (h a).gives c
-    by (Err e) c = tt
-
-pub gives_less : {A : Type 0} {P Q : A → Type 0} {p : Lowering A} → ((a : A) → P a → Q a) → Gives P p → Gives Q p
-gives_less {A = A} {P = P} {Q = Q} {p = p} less h = record { gives = λ b. by (p b).0 (h.gives b) }
-  where
-    by : (o : Checked A) → GivesTo P o → GivesTo Q o
-    by (Ok a) x = less a x
-    by (Err e) x = tt
-
-pub impl_notes : (at : Pointer) (mode : ImplTrait) (n : ℕ) {D : Noting} {bs : Lowering (List TypeBound)} → Notes D bs
-    → Gives (λ r. length r ≡ n) bs → Notes (D ⊕ becoming mode at n) (impl_type_form at mode bs)
+pub impl_notes : (at : Pointer) (mode : ImplTrait) (x : BoundsData) {D : Noting} {bs : Lowering (List TypeBound)} → Notes D bs
+    → Correct bs (Reads many_bounds x) → Notes (D ⊕ becoming mode at x) (impl_type_form at mode bs)
 unfolding impl_type_form
-impl_notes at mode n h g = notes_by (becoming mode at n) (λ r. lowering.becoming at mode r) h
-    (λ b r c d e is. (becoming_notes mode at n r (subst (λ o. GivesTo (λ r. length r ≡ n) o.0) is (g.gives b))).at c e)
+impl_notes at mode x h read = notes_by (becoming mode at x) (λ r. lowering.becoming at mode r) h
+    (λ b r c d e is. becoming_to mode at x r c e (bounds_read_as read b c r d is))
 
 -- types
 

@@ -62,7 +62,7 @@ mutual
 
   -- ---- types
 
-  type_reads : (b : Option Binder) (t : Type_) → Correct (lower.lower_type b t) (Reads a_type (written.type_data b t))
+  pub type_reads : (b : Option Binder) (t : Type_) → Correct (lower.lower_type b t) (Reads a_type (written.type_data b t))
   type_reads b (tree.paren_type t) = part_reads b t
   type_reads b (tree.macro_type at c tree.no_type) = calls.uncalled_type_reads at c
   type_reads b (tree.macro_type at c (tree.some_type t)) = calls.called_type_reads at c (type_reads b t)
@@ -99,12 +99,12 @@ mutual
 
   -- ---- bounds
 
-  bounds_read : (bs : Bounds) (done : List TypeBound)
+  pub bounds_read : (bs : Bounds) (done : List TypeBound)
       → Correct (lower.lower_bounds done bs) (Pushed done (Reads many_bounds (written.bounds_data bs)))
   bounds_read tree.no_bounds done = kinds.bounds_none done
   bounds_read (tree.more_bounds b bs) done = kinds.bounds_more (bound_reads b) (bounds_read bs) done
 
-  bound_reads : (b : Bound) → Correct (lower.lower_bound b) (Reads a_bound (written.bound_data b))
+  pub bound_reads : (b : Bound) → Correct (lower.lower_bound b) (Reads a_bound (written.bound_data b))
   bound_reads tree.error_bound = value0 {l = a_bound} bound.Error (λ final r. refl)
   bound_reads (tree.path_bound at p maybe binder) = path_bound_reads (written.path_of p) at maybe binder (path_reads p)
   bound_reads (tree.lifetime_bound l) = kinds.lifetime_bound_reads l

@@ -1,5 +1,5 @@
 -- What is noted of a part of a tree: which `impl`s become parameters, and the names of lifetimes, by where they stand.
-use Rattle.std.specs.Prelude.{ℕ, Bool, true, false, List, [], ◌∷◌, ◌++◌, Option, Some, None}
+use Rattle.std.specs.Prelude.{Bool, true, false, List, [], ◌∷◌, ◌++◌, Option, Some, None}
 use Rattle.hir_store.specs.Pointers.{Pointer}
 use Rattle.hir_store.specs.declared.ids.GenericDefId.{GenericDefId}
 use Rattle.hir_store.specs.declared.name.Name.{Name}
@@ -8,12 +8,13 @@ use Rattle.hir_store.specs.declared.type_ref.LifetimeRef.TheVariants as lifetime
 use Rattle.hir_env.specs.declared.place.LifetimeScope.{LifetimeScope}
 use Rattle.hir_env.specs.declared.place.LifetimeScope.TheVariants as scope
 use Rattle.hir_env.specs.Answered.{Lifetime}
+use Rattle.hir_data.specs.Data.{BoundsData}
 
--- an `impl` that becomes a parameter: of which definition, at which node, and how many bounds it has
+-- an `impl` that becomes a parameter: of which definition, at which node, and with which bounds
 pub record Impl : Type 0 where
   pub parent : GenericDefId
   pub at : Pointer
-  pub bounds : ℕ
+  pub bounds : BoundsData
 
 -- The `impl`s that become parameters, in the order in which they do, those inside of the bounds of another in front of it; and the names
 -- in bounds, in arguments and in what is returned, in the order in which they are read.
