@@ -9,12 +9,13 @@ use Rattle.hir_env.specs.Answered.{Lifetime, Path, Segment, Type_}
 use Rattle.hir_env.specs.Paths.{alias_at, alias_of, inside_projection, lifetime_of, with_alias}
 use Rattle.hir_env.specs.Spot.{Spot}
 use Rattle.hir_env.specs.Whole.{answered_path, answered_path_type, answered_segment, answered_type, in_impl}
+use Rattle.std.specs.Prelude.{map}
 use Rattle.hir_data.specs.Trees.{bare, impl_at, no_range, node, pointer, reference_with}
 use Rattle.hir_data.specs.Written.{type_data}
 use Rattle.hir_data.proofs.Trees.{type_made, path_made, segment_made, path_type_made, bound_made, arg_made, never_is, with_argument_is}
 use Rattle.hir_data.proofs.Trees.{segment_with, list_with}
 use Rattle.hir_sets.specs.Fold.{noted_in_type}
-use Rattle.hir_sets.specs.Places.{alone, answering, aliasing, counting, in_argument, in_front, named_by, of_impl, of_projection, path_of}
+use Rattle.hir_sets.specs.Places.{told, alone, answering, aliasing, counting, in_argument, in_front, named_by, of_impl, of_projection, path_of}
 use Rattle.hir_sets.specs.Places.{projected, trait_a, unhidden, with_a}
 use Rattle.hir_sets.specs.Places.{AliasesCount, CountsInImpls, CountsInProjections, CountsWhereItStands, ImplsAreParameters}
 use Rattle.hir_sets.specs.Places.{PathsSayAliases}
@@ -188,4 +189,10 @@ aliases_count at n x = (
 pub impls_are_parameters : ImplsAreParameters
 impls_are_parameters at def =
     let is = impl_is (in_argument def at) in
-    (ap (type_data None) is, ap noted_in_type is)
+    let all = ap noted_in_type is in (
+      ap (type_data None) is,
+      ap (λ n. map told n.impls) all,
+      ap (λ n. n.bounds) all,
+      ap (λ n. n.input) all,
+      ap (λ n. n.output) all,
+    )

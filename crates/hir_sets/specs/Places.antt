@@ -1,6 +1,6 @@
 -- Worked trees, as they are written: what is named in them by where they stand, what a path in an argument says of an alias, and what an
 -- `impl` there is.
-use Rattle.std.specs.Prelude.{◌≡◌, codes, Bool, false, List, [], ◌∷◌, Option, Some, None}
+use Rattle.std.specs.Prelude.{◌≡◌, codes, ℕ, suc, Bool, false, List, [], ◌∷◌, map, Option, Some, None}
 use Rattle.hir_syntax.specs.declared.ast.ElseBranch.TheOpen.{GenericArg-F, TypeKind-F}
 use Rattle.hir_syntax.specs.declared.ast.Path.{Path as AstPath, roll-Path}
 use Rattle.hir_syntax.specs.declared.ast.PathSegment.{PathSegment as AstPathSegment, roll-PathSegment}
@@ -8,6 +8,7 @@ use Rattle.hir_syntax.specs.declared.ast.SegmentKind.TheVariants as segment
 use Rattle.hir_syntax.specs.declared.types.GenericArg.{roll-GenericArg}
 use Rattle.hir_syntax.specs.declared.types.PathType.{PathType as AstPathType, roll-PathType}
 use Rattle.hir_syntax.specs.declared.types.Type_.{Type_ as AstType_}
+use Rattle.hir_store.specs.Pointers.{Pointer}
 use Rattle.hir_store.specs.declared.ids.GenericDefId.{GenericDefId}
 use Rattle.hir_store.specs.declared.ids.TypeAliasId.{TypeAliasId}
 use Rattle.hir_alias.specs.Alias.{Alias}
@@ -20,9 +21,10 @@ use Rattle.hir_env.specs.Paths.{alias_of}
 use Rattle.hir_env.specs.Spot.{Spot}
 use Rattle.hir_env.specs.Whole.{answered_path, answered_type}
 use Rattle.hir_data.specs.Data as datum
+use Rattle.hir_data.specs.Data.{BoundsData}
 use Rattle.hir_data.specs.Trees.{impl_at, no_range, node, bare, pointer, reference_with, type_at, with_argument}
 use Rattle.hir_data.specs.Written.{type_data}
-use Rattle.hir_sets.specs.Noting.{Noting, chosen, none, one_name}
+use Rattle.hir_sets.specs.Noting.{Impl, Noting, chosen, none, one_name}
 use Rattle.hir_sets.specs.Fold.{noted_in_type}
 use Rattle.hir_sets.specs.Worked.{a}
 
@@ -149,10 +151,23 @@ abbrev pub in_argument : GenericDefId → Spot → Spot
 in_argument def at =
     record at { place = record at.place { impl_trait = impl.Argument def; in_impl = false; lifetimes = scope.Input } }
 
+-- how many bounds there are
+abbrev pub how_many : BoundsData → ℕ
+how_many datum.no_bounds = 0
+how_many (datum.more_bounds b bs) = suc (how_many bs)
+
+-- its definition, its node and how many bounds it has
+abbrev pub Told : Type 0
+Told = GenericDefId × (Pointer × ℕ)
+
+abbrev pub told : Impl → Told
+told i = (i.parent, (i.at, how_many i.bounds))
+
 -- `impl A<'a>` is a parameter there, with one bound
 abbrev pub ImplsAreParameters : Type 0
 ImplsAreParameters = (at : Spot) (def : GenericDefId)
-    → (type_data None (answered_type (in_argument def at) (impl_at 0 with_a))
+    → let all = named_by (in_argument def at) (impl_at 0 with_a) in
+    let one : List Told = (def, (pointer at 0, 1)) ∷ [] in
+    (type_data None (answered_type (in_argument def at) (impl_at 0 with_a))
     ≡ datum.typed (Some (pointer at 0)) (datum.parameter_shape def))
-    × (named_by (in_argument def at) (impl_at 0 with_a)
-    ≡ record none { impls = record { parent = def; at = pointer at 0; bounds = 1 } ∷ []; bounds = a ∷ [] })
+    × (map told all.impls ≡ one) × (all.bounds ≡ a ∷ []) × (all.input ≡ []) × (all.output ≡ [])
