@@ -34,7 +34,7 @@ use Rattle.hir_sets.specs.Noting.{of_lifetime_option}
 use Rattle.hir_sets.specs.Fold.{noted_in_output}
 use Rattle.hir_noted.proofs.Logic as parts
 use Rattle.hir_noted.proofs.Steps.{notes_report, notes_type}
-use Rattle.hir_noted.proofs.TypeForms.{Gives, gives_pure, gives_then, lifetime_notes, lifetime_option_notes, notes_naming, unit_notes}
+use Rattle.hir_noted.proofs.TypeForms.{lifetime_notes, lifetime_option_notes, notes_naming, unit_notes}
 use Rattle.hir_noted.proofs.Tree.{bound_noted, bounds_noted, constant_noted, one_type_noted, present_type_noted, type_noted, whole_noted}
 use Rattle.hir_lower_item.specs.declared.predicates.Bounded.TheVariants as bounded_by
 use Rattle.hir_lower_item.specs.Items as item
@@ -45,8 +45,8 @@ use Rattle.hir_item_noted.specs.Fold.{noted_in_bounds_of, noted_in_each, noted_i
 use Rattle.hir_item_noted.specs.Fold.{noted_in_param}
 use Rattle.hir_item_noted.specs.Fold.{noted_in_params, noted_in_predicate, noted_in_predicates, noted_in_receiver, noted_in_trait}
 use Rattle.hir_item_noted.specs.Fold.{nothing, of_part, one_param, type_param, ◌⊞◌, noted_in_default, noted_in_trait_path}
-use Rattle.hir_item_noted.proofs.Logic.{Steps, steps_begin, steps_end, steps_given, steps_lifetime_param, steps_param, steps_part}
-use Rattle.hir_item_noted.proofs.Logic.{steps_predicate, steps_pure, steps_then}
+use Rattle.hir_item_noted.proofs.Logic.{Gives, gives_pure, gives_then, Steps, steps_begin, steps_end, steps_given}
+use Rattle.hir_item_noted.proofs.Logic.{steps_lifetime_param, steps_param, steps_part, steps_predicate, steps_pure, steps_then}
 
 -- ---- steps that note nothing
 

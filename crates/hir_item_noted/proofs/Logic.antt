@@ -14,7 +14,6 @@ use Rattle.hir_steps.specs.Keeps.{Paired}
 use Rattle.hir_sets.specs.Noting.{Impl, Noting}
 use Rattle.hir_noted.specs.Lists.{Noted, unnamed}
 use Rattle.hir_noted.proofs.Logic as parts
-use Rattle.hir_noted.proofs.TypeForms.{Gives, GivesTo}
 use Rattle.hir_item_noted.specs.Fold.{ItemNoting, impl_param, nothing, of_part, one_lifetime, one_param, ◌⊞◌}
 use Rattle.hir_item_noted.specs.Noted.{ItemNoted, early, shape}
 
@@ -83,6 +82,26 @@ steps_to_both : {A : Type 0} {m : ItemNoting} (n : ItemNoting) (b c : Builder) �
     → StepsTo n c o d → StepsTo (m ⊞ n) b o d
 steps_to_both n b c g (Ok a) d h = (h.0, noted_both g h.1)
 steps_to_both n b c g (Err e) d h = tt
+
+-- ---- what steps answer
+
+abbrev pub GivesTo : {A : Type 0} → (A → Type 0) → Checked A → Type 0
+GivesTo P (Ok a) = P a
+GivesTo P (Err e) = Unit {0}
+
+-- wherever it answers
+pub record Gives {A : Type 0} (P : A → Type 0) (p : Lowering A) : Type 0 where
+  pub gives : (b : Builder) → GivesTo P (p b).0
+
+pub gives_pure : {A : Type 0} {P : A → Type 0} (a : A) → P a → Gives P (pure a)
+gives_pure a h = record { gives = λ b. h }
+
+pub gives_then : {A B : Type 0} {P : B → Type 0} (p : Lowering A) {f : A → Lowering B} → ((a : A) → Gives P (f a)) → Gives P (p >>= f)
+gives_then {A = A} {P = P} p {f = f} h = record { gives = λ b. by (p b).0 (p b).1 }
+  where
+    by : (o : Checked A) (c : Builder) → GivesTo P (go_on o c f).0
+    by (Ok a) c = (h a).gives c
+    by (Err e) c = tt
 
 -- of what is so of the answer of the first
 pub steps_given : {A B : Type 0} {m n : ItemNoting} {P : A → Type 0} {p : Lowering A} {f : A → Lowering B} → Steps m p → Gives P p
