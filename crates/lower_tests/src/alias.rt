@@ -13,9 +13,6 @@ use hir_store::generics::{GenericParams, LifetimeBoundType, LifetimeParamData};
 use hir_store::hir::Mutability;
 use hir_store::ids::{ItemContainerId, ModuleId, TypeAliasId, TypeRefId};
 use hir_store::name::Name;
-use hir_store::path::{
-    GenericArg, GenericArgs, GenericArgsParentheses, ModPath, NormalPath, Path, PathKind,
-};
 use hir_store::type_ref::{LifetimeRef, RefType, TypeRef};
 use hir_tables::table::TableEnv;
 use std::alloc::{AllocError, Global};
@@ -107,42 +104,6 @@ fn a_number_past_the_end_names_nothing(rt: HostRuntime) {
     assert!(rt; named_by(rt.alloc(), &["'a", "'b"], past) == Ok([false; 3]));
     let last = Some(TypeRefId(u32::MAX));
     assert!(rt; named_by(rt.alloc(), &["'a", "'b"], last) == Ok([false; 3]));
-}
-
-/// The path `T::<'b>`, or what `<() as T<'b>>` becomes, in the same store.
-fn path_named(alloc: Global, with_self: bool) -> Result<Named, StoreFault> {
-    let mut builder = ExpressionStoreBuilder::new(alloc, 10);
-    let lifetime = builder.alloc_lifetime(LifetimeRef::Named(name(alloc, "'b")?), None)?;
-    let mut args = Seq::new(alloc);
-    args.push(GenericArg::Lifetime(lifetime))?;
-    let mut generic_args = Seq::new(alloc);
-    generic_args.push(Some(GenericArgs {
-        args,
-        has_self_type: with_self,
-        bindings: Seq::new(alloc),
-        parenthesized: GenericArgsParentheses::No,
-    }))?;
-    let mut segments = Seq::new(alloc);
-    segments.push(name(alloc, "T")?)?;
-    let path = NormalPath {
-        type_anchor: None,
-        mod_path: ModPath {
-            kind: PathKind::Plain,
-            segments,
-        },
-        generic_args,
-    };
-    let ty = builder.alloc_type(TypeRef::Path(Path::Normal(path)), None)?;
-    let (store, source_map) = builder.finish();
-    drop(source_map);
-    let alias = AliasSignature::new(alloc, store, params(alloc, &["'a", "'b"])?, Some(ty))?;
-    Ok(flags(&alias))
-}
-
-#[test]
-fn arguments_with_self_are_passed_over(rt: HostRuntime) {
-    assert!(rt; path_named(rt.alloc(), false) == Ok([false, true, false]));
-    assert!(rt; path_named(rt.alloc(), true) == Ok([false; 3]));
 }
 
 /// Stores a pair of a type and itself.
