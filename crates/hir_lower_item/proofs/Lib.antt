@@ -1,1 +1,3 @@
+mod GivenPaths
 mod Sets
+mod Steps

@@ -46,7 +46,7 @@ among_end n x (y ∷ ys) =
     ap (λ b. same_name y n || b) (among_end n x ys) ∙ sym (or_assoc (same_name y n) (among n ys) (same_name x n))
 
 -- nothing is in an empty set
-pub none_taken : (n : Name) (all : List Name) (was : Bool) → was ≡ false → among n all ≡ (among n all || was)
+none_taken : (n : Name) (all : List Name) (was : Bool) → was ≡ false → among n all ≡ (among n all || was)
 none_taken n all was e = sym (or_false (among n all)) ∙ ap (λ b. among n all || b) (sym e)
 
 -- the last name is taken and put into the set
