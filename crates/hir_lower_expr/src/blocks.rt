@@ -1,6 +1,6 @@
 //! Blocks and statements.
 
-ghost use Rattle.std.specs.Prelude.{◌≡◌, ◌-◌, false, length, slice_get};
+ghost use Rattle.std.specs.Prelude.{◌≡◌, ◌-◌, false, length, slice_get, true};
 ghost use Rattle.hir_syntax.specs.declared.ast.BlockExpr.{out-BlockExpr};
 ghost use Rattle.hir_store.specs.Range.{HasExpr, HasLabelOption};
 ghost use Rattle.hir_env.specs.Whole.{answered_block, label_part};
