@@ -8,7 +8,7 @@ returns g c = λ e.
     let ret = c.field-ret.ensures body.0 in
     let params = c.field-params.ensures ret.0 in
     let conditions = c.where_clause-where_.ensures params.0 in
-    let generics = c.generics.ensures conditions.0 in (
+    let generics = c.generics-generics.ensures conditions.0 in (
       generics.0,
       rw (
         c.id.ensures,

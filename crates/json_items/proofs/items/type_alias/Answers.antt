@@ -6,7 +6,7 @@ unfolding type_alias
 returns g c = λ e.
     let ty = c.field-ty.ensures e in
     let conditions = c.where_clause-where_.ensures ty.0 in
-    let generics = c.generics.ensures conditions.0 in
+    let generics = c.generics-generics.ensures conditions.0 in
     let bounds = c.field-bounds.ensures generics.0 in (
       bounds.0,
       rw (
