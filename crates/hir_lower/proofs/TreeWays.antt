@@ -56,7 +56,8 @@ use Rattle.hir_lower.proofs.TypeWays.{called_type_leads, segment_args_leads, pat
 use Rattle.hir_lower.proofs.Onward.{Leading, any, since, then', makes, leading_pure, new_pat, new_type, anyway}
 use Rattle.hir_lower_form.specs.Paths.{alias_of}
 use Rattle.hir_lower.proofs.Ways.{leading_report, leading_block, leading_close, leading_jump, leading_alloc, leading_open, leading_point}
-use Rattle.hir_lower.proofs.Ways.{leading_aliased, leading_closed, leading_report_await, leading_point_field, leading_alloc_type, leading_alloc_pat}
+use Rattle.hir_lower.proofs.Ways.{leading_aliased, leading_closed, leading_report_await, leading_point_field, leading_alloc_type}
+use Rattle.hir_lower.proofs.Ways.{leading_alloc_pat}
 use Rattle.hir_lower.proofs.Ways.{leading_barrier, leading_enter, leading_call, leading_close_barrier, leading_gone, leading_note}
 use Rattle.hir_lower.proofs.Ways.{leading_behind, leading_define_macro, leading_leave, leading_made_pat, leading_target, leading_told}
 use Rattle.hir_lower.proofs.OwnedWays.{coroutine_block_leads, coroutine_leads, leading_owning}
