@@ -1,7 +1,7 @@
 -- What stands at the nodes of a list.
 use Rattle.std.specs.Prelude.{ℕ, suc, zero, List, [], ◌∷◌, Bool, true, false, Option, Some, None, if◌then◌else◌}
 use Rattle.std.specs.Prelude.{option_and_then, option_map, unwrap_or}
-use Rattle.serde_json.specs.Data.{Data, null, Items}
+use Rattle.serde_json.specs.Data.{null, Items}
 use Rattle.serde_json.specs.Find.{get_item}
 use Rattle.hir_base.specs.declared.node.NodeId.{NodeId}
 use Rattle.hir_base.specs.declared.node.TextRange.{TextRange}
