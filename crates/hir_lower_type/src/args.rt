@@ -92,8 +92,11 @@ fn type_arg<P: LowerParts>(
     ensures { let level = tree.type_arg (type_arg_level (P.spot lowerer.now.parts) node.now) in
         Lowers HasOne (single_arg level) state.old result state.new }
 {
-    let id = lowerer.type_or_error(state, lowerer.parts.place(), &None, node)?;
-    Ok(OneArg::Arg(GenericArg::Type_(id)))
+    let place = lowerer.parts.place();
+    match lowerer.type_or_error(state, place, &None, node) {
+        Ok(id) => Ok(OneArg::Arg(GenericArg::Type_(id))),
+        Err(fault) => Err(fault),
+    }
 }
 
 /// A lifetime that isn't there is skipped.
@@ -169,8 +172,10 @@ fn with_arg<P: LowerParts>(
     requires lists { HasLists state.old.stored lists }
     ensures { Lowers HasLists (spec.lower_arg lists (answered_arg (P.spot lowerer.now.parts) node.now)) state.old result state.new }
 {
-    let one = arg(lowerer, state, node)?;
-    Ok(one.behind(lists)?)
+    match arg(lowerer, state, node) {
+        Ok(one) => Ok(one.behind(lists)?),
+        Err(fault) => Err(fault),
+    }
 }
 
 fn args<P: LowerParts>(

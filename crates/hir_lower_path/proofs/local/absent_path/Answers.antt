@@ -1,4 +1,4 @@
-use Rattle.std.proofs.Common.{arith, ◌≡◌, Ok}
+use Rattle.std.proofs.Common.{arith, ◌≡◌, None, Ok}
 use Rattle.std.proofs.lemmas.Grind.{common_steps}
 use Rattle.hir_env.specs.Answered as tree
 use Rattle.hir_env.specs.LocalPaths as crate_local

@@ -1,4 +1,4 @@
-use Rattle.std.proofs.Common.{◌∙◌, ap}
+use Rattle.std.proofs.Common.{◌≡◌, ◌∙◌, ap}
 use Rattle.hir_env.specs.Paths.{inside_projection}
 use Rattle.hir_env.specs.Whole.{path_type_level}
 use Rattle.hir_lower_form.specs.Methods.{at_place}
@@ -9,6 +9,7 @@ pub returns-in-Ok : goal.returns-in-Ok
 returns-in-Ok g c =
     let spot = g.P.LowerParts.spot c.args.lowerer.now.parts in
     let inner = at_place spot (inside_projection spot.place) in
+    let here : c.inside_projection-place.result ≡ inside_projection spot.place =
+    c.inside_projection-place.ensures ∙ ap inside_projection c.place.ensures in
     qualified_lowers inner _ c.args.ty.now _ _ (path_type_level inner c.args.trait_.now) c.args.walk c.args.root _ c.args.state.now
-    _ _ _ _ _ c.in-Some.is c.get.ensures (c.inside_projection-place.ensures ∙ ap inside_projection c.place.ensures) c.in-Ok.is
-    c.lower_type.ensures c.local_trait.ensures
+    _ _ _ _ _ c.in-Some.is c.get.ensures here c.in-Ok.is c.lower_type.ensures (rw here at c.local_trait.ensures)

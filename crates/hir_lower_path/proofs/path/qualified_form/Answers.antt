@@ -4,9 +4,6 @@ use Rattle.hir_env.proofs.PathLevels.{path_type_is_level}
 use Rattle.hir_lower_form.proofs.Walked.{anchored_has}
 use Rattle.hir_lower_path.proofs.path.qualified_form.Goals as goal
 
-pub returns-then-not-first : goal.returns-then-not-first
-returns-then-not-first g c = grind (arith, common_steps, path_type_is_level, anchored_has)
-
 pub returns-in_default : goal.returns-in_default
 returns-in_default g c = grind (arith, common_steps, path_type_is_level, anchored_has)
 
@@ -18,9 +15,6 @@ trait_form-requires-clause-ty g c = grind (arith, common_steps, path_type_is_lev
 
 pub returns-in_err-id : goal.returns-in_err-id
 returns-in_err-id g c = grind (arith, common_steps, path_type_is_level, anchored_has)
-
-pub returns-in-Some-trait_ : goal.returns-in-Some-trait_
-returns-in-Some-trait_ g c = grind (arith, common_steps, path_type_is_level, anchored_has)
 
 pub trait_form-requires-clause-parts : goal.trait_form-requires-clause-parts
 trait_form-requires-clause-parts g c = grind (arith, common_steps, path_type_is_level, anchored_has)
