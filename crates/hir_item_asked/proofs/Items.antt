@@ -111,10 +111,10 @@ bounds_stay e (bounded_by.Lifetime text l) (a_type x) h = absurd h
 abbrev now : Stored → TypeBound → BoundData
 now s y = bound_layer (store_of s) (map_of s) (whole s) y
 
-nothing_to : (b : Builder) → Paired b.stored → AskTo nothing b (Ok tt) b
+nothing_to : (b : Builder) → Paired b.stored → AskTo {A = Unit {0}} nothing b (Ok tt) b
 nothing_to b d = (d, asked_nothing (extends_refl b.stored) refl refl)
 
-lifetime_in : BoundData → LifetimeData
+abbrev lifetime_in : BoundData → LifetimeData
 lifetime_in datum.error_bound = record { lifetime = lifetime.Error; from = None }
 lifetime_in (datum.path_bound t m) = record { lifetime = lifetime.Error; from = None }
 lifetime_in (datum.for_bound ns t) = record { lifetime = lifetime.Error; from = None }
@@ -139,12 +139,12 @@ type_asked : (binder : Option Binder) (x : Asked) (t : TypeRefId) (y : TypeBound
 type_asked binder x t bound.Error b d g h = nothing_to b d
 type_asked binder x t (bound.Use us) b d g h = nothing_to b d
 type_asked binder x t (bound.Path p m) b d g h =
-    predicate_to (predicate.TypeBound binder t (bound.Path p m)) (of_type binder x (now b.stored (bound.Path p m))) b d (refl, (g, h))
+    predicate_to (predicate.TypeBound binder t (bound.Path p m)) (of_type binder x (now b.stored (bound.Path p m))) b d (refl, g, h)
 type_asked binder x t (bound.ForLifetime ns p) b d g h =
     predicate_to (predicate.TypeBound binder t (bound.ForLifetime ns p)) (of_type binder x (now b.stored (bound.ForLifetime ns p))) b d
-    (refl, (g, h))
+    (refl, g, h)
 type_asked binder x t (bound.Lifetime l) b d g h =
-    predicate_to (predicate.TypeBound binder t (bound.Lifetime l)) (of_type binder x (now b.stored (bound.Lifetime l))) b d (refl, (g, h))
+    predicate_to (predicate.TypeBound binder t (bound.Lifetime l)) (of_type binder x (now b.stored (bound.Lifetime l))) b d (refl, g, h)
 
 lifetime_asked : (binder : Option Binder) (x : LifetimeData) (text : LifetimeRef) (l : LifetimeRefId) (y : TypeBound) (b : Builder)
     → Paired b.stored → LifetimeIs b.stored l x → BoundIs b.stored y (now b.stored y)
@@ -209,7 +209,7 @@ type_param_asks def n default from bs = record {
       let x = param.TypeParamData (record { name = Some n; default = default; provenance = from }) in
       let y = asked_in_each None (a_type (parameter def k None)) bs in
       let f : ℕ → Lowering (Unit {0}) = λ k. alloc_type (param_type def k) None >>= (λ id. steps.ask_each None (bounded_by.Type_ id) bs) in
-      ask_at {x = one_param ⊟ y} {y = asked_of_param def bs} b refl ((add_param x >>= f) b).0 ((add_param x >>= f) b).1
+      ask_at (one_param ⊟ y) (asked_of_param def bs) b refl ((add_param x >>= f) b).0 ((add_param x >>= f) b).1
       (param_then y x f b (typed_to def k bs (record b { notes = with_param x b.notes }) d));
 }
 

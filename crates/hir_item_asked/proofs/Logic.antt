@@ -36,7 +36,7 @@ type_stays e i (written d) h = λ final pre. h final (extends_trans e pre)
 
 one_stays : {s t : Stored} → Extends s t → (p : WherePredicate) (a : Asking) → StandsFor s p a → StandsFor t p a
 one_stays e (predicate.TypeBound binder i b) (of_type names x d) h =
-    (h.0, (type_stays e i x h.1.0, λ final pre. h.1.1 final (extends_trans e pre)))
+    (h.0, type_stays e i x h.1, λ final pre. h.2 final (extends_trans e pre))
 one_stays e (predicate.Lifetime l m) (of_lifetime x y) h =
     (λ final pre. h.0 final (extends_trans e pre), λ final pre. h.1 final (extends_trans e pre))
 one_stays e (predicate.TypeBound binder i b) (of_lifetime x y) h = absurd h
@@ -48,12 +48,12 @@ stand_stays e (p ∷ ps) (a ∷ as') h = (one_stays e p a h.0, stand_stays e ps 
 stand_stays e [] (a ∷ as') h = absurd h
 stand_stays e (p ∷ ps) [] h = absurd h
 
-stand_append : {s : Stored} (ps qs : List WherePredicate) (as' bs : List Asking) → Stand s ps as' → Stand s qs bs
+stand_append : (s : Stored) (ps qs : List WherePredicate) (as' bs : List Asking) → Stand s ps as' → Stand s qs bs
     → Stand s (ps ++ qs) (as' ++ bs)
-stand_append [] qs [] bs g h = h
-stand_append (p ∷ ps) qs (a ∷ as') bs g h = (g.0, stand_append ps qs as' bs g.1 h)
-stand_append [] qs (a ∷ as') bs g h = absurd g
-stand_append (p ∷ ps) qs [] bs g h = absurd g
+stand_append s [] qs [] bs g h = h
+stand_append s (p ∷ ps) qs (a ∷ as') bs g h = (g.0, stand_append s ps qs as' bs g.1 h)
+stand_append s [] qs (a ∷ as') bs g h = absurd g
+stand_append s (p ∷ ps) qs [] bs g h = absurd g
 
 -- ---- one after another
 
@@ -64,7 +64,7 @@ asked_both {x = x} {y = y} {b = b} {c = c} {d = d} g h = record {
   added = g.added ++ h.added;
   predicates = h.predicates
       ∙ (ap (λ l. l ++ h.added) g.predicates ∙ append_assoc b.notes.generics.where_predicates g.added h.added);
-  stand = stand_append g.added h.added (x (count b)).asks (y (x (count b)).params).asks
+  stand = stand_append d.stored g.added h.added (x (count b)).asks (y (x (count b)).params).asks
       (stand_stays h.stays g.added (x (count b)).asks g.stand)
       (subst (λ k. Stand d.stored h.added (y k).asks) g.params h.stand);
 }
@@ -82,11 +82,11 @@ asked_nothing {b = b} e p w = record {
 
 -- ---- parts
 
-first_of : BoundsData → BoundData
+abbrev first_of : BoundsData → BoundData
 first_of datum.no_bounds = datum.error_bound
 first_of (datum.more_bounds d ds) = d
 
-rest_of : BoundsData → BoundsData
+abbrev rest_of : BoundsData → BoundsData
 rest_of datum.no_bounds = datum.no_bounds
 rest_of (datum.more_bounds d ds) = ds
 
@@ -101,7 +101,7 @@ each_stands s i x [] datum.no_bounds t h = tt
 each_stands s i x [] (datum.more_bounds d ds) t h = absurd (subst AnyBound (sym (h s (extends_refl s))) tt)
 each_stands s i x (b ∷ bs) datum.no_bounds t h = absurd (subst AnyBound (h s (extends_refl s)) tt)
 each_stands s i x (b ∷ bs) (datum.more_bounds d ds) t h = (
-  (refl, (t, λ final pre. ap first_of (h final pre))),
+  (refl, t, λ final pre. ap first_of (h final pre)),
   each_stands s i x bs ds t (λ final pre. ap rest_of (h final pre)),
 )
 
@@ -110,7 +110,7 @@ impls_stand s [] ps k f = subst (λ l. Stand s l []) (sym f) tt
 impls_stand s (i ∷ is) ps k f =
     let x = parameter i.parent k (Some i.at) in
     subst (λ l. Stand s l (each_of x i.bounds ++ of_impls is (suc k))) (sym f.are)
-    (stand_append (predicates_of f.target f.bounds) f.others (each_of x i.bounds) (of_impls is (suc k))
+    (stand_append s (predicates_of f.target f.bounds) f.others (each_of x i.bounds) (of_impls is (suc k))
     (each_stands s f.target x f.bounds i.bounds (f.stands, f.from) f.read)
     (impls_stand s is f.others (suc k) f.rest_fits))
 
@@ -144,9 +144,9 @@ ask_to_both y b c g (Ok a) d h = (h.0, asked_both g h.1)
 ask_to_both y b c g (Err e) d h = tt
 
 -- what is asked by the parameters that there are
-pub ask_at : {A : Type 0} {x y : Asks} (b : Builder) → x (count b) ≡ y (count b) → (o : Checked A) (c : Builder) → AskTo x b o c
+pub ask_at : {A : Type 0} (x y : Asks) (b : Builder) → x (count b) ≡ y (count b) → (o : Checked A) (c : Builder) → AskTo x b o c
     → AskTo y b o c
-ask_at b e (Ok a) c h = (
+ask_at x y b e (Ok a) c h = (
   h.0,
   record {
     stays = h.1.stays;
@@ -156,7 +156,7 @@ ask_at b e (Ok a) c h = (
     stand = subst (λ r. Stand c.stored h.1.added r.asks) e h.1.stand;
   },
 )
-ask_at b e (Err f) c h = tt
+ask_at x y b e (Err f) c h = tt
 
 -- from this builder on, where what the second asks depends on what the first answers
 pub from_then : {A B : Type 0} (x y : Asks) (p : Lowering A) (f : A → Lowering B) (b : Builder) → AskTo x b (p b).0 (p b).1
