@@ -7,5 +7,5 @@ pub returns : goal.returns
 returns c =
     let s = c.in_ok-sets.sets in
     let same = c.in_ok-lifetimes.ensures ∙ ap (λ ls. kinds_in s.bounds s.input s.output [] ls) c.as_slice.ensures
-        ∙ kinds_are s.bounds s.input s.output c.args.notes.named c.in_ok-sets.ensures c.args.notes.generics.lifetimes in
+    ∙ kinds_are s.bounds s.input s.output c.args.notes.named c.in_ok-sets.ensures c.args.notes.generics.lifetimes in
     λ i. record c.args.notes.generics { lifetimes = same i }

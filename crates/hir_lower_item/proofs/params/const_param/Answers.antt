@@ -21,7 +21,7 @@ returns-in_err-ty g c =
     let ty = type_part None (of.type_part at c.args.ty.now) in
     let default = present_constant (option_map (of.answered_constant at) c.args.default.now) in
     let last : TypeRefId → Option ConstRef → Lowering (Unit {0}) = λ t d.
-        add_param (param.ConstParamData (record { name = n; ty = t; default = d })) >>= (λ k. pure tt) in
+    add_param (param.ConstParamData (record { name = n; ty = t; default = d })) >>= (λ k. pure tt) in
     refused_first HasType HasNone ty (λ t. default >>= last t) c.args.state.now c.type_or_error.new.state c.in_err-ty.field-0
     c.from_residual.result c.from_residual.ensures.1 (rw c.in_plain-inside.ensures at c.in_err-ty.ensures)
 
@@ -32,7 +32,7 @@ returns-in_err-default g c =
     let ty = type_part None (of.type_part at c.args.ty.now) in
     let default = present_constant (option_map (of.answered_constant at) c.args.default.now) in
     let last : TypeRefId → Option ConstRef → Lowering (Unit {0}) = λ t d.
-        add_param (param.ConstParamData (record { name = n; ty = t; default = d })) >>= (λ k. pure tt) in
+    add_param (param.ConstParamData (record { name = n; ty = t; default = d })) >>= (λ k. pure tt) in
     then_lowers HasType HasNone ty (λ t. default >>= last t) c.args.state.now c.type_or_error.new.state c.constant_if_present.new.state
     c.in_ok-ty.ty c.from_residual-in_err-default.result (rw c.in_plain-inside.ensures at c.in_ok-ty.ensures)
     (refused_first HasConstOption HasNone default (last c.in_ok-ty.ty) c.type_or_error.new.state c.constant_if_present.new.state
@@ -46,7 +46,7 @@ returns-in_err-add_param g c =
     let ty = type_part None (of.type_part at c.args.ty.now) in
     let default = present_constant (option_map (of.answered_constant at) c.args.default.now) in
     let last : TypeRefId → Option ConstRef → Lowering (Unit {0}) = λ t d.
-        add_param (param.ConstParamData (record { name = n; ty = t; default = d })) >>= (λ k. pure tt) in
+    add_param (param.ConstParamData (record { name = n; ty = t; default = d })) >>= (λ k. pure tt) in
     let x = param.ConstParamData (record { name = n; ty = c.in_ok-ty.ty; default = c.in_ok-default.default }) in
     then_lowers HasType HasNone ty (λ t. default >>= last t) c.args.state.now c.type_or_error.new.state c.add_param.new.self
     c.in_ok-ty.ty c.from_residual-in_err-add_param.result (rw c.in_plain-inside.ensures at c.in_ok-ty.ensures)
