@@ -28,7 +28,7 @@ use Rattle.hir_store.specs.Stored.{Stored}
 use Rattle.hir_env.specs.declared.place.LifetimeScope.{LifetimeScope}
 use Rattle.hir_env.specs.declared.place.LifetimeScope.TheVariants as scope
 use Rattle.hir_env.specs.Answered as tree
-use Rattle.hir_env.specs.Answered.{Binder, Bounds as WrittenBounds, Constant, Lifetime, OptionRet, OptionType}
+use Rattle.hir_env.specs.Answered.{Binder, Bounds as WrittenBounds, Constant, Lifetime, OptionRet}
 use Rattle.hir_env.specs.TypeLayers.{PathTypeReading}
 use Rattle.hir_data.specs.Data as datum
 use Rattle.hir_data.specs.Data.{BoundData, LifetimeData}

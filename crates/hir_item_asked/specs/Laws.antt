@@ -1,5 +1,5 @@
 -- What lowering an item asks is what is read off the item.
-use Rattle.std.specs.Prelude.{◌≡◌, Option, Ok}
+use Rattle.std.specs.Prelude.{◌≡◌, Ok}
 use Rattle.hir_store.specs.declared.ids.GenericDefId.{GenericDefId}
 use Rattle.hir_lower_form.specs.Builder.{Builder}
 use Rattle.hir_lower_form.specs.Lowering.{Lowering}
