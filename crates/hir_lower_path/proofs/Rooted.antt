@@ -326,6 +326,28 @@ trait_lowers t read w root bare old mid new id r h k = by r k
     by (Ok a) k = (is ∙ k.0, grown old mid new h.1 k.1, k.2)
     by (Err e) k = λ n. (is ∙ (k n).0, (k n).1)
 
+plain_lowers : (t : Type_) (read : PathTypeReading) (w : PathWalk) (old mid new : Builder) (id : TypeRefId) (r : Checked Reading)
+    → LowersType None t old (Ok id) mid → Lowers HasReading (with_trait (lower_path read.path) id read.pointer w) mid r new
+    → Lowers HasReading (read_segment true (tree.trait_segment t read.pointer read.path) w) old r new
+plain_lowers t read w old mid new id (Ok a) h k =
+    (ap (λ o. go_on o.0 o.1 (λ i. with_trait (lower_path read.path) i read.pointer w)) h.0 ∙ k.0, grown old mid new h.1 k.1, k.2)
+plain_lowers t read w old mid new id (Err e) h k =
+    λ n. (ap (λ o. go_on o.0 o.1 (λ i. with_trait (lower_path read.path) i read.pointer w)) h.0 ∙ (k n).0, (k n).1)
+
+pub trait_reads : (at : Spot) (place : Place) (first : Bool) (ty : Option AstType_) (tr : Option AstPathType) (y z : AstType_)
+    (x : AstPathType) (w : PathWalk) (old mid new : Builder) (id : TypeRefId) (r : Checked Reading) → first ≡ true → ty ≡ Some y
+    → tr ≡ Some x → z ≡ y → place ≡ at.place → LowersType None (answered_type (at_place at place) z) old (Ok id) mid
+    → Lowers HasReading (with_trait (lower_path (path_type_level at x).path) id (path_type_level at x).pointer w) mid r new
+    → ReadsSegment first (qualified_segment (type_part at ty) (path_type_part at tr)) w old r new
+trait_reads at place first ty tr y z x w old mid new id r f t e same here h k =
+    subst (λ b. ReadsSegment b (qualified_segment (type_part at ty) (path_type_part at tr)) w old r new) (sym f)
+    (subst (λ o. ReadsSegment true (qualified_segment (type_part at o) (path_type_part at tr)) w old r new) (sym t)
+    (subst (λ o. ReadsSegment true (qualified_segment (type_part at (Some y)) o) w old r new)
+    (sym (ap (path_type_part at) e ∙ ap Some (path_type_is_level at x)))
+    (plain_lowers (answered_type at y) (path_type_level at x) w old mid new id r
+    (subst (λ v. LowersType None (answered_type at v) old (Ok id) mid) same
+    (subst (λ p. LowersType None (answered_type (at_place at p) z) old (Ok id) mid) here h)) k)))
+
 pub qualified_lowers : (at : Spot) (place : Place) (ty : Option AstType_) (y z : AstType_) (read : PathTypeReading) (w : PathWalk)
     (root : Option CrateId) (bare : Bool) (old mid new : Builder) (q : Checked TypeRefId) (id : TypeRefId) (r : Checked Reading)
     → ty ≡ Some y → z ≡ y → place ≡ at.place → q ≡ Ok id → LowersType None (answered_type (at_place at place) z) old q mid

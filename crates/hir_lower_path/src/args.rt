@@ -106,8 +106,10 @@ fn parens_or_dots<P: LowerParts>(
         let parens = spec.parens_part (parens_part (P.spot lowerer.now.parts) level.parens level.ret) in
         Lowers HasArgsOption (found_or None parens level.rtn) state.old result state.new }
 {
-    let found = parens(lowerer, state, &node.parens, &node.ret)?;
-    Ok(or_notation(lowerer.alloc, found, node.rtn))
+    match parens(lowerer, state, &node.parens, &node.ret) {
+        Ok(found) => Ok(or_notation(lowerer.alloc, found, node.rtn)),
+        Err(fault) => Err(fault),
+    }
 }
 
 /// These arguments, or else `(A) -> C`, or else `(..)`.
