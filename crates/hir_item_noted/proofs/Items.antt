@@ -1,8 +1,10 @@
 -- What the parts of an item note, and the items.
-use Rattle.std.proofs.Common.{◌≡◌, refl, subst, Bool, List, [], ◌∷◌, Option, Some, None}
+use Rattle.std.proofs.Common.{◌≡◌, refl, ap, ℕ, Bool, List, [], ◌∷◌, Option, Some, None}
 use Rattle.std.specs.Prelude.{is_some}
 use Rattle.hir_store.specs.Pointers.{Pointer}
+use Rattle.hir_store.specs.Stored.{Stored, map_of, store_of}
 use Rattle.hir_store.specs.Storing as storing
+use Rattle.hir_store.specs.Storing.{Extends}
 use Rattle.hir_store.specs.declared.diagnostics.ExpressionStoreDiagnostics.{ExpressionStoreDiagnostics}
 use Rattle.hir_store.specs.declared.diagnostics.MissingBodyItemKind.{MissingBodyItemKind}
 use Rattle.hir_store.specs.declared.generics.TypeOrConstParamData.{TypeOrConstParamData}
@@ -22,14 +24,21 @@ use Rattle.hir_store.specs.declared.type_ref.LifetimeRef.TheVariants as lifetime
 use Rattle.hir_store.specs.declared.type_ref.TypeBound.{TypeBound}
 use Rattle.hir_store.specs.declared.type_ref.TypeBound.TheVariants as bound
 use Rattle.hir_store.specs.declared.type_ref.TypeRef.{TypeRef}
+use Rattle.hir_store.proofs.Extending.{extends_trans}
 use Rattle.hir_env.specs.declared.place.LifetimeScope.TheVariants as scope
 use Rattle.hir_env.specs.Answered as tree
-use Rattle.hir_env.specs.Answered.{Binder, Bound, Bounds, Constant, Lifetime, OptionRet, OptionType}
+use Rattle.hir_env.specs.Answered.{Binder, Bounds, Constant, Lifetime, OptionRet, OptionType}
 use Rattle.hir_env.specs.TypeLayers.{PathTypeReading}
-use Rattle.hir_lower_form.specs.Lowering.{Lowering, add_param, alloc_lifetime, alloc_type, report}
-use Rattle.hir_lower_form.specs.Lower.{lower_constant, lower_path, lower_type, present_type, push_some}
+use Rattle.hir_lower_form.specs.Builder.{Builder}
+use Rattle.hir_lower_form.specs.Lowering.{Lowering, ◌>>=◌, ◌>>◌, add_param, alloc_lifetime, alloc_type, param_type, pure, report}
+use Rattle.hir_lower_form.specs.Lower.{lower_constant, lower_path, push_some}
 use Rattle.hir_lower_form.specs.Types.{path_bound_form, path_bound_of, stored_path_bound}
+use Rattle.hir_data.specs.Data.{no_type}
+use Rattle.hir_data.specs.Reading.{stored_option_type, stored_type}
+use Rattle.hir_data.specs.Written.{written_option_type, written_type}
+use Rattle.hir_steps.specs.Keeps.{Paired}
 use Rattle.hir_steps.proofs.TypeSteps.{correct_alloc_lifetime}
+use Rattle.hir_read_back.proofs.Now.{answered, option_type_now, type_now}
 use Rattle.hir_sets.specs.Noting.{of_lifetime_option}
 use Rattle.hir_sets.specs.Fold.{noted_in_output}
 use Rattle.hir_noted.proofs.Logic as parts
@@ -40,13 +49,15 @@ use Rattle.hir_lower_item.specs.declared.predicates.Bounded.TheVariants as bound
 use Rattle.hir_lower_item.specs.Items as item
 use Rattle.hir_lower_item.specs.Items.{Alias, Argument, Function, Generics, Impl, Param, Predicate, Receiver, Trait}
 use Rattle.hir_lower_item.specs.Lower as steps
-use Rattle.hir_item_noted.specs.Fold.{bounded, const_param, is_type, noted_in_alias, noted_in_argument, noted_in_arguments}
+use Rattle.hir_item_noted.specs.Fold as fold
+use Rattle.hir_item_noted.specs.Fold.{bounded, const_param, noted_in_alias, noted_in_argument, noted_in_arguments}
 use Rattle.hir_item_noted.specs.Fold.{noted_in_bounds_of, noted_in_each, noted_in_function, noted_in_generics, noted_in_impl}
 use Rattle.hir_item_noted.specs.Fold.{noted_in_param}
 use Rattle.hir_item_noted.specs.Fold.{noted_in_params, noted_in_predicate, noted_in_predicates, noted_in_receiver, noted_in_trait}
-use Rattle.hir_item_noted.specs.Fold.{nothing, of_part, one_param, type_param, ◌⊞◌, noted_in_default, noted_in_trait_path}
-use Rattle.hir_item_noted.proofs.Logic.{Gives, gives_pure, gives_then, Steps, steps_begin, steps_end, steps_given}
-use Rattle.hir_item_noted.proofs.Logic.{steps_lifetime_param, steps_param, steps_part, steps_predicate, steps_pure, steps_then}
+use Rattle.hir_item_noted.specs.Fold.{nothing, of_part, one_param, self_param, type_param, ◌⊞◌, noted_in_default, noted_in_trait_path}
+use Rattle.hir_item_noted.proofs.Logic.{Gives, ReadsFrom, Steps, StepsTo, gives_pure, gives_then, given_at, param_at, steps_begin}
+use Rattle.hir_item_noted.proofs.Logic.{steps_by, steps_end, steps_given, steps_lifetime_param, steps_part, steps_predicate, steps_pure}
+use Rattle.hir_item_noted.proofs.Logic.{steps_then, then_at}
 
 -- ---- steps that note nothing
 
@@ -144,14 +155,29 @@ bounds_asked binder text l (tree.more_bounds (tree.use_bound us) bs) =
 abbrev const_of : Name → TypeRefId → Option ConstRef → TypeOrConstParamData
 const_of n t d = param.ConstParamData (record { name = n; ty = t; default = d })
 
-type_param_noted : (def : GenericDefId) (n : Name) (default : Option TypeRefId) (from : TypeParamProvenance) (bs : Bounds)
-    → Steps (one_param (type_param n from (is_some default)) ⊞ noted_in_each bs) (steps.type_param_form def n default from bs)
-type_param_noted def n default from bs = steps_then (steps_param _) (λ k.
-    steps_begin (type_stored _ None) (λ id. each_asked None id bs))
+-- behind it the type that a parameter is, and its bounds
+abbrev behind_param : GenericDefId → Bounds → ℕ → Lowering (Unit {0})
+behind_param def bs k = alloc_type (param_type def k) None >>= (λ id. steps.ask_each None (bounded_by.Type_ id) bs)
 
-gives_type : (t : OptionType) → Gives (λ i. is_some i ≡ is_type t) (present_type t)
-gives_type tree.no_type = gives_pure None refl
-gives_type (tree.some_type t) = gives_then (lower_type None t) (λ i. gives_pure (Some i) refl)
+abbrev type_of : Name → Option TypeRefId → TypeParamProvenance → TypeOrConstParamData
+type_of n default from = param.TypeParamData (record { name = Some n; default = default; provenance = from })
+
+type_param_at : (def : GenericDefId) (n : Name) (default : Option TypeRefId) (from : TypeParamProvenance) (bs : Bounds) (y : fold.Param)
+    (b : Builder) → Paired b.stored → ReadsFrom b (type_of n default from) y
+    → let p = steps.type_param_form def n default from bs in StepsTo (one_param y ⊞ noted_in_each bs) b (p b).0 (p b).1
+type_param_at def n default from bs y b d h = then_at (one_param y) (noted_in_each bs) (add_param (type_of n default from))
+    (behind_param def bs) b
+    (param_at (type_of n default from) y b d h) (λ k. steps_begin (type_stored _ None) (λ id. each_asked None id bs))
+
+absent_read : (final : Stored) → stored_option_type (store_of final) (map_of final) None ≡ no_type
+unfolding stored_option_type
+absent_read final = refl
+
+self_noted : (def : GenericDefId) (bs : Bounds) → Steps (one_param self_param ⊞ noted_in_each bs) (steps.self_param def bs)
+self_noted def bs = record {
+  at = λ b d. type_param_at def steps.self_text None provenance.TraitSelf bs self_param b d
+      (λ final e. ap (type_param (Some steps.self_text) provenance.TraitSelf) (absent_read final));
+}
 
 default_noted : (c : Option Constant) → Steps (noted_in_default c) (steps.present_constant c)
 default_noted None = steps_pure None
@@ -165,16 +191,37 @@ placeholder_noted : (l : Option Lifetime) → Steps (of_part (of_lifetime_option
 placeholder_noted None = lifetime_stored lifetime.Placeholder None
 placeholder_noted (Some l) = steps_part (lifetime_notes l)
 
+-- behind a default
+abbrev behind_default : Name → TypeRefId → Option ConstRef → Lowering (Unit {0})
+behind_default n i d = add_param (const_of n i d) >> pure tt
+
+-- behind its type, which reads back from here on
+const_at : (n : Name) (t : OptionType) (default : Option Constant) (i : TypeRefId) (b : Builder) → Paired b.stored
+    → ((final : Stored) → Extends b.stored final → stored_type (store_of final) (map_of final) i ≡ written_type t)
+    → let p = steps.present_constant default >>= behind_default n i in
+    StepsTo (noted_in_default default ⊞ one_param (const_param n (written_type t) (is_some default))) b (p b).0 (p b).1
+const_at n t default i b d h =
+    let y = const_param n (written_type t) (is_some default) in
+    given_at (noted_in_default default) (one_param y) (λ x. is_some x ≡ is_some default) (steps.present_constant default)
+    (behind_default n i) b
+    ((default_noted default).at b d) ((gives_default default).gives b) (λ x c is e paired.
+    then_at (one_param y) nothing (add_param (const_of n i x)) (λ k. pure tt) c
+    (param_at (const_of n i x) y c paired (λ final z. λ j. const_param n (h final (extends_trans e z) j) (is j)))
+    (λ k. steps_pure tt))
+
 one_noted : (def : GenericDefId) (x : Param) → Steps (noted_in_param x) (steps.lower_param def x)
 one_noted def (item.disabled_param at by) = reported _
 one_noted def (item.type_param n default bs) =
-    steps_given {P = λ i. is_some i ≡ is_type default} (steps_part (present_type_noted default)) (gives_type default) (λ i h.
-    subst (λ b. Steps (one_param (type_param n provenance.TypeParamList b) ⊞ noted_in_each bs)
-    (steps.type_param_form def n i provenance.TypeParamList bs)) h (type_param_noted def n i provenance.TypeParamList bs))
-one_noted def (item.const_param n t default) = steps_then (steps_part (type_noted None t)) (λ i.
-    steps_given {P = λ d. is_some d ≡ is_some default} (default_noted default) (gives_default default) (λ d h.
-    steps_end (subst (λ b. Steps (one_param (const_param n b)) (add_param (const_of n i d))) h (steps_param (const_of n i d)))
-    (λ k. steps_pure tt)))
+    let y = type_param (Some n) provenance.TypeParamList (written_option_type default) in
+    steps_by (one_param y ⊞ noted_in_each bs) (λ i. steps.type_param_form def n i provenance.TypeParamList bs)
+    (steps_part (present_type_noted default)) (λ b i c d is e paired.
+    type_param_at def n i provenance.TypeParamList bs y c paired (λ final x.
+    ap (type_param (Some n) provenance.TypeParamList) (answered (option_type_now default) b c i d is final x).is))
+one_noted def (item.const_param n t default) =
+    let y = const_param n (written_type t) (is_some default) in
+    steps_by (noted_in_default default ⊞ one_param y) (λ i. steps.present_constant default >>= behind_default n i)
+    (steps_part (type_noted None t)) (λ b i c d is e paired.
+    const_at n t default i c paired (λ final x. (answered (type_now t) b c i d is final x).is))
 one_noted def (item.lifetime_param n l bs) = steps_then (steps_part (lifetime_notes l)) (λ id.
     steps_then (steps_lifetime_param n) (λ u. bounds_asked None l.lifetime id bs))
 one_noted def (item.nameless_param l) = steps_end (placeholder_noted l) (λ i. steps_pure tt)
@@ -198,8 +245,7 @@ generics_noted def g = steps_then (all_noted def g.params) (λ u. predicates_not
 -- ---- traits, implementations and aliases
 
 pub trait_noted : (def : GenericDefId) (x : Trait) → Steps (noted_in_trait x) (steps.lower_trait def x)
-trait_noted def x = steps_then (type_param_noted def steps.self_text None provenance.TraitSelf x.bounds)
-    (λ u. generics_noted def x.generics)
+trait_noted def x = steps_then (self_noted def x.bounds) (λ u. generics_noted def x.generics)
 
 trait_stored : (at : Pointer) (p : Option HirPath) → Steps nothing (steps.stored_trait at p)
 trait_stored at None = steps_pure None

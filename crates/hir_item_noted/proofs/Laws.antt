@@ -1,5 +1,9 @@
 -- The laws, of the steps.
-use Rattle.std.proofs.Common.{◌≡◌, ◌∙◌, refl, ap, ℕ, List, [], ◌∷◌, map, Ok}
+use Rattle.std.proofs.Common.{arith, ◌≡◌, ◌∙◌, ◌≤◌, refl, sym, ap, subst, ℕ, suc, min, length, List, [], ◌∷◌, map, Ok}
+use Rattle.std.proofs.lemmas.List.{length-map}
+use Rattle.hir_store.specs.Params.{early_among, one_early}
+use Rattle.hir_store.specs.declared.generics.LifetimeBoundType.{LifetimeBoundType}
+use Rattle.hir_store.specs.declared.generics.LifetimeBoundType.TheVariants as kind
 use Rattle.hir_store.specs.declared.generics.LifetimeParamData.{LifetimeParamData}
 use Rattle.hir_store.specs.declared.ids.GenericDefId.{GenericDefId}
 use Rattle.hir_store.specs.declared.name.Name.{Name}
@@ -14,7 +18,7 @@ use Rattle.hir_lower_item.specs.Kinds.{finished, named_sets, of_kind, of_kinds}
 use Rattle.hir_lower_item.specs.Lower.{lower_function}
 use Rattle.hir_item_noted.specs.Fold.{ItemNoting, noted_in_function, sets_of_item}
 use Rattle.hir_item_noted.specs.Laws.{ItemsMake, ItemsNote, Made, MakesEarly}
-use Rattle.hir_item_noted.specs.Noted.{ItemNoted, by_kind, early}
+use Rattle.hir_item_noted.specs.Noted.{by_kind, early}
 use Rattle.hir_item_noted.proofs.Items.{alias_noted, function_noted, generics_noted, impl_noted, trait_noted}
 use Rattle.hir_item_noted.proofs.Logic.{Steps, noted_by}
 
@@ -30,10 +34,33 @@ items_note def = (
 nothing_stored : (limit : ℕ) → Paired (fresh limit).stored
 nothing_stored limit = record { exprs = refl; labels = refl; pats = refl; types = refl; lifetimes = refl }
 
+-- ---- how many are early bound
+
+one_more : (k : LifetimeBoundType) (n m : ℕ) → n ≤ m → one_early k n ≤ suc m
+one_more kind.EarlyBound n m h = omega (arith, h)
+one_more kind.LateBound n m h = omega (arith, h)
+
+among_all : (ls : List LifetimeParamData) → early_among ls ≤ length ls
+among_all [] = omega (arith)
+among_all (l ∷ ls) = one_more l.bound_type (early_among ls) (length ls) (among_all ls)
+
+below_end : (n m : ℕ) → n ≤ m → m ≤ 4294967295 → min n 4294967295 ≡ n
+below_end n m h le = omega (arith, h, le)
+
+all_counted : (ls : List LifetimeParamData) → length ls ≤ 4294967295 → min (early_among ls) 4294967295 ≡ early_among ls
+all_counted ls le = below_end (early_among ls) (length ls) (among_all ls) le
+
+none_fit : 0 ≤ 4294967295
+none_fit = omega (arith)
+
 makes_early : {A : Type 0} {n : ItemNoting} {p : Lowering A} → Steps n p → MakesEarly n p
 makes_early h limit c a is =
     let g = noted_by h (fresh limit) c a (nothing_stored limit) is in
-    record { params = g.params; lifetimes_are = g.lifetimes }
+    record {
+      params = g.params;
+      lifetimes_are = g.lifetimes;
+      counted = all_counted c.notes.generics.lifetimes (g.fits none_fit);
+    }
 
 -- a lifetime parameter of the kind that these sets give it
 abbrev given : LifetimeSets → Name → LifetimeParamData
@@ -45,7 +72,7 @@ kinds_are s (n ∷ ns) = ap (λ l. given (named_sets s) n ∷ l) (kinds_are s ns
 
 function_makes : (def : GenericDefId) (x : Function) (limit : ℕ) (c : Builder) (s : Signature)
     → lower_function def x (fresh limit) ≡ (Ok s, c)
-    → Made (noted_in_function x) (by_kind (noted_in_function x)) (finished (of_kinds c.notes))
+    → Made (noted_in_function x) (by_kind (noted_in_function x)) c.stored (finished (of_kinds c.notes))
 function_makes def x limit c s is =
     let n = noted_in_function x in
     let g = noted_by (function_noted def x) (fresh limit) c s (nothing_stored limit) is in
@@ -54,6 +81,8 @@ function_makes def x limit c s is =
       params = g.params;
       lifetimes_are = ap (map (of_kind c.notes.named)) g.lifetimes
           ∙ (kinds_are c.notes.named n.lifetimes ∙ ap (λ t. map (given t) n.lifetimes) sets);
+      counted = all_counted (map (of_kind c.notes.named) c.notes.generics.lifetimes)
+          (subst (λ k. k ≤ 4294967295) (sym (length-map c.notes.generics.lifetimes (of_kind c.notes.named))) (g.fits none_fit));
     }
 
 pub items_make : ItemsMake

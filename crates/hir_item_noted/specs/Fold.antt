@@ -1,13 +1,15 @@
 -- What lowering an item notes, in the order in which it reads the item's parts. What is in a disabled node isn't read.
-use Rattle.std.specs.Prelude.{Bool, true, false, List, [], ◌∷◌, ◌++◌, map, Option, Some, None, is_some}
+use Rattle.std.specs.Prelude.{Bool, List, [], ◌∷◌, ◌++◌, map, Option, Some, None, is_some}
 use Rattle.hir_store.specs.declared.generics.TypeParamProvenance.{TypeParamProvenance}
 use Rattle.hir_store.specs.declared.generics.TypeParamProvenance.TheVariants as provenance
 use Rattle.hir_store.specs.declared.name.Name.{Name}
 use Rattle.hir_store.specs.declared.type_ref.LifetimeRef.{LifetimeRef}
 use Rattle.hir_env.specs.declared.place.LifetimeScope.TheVariants as scope
 use Rattle.hir_env.specs.Answered as tree
-use Rattle.hir_env.specs.Answered.{Bound, Bounds, Constant, OptionType}
+use Rattle.hir_env.specs.Answered.{Bound, Bounds, Constant}
 use Rattle.hir_env.specs.TypeLayers.{PathTypeReading}
+use Rattle.hir_data.specs.Data.{OptionTypeData, TypeData, no_type}
+use Rattle.hir_data.specs.Written.{written_option_type, written_type}
 use Rattle.hir_sets.specs.Noting.{Noting, of_lifetime, of_lifetime_option, one_ref}
 use Rattle.hir_sets.specs.Kinds.{LifetimeSets}
 use Rattle.hir_sets.specs.Fold.{noted_in_bound, noted_in_bounds, noted_in_constant, noted_in_output, noted_in_present_type}
@@ -18,11 +20,14 @@ use Rattle.hir_lower_item.specs.Lower.{self_text}
 
 -- a parameter that is a type or a constant
 pub data Param : Type 0 where
-  -- an `impl` became it
-  impl_param : Param
-  -- its name, what it is, and whether it has a default
-  type_param : Name → TypeParamProvenance → Bool → Param
-  const_param : Name → Bool → Param
+  -- its name, what it is, and its default
+  type_param : Option Name → TypeParamProvenance → OptionTypeData → Param
+  -- its name, its type, and whether it has a default
+  const_param : Name → TypeData → Bool → Param
+
+-- one that an `impl` became
+abbrev pub impl_param : Param
+impl_param = type_param None provenance.ArgumentImplTrait no_type
 
 -- The parameters in the order of their numbers, the lifetime parameters, and the names in bounds, in arguments and in what is returned,
 -- in the order in which they are read.
@@ -79,10 +84,6 @@ noted_in_bounds_of l (tree.more_bounds b bs) = of_part (noted_in_bound b) ⊞ (b
 
 -- ---- generic parameters
 
-abbrev pub is_type : OptionType → Bool
-is_type tree.no_type = false
-is_type (tree.some_type t) = true
-
 abbrev pub noted_in_default : Option Constant → ItemNoting
 noted_in_default None = nothing
 noted_in_default (Some c) = of_part (noted_in_constant c)
@@ -91,9 +92,9 @@ abbrev pub noted_in_param : item.Param → ItemNoting
 noted_in_param (item.disabled_param at by) = nothing
 noted_in_param (item.type_param n default bs) =
     of_part (noted_in_present_type default)
-    ⊞ (one_param (type_param n provenance.TypeParamList (is_type default)) ⊞ noted_in_each bs)
+    ⊞ (one_param (type_param (Some n) provenance.TypeParamList (written_option_type default)) ⊞ noted_in_each bs)
 noted_in_param (item.const_param n t default) =
-    of_part (noted_in_type_part t) ⊞ (noted_in_default default ⊞ one_param (const_param n (is_some default)))
+    of_part (noted_in_type_part t) ⊞ (noted_in_default default ⊞ one_param (const_param n (written_type t) (is_some default)))
 noted_in_param (item.lifetime_param n l bs) = of_part (of_lifetime l) ⊞ (one_lifetime n ⊞ noted_in_bounds_of l.lifetime bs)
 noted_in_param (item.nameless_param l) = of_part (of_lifetime_option l)
 
@@ -116,9 +117,12 @@ noted_in_generics g = noted_in_params g.params ⊞ noted_in_predicates g.predica
 
 -- ---- items
 
+abbrev pub self_param : Param
+self_param = type_param (Some self_text) provenance.TraitSelf no_type
+
 -- `Self` is the first parameter of a trait
 abbrev pub noted_in_trait : Trait → ItemNoting
-noted_in_trait x = (one_param (type_param self_text provenance.TraitSelf false) ⊞ noted_in_each x.bounds) ⊞ noted_in_generics x.generics
+noted_in_trait x = (one_param self_param ⊞ noted_in_each x.bounds) ⊞ noted_in_generics x.generics
 
 abbrev pub noted_in_trait_path : Option PathTypeReading → ItemNoting
 noted_in_trait_path None = nothing
