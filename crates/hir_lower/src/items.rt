@@ -3,7 +3,12 @@
 ghost use Rattle.std.specs.Prelude.{◌≡◌, ◌≢◌, Err, IfOk, IfErr, IsErrOf, option_copied};
 ghost use Rattle.hir_store.specs.Range.{InRange};
 ghost use Rattle.hir_env.specs.declared.place.LoweringMode.TheVariants as mode_of;
+ghost use Rattle.hir_store.specs.declared.ids.GenericDefId.TheVariants as definition;
+ghost use Rattle.hir_lower_item.specs.Answering.{answered_alias, answered_function, answered_generics, answered_impl, answered_trait};
 ghost use Rattle.hir_lower_item.specs.Kinds as kinds;
+ghost use Rattle.hir_item_noted.specs.Fold.{noted_in_alias, noted_in_function, noted_in_generics, noted_in_impl, noted_in_trait};
+ghost use Rattle.hir_item_noted.specs.Laws.{Made};
+ghost use Rattle.hir_item_noted.specs.Noted.{all_early, by_kind};
 ghost use Rattle.hir_lower.specs.Items.{ItemFromNothing, alias_at, as_noted, function_at, generics_at, impl_at, item_spot, signature};
 ghost use Rattle.hir_lower.specs.Items.{trait_at};
 ghost use Rattle.hir_lower.specs.Roots.{RefusedAtEnd, outside_body};
@@ -60,19 +65,8 @@ fn early_params(notes: Notes) -> GenericParams
     finished(generics)
 }
 
-/// Lowers generic parameters by themselves (upstream's function of this name): the parameters, as they are written, and then what a where
-/// clause asks.
-///
-/// A condition is asked about each parameter at its own node; one that is disabled leaves a fault alone. An `impl` in a bound becomes an
-/// unnamed parameter, behind those inside of its own bounds. A bound that is an error or a `use<..>` becomes no predicate, nor does a trait
-/// of a lifetime. Each lifetime is early bound. Each number in store and source map is in range.
-///
-/// What is answered is what the description of the steps makes, from nothing: parameters, predicates, store and source map are determined
-/// by the tree and the answers. Of the stored types and constants no more is claimed here.
-///
-/// `Memory` where a growth was refused; `Full` only where an arena has reached its limit, or there is no number more for a parameter, a
-/// name that is made up, or what else is counted; never `Failed`. What was stored until then is dropped.
-pub fn lower_generic_params<E: LowerEnv>(
+/// The steps of `lower_generic_params`, with what they store and note.
+fn generic_params_steps<E: LowerEnv>(
     alloc: Global,
     db: &E,
     inside: ModuleId,
@@ -106,15 +100,54 @@ pub fn lower_generic_params<E: LowerEnv>(
     }
 }
 
-/// Lowers an `impl` (upstream's function of this name): its type, which is an error where it is absent, its trait, and then its parameters
-/// and what its where clause asks.
+/// Lowers generic parameters by themselves (upstream's function of this name): the parameters, as they are written, and then what a where
+/// clause asks.
 ///
-/// The trait is read only where it is written as a path as it stands; none is answered for another form, nor for a path that is absent or
-/// refused. Of parameters and predicates, of ranges and of what is claimed, the same is so as for `lower_generic_params`.
+/// A condition is asked about each parameter at its own node; one that is disabled leaves a fault alone. An `impl` in a bound becomes an
+/// unnamed parameter, behind those inside of its own bounds. A bound that is an error or a `use<..>` becomes no predicate, nor does a trait
+/// of a lifetime. Each lifetime is early bound. Each number in store and source map is in range.
+///
+/// What is answered is what the description of the steps makes, from nothing: parameters, predicates, store and source map are determined
+/// by the tree and the answers. Of the stored types and constants no more is claimed here.
 ///
 /// `Memory` where a growth was refused; `Full` only where an arena has reached its limit, or there is no number more for a parameter, a
 /// name that is made up, or what else is counted; never `Failed`. What was stored until then is dropped.
-pub fn lower_impl<E: LowerEnv>(
+pub fn lower_generic_params<E: LowerEnv>(
+    alloc: Global,
+    db: &E,
+    inside: ModuleId,
+    def: GenericDefId,
+    file_id: HirFileId,
+    param_list: Option<&GenericParamList>,
+    where_clause: Option<&WhereClause>,
+    mode: LoweringMode,
+) -> Result<(ExpressionStore, GenericParams, ExpressionStoreSourceMap), LowerError>
+    ensures made { let at = item_spot (E.answers db.now) file_id inside mode in
+        let p = generics_at at def (option_copied param_list.entry) (option_copied where_clause.entry) in
+        IfOk result (λ r. ItemFromNothing p as_noted 4294967295 tt r.1 r.0 r.2) }
+    ensures params { let at = item_spot (E.answers db.now) file_id inside mode in
+        let n = noted_in_generics (answered_generics at def (option_copied param_list.entry) (option_copied where_clause.entry)) in
+        IfOk result (λ r. Made n (all_early n) r.1) }
+    ensures in_range { IfOk result (λ r. InRange r.0 r.2) }
+    ensures full { let at = item_spot (E.answers db.now) file_id inside mode in
+        let p = generics_at at def (option_copied param_list.entry) (option_copied where_clause.entry) in
+        IsErrOf result LowerError.Full → RefusedAtEnd p 4294967295 }
+    ensures own { result ≢ Err LowerError.Failed }
+{
+    generic_params_steps(
+        alloc,
+        db,
+        inside,
+        def,
+        file_id,
+        param_list,
+        where_clause,
+        mode,
+    )
+}
+
+/// The steps of `lower_impl`, with what they store and note.
+fn impl_steps<E: LowerEnv>(
     alloc: Global,
     db: &E,
     inside: ModuleId,
@@ -155,14 +188,47 @@ pub fn lower_impl<E: LowerEnv>(
     }
 }
 
-/// Lowers a trait (upstream's function of this name): `Self`, which is its first parameter, with a predicate for each bound of the trait,
-/// and then its other parameters and what its where clause asks.
+/// Lowers an `impl` (upstream's function of this name): its type, which is an error where it is absent, its trait, and then its parameters
+/// and what its where clause asks.
 ///
-/// Of parameters and predicates, of ranges and of what is claimed, the same is so as for `lower_generic_params`.
+/// The trait is read only where it is written as a path as it stands; none is answered for another form, nor for a path that is absent or
+/// refused. Of parameters and predicates, of ranges and of what is claimed, the same is so as for `lower_generic_params`.
 ///
 /// `Memory` where a growth was refused; `Full` only where an arena has reached its limit, or there is no number more for a parameter, a
 /// name that is made up, or what else is counted; never `Failed`. What was stored until then is dropped.
-pub fn lower_trait<E: LowerEnv>(
+pub fn lower_impl<E: LowerEnv>(
+    alloc: Global,
+    db: &E,
+    inside: ModuleId,
+    item: InFile<&Impl>,
+    id: ImplId,
+) -> Result<
+    (
+        ExpressionStore,
+        ExpressionStoreSourceMap,
+        TypeRefId,
+        Option<TraitRef>,
+        GenericParams,
+    ),
+    LowerError,
+>
+    ensures made { let at = item_spot (E.answers db.now) item.entry.file_id inside mode_of.Analysis in
+        let p = impl_at at id item.entry.value.now in
+        IfOk result (λ r. ItemFromNothing p as_noted 4294967295 (r.2, r.3) r.4 r.0 r.1) }
+    ensures params { let at = item_spot (E.answers db.now) item.entry.file_id inside mode_of.Analysis in
+        let n = noted_in_impl (answered_impl at (definition.ImplId id) item.entry.value.now) in
+        IfOk result (λ r. Made n (all_early n) r.4) }
+    ensures in_range { IfOk result (λ r. InRange r.0 r.1) }
+    ensures full { let at = item_spot (E.answers db.now) item.entry.file_id inside mode_of.Analysis in
+        let p = impl_at at id item.entry.value.now in
+        IsErrOf result LowerError.Full → RefusedAtEnd p 4294967295 }
+    ensures own { result ≢ Err LowerError.Failed }
+{
+    impl_steps(alloc, db, inside, item, id)
+}
+
+/// The steps of `lower_trait`, with what they store and note.
+fn trait_steps<E: LowerEnv>(
     alloc: Global,
     db: &E,
     inside: ModuleId,
@@ -194,15 +260,37 @@ pub fn lower_trait<E: LowerEnv>(
     }
 }
 
-/// Lowers an alias of a type (upstream's function of this name): its bounds, its parameters and what its where clause asks, and then its
-/// type, where one is written.
+/// Lowers a trait (upstream's function of this name): `Self`, which is its first parameter, with a predicate for each bound of the trait,
+/// and then its other parameters and what its where clause asks.
 ///
-/// An alias of a module or an `impl` owes a type; where it lacks one, that is told last. Of parameters and predicates, of ranges and of
-/// what is claimed, the same is so as for `lower_generic_params`.
+/// Of parameters and predicates, of ranges and of what is claimed, the same is so as for `lower_generic_params`.
 ///
 /// `Memory` where a growth was refused; `Full` only where an arena has reached its limit, or there is no number more for a parameter, a
 /// name that is made up, or what else is counted; never `Failed`. What was stored until then is dropped.
-pub fn lower_type_alias<E: LowerEnv>(
+pub fn lower_trait<E: LowerEnv>(
+    alloc: Global,
+    db: &E,
+    inside: ModuleId,
+    item: InFile<&Trait>,
+    id: TraitId,
+) -> Result<(ExpressionStore, ExpressionStoreSourceMap, GenericParams), LowerError>
+    ensures made { let at = item_spot (E.answers db.now) item.entry.file_id inside mode_of.Analysis in
+        let p = trait_at at id item.entry.value.now in
+        IfOk result (λ r. ItemFromNothing p as_noted 4294967295 tt r.2 r.0 r.1) }
+    ensures params { let at = item_spot (E.answers db.now) item.entry.file_id inside mode_of.Analysis in
+        let n = noted_in_trait (answered_trait at (definition.TraitId id) item.entry.value.now) in
+        IfOk result (λ r. Made n (all_early n) r.2) }
+    ensures in_range { IfOk result (λ r. InRange r.0 r.1) }
+    ensures full { let at = item_spot (E.answers db.now) item.entry.file_id inside mode_of.Analysis in
+        let p = trait_at at id item.entry.value.now in
+        IsErrOf result LowerError.Full → RefusedAtEnd p 4294967295 }
+    ensures own { result ≢ Err LowerError.Failed }
+{
+    trait_steps(alloc, db, inside, item, id)
+}
+
+/// The steps of `lower_type_alias`, with what they store and note.
+fn alias_steps<E: LowerEnv>(
     alloc: Global,
     db: &E,
     container: ItemContainerId,
@@ -244,6 +332,45 @@ pub fn lower_type_alias<E: LowerEnv>(
     }
 }
 
+/// Lowers an alias of a type (upstream's function of this name): its bounds, its parameters and what its where clause asks, and then its
+/// type, where one is written.
+///
+/// An alias of a module or an `impl` owes a type; where it lacks one, that is told last. Of parameters and predicates, of ranges and of
+/// what is claimed, the same is so as for `lower_generic_params`.
+///
+/// `Memory` where a growth was refused; `Full` only where an arena has reached its limit, or there is no number more for a parameter, a
+/// name that is made up, or what else is counted; never `Failed`. What was stored until then is dropped.
+pub fn lower_type_alias<E: LowerEnv>(
+    alloc: Global,
+    db: &E,
+    container: ItemContainerId,
+    item: InFile<&TypeAlias>,
+    id: TypeAliasId,
+) -> Result<
+    (
+        ExpressionStore,
+        ExpressionStoreSourceMap,
+        GenericParams,
+        Seq<TypeBound>,
+        Option<TypeRefId>,
+    ),
+    LowerError,
+>
+    ensures made { let at = item_spot (E.answers db.now) item.entry.file_id ((E.answers db.now).module_of container) mode_of.Analysis in
+        let p = alias_at at id container item.entry.value.now in
+        IfOk result (λ r. ItemFromNothing p as_noted 4294967295 (r.3, r.4) r.2 r.0 r.1) }
+    ensures params { let at = item_spot (E.answers db.now) item.entry.file_id ((E.answers db.now).module_of container) mode_of.Analysis in
+        let n = noted_in_alias (answered_alias at (definition.TypeAliasId id) container item.entry.value.now) in
+        IfOk result (λ r. Made n (all_early n) r.2) }
+    ensures in_range { IfOk result (λ r. InRange r.0 r.1) }
+    ensures full { let at = item_spot (E.answers db.now) item.entry.file_id ((E.answers db.now).module_of container) mode_of.Analysis in
+        let p = alias_at at id container item.entry.value.now in
+        IsErrOf result LowerError.Full → RefusedAtEnd p 4294967295 }
+    ensures own { result ≢ Err LowerError.Failed }
+{
+    alias_steps(alloc, db, container, item, id)
+}
+
 /// The parameters of a function that was lowered.
 fn function_params(alloc: Global, notes: Notes) -> Result<GenericParams, LowerError>
     ensures made { IfOk result (λ params. params ≡ kinds.finished (kinds.of_kinds notes)) }
@@ -255,20 +382,8 @@ fn function_params(alloc: Global, notes: Notes) -> Result<GenericParams, LowerEr
     }
 }
 
-/// Lowers the types of a function (upstream's function of this name): its parameters and what its where clause asks; the types of what it
-/// is given, of `self` first; what it returns; whether it has a `self`, and whether it is variadic.
-///
-/// Of what it is given a condition is asked at each node, and all faults are told before the types are read; those that are disabled have
-/// no type, nor has a variadic one. An `impl` among these types becomes an unnamed parameter. `self` without a type is `Self`, or a
-/// reference to it. A function with `async`, `gen` or both returns an `impl` of the trait of its coroutine, of what is written there, or of `()`.
-///
-/// A lifetime parameter is late bound, unless a bound names it, or what is returned names it and nothing that is given does: a projection
-/// doesn't count, and of an alias only the lifetimes that its type names. Of parameters and predicates, of ranges and of what is claimed,
-/// the same is so as for `lower_generic_params`.
-///
-/// `Memory` where a growth was refused; `Full` only where an arena has reached its limit, or there is no number more for a parameter, a
-/// name that is made up, or what else is counted; never `Failed`. What was stored until then is dropped.
-pub fn lower_function<E: LowerEnv>(
+/// The steps of `lower_function`, with what they store and note.
+fn function_steps<E: LowerEnv>(
     alloc: Global,
     db: &E,
     inside: ModuleId,
@@ -316,4 +431,51 @@ pub fn lower_function<E: LowerEnv>(
             Err(LowerError::from(fault))
         }
     }
+}
+
+/// Lowers the types of a function (upstream's function of this name): its parameters and what its where clause asks; the types of what it
+/// is given, of `self` first; what it returns; whether it has a `self`, and whether it is variadic.
+///
+/// Of what it is given a condition is asked at each node, and all faults are told before the types are read; those that are disabled have
+/// no type, nor has a variadic one. An `impl` among these types becomes an unnamed parameter. `self` without a type is `Self`, or a
+/// reference to it. A function with `async`, `gen` or both returns an `impl` of the trait of its coroutine, of what is written there, or
+/// of `()`.
+///
+/// A lifetime parameter is late bound, unless a bound names it, or what is returned names it and nothing that is given does: a projection
+/// doesn't count, and of an alias only the lifetimes that its type names. Of parameters and predicates, of ranges and of what is claimed,
+/// the same is so as for `lower_generic_params`.
+///
+/// `Memory` where a growth was refused; `Full` only where an arena has reached its limit, or there is no number more for a parameter, a
+/// name that is made up, or what else is counted; never `Failed`. What was stored until then is dropped.
+pub fn lower_function<E: LowerEnv>(
+    alloc: Global,
+    db: &E,
+    inside: ModuleId,
+    item: InFile<&Fn>,
+    id: FunctionId,
+) -> Result<
+    (
+        ExpressionStore,
+        ExpressionStoreSourceMap,
+        GenericParams,
+        Seq<TypeRefId>,
+        Option<TypeRefId>,
+        bool,
+        bool,
+    ),
+    LowerError,
+>
+    ensures made { let at = item_spot (E.answers db.now) item.entry.file_id inside mode_of.Analysis in
+        let p = function_at at id item.entry.value.now in
+        IfOk result (λ r. ItemFromNothing p kinds.of_kinds 4294967295 (signature r.3 r.4 r.5 r.6) r.2 r.0 r.1) }
+    ensures params { let at = item_spot (E.answers db.now) item.entry.file_id inside mode_of.Analysis in
+        let n = noted_in_function (answered_function at (definition.FunctionId id) item.entry.value.now) in
+        IfOk result (λ r. Made n (by_kind n) r.2) }
+    ensures in_range { IfOk result (λ r. InRange r.0 r.1) }
+    ensures full { let at = item_spot (E.answers db.now) item.entry.file_id inside mode_of.Analysis in
+        let p = function_at at id item.entry.value.now in
+        IsErrOf result LowerError.Full → RefusedAtEnd p 4294967295 }
+    ensures own { result ≢ Err LowerError.Failed }
+{
+    function_steps(alloc, db, inside, item, id)
 }
