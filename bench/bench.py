@@ -485,6 +485,77 @@ def resolved(size):
     return nodes
 
 
+def lifetimes(nodes, names):
+    """A list of lifetime parameters of these names."""
+    generics = nodes.add("GenericParamList", params=[])
+    for name in names:
+        nodes.all[generics]["params"].append(nodes.add("LifetimeParam", lifetime=name))
+    return generics
+
+
+def reference(nodes, lifetime):
+    """A reference to the type without values, of two nodes."""
+    here = nodes.add("RefType", lifetime=lifetime)
+    nodes.all[here]["ty"] = nodes.add("NeverType")
+    return here
+
+
+def signature(names, alias_names):
+    """A function without body, with parameters of these names, and an alias `A` with those. Both are without types so far."""
+    nodes = Nodes()
+    nodes.env = {"resolve": [[0, "A", ["alias", 0], None, None]], "aliases": []}
+    function = nodes.add("Fn")
+    nodes.all[function]["generics"] = lifetimes(nodes, names)
+    params = nodes.add("ParamList", params=[])
+    nodes.all[function]["params"] = params
+    alias = nodes.add("TypeAlias")
+    nodes.env["aliases"].append([0, alias])
+    nodes.all[alias]["generics"] = lifetimes(nodes, alias_names)
+    nodes.all[alias]["ty"] = nodes.add("TupleType", fields=[])
+    return nodes, nodes.all[nodes.all[alias]["ty"]]["fields"], nodes.all[params]["params"]
+
+
+def use_of_alias(nodes, names):
+    """A parameter of the alias `A` with arguments of these names, of five nodes and one for each name."""
+    here = nodes.add("Param")
+    nodes.all[here]["ty"] = ty = nodes.add("PathType", path=here + 2)
+    nodes.add("Path", segs=[ty + 2])
+    nodes.add("PathSegment", seg="name", name="A", generics=ty + 3)
+    args = nodes.add("GenericArgList", args=[])
+    for name in names:
+        nodes.all[args]["args"].append(nodes.add("LifetimeArg", lifetime=name))
+    return here
+
+
+def alias(size):
+    """One use of an alias of one tuple of very many references: at 1,000,000 nodes as many types, but for some."""
+    nodes, fields, params = signature(["'x", "'y"], ["'a", "'b"])
+    params.append(use_of_alias(nodes, ["'x", "'y"]))
+    while len(nodes.all) + 2 <= size:
+        fields.append(reference(nodes, "'b"))
+    return nodes
+
+
+def alias_uses(size):
+    """Very many uses of an alias that has a tenth of the nodes: at 1,000,000 nodes 128,000 uses of one of 100,000 types."""
+    nodes, fields, params = signature(["'x", "'y"], ["'a", "'b"])
+    while len(nodes.all) + 2 <= size // 10:
+        fields.append(reference(nodes, "'b"))
+    while len(nodes.all) + 7 <= size:
+        params.append(use_of_alias(nodes, ["'x", "'y"]))
+    return nodes
+
+
+def alias_names(size):
+    """One use of an alias that has very many lifetime parameters and names each: at 1,000,000 nodes 200,000 of them."""
+    places = size // 5 - 5
+    nodes, fields, params = signature(["'x%d" % k for k in range(places)], ["'a%d" % k for k in range(places)])
+    for place in range(places):
+        fields.append(reference(nodes, "'a%d" % place))
+    params.append(use_of_alias(nodes, ["'x%d" % k for k in range(places)]))
+    return nodes
+
+
 SHAPES = {
     "wide": wide,
     "calls": calls,
@@ -517,6 +588,9 @@ SHAPES = {
     "alternatives": alternatives,
     "absences": absences,
     "arms": arms,
+    "alias": alias,
+    "alias_uses": alias_uses,
+    "alias_names": alias_names,
 }
 
 # The shapes that aren't linear, and up to which size they are run.
@@ -532,6 +606,9 @@ MODES = {
     "nested": "type",
     "alternatives": "pat",
     "absences": "pat",
+    "alias": "fn",
+    "alias_uses": "fn",
+    "alias_names": "fn",
 }
 
 

@@ -2,6 +2,6 @@ pub mod MadeNames
 pub mod Segments
 mod Arguments
 mod Worked
-mod Trees
+pub mod Trees
 mod PatternRows
 mod TargetRows

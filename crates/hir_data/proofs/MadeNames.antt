@@ -195,7 +195,7 @@ mutual
   items_say (tree.more_segments s ss) behind h = (what_says false s, items_say ss behind h)
 
   segments_say : (p : Path) (behind : List Item) → AllSay behind → AllSay (segments p behind)
-  segments_say (tree.path leading first rest use_) behind h =
+  segments_say (tree.path alias leading first rest use_) behind h =
       outer_says use_ (record { leading = leading; what = what true first } ∷ items rest behind)
       (what_says true first, items_say rest behind h)
 

@@ -18,7 +18,8 @@ use Rattle.hir_env.specs.Answered.{OptionType, SegmentArgs, Path, OptionPath, Se
 use Rattle.hir_env.specs.TypeLayers.{PathTypeReading}
 use Rattle.hir_env.specs.LocalPaths.{at_local_root, behind_root, is_bare, local_root}
 use Rattle.hir_env.specs.PathNames.{mod_path_of}
-use Rattle.hir_env.specs.Paths.{called_path, context_at, crate_root_at, kinded_segment, qualified_segment}
+use Rattle.hir_env.specs.Paths.{alias_at, called_path, context_at, crate_root_at, inside_projection, kinded_segment, qualified_segment}
+use Rattle.hir_env.specs.Paths.{with_alias}
 use Rattle.hir_env.specs.Whole.{answered_path, answered_segment, answered_path_type, path_part, segments_part, first_part}
 use Rattle.hir_env.specs.Whole.{rest_part, path_type_part, into, reader}
 use Rattle.hir_env.proofs.PathLevels.{path_is_level, segment_is_level, path_type_is_level}
@@ -105,17 +106,22 @@ qualified_alone : (ty : OptionType) → said true (qualified_segment ty None) �
 qualified_alone tree.no_type = refl
 qualified_alone (tree.some_type ty) = refl
 
+-- where the type and the trait of a projection are read
+abbrev in_projection : Spot → Spot
+in_projection at = record at { place = inside_projection at.place }
+
 -- of a first one without a trait
-said_first : (at : Spot) (k : Option SegmentKind) (n : Option AstName) (a : SegmentArgs) (ty : OptionType) (t : Option AstPathType)
-    → trait_of k t ≡ None → said true (kinded_segment at.answers at.place k n a ty (path_type_part at t)) ≡ borne (name_borne k n)
-said_first at None n a ty t h = refl
-said_first at (Some word.Name) None a ty t h = refl
-said_first at (Some word.Name) (Some n) a ty t h = dollar_said at true n a (bytes_eq n.t (codes "$crate"))
-said_first at (Some word.SelfKw) n a ty t h = refl
-said_first at (Some word.CrateKw) n a ty t h = refl
-said_first at (Some word.SuperKw) n a ty t h = refl
-said_first at (Some word.SelfTypeKw) n a ty t h = refl
-said_first at (Some word.Qualified) n a ty t h = ap (λ x. said true (qualified_segment ty (path_type_part at x))) h ∙ qualified_alone ty
+said_first : (at inner : Spot) (k : Option SegmentKind) (n : Option AstName) (a : SegmentArgs) (ty : OptionType) (t : Option AstPathType)
+    → trait_of k t ≡ None → said true (kinded_segment at.answers at.place k n a ty (path_type_part inner t)) ≡ borne (name_borne k n)
+said_first at inner None n a ty t h = refl
+said_first at inner (Some word.Name) None a ty t h = refl
+said_first at inner (Some word.Name) (Some n) a ty t h = dollar_said at true n a (bytes_eq n.t (codes "$crate"))
+said_first at inner (Some word.SelfKw) n a ty t h = refl
+said_first at inner (Some word.CrateKw) n a ty t h = refl
+said_first at inner (Some word.SuperKw) n a ty t h = refl
+said_first at inner (Some word.SelfTypeKw) n a ty t h = refl
+said_first at inner (Some word.Qualified) n a ty t h = ap (λ x. said true (qualified_segment ty (path_type_part inner x))) h
+    ∙ qualified_alone ty
 
 segment_behind : (at : Spot) (s : AstSegment) → said false (answered_segment at s) ≡ borne (segment_name s)
 segment_behind at s = ap (said false) (segment_is_level at s) ∙ said_behind at (out-PathSegment s).seg (out-PathSegment s).name _ _ _
@@ -123,7 +129,7 @@ segment_behind at s = ap (said false) (segment_is_level at s) ∙ said_behind at
 segment_first : (at : Spot) (s : AstSegment) → trait_of (out-PathSegment s).seg (out-PathSegment s).trait_ ≡ None
     → said true (answered_segment at s) ≡ borne (segment_name s)
 segment_first at s h = ap (said true) (segment_is_level at s)
-    ∙ said_first at (out-PathSegment s).seg (out-PathSegment s).name _ _ (out-PathSegment s).trait_ h
+    ∙ said_first at (in_projection at) (out-PathSegment s).seg (out-PathSegment s).name _ _ (out-PathSegment s).trait_ h
 
 -- ---- the names of all
 
@@ -202,10 +208,10 @@ read_named is x h = by (refused is) h
 
 -- a path of this level is read whole
 level_read : (leading : Bool) (first : Segment) (rest : Segments) (use_ : OptionPath) (x : PathRead) → use_ ≡ tree.no_path
-    → path_of (tree.some_path (tree.path leading first rest use_)) ≡ Some x → path_read (front leading first ∷ items rest []) ≡ Some x
+    → path_of (tree.some_path (tree.path None leading first rest use_)) ≡ Some x → path_read (front leading first ∷ items rest []) ≡ Some x
 level_read leading first rest use_ x u e =
     let is = front leading first ∷ items rest [] in
-    let whole : read (segments (tree.path leading first rest use_) []) ≡ is = rw u (read_all (front leading first) rest) in
+    let whole : read (segments (tree.path None leading first rest use_) []) ≡ is = rw u (read_all (front leading first) rest) in
     ap path_read (sym whole) ∙ e
 
 no_use : (at : Spot) (x : Option AstPath) → x ≡ None → path_part at x ≡ tree.no_path
@@ -213,7 +219,7 @@ no_use at x h = ap (path_part at) h
 
 -- behind the root of the crate it has the same names
 rooted_read : (root : Option CrateId) (leading : Bool) (first : Segment) (x : PathRead)
-    → path_of (tree.some_path (behind_root root (tree.path leading first tree.no_segments tree.no_path))) ≡ Some x
+    → path_of (tree.some_path (behind_root root (tree.path None leading first tree.no_segments tree.no_path))) ≡ Some x
     → (Q : List Name → Type 0) → ((y : PathRead) → path_read (front leading first ∷ []) ≡ Some y → Q (map name_at y.names))
     → Q (map name_at x.names)
 rooted_read root leading first x e Q k = by (ended (front leading first ∷ [])) e
@@ -232,14 +238,14 @@ rooted_read root leading first x e Q k = by (ended (front leading first ∷ []))
     by false h = whole (refused (front leading first ∷ [])) h k
 
 local_read : (root : Option (Option CrateId)) (leading : Bool) (first : Segment) (x : PathRead)
-    → path_of (tree.some_path (at_local_root root (tree.path leading first tree.no_segments tree.no_path))) ≡ Some x
+    → path_of (tree.some_path (at_local_root root (tree.path None leading first tree.no_segments tree.no_path))) ≡ Some x
     → (Q : List Name → Type 0) → ((y : PathRead) → path_read (front leading first ∷ []) ≡ Some y → Q (map name_at y.names))
     → Q (map name_at x.names)
 local_read None leading first x e Q k = k x e
 local_read (Some root) leading first x e Q k = by (is_bare (mod_path_of (tree.some_path plain))) e
   where
     plain : Path
-    plain = tree.path leading first tree.no_segments tree.no_path
+    plain = tree.path None leading first tree.no_segments tree.no_path
 
     by : (b : Bool) → path_of (tree.some_path (if b then behind_root root plain else plain)) ≡ Some x → Q (map name_at x.names)
     by true h = rooted_read root leading first x h Q k
@@ -248,7 +254,7 @@ local_read (Some root) leading first x e Q k = by (is_bare (mod_path_of (tree.so
 called_read : (at : Spot) (in_macro leading : Bool) (ss : List (Option AstSegment)) (u : Option AstPath) (x : PathRead) → u ≡ None
     → none_missing ss ≡ true
     → path_of (tree.some_path (called_path at.answers (reader at.answers (into at)) in_macro leading ss u at.place
-    (tree.path leading (first_part at ss) (rest_part at ss) (path_part at u)))) ≡ Some x
+    (tree.path None leading (first_part at ss) (rest_part at ss) (path_part at u)))) ≡ Some x
     → (Q : List Name → Type 0)
     → ((y : PathRead) → path_read (front leading (first_part at ss) ∷ items (rest_part at ss) []) ≡ Some y → Q (map name_at y.names))
     → Q (map name_at x.names)
@@ -263,6 +269,10 @@ called_read at true leading (Some s ∷ t ∷ ss) u x h m e Q k =
     let all = Some s ∷ t ∷ ss in
     k x (level_read leading (first_part at all) (rest_part at all) (path_part at u) x (no_use at u h) e)
 
+-- what is read doesn't look at the alias
+aliased_read : (alias : Option (List Bool)) (y : Path) → path_of (tree.some_path (with_alias alias y)) ≡ path_of (tree.some_path y)
+aliased_read alias (tree.path _ leading first rest use_) = refl
+
 -- the names that are read are those of the path where it stands in no call
 answered_read : (at : Spot) (p : AstPath) (x : PathRead) → Whole p → path_of (tree.some_path (answered_path at p)) ≡ Some x
     → (Q : List Name → Type 0)
@@ -271,7 +281,10 @@ answered_read : (at : Spot) (p : AstPath) (x : PathRead) → Whole p → path_of
     → Q (map name_at x.names)
 answered_read at p x w e =
     let o = out-Path p in
-    called_read at o.in_macro o.leading o.segs o.use_ x w.0 w.1 (ap (λ y. path_of (tree.some_path y)) (sym (path_is_level at p)) ∙ e)
+    let plain = tree.path None o.leading (first_part at o.segs) (rest_part at o.segs) (path_part at o.use_) in
+    let y = called_path at.answers (reader at.answers (into at)) o.in_macro o.leading o.segs o.use_ at.place plain in
+    called_read at o.in_macro o.leading o.segs o.use_ x w.0 w.1 (sym (aliased_read (alias_at at.answers at.place y) y)
+    ∙ (ap (λ z. path_of (tree.some_path z)) (sym (path_is_level at p)) ∙ e))
 
 -- without a trait
 plain_named : (at : Spot) (p : AstPath) (x : PathRead) → Whole p → first_trait (out-Path p).segs ≡ None
@@ -317,17 +330,17 @@ named_append (Some s ∷ xs) ys = by (is_some (segment_name s)) (named_append xs
     by false e = e
 
 -- it stands in the tree
-trait_first : (at : Spot) (k : Option SegmentKind) (n : Option AstName) (a : SegmentArgs) (ty : OptionType)
+trait_first : (at inner : Spot) (k : Option SegmentKind) (n : Option AstName) (a : SegmentArgs) (ty : OptionType)
     (tr : Option AstPathType) (t : AstPathType)
     → trait_of k tr ≡ Some t
-    → kinded_segment at.answers at.place k n a ty (path_type_part at tr) ≡ qualified_segment ty (Some (answered_path_type at t))
-trait_first at None n a ty tr t h = absurd (no_some h)
-trait_first at (Some word.Name) n a ty tr t h = absurd (no_some h)
-trait_first at (Some word.SelfKw) n a ty tr t h = absurd (no_some h)
-trait_first at (Some word.CrateKw) n a ty tr t h = absurd (no_some h)
-trait_first at (Some word.SuperKw) n a ty tr t h = absurd (no_some h)
-trait_first at (Some word.SelfTypeKw) n a ty tr t h = absurd (no_some h)
-trait_first at (Some word.Qualified) n a ty tr t h = ap (λ x. qualified_segment ty (path_type_part at x)) h
+    → kinded_segment at.answers at.place k n a ty (path_type_part inner tr) ≡ qualified_segment ty (Some (answered_path_type inner t))
+trait_first at inner None n a ty tr t h = absurd (no_some h)
+trait_first at inner (Some word.Name) n a ty tr t h = absurd (no_some h)
+trait_first at inner (Some word.SelfKw) n a ty tr t h = absurd (no_some h)
+trait_first at inner (Some word.CrateKw) n a ty tr t h = absurd (no_some h)
+trait_first at inner (Some word.SuperKw) n a ty tr t h = absurd (no_some h)
+trait_first at inner (Some word.SelfTypeKw) n a ty tr t h = absurd (no_some h)
+trait_first at inner (Some word.Qualified) n a ty tr t h = ap (λ x. qualified_segment ty (path_type_part inner x)) h
 
 -- the names of the trait, then those behind it
 trait_names : (at : Spot) (q : Option AstPath) (x : PathRead) → PlainPath q → path_of (path_part at q) ≡ Some x
@@ -374,13 +387,14 @@ trait_named at leading [] t x m h w e = absurd (clash (sym m))
 trait_named at leading (None ∷ ss) t x m h w e = absurd (clash (sym m))
 trait_named at leading (Some s ∷ ss) t x m h w e =
     let o = out-PathSegment s in
-    let r = answered_path_type at t in
+    let inner = in_projection at in
+    let r = answered_path_type inner t in
     let ns = all_names (items (segments_part at ss) []) in
-    let first = segment_is_level at s ∙ trait_first at o.seg o.name _ _ o.trait_ t h in
+    let first = segment_is_level at s ∙ trait_first at inner o.seg o.name _ _ o.trait_ t h in
     qualified_named at leading _ r (segments_part at ss) x
     (ap (λ y. path_read (front leading y ∷ items (segments_part at ss) [])) (sym first) ∙ e)
     (λ l. map Some l ≡ map segment_name (behind_trait (out-PathType t).path ss))
-    (λ y k. trait_names at (out-PathType t).path y w (ap path_of (sym (path_type_path at t)) ∙ k) ss ns (names_behind at ss m))
+    (λ y k. trait_names inner (out-PathType t).path y w (ap path_of (sym (path_type_path inner t)) ∙ k) ss ns (names_behind at ss m))
 
 -- ---- the law
 

@@ -34,37 +34,37 @@ use Rattle.hir_data.specs.Trees.{plain_param, dots_param, VarargsAtTheEnd}
 -- ---- one level of a tree that is made of its parts
 
 module _ (at : Spot) where
-  type_made : (n : ℕ) (k : TypeKindLayer written)
+  pub type_made : (n : ℕ) (k : TypeKindLayer written)
       → answered_type at (type_at n k) ≡ of.type_at at.answers (reader at.answers (into at)) k at.place (pointer at n)
   type_made n k = type_is_level at (type_at n k)
       ∙ ap (λ x. of.type_at at.answers (reader at.answers (into at)) x at.place (pointer at n)) (out-roll-TypeKind k)
 
-  path_made : (x : PathLayer written)
+  pub path_made : (x : PathLayer written)
       → answered_path at (roll-Path x) ≡ of.path_step at.answers (reader at.answers (into at)) x at.place
   path_made x = path_is_level at (roll-Path x)
       ∙ ap (λ l. of.path_step at.answers (reader at.answers (into at)) l at.place) (out-roll-Path x)
 
-  segment_made : (x : PathSegmentLayer written)
+  pub segment_made : (x : PathSegmentLayer written)
       → answered_segment at (roll-PathSegment x) ≡ of.segment_step at.answers (reader at.answers (into at)) x at.place
   segment_made x = segment_is_level at (roll-PathSegment x)
       ∙ ap (λ l. of.segment_step at.answers (reader at.answers (into at)) l at.place) (out-roll-PathSegment x)
 
-  path_type_made : (x : PathTypeLayer written)
+  pub path_type_made : (x : PathTypeLayer written)
       → answered_path_type at (roll-PathType x) ≡ of.path_type_step at.answers (reader at.answers (into at)) x at.place
   path_type_made x = path_type_is_level at (roll-PathType x)
       ∙ ap (λ l. of.path_type_step at.answers (reader at.answers (into at)) l at.place) (out-roll-PathType x)
 
-  bound_made : (x : TypeBoundLayer written)
+  pub bound_made : (x : TypeBoundLayer written)
       → answered_bound at (roll-TypeBound x) ≡ of.type_bound_step at.answers (reader at.answers (into at)) x at.place
   bound_made x = bound_is_level at (roll-TypeBound x)
       ∙ ap (λ l. of.type_bound_step at.answers (reader at.answers (into at)) l at.place) (out-roll-TypeBound x)
 
-  arg_made : (x : GenericArgLayer written)
+  pub arg_made : (x : GenericArgLayer written)
       → answered_arg at (roll-GenericArg x) ≡ of.generic_arg_step at.answers (reader at.answers (into at)) x at.place
   arg_made x = arg_is_level at (roll-GenericArg x)
       ∙ ap (λ l. of.generic_arg_step at.answers (reader at.answers (into at)) l at.place) (out-roll-GenericArg x)
 
-  assoc_arg_made : (x : AssocTypeArgLayer written)
+  pub assoc_arg_made : (x : AssocTypeArgLayer written)
       → answered_assoc_arg at (roll-AssocTypeArg x) ≡ of.assoc_type_arg_step at.answers (reader at.answers (into at)) x at.place
   assoc_arg_made x = assoc_arg_is_level at (roll-AssocTypeArg x)
       ∙ ap (λ l. of.assoc_type_arg_step at.answers (reader at.answers (into at)) l at.place) (out-roll-AssocTypeArg x)
@@ -79,10 +79,15 @@ module _ (at : Spot) where
 abbrev within : Spot → Spot
 within at = in_impl (free at)
 
+-- in a binding of one
+abbrev bound_in : Spot → Spot
+bound_in at = in_binding (within at)
+
 -- the `impl` at this node of this one segment
 abbrev impl_of : Spot → ℕ → Segment → Type_
 impl_of at n s =
-    let path = tree.some_path (tree.path false s tree.no_segments tree.no_path) in
+    let plain = tree.path None false s tree.no_segments tree.no_path in
+    let path = tree.some_path (of.with_alias (of.alias_at at.answers (within at).place plain) plain) in
     tree.impl_type (pointer at n) impl.Opaque (tree.more_bounds (tree.path_bound (pointer at 9) path false []) tree.no_bounds)
 
 outer_is : (at : Spot) (n : ℕ) (s : AstPathSegment)
@@ -98,14 +103,14 @@ outer_is at n s =
 inner_is : (at : Spot) (n : ℕ) (s : AstPathSegment) → answered_type (within at) (impl_at n s) ≡ tree.nested_impl (pointer at n)
 inner_is at n s = type_made (within at) n _
 
-never_is : (at : Spot) (n : ℕ) → answered_type at (never_at n) ≡ tree.leaf_type (pointer at n) tree.never_leaf
+pub never_is : (at : Spot) (n : ℕ) → answered_type at (never_at n) ≡ tree.leaf_type (pointer at n) tree.never_leaf
 never_is at n = type_made at n _
 
 -- a name, with what stands behind it
-abbrev segment_with : List ℕ → SegmentArgs → Segment
+abbrev pub segment_with : List ℕ → SegmentArgs → Segment
 segment_with t a = tree.name_segment (name.Text t) tt a
 
-abbrev list_with : Arg → SegmentArgs
+abbrev pub list_with : Arg → SegmentArgs
 list_with a = tree.segment_args (tree.some_arg_list (tree.more_args a tree.no_args)) tree.no_parens false
 
 abbrev parens_with : Parts → OptionType → SegmentArgs
@@ -115,7 +120,7 @@ abbrev only_part : OptionType → Parts
 only_part t = tree.more_parts t tree.no_parts
 
 module _ (at : Spot) where
-  with_argument_is : (a : AstGenericArg)
+  pub with_argument_is : (a : AstGenericArg)
       → answered_segment at (with_argument (codes "A") a) ≡ segment_with (codes "A") (list_with (answered_arg at a))
   with_argument_is a = segment_made at _
 
@@ -150,7 +155,7 @@ reads_impls at = (
       ∙ ap (λ a. segment_with (codes "A") (list_with a))
       (binding_is (within at) (codes "T") _
       ∙ ap (λ t. tree.assoc_arg (name.Text (codes "T")) tree.no_arg_list false (tree.some_type t) tree.no_bounds)
-      (outer_is at 1 (bare (codes "B")) ∙ ap (impl_of at 1) (segment_made (within at) _)))),
+      (outer_is (bound_in at) 1 (bare (codes "B")) ∙ ap (impl_of (bound_in at) 1) (segment_made (within (bound_in at)) _)))),
   impl_reads at _ _ (fn_trait_is (within at) (never_at 2) _
       ∙ (ap (λ t. fn_of t (answered_type (within at) (impl_at 1 (bare (codes "B"))))) (never_is (within at) 2)
       ∙ ap (fn_of (tree.leaf_type (pointer at 2) tree.never_leaf)) (inner_is at 1 (bare (codes "B"))))),
@@ -161,8 +166,9 @@ reads_impls at = (
 reference_is : (at : Spot) (t : List ℕ)
     → reads_lifetime at t (of.lifetime_ref t)
 reference_is at t = ap (type_data None) (type_made at 0 _
-    ∙ ap (λ x. tree.ref_type (pointer at 0) (Some (record { pointer = pointer at 1; lifetime = of.lifetime_ref t })) Shared
-    (tree.some_type x)) (never_is at 2))
+    ∙ ap (λ x. tree.ref_type (pointer at 0)
+    (Some (record { pointer = pointer at 1; lifetime = of.lifetime_ref t; scope = at.place.lifetimes })) Shared (tree.some_type x))
+    (never_is at 2))
 
 pub reads_lifetimes : LifetimesOfTexts
 reads_lifetimes at = (

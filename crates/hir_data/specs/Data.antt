@@ -5,6 +5,7 @@ use Rattle.std.specs.Prelude.{ℕ, Bool, true, List, [], ◌∷◌, Option, None
 use Rattle.hir_base.specs.declared.op.RangeOp.{RangeOp}
 use Rattle.hir_binding.specs.declared.binding.BindingAnnotation.{BindingAnnotation}
 use Rattle.hir_store.specs.Pointers.{Pointer}
+use Rattle.hir_store.specs.declared.ids.GenericDefId.{GenericDefId}
 use Rattle.hir_store.specs.declared.ids.HygieneId.{HygieneId}
 use Rattle.hir_store.specs.declared.ids.LangItemId.{LangItemId}
 use Rattle.hir_store.specs.declared.name.Name.{Name}
@@ -49,6 +50,8 @@ mutual
     dyn_shape : BoundsData → Shape
     -- the values of the type that the pattern fits
     pattern_shape : TypeData → PatData → Shape
+    -- a type parameter of this definition: which one isn't told
+    parameter_shape : GenericDefId → Shape
 
   pub data OptionTypeData : Type 0 where
     no_type : OptionTypeData

@@ -186,6 +186,7 @@ module _ (store : Store) (source_map : SourceMap) where
     shape_layer (ty.ImplTrait bs) = datum.impl_shape (bounds_layer bs)
     shape_layer (ty.DynTrait bs) = datum.dyn_shape (bounds_layer bs)
     shape_layer (ty.Pattern t p) = datum.pattern_shape (r.type t) (r.pat p)
+    shape_layer (ty.TypeParam p) = datum.parameter_shape p.parent
 
     abbrev pub shape_found : Option TypeRef → Shape
     shape_found None = datum.error_shape

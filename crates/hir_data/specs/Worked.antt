@@ -25,15 +25,15 @@ behind [] = tree.no_segments
 behind (s ∷ ss) = tree.more_segments s (behind ss)
 
 abbrev pub whole : Segment → List Segment → OptionPath
-whole s ss = tree.some_path (tree.path false s (behind ss) tree.no_path)
+whole s ss = tree.some_path (tree.path None false s (behind ss) tree.no_path)
 
 -- the same behind a `::`
 abbrev pub leading : Segment → List Segment → OptionPath
-leading s ss = tree.some_path (tree.path true s (behind ss) tree.no_path)
+leading s ss = tree.some_path (tree.path None true s (behind ss) tree.no_path)
 
 -- in the list of a use tree with this path
 abbrev pub inside : OptionPath → Segment → List Segment → OptionPath
-inside around s ss = tree.some_path (tree.path false s (behind ss) around)
+inside around s ss = tree.some_path (tree.path None false s (behind ss) around)
 
 abbrev pub text : List ℕ → Name
 text t = name.Text t

@@ -12,7 +12,7 @@ use Rattle.hir_store.specs.declared.path.GenericArgsParentheses.TheVariants as p
 use Rattle.hir_store.specs.declared.type_ref.TraitBoundModifier.{TraitBoundModifier}
 use Rattle.hir_store.specs.declared.type_ref.TraitBoundModifier.TheVariants as modifier
 use Rattle.hir_env.specs.declared.place.ImplTrait.{ImplTrait}
-use Rattle.hir_env.specs.declared.place.ImplTrait.TheVariants.{Error, Opaque}
+use Rattle.hir_env.specs.declared.place.ImplTrait.TheVariants.{Error, Opaque, Argument}
 use Rattle.hir_env.specs.Answered as tree
 use Rattle.hir_env.specs.Answered.{Lifetime, Binder, UseRead, TypeLeaf, TypeUnary, Type_, OptionType, Parts, Path, OptionPath}
 use Rattle.hir_env.specs.Answered.{Segments, Segment, SegmentArgs, OptionParens, OptionRet, OptionArgs, Args, Arg, Bounds, Bound}
@@ -72,10 +72,11 @@ abbrev pub shape_of_path : Option PathRead → Shape
 shape_of_path None = datum.error_shape
 shape_of_path (Some p) = datum.path_shape (data_of p)
 
--- an `impl` where none is allowed is an error
+-- an `impl` where none is allowed is an error, and in an argument it is a parameter
 abbrev pub impl_shape_of : ImplTrait → BoundsData → Shape
 impl_shape_of Error bs = datum.error_shape
 impl_shape_of Opaque bs = datum.impl_shape bs
+impl_shape_of (Argument def) bs = datum.parameter_shape def
 
 -- one behind an empty binder is a plain one
 abbrev pub bound_behind : Binder → TraitBoundModifier → TypeData → BoundData
@@ -268,7 +269,7 @@ abbrev mutual
 
   -- the segments of a path and of the use trees around it, before these
   pub segments : Path → List Item → List Item
-  segments (tree.path leading first rest use_) behind =
+  segments (tree.path alias leading first rest use_) behind =
       outer use_ (record { leading = leading; what = what true first } ∷ items rest behind)
 
   pub outer : OptionPath → List Item → List Item

@@ -1,5 +1,5 @@
 -- A path that may stand directly in a call of a macro is read as no less than elsewhere.
-use Rattle.std.proofs.Common.{arith, ◌≤◌, Bool, true, false, Option, Some, None, List, [], ◌∷◌}
+use Rattle.std.proofs.Common.{arith, ℕ, ◌≤◌, Bool, true, false, Option, Some, None, List, [], ◌∷◌}
 use Rattle.std.specs.Prelude.{if◌then◌else◌}
 use Rattle.hir_store.specs.declared.ids.CrateId.{CrateId}
 use Rattle.hir_syntax.specs.declared.ast.Path.{Path as AstPath}
@@ -7,7 +7,7 @@ use Rattle.hir_syntax.specs.declared.ast.PathSegment.{PathSegment as AstPathSegm
 use Rattle.hir_env.specs.declared.place.Place.{Place}
 use Rattle.hir_env.specs.Answers.{Answers}
 use Rattle.hir_env.specs.Answered as tree
-use Rattle.hir_env.specs.Answered.{Segment, Segments}
+use Rattle.hir_env.specs.Answered.{Path, Segment, Segments}
 use Rattle.hir_env.specs.Count.{count_path}
 use Rattle.hir_env.specs.Folds.{reader}
 use Rattle.hir_env.specs.Layers.{Entering, Reader, written}
@@ -17,23 +17,23 @@ use Rattle.hir_env.specs.Paths as of
 use Rattle.hir_env.specs.TypeLayers.{PathLayer}
 
 one_counts : (b leading : Bool) (first : Segment) (rest : Segments) (root : Option CrateId)
-    → let y = tree.path leading first rest tree.no_path in
+    → let y = tree.path None leading first rest tree.no_path in
     count_path y ≤ count_path (if b then behind_root root y else y)
 one_counts false leading first rest root = omega (arith)
 one_counts true leading first rest root = omega (arith)
 
 local_counts : (root : Option (Option CrateId)) (leading : Bool) (first : Segment) (rest : Segments)
-    → let y = tree.path leading first rest tree.no_path in count_path y ≤ count_path (at_local_root root y)
+    → let y = tree.path None leading first rest tree.no_path in count_path y ≤ count_path (at_local_root root y)
 local_counts None leading first rest = omega (arith)
 local_counts (Some root) leading first rest =
-    one_counts (is_bare (mod_path_of (tree.some_path (tree.path leading first rest tree.no_path)))) leading first rest root
+    one_counts (is_bare (mod_path_of (tree.some_path (tree.path None leading first rest tree.no_path)))) leading first rest root
 
 module _ (env : Answers) (into : Option Entering) where
   abbrev rd : Reader written
   rd = reader env into
 
   called_counts : (in_macro leading : Bool) (ss : List (Option AstPathSegment)) (u : Option AstPath) (p : Place)
-      → let y = tree.path leading (of.first_of rd.segment ss p) (of.rest_of rd.segment ss p) (of.path_or_none rd.path u p) in
+      → let y = tree.path None leading (of.first_of rd.segment ss p) (of.rest_of rd.segment ss p) (of.path_or_none rd.path u p) in
       count_path y ≤ count_path (of.called_path env rd in_macro leading ss u p y)
   called_counts false leading ss u p = omega (arith)
   called_counts true true [] None p = omega (arith)
@@ -48,5 +48,10 @@ module _ (env : Answers) (into : Option Entering) where
   called_counts true leading (None ∷ x ∷ ss) u p = omega (arith)
   called_counts true leading (Some s ∷ x ∷ ss) u p = omega (arith)
 
+  alias_counts : (n : ℕ) (alias : Option (List Bool)) (y : Path) → n ≤ count_path y → n ≤ count_path (of.with_alias alias y)
+  alias_counts n alias (tree.path _ leading first rest use_) h = h
+
   pub path_counts : (x : PathLayer written) (p : Place) → count_path (of.plain_path env rd x p) ≤ count_path (of.path_step env rd x p)
-  path_counts x p = called_counts x.in_macro x.leading x.segs x.use_ p
+  path_counts x p =
+      let y = of.called_path env rd x.in_macro x.leading x.segs x.use_ p (of.plain_path env rd x p) in
+      alias_counts (count_path (of.plain_path env rd x p)) (of.alias_at env p y) y (called_counts x.in_macro x.leading x.segs x.use_ p)

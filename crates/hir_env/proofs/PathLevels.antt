@@ -208,7 +208,7 @@ module _ (env : Answers) (into : Option Entering) where
 
   plain_path_is : (x : PathLayer written) (p : Place)
       → of.plain_path env (itself into) (mapped_path env into x) p ≡ of.plain_path env rd x p
-  plain_path_is x p = λ j. tree.path x.leading (first_is (fold_segment env into) x.segs p j)
+  plain_path_is x p = λ j. tree.path None x.leading (first_is (fold_segment env into) x.segs p j)
       (rest_is (fold_segment env into) x.segs p j) (path_is (fold_path env into) x.use_ p j)
 
   called_path_is : (in_macro leading : Bool) (ss : List (Option AstPathSegment)) (u : Option AstPath) (p : Place) (y : Path)
@@ -225,9 +225,15 @@ module _ (env : Answers) (into : Option Entering) where
   called_path_is true leading (None ∷ x ∷ ss) u p y = refl
   called_path_is true leading (Some s ∷ x ∷ ss) u p y = refl
 
-  path_step_is : (x : PathLayer written) (p : Place) → of.path_step env (itself into) (mapped_path env into x) p ≡ of.path_step env rd x p
-  path_step_is x p = called_path_is x.in_macro x.leading x.segs x.use_ p (of.plain_path env (itself into) (mapped_path env into x) p)
+  called_is : (x : PathLayer written) (p : Place)
+      → of.called_path env (itself into) x.in_macro x.leading (mapped_path env into x).segs (mapped_path env into x).use_ p
+      (of.plain_path env (itself into) (mapped_path env into x) p)
+      ≡ of.called_path env rd x.in_macro x.leading x.segs x.use_ p (of.plain_path env rd x p)
+  called_is x p = called_path_is x.in_macro x.leading x.segs x.use_ p (of.plain_path env (itself into) (mapped_path env into x) p)
       ∙ (λ j. of.called_path env rd x.in_macro x.leading x.segs x.use_ p (plain_path_is x p j))
+
+  path_step_is : (x : PathLayer written) (p : Place) → of.path_step env (itself into) (mapped_path env into x) p ≡ of.path_step env rd x p
+  path_step_is x p = λ j. of.with_alias (of.alias_at env p (called_is x p j)) (called_is x p j)
 
   parens_then : (x : Option AstParenArgs) (r : Option AstRetType) (p : Place)
       → of.parens_or_none (of.paren_args_step env (itself into)) (optional (listed_options (beside (fold_type env into))) x)
@@ -242,7 +248,8 @@ module _ (env : Answers) (into : Option Entering) where
   segment_step_is x p = λ j. of.kinded_segment env p x.seg x.name
       (tree.segment_args (arg_list_is (fold_generic_arg env into) x.generics p j)
       (parens_then x.parens x.ret p j) x.rtn)
-      (type_is (fold_type env into) x.ty p j) (path_type_is (fold_path_type env into) x.trait_ p j)
+      (type_is (fold_type env into) x.ty (of.inside_projection p) j)
+      (path_type_is (fold_path_type env into) x.trait_ (of.inside_projection p) j)
 
   path_type_step_is : (x : PathTypeLayer written) (p : Place)
       → of.path_type_step env (itself into) (mapped_path_type env into x) p ≡ of.path_type_step env rd x p

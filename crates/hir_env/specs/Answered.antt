@@ -25,6 +25,7 @@ use Rattle.hir_store.specs.declared.type_ref.LifetimeRef.{LifetimeRef}
 use Rattle.hir_store.specs.declared.type_ref.ExternAbi.{ExternAbi}
 use Rattle.hir_store.specs.declared.diagnostics.AwaitLocation.{AwaitLocation}
 use Rattle.hir_env.specs.declared.place.ImplTrait.{ImplTrait}
+use Rattle.hir_env.specs.declared.place.LifetimeScope.{LifetimeScope}
 use Rattle.hir_env.specs.Answers.{Contexts, Eager}
 
 -- a label, with the hygiene of its node; its name is missing where it has no lifetime
@@ -49,6 +50,8 @@ pub record Jump : Type 0 where
 pub record Lifetime : Type 0 where
   pub pointer : Pointer
   pub lifetime : LifetimeRef
+  -- where it counts, if it has a name
+  pub scope : LifetimeScope
 
 -- the lifetimes that a `for` introduces
 abbrev pub Binder : Type 0
@@ -224,9 +227,10 @@ mutual
     no_parts : Parts
     more_parts : OptionType → Parts → Parts
 
-  -- whether `::` stands in front of it, its first segment, those behind it, and the path of the use tree around it
+  -- Where it is an alias in an argument, of each lifetime parameter of the alias whether the alias's type names it; whether `::` stands
+  -- in front of it, its first segment, those behind it, and the path of the use tree around it.
   pub data Path : Type 0 where
-    path : Bool → Segment → Segments → OptionPath → Path
+    path : Option (List Bool) → Bool → Segment → Segments → OptionPath → Path
 
   pub data OptionPath : Type 0 where
     no_path : OptionPath

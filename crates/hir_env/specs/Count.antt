@@ -33,7 +33,7 @@ abbrev mutual
   count_parts (tree.more_parts t ts) = count_option_type t + count_parts ts
 
   pub count_path : Path → ℕ
-  count_path (tree.path leading first rest use_) = suc (count_segment first + (count_segments rest + count_option_path use_))
+  count_path (tree.path alias leading first rest use_) = suc (count_segment first + (count_segments rest + count_option_path use_))
 
   pub count_option_path : OptionPath → ℕ
   count_option_path tree.no_path = 0

@@ -21,8 +21,9 @@ is_bare (Some m) = is_plain m.kind && is_one m.segments
 
 -- as behind `$crate`
 abbrev pub behind_root : Option CrateId → Path → Path
-behind_root root (tree.path leading first rest use_) =
-    tree.path leading first rest (tree.some_path (tree.path false (tree.dollar_crate_segment root) tree.no_segments tree.no_path))
+behind_root root (tree.path alias leading first rest use_) =
+    tree.path alias leading first rest
+    (tree.some_path (tree.path None false (tree.dollar_crate_segment root) tree.no_segments tree.no_path))
 
 -- the root of a context whose macro is local
 abbrev pub local_root : Answers → CtxId → Option (Option CrateId)
@@ -35,4 +36,4 @@ at_local_root (Some root) x = if is_bare (mod_path_of (tree.some_path x)) then b
 -- one that the text lacks begins somewhere where `::` stands in front of it
 abbrev pub lacking : Bool → Path → Path
 lacking true x = x
-lacking false x = tree.path false tree.broken_segment tree.no_segments tree.no_path
+lacking false x = tree.path None false tree.broken_segment tree.no_segments tree.no_path

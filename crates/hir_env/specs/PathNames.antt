@@ -147,7 +147,7 @@ abbrev mutual
 
   -- a path, and in front of it the use trees around it
   pub read_outward : Path → Reading → Reading
-  read_outward (tree.path leading first rest use_) r = read_use use_ (read_piece leading (piece true first) (read_rest rest r))
+  read_outward (tree.path alias leading first rest use_) r = read_use use_ (read_piece leading (piece true first) (read_rest rest r))
 
   pub read_use : OptionPath → Reading → Reading
   read_use tree.no_path r = r

@@ -17,6 +17,7 @@ use Rattle.hir_store.specs.Pointers.{Pointer}
 use Rattle.hir_store.specs.declared.ids.CfgId.{CfgId}
 use Rattle.hir_store.specs.declared.ids.CrateId.{CrateId}
 use Rattle.hir_store.specs.declared.ids.CtxId.{CtxId}
+use Rattle.hir_store.specs.declared.ids.ModuleId.{ModuleId}
 use Rattle.hir_store.specs.declared.name.Name.{Name}
 use Rattle.hir_store.specs.declared.name.Name.TheVariants as name
 use Rattle.hir_store.specs.declared.hir.CoroutineKind.{CoroutineKind}
@@ -29,15 +30,23 @@ use Rattle.hir_store.specs.declared.type_ref.ExternAbi.{ExternAbi}
 use Rattle.hir_store.specs.declared.type_ref.ExternAbi.TheVariants as abi
 use Rattle.hir_store.specs.declared.diagnostics.AwaitLocation.{AwaitLocation}
 use Rattle.hir_store.specs.declared.diagnostics.AwaitLocation.TheVariants as location
+use Rattle.hir_store.specs.declared.path.ModPath.{ModPath}
 use Rattle.hir_env.specs.declared.place.Place.{Place}
 use Rattle.hir_env.specs.declared.place.ImplTrait.{ImplTrait}
 use Rattle.hir_env.specs.declared.place.ImplTrait.TheVariants as becomes
+use Rattle.hir_env.specs.declared.place.LifetimeScope.{LifetimeScope}
+use Rattle.hir_env.specs.declared.place.LifetimeScope.TheVariants as scope
+use Rattle.hir_env.specs.declared.resolved.Resolution.{Resolution}
+use Rattle.hir_env.specs.declared.resolved.Resolution.TheVariants as resolution
+use Rattle.hir_env.specs.declared.resolved.Shadow.TheVariants as shadow
+use Rattle.hir_alias.specs.Alias.{Alias}
 use Rattle.hir_env.specs.Answers.{Answers}
 use Rattle.hir_env.specs.Spot.{in_file, ptr, site_of}
 use Rattle.hir_env.specs.Layers.{Sorts, Reader}
 use Rattle.hir_env.specs.TypePats.{type_pat_or_none, name_given}
 use Rattle.hir_env.specs.Calls.{entered_type}
 use Rattle.hir_env.specs.LocalPaths.{at_local_root, lacking, local_root}
+use Rattle.hir_env.specs.PathNames.{mod_path_of}
 use Rattle.hir_env.specs.TypeLayers.{ParamReading, PathTypeReading, GenericArgLayer, TypeKindLayer, PathLayer, PathSegmentLayer}
 use Rattle.hir_env.specs.TypeLayers.{AssocTypeArgLayer, ParamLayer, PathTypeLayer}
 use Rattle.hir_env.specs.TypeLayers.{TypeBoundLayer, Type_Layer}
@@ -59,7 +68,7 @@ lifetime_ref t =
     (if bytes_eq t (codes "'_") then lifetime.Placeholder else lifetime.Named (name.Text t)))
 
 abbrev pub lifetime_of : Place → AstLifetime → Lifetime
-lifetime_of p l = record { pointer = in_file p (ptr l.id l.range); lifetime = lifetime_ref l.t }
+lifetime_of p l = record { pointer = in_file p (ptr l.id l.range); lifetime = lifetime_ref l.t; scope = p.lifetimes }
 
 -- the lifetimes that are there
 abbrev pub binder_names : List (Option AstLifetime) → Binder
@@ -104,9 +113,27 @@ fn_head is_unsafe text is_varargs names = record { is_unsafe = is_unsafe; abi = 
 
 -- places
 
+-- A lifetime in an `impl` counts as one in a bound where that stands in an argument, in a projection of one or in a bound, and else as
+-- one in what is returned.
+abbrev pub in_impl_scope : LifetimeScope → LifetimeScope
+in_impl_scope scope.Nowhere = scope.Output
+in_impl_scope scope.Bound = scope.Bound
+in_impl_scope scope.Input = scope.Bound
+in_impl_scope scope.Projection = scope.Bound
+in_impl_scope scope.Output = scope.Output
+
+-- one in the type or the trait of a projection in an argument doesn't count
+abbrev pub in_projection_scope : LifetimeScope → LifetimeScope
+in_projection_scope scope.Input = scope.Projection
+in_projection_scope s = s
+
 -- inside of an `impl`, and inside of a written binding, where another may stand
 abbrev pub inside_impl : Place → Place
-inside_impl p = record p { in_impl = true }
+inside_impl p = record p { in_impl = true; lifetimes = in_impl_scope p.lifetimes }
+
+-- the type and the trait of a projection
+abbrev pub inside_projection : Place → Place
+inside_projection p = record p { lifetimes = in_projection_scope p.lifetimes }
 
 abbrev pub outside_impl : Place → Place
 outside_impl p = record p { in_impl = false }
@@ -131,6 +158,42 @@ inside_coroutine kind p = record p { await_location = awaits kind }
 -- Inside of the body of a closure, which is what an `await` there stands in, where the closure isn't async.
 abbrev pub inside_closure : Bool → Place → Place
 inside_closure is_async p = record p { await_location = if is_async then None else Some location.NonAsyncClosure }
+
+-- aliases
+
+-- of each lifetime parameter of an alias whether the alias's type names it; none is named where the alias has no answer
+abbrev pub flags_of : Option Alias → List Bool
+flags_of None = []
+flags_of (Some s) = s.named
+
+abbrev pub alias_found : Answers → Option Resolution → Option (List Bool)
+alias_found env (Some (resolution.TypeAlias n)) = Some (flags_of (env.alias n))
+alias_found env _ = None
+
+-- none is looked for outside of arguments
+abbrev pub alias_in : LifetimeScope → Answers → ModuleId → ModPath → Option (List Bool)
+alias_in scope.Input env m names = alias_found env (env.resolve m names shadow.Module).types
+alias_in scope.Nowhere env m names = None
+alias_in scope.Bound env m names = None
+alias_in scope.Projection env m names = None
+alias_in scope.Output env m names = None
+
+abbrev pub alias_named : Answers → Place → ModPath → Option (List Bool)
+alias_named env p names = alias_in p.lifetimes env p.module_id names
+
+abbrev pub alias_or_none : Answers → Place → Option ModPath → Option (List Bool)
+alias_or_none env p None = None
+alias_or_none env p (Some names) = alias_named env p names
+
+-- what is answered of an alias in an argument; a path that is refused is none
+abbrev pub alias_at : Answers → Place → Path → Option (List Bool)
+alias_at env p x = alias_or_none env p (mod_path_of (tree.some_path x))
+
+abbrev pub with_alias : Option (List Bool) → Path → Path
+with_alias alias (tree.path _ leading first rest use_) = tree.path alias leading first rest use_
+
+abbrev pub alias_of : Path → Option (List Bool)
+alias_of (tree.path alias leading first rest use_) = alias
 
 -- segments
 
@@ -366,7 +429,8 @@ module _ (env : Answers) {S : Sorts} (part : Reader S) where
 
   -- a path wherever it stands
   abbrev pub plain_path : PathLayer S → Place → Path
-  plain_path x p = tree.path x.leading (first_of part.segment x.segs p) (rest_of part.segment x.segs p) (path_or_none part.path x.use_ p)
+  plain_path x p = tree.path None x.leading (first_of part.segment x.segs p) (rest_of part.segment x.segs p)
+      (path_or_none part.path x.use_ p)
 
   -- and where it may stand directly in a call of a macro
   abbrev pub called_path : Bool → Bool → List (Option S.PathSegment) → Option S.Path → Place → Path → Path
@@ -376,13 +440,13 @@ module _ (env : Answers) {S : Sorts} (part : Reader S) where
   called_path in_macro leading ss u p x = x
 
   abbrev pub path_step : PathLayer S → Place → Path
-  path_step x p = called_path x.in_macro x.leading x.segs x.use_ p (plain_path x p)
+  path_step x p = let y = called_path x.in_macro x.leading x.segs x.use_ p (plain_path x p) in with_alias (alias_at env p y) y
 
   abbrev pub segment_step : PathSegmentLayer S → Place → Segment
   segment_step s p = kinded_segment env p s.seg s.name
       (tree.segment_args (arg_list_or_none generic_arg_list_step s.generics p)
       (parens_or_none paren_args_step s.parens (ret_or_none ret_type_step s.ret p) p) s.rtn)
-      (type_or_none part.type_ s.ty p) (path_type_or_none part.path_type s.trait_ p)
+      (type_or_none part.type_ s.ty (inside_projection p)) (path_type_or_none part.path_type s.trait_ (inside_projection p))
 
   abbrev pub path_type_step : PathTypeLayer S → Place → PathTypeReading
   path_type_step t p = record { pointer = in_file p (ptr t.id t.range); path = path_or_none part.path t.path p }

@@ -1,8 +1,6 @@
 //! What a path stands for.
 
-/// A type alias.
-#[derive(Clone, Copy, PartialEq, Eq)]
-pub struct TypeAliasId(pub u32);
+pub use hir_store::ids::TypeAliasId;
 
 /// What comes before what where the language itself has a type of a name.
 #[derive(Clone, Copy, PartialEq, Eq)]

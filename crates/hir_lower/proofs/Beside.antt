@@ -17,7 +17,8 @@ use Rattle.hir_env.specs.Answered.{OptionType, SegmentArgs, OptionArgs, OptionPa
 use Rattle.hir_env.specs.TypeLayers.{PathTypeReading}
 use Rattle.hir_env.specs.LocalPaths.{at_local_root, behind_root, is_bare, local_root}
 use Rattle.hir_env.specs.PathNames.{mod_path_of}
-use Rattle.hir_env.specs.Paths.{called_path, context_at, crate_root_at, kinded_segment, qualified_segment}
+use Rattle.hir_env.specs.Paths.{alias_at, called_path, context_at, crate_root_at, inside_projection, kinded_segment, qualified_segment}
+use Rattle.hir_env.specs.Paths.{with_alias}
 use Rattle.hir_env.specs.Whole.{answered_path, answered_segment, path_part, segments_part, first_part, rest_part, path_type_part}
 use Rattle.hir_env.specs.Whole.{into, reader}
 use Rattle.hir_env.proofs.PathLevels.{path_is_level, segment_is_level}
@@ -137,17 +138,22 @@ module _ (f : Named → OptionArgsData) (same : (n : Named) → without_self n.a
   qualified_alone tree.no_type = refl
   qualified_alone (tree.some_type ty) = refl
 
-  said_first : (at : Spot) (k : Option SegmentKind) (n : Option AstName) (a : SegmentArgs) (ty : OptionType) (t : Option AstPathType)
-      → trait_of k t ≡ None → let s = kinded_segment at.answers at.place k n a ty (path_type_part at t) in
+  -- where the type and the trait of a projection are read
+  abbrev in_projection : Spot → Spot
+  in_projection at = record at { place = inside_projection at.place }
+
+  said_first : (at inner : Spot) (k : Option SegmentKind) (n : Option AstName) (a : SegmentArgs) (ty : OptionType) (t : Option AstPathType)
+      → trait_of k t ≡ None → let s = kinded_segment at.answers at.place k n a ty (path_type_part inner t) in
       said true s ≡ borne (is_some (name_borne k n)) (behind_name s)
-  said_first at None n a ty t h = refl
-  said_first at (Some word.Name) None a ty t h = refl
-  said_first at (Some word.Name) (Some n) a ty t h = dollar_said at true n a (bytes_eq n.t (codes "$crate"))
-  said_first at (Some word.SelfKw) n a ty t h = refl
-  said_first at (Some word.CrateKw) n a ty t h = refl
-  said_first at (Some word.SuperKw) n a ty t h = refl
-  said_first at (Some word.SelfTypeKw) n a ty t h = bare_said
-  said_first at (Some word.Qualified) n a ty t h = ap (λ x. said true (qualified_segment ty (path_type_part at x))) h ∙ qualified_alone ty
+  said_first at inner None n a ty t h = refl
+  said_first at inner (Some word.Name) None a ty t h = refl
+  said_first at inner (Some word.Name) (Some n) a ty t h = dollar_said at true n a (bytes_eq n.t (codes "$crate"))
+  said_first at inner (Some word.SelfKw) n a ty t h = refl
+  said_first at inner (Some word.CrateKw) n a ty t h = refl
+  said_first at inner (Some word.SuperKw) n a ty t h = refl
+  said_first at inner (Some word.SelfTypeKw) n a ty t h = bare_said
+  said_first at inner (Some word.Qualified) n a ty t h = ap (λ x. said true (qualified_segment ty (path_type_part inner x))) h
+      ∙ qualified_alone ty
 
   segment_behind : (at : Spot) (s : AstSegment) → said false (answered_segment at s) ≡ borne (is_some (segment_name s)) (args_behind at s)
   segment_behind at s =
@@ -160,7 +166,7 @@ module _ (f : Named → OptionArgsData) (same : (n : Named) → without_self n.a
   segment_first at s h =
       let o = out-PathSegment s in
       ap (said true) (segment_is_level at s)
-      ∙ (said_first at o.seg o.name _ _ o.trait_ h
+      ∙ (said_first at (in_projection at) o.seg o.name _ _ o.trait_ h
       ∙ ap (λ x. borne (is_some (segment_name s)) (behind_name x)) (sym (segment_is_level at s)))
 
   -- ---- beside all of them
@@ -256,17 +262,17 @@ abbrev item : Bool → Segment → Item
 item leading s = record { leading = leading; what = what true s }
 
 level_read : (leading : Bool) (first : Segment) (rest : Segments) (use_ : OptionPath) (x : PathRead) → use_ ≡ tree.no_path
-    → path_of (tree.some_path (tree.path leading first rest use_)) ≡ Some x → path_read (item leading first ∷ items rest []) ≡ Some x
+    → path_of (tree.some_path (tree.path None leading first rest use_)) ≡ Some x → path_read (item leading first ∷ items rest []) ≡ Some x
 level_read leading first rest use_ x u e =
     let is = item leading first ∷ items rest [] in
-    let whole : read (segments (tree.path leading first rest use_) []) ≡ is = rw u (read_all (item leading first) rest) in
+    let whole : read (segments (tree.path None leading first rest use_) []) ≡ is = rw u (read_all (item leading first) rest) in
     ap path_read (sym whole) ∙ e
 
 no_use : (at : Spot) (x : Option AstPath) → x ≡ None → path_part at x ≡ tree.no_path
 no_use at x h = ap (path_part at) h
 
 rooted_read : (root : Option CrateId) (leading : Bool) (first : Segment) (x : PathRead)
-    → path_of (tree.some_path (behind_root root (tree.path leading first tree.no_segments tree.no_path))) ≡ Some x
+    → path_of (tree.some_path (behind_root root (tree.path None leading first tree.no_segments tree.no_path))) ≡ Some x
     → (Q : List Named → Type 0) → ((y : PathRead) → path_read (item leading first ∷ []) ≡ Some y → Q y.names) → Q x.names
 rooted_read root leading first x e Q k = by (ended (item leading first ∷ [])) e
   where
@@ -283,13 +289,13 @@ rooted_read root leading first x e Q k = by (ended (item leading first ∷ [])) 
     by false h = whole (refused (item leading first ∷ [])) h k
 
 local_read : (root : Option (Option CrateId)) (leading : Bool) (first : Segment) (x : PathRead)
-    → path_of (tree.some_path (at_local_root root (tree.path leading first tree.no_segments tree.no_path))) ≡ Some x
+    → path_of (tree.some_path (at_local_root root (tree.path None leading first tree.no_segments tree.no_path))) ≡ Some x
     → (Q : List Named → Type 0) → ((y : PathRead) → path_read (item leading first ∷ []) ≡ Some y → Q y.names) → Q x.names
 local_read None leading first x e Q k = k x e
 local_read (Some root) leading first x e Q k = by (is_bare (mod_path_of (tree.some_path plain))) e
   where
     plain : Path
-    plain = tree.path leading first tree.no_segments tree.no_path
+    plain = tree.path None leading first tree.no_segments tree.no_path
 
     by : (b : Bool) → path_of (tree.some_path (if b then behind_root root plain else plain)) ≡ Some x → Q x.names
     by true h = rooted_read root leading first x h Q k
@@ -298,7 +304,7 @@ local_read (Some root) leading first x e Q k = by (is_bare (mod_path_of (tree.so
 called_read : (at : Spot) (in_macro leading : Bool) (ss : List (Option AstSegment)) (u : Option AstPath) (x : PathRead) → u ≡ None
     → none_missing ss ≡ true
     → path_of (tree.some_path (called_path at.answers (reader at.answers (into at)) in_macro leading ss u at.place
-    (tree.path leading (first_part at ss) (rest_part at ss) (path_part at u)))) ≡ Some x
+    (tree.path None leading (first_part at ss) (rest_part at ss) (path_part at u)))) ≡ Some x
     → (Q : List Named → Type 0)
     → ((y : PathRead) → path_read (item leading (first_part at ss) ∷ items (rest_part at ss) []) ≡ Some y → Q y.names) → Q x.names
 called_read at false leading ss u x h m e Q k =
@@ -312,12 +318,19 @@ called_read at true leading (Some s ∷ t ∷ ss) u x h m e Q k =
     let all = Some s ∷ t ∷ ss in
     k x (level_read leading (first_part at all) (rest_part at all) (path_part at u) x (no_use at u h) e)
 
+-- what is read doesn't look at the alias
+aliased_read : (alias : Option (List Bool)) (y : Path) → path_of (tree.some_path (with_alias alias y)) ≡ path_of (tree.some_path y)
+aliased_read alias (tree.path _ leading first rest use_) = refl
+
 -- beside the names that are read is what is written, where the path has no trait
 plain_args : (at : Spot) (p : AstPath) (x : PathRead) → Whole p → first_trait (out-Path p).segs ≡ None
     → path_of (tree.some_path (answered_path at p)) ≡ Some x → map args_at x.names ≡ map (args_behind at) (named_among (out-Path p).segs)
 plain_args at p x w t e =
     let o = out-Path p in
-    called_read at o.in_macro o.leading o.segs o.use_ x w.0 w.1 (ap (λ y. path_of (tree.some_path y)) (sym (path_is_level at p)) ∙ e)
+    let plain = tree.path None o.leading (first_part at o.segs) (rest_part at o.segs) (path_part at o.use_) in
+    let called = called_path at.answers (reader at.answers (into at)) o.in_macro o.leading o.segs o.use_ at.place plain in
+    called_read at o.in_macro o.leading o.segs o.use_ x w.0 w.1 (sym (aliased_read (alias_at at.answers at.place called) called)
+    ∙ (ap (λ y. path_of (tree.some_path y)) (sym (path_is_level at p)) ∙ e))
     (λ ns. map args_at ns ≡ map (args_behind at) (named_among o.segs)) (λ y h.
     let is = item o.leading (first_part at o.segs) ∷ items (rest_part at o.segs) [] in
     let stay = args_of_all args_at (λ n k. refl) at o.leading o.segs w.1 t in

@@ -37,7 +37,7 @@ use Rattle.hir_lower.proofs.Params.{given_is_of}
 
 -- nothing is made up where nothing is stored
 
-apart_from_nothing : (limit : ℕ) → MadeApart 0 (fresh limit).stored
+pub apart_from_nothing : (limit : ℕ) → MadeApart 0 (fresh limit).stored
 apart_from_nothing limit = record { once = λ k. inl (omega arith); later = λ k le. refl }
 
 pub fresh_apart : (b : Builder) (limit : ℕ) → b ≡ fresh limit → ∥ MadeApart b.names b.stored ∥₁
@@ -56,7 +56,7 @@ pub fresh_mapped : (b : Builder) (limit : ℕ) → b ≡ fresh limit → ∥ Map
 fresh_mapped b limit h = rw h (∣ record { types = leads_none limit; lifetimes = maps_back_none (λ i. i.0) limit } ∣₁)
 
 -- by what stays apart in all that is stored
-once_if : (names : ℕ) (s : Stored) → MadeApart names s → MadeOnce (store_of s) []
+pub once_if : (names : ℕ) (s : Stored) → MadeApart names s → MadeOnce (store_of s) []
 once_if names s m = λ k. ⊎_elim (λ le. inl le) (λ x. inr (inl x)) (m.once k)
 
 pub once_of : (names : ℕ) (s : Stored) (store : Store) → store ≡ store_of s → ∥ MadeApart names s ∥₁ → ∥ MadeOnce store [] ∥₁

@@ -54,8 +54,10 @@ use Rattle.hir_lower.proofs.TypeWays.{tuple_leads, path_type_leads, ref_leads, f
 use Rattle.hir_lower.proofs.TypeWays.{binding_leads, counted_leads, proceed_leads, whole_leads, trait_leads, parens_leads}
 use Rattle.hir_lower.proofs.TypeWays.{called_type_leads, segment_args_leads, pattern_type_leads, uncalled_type_leads}
 use Rattle.hir_lower.proofs.Onward.{Leading, any, since, then', makes, leading_pure, new_pat, new_type, anyway}
+use Rattle.hir_lower_form.specs.Paths.{alias_of}
 use Rattle.hir_lower.proofs.Ways.{leading_report, leading_block, leading_close, leading_jump, leading_alloc, leading_open, leading_point}
-use Rattle.hir_lower.proofs.Ways.{leading_closed, leading_report_await, leading_point_field, leading_alloc_type, leading_alloc_pat}
+use Rattle.hir_lower.proofs.Ways.{leading_aliased, leading_closed, leading_report_await, leading_point_field, leading_alloc_type}
+use Rattle.hir_lower.proofs.Ways.{leading_alloc_pat}
 use Rattle.hir_lower.proofs.Ways.{leading_barrier, leading_enter, leading_call, leading_close_barrier, leading_gone, leading_note}
 use Rattle.hir_lower.proofs.Ways.{leading_behind, leading_define_macro, leading_leave, leading_made_pat, leading_target, leading_told}
 use Rattle.hir_lower.proofs.OwnedWays.{coroutine_block_leads, coroutine_leads, leading_owning}
@@ -276,7 +278,7 @@ mutual
   segments_lead (tree.more_segments s ss) w = then' (segments_lead ss w) (λ r. proceed_leads r (λ v. segment_leads false s v))
 
   reading_leads : (p : Path) (w : PathWalk) → Leading any (read_path p w)
-  reading_leads (tree.path leading first rest use_) w = whole_leads
+  reading_leads (tree.path alias leading first rest use_) w = whole_leads
       (then' (segments_lead rest w) (λ r. proceed_leads r (λ v. segment_leads true first (at_first leading v))))
       (λ v. outer_leads use_ v)
 
@@ -286,7 +288,7 @@ mutual
 
   pub option_path_leads : (p : OptionPath) → Leading any (lower_path p)
   option_path_leads tree.no_path = leading_pure None
-  option_path_leads (tree.some_path p) = then' (reading_leads p _) (λ r. leading_pure _)
+  option_path_leads (tree.some_path p) = leading_aliased (alias_of p) (then' (reading_leads p _) (λ r. leading_pure _))
 
   segment_args_lead : (as' : SegmentArgs) → Leading any (lower_segment_args as')
   segment_args_lead (tree.segment_args as' ps dots) = segment_args_leads dots (args_part_leads as') (parens_part_leads ps)
@@ -573,7 +575,8 @@ mutual
   target_leads (tree.place_target at e) = place_target_leads at (node_leads e)
   target_leads (tree.macro_target at called t) = called_target_leads at called (target_leads t)
   target_leads (tree.wild_target at) = leading_target _ at
-  target_leads (tree.path_target at p h) = path_target_leads at h (then' (reading_leads p start) (λ r. leading_pure (path_read r)))
+  target_leads (tree.path_target at p h) =
+      path_target_leads at h (leading_aliased (alias_of p) (then' (reading_leads p start) (λ r. leading_pure (path_read r))))
   target_leads (tree.tuple_target at ts) = tuple_target_leads at (targets_leads no_elements ts)
   target_leads (tree.call_target at p ts) = call_target_leads at (targets_leads no_elements ts) (option_path_leads p)
   target_leads (tree.array_target at before dots behind) =

@@ -24,6 +24,7 @@ use Rattle.hir_lower_form.specs.Types.{TypeSteps, tuple_type_form, path_type_for
 use Rattle.hir_lower_form.specs.Types.{called_type_form, impl_type_form, dyn_type_form, pattern_type_form, uncalled_type}
 use Rattle.hir_lower_form.specs.Types.{array_type_form, binding_form, path_bound_of, path_bound_form}
 use Rattle.hir_lower.proofs.Onward.{Leading, any, makes_type, new_pat, new_type, then', leading_pure}
+use Rattle.hir_lower.proofs.Ways.{leading_becoming, leading_noted}
 use Rattle.hir_lower.proofs.Ways.{leading_count_out, leading_alloc_type, leading_alloc_lifetime, leading_point_type, leading_told}
 
 pub error_leads : Leading new_type error_type
@@ -36,7 +37,7 @@ unit_leads = leading_alloc_type _ None
 
 pub lifetime_leads : (l : Lifetime) → Leading any (lower_lifetime l)
 unfolding lower_lifetime
-lifetime_leads l = leading_alloc_lifetime _ _
+lifetime_leads l = leading_noted _ (leading_alloc_lifetime _ _)
 
 pub lifetime_option_leads : (l : Option Lifetime) → Leading any (lower_lifetime_option l)
 lifetime_option_leads None = leading_pure None
@@ -86,7 +87,7 @@ module _ (at : Pointer) where
 
   pub impl_leads : (mode : ImplTrait) {bs : Lowering (List TypeBound)} → Leading any bs → Leading new_type (impl_type_form at mode bs)
   unfolding impl_type_form
-  impl_leads mode h = makes_type h (λ bs. leading_alloc_type _ (Some at))
+  impl_leads mode h = makes_type h (λ bs. leading_becoming at mode bs)
 
   pub dyn_leads : {bs : Lowering (List TypeBound)} → Leading any bs → Leading new_type (dyn_type_form at bs)
   unfolding dyn_type_form

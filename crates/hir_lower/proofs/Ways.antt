@@ -28,6 +28,11 @@ use Rattle.hir_store.specs.declared.type_ref.LifetimeRef.{LifetimeRef}
 use Rattle.hir_store.specs.declared.type_ref.TypeRef.{TypeRef}
 use Rattle.hir_store.specs.declared.ids.BlockId.{BlockId}
 use Rattle.hir_store.specs.declared.ids.CfgId.{CfgId}
+use Rattle.hir_store.specs.declared.generics.TypeOrConstParamData.{TypeOrConstParamData}
+use Rattle.hir_store.specs.declared.path.Path.{Path as HirPath}
+use Rattle.hir_store.specs.declared.type_ref.TypeBound.{TypeBound}
+use Rattle.hir_env.specs.declared.place.ImplTrait.{ImplTrait}
+use Rattle.hir_env.specs.declared.place.ImplTrait.TheVariants as becomes
 use Rattle.hir_env.specs.Answered as tree
 use Rattle.hir_env.specs.Answered.{Called, Entered, Gone, Label, Jump, Origin, Stmt}
 use Rattle.hir_env.specs.Targets.{source_of}
@@ -44,12 +49,17 @@ use Rattle.hir_lower_form.specs.Lowering.{open_try, open_try_as, open_try_named,
 use Rattle.hir_lower_form.specs.Lowering.{close_barrier, note_yield}
 use Rattle.hir_lower_form.specs.Lowering.{point_field, open_barrier, enter_root, outside_root, leave_root, record_root}
 use Rattle.hir_lower_form.specs.Lowering.{enter_block, open_label, close, jump_target, found_or_fault, open_as, report_await, count_out}
+use Rattle.hir_lower_form.specs.declared.generics.Notes.{Notes}
+use Rattle.hir_lower_form.specs.Generics.{with_bounds}
+use Rattle.hir_lower_form.specs.Lowering.{◌>>◌, add_param, argument_form, becoming, input_end, note_down, param_numbered}
+use Rattle.hir_lower_form.specs.Lowering.{with_notes, with_stored}
+use Rattle.hir_lower_form.specs.Paths.{aliased, cut_back}
 use Rattle.hir_lower_form.specs.Targets.{alloc_target}
 use Rattle.hir_steps.proofs.Logic.{one_more}
 use Rattle.hir_lower.proofs.Onward.{on_refl, on_trans, on_insert, onward_refl, onward_entry, onward_made, made, made_up, expr_place}
 use Rattle.hir_lower.proofs.Onward.{label_place}
 use Rattle.hir_lower.proofs.Onward.{pat_place, type_place, lifetime_place, Went, went_refl, went_same, Low, any, since, new_pat, new_type}
-use Rattle.hir_lower.proofs.Onward.{Goes, Leading, then', leading_pure}
+use Rattle.hir_lower.proofs.Onward.{Goes, Leading, makes_type, then', leading_pure}
 
 pub leading_count_out : {A : Type 0} → Leading any (count_out {A = A})
 unfolding count_out
@@ -342,6 +352,63 @@ leading_alloc_lifetime e source = record { goes = λ b. by b (nat_lt (length b.s
       tt,
     )
     by b false = went_refl b.stored
+
+-- what is noted beside it
+
+pub leading_note_down : (f : Notes → Notes) → Leading any (note_down f)
+unfolding note_down
+leading_note_down f = record { goes = λ b. (went_refl b.stored, tt) }
+
+pub leading_noted : (f : Notes → Notes) {A : Type 0} {p : Lowering A} → Leading any p → Leading any (note_down f >> p)
+leading_noted f h = then' (leading_note_down f) (λ u. h)
+
+leading_with_notes : {A : Type 0} {L : Low A} {f : Notes → Lowering A} → ((n : Notes) → Leading L (f n)) → Leading L (with_notes f)
+unfolding with_notes
+leading_with_notes h = record { goes = λ b. (h b.notes).goes b }
+
+leading_with_stored : {A : Type 0} {L : Low A} {f : Stored → Lowering A} → ((s : Stored) → Leading L (f s)) → Leading L (with_stored f)
+unfolding with_stored
+leading_with_stored h = record { goes = λ b. (h b.stored).goes b }
+
+leading_input_end : Leading any input_end
+unfolding input_end
+leading_input_end = leading_with_notes (λ n. leading_pure _)
+
+leading_cut_back : (n : ℕ) (places : List Bool) (p : Option HirPath) → Leading any (cut_back n places p)
+unfolding cut_back
+leading_cut_back n places p = leading_with_stored (λ s. leading_note_down _)
+
+pub leading_aliased : (alias : Option (List Bool)) {p : Lowering (Option HirPath)} → Leading any p → Leading any (aliased alias p)
+leading_aliased None h = h
+leading_aliased (Some places) h =
+    then' leading_input_end (λ n. then' h (λ p. then' (leading_cut_back n places p) (λ u. leading_pure p)))
+
+leading_add_param : (x : TypeOrConstParamData) → Leading any (add_param x)
+unfolding add_param
+leading_add_param x = leading_with_notes (λ n. by (length n.generics.type_or_consts) (nat_lt (length n.generics.type_or_consts) 4294967295))
+  where
+    by : (k : ℕ) (b : Bool) → Leading any (param_numbered x k b)
+    by k true = leading_noted _ (leading_pure k)
+    by k false = leading_count_out
+
+-- behind what answers a type that came since
+type_and_note : (f : TypeRefId → Notes → Notes) {p : Lowering TypeRefId} → Leading new_type p
+    → Leading new_type (p >>= (λ t. note_down (f t) >>= (λ _. pure t)))
+unfolding note_down
+type_and_note f {p = p} h = record { goes = λ b. by b (p b).0 (p b).1 (h.goes b) }
+  where
+    by : (b : Builder) (o : Checked TypeRefId) (c : Builder) → Goes new_type b o c
+        → Goes new_type b (go_on o c (λ t. note_down (f t) >>= (λ _. pure t))).0 (go_on o c (λ t. note_down (f t) >>= (λ _. pure t))).1
+    by b (Ok t) c x = x
+    by b (Err e) c x = x
+
+-- what an `impl` becomes is a type that came since
+pub leading_becoming : (at : Pointer) (mode : ImplTrait) (bounds : List TypeBound) → Leading new_type (becoming at mode bounds)
+unfolding argument_form
+leading_becoming at becomes.Error bounds = leading_alloc_type _ _
+leading_becoming at becomes.Opaque bounds = leading_alloc_type _ _
+leading_becoming at (becomes.Argument def) bounds = makes_type (leading_add_param _)
+    (λ k. type_and_note (λ t. with_bounds t bounds) (leading_alloc_type _ (Some at)))
 
 label_made : (l : HirLabel) (source : Option Pointer) (b : Builder) (t : Bool)
     → Went b.stored (record b.stored { labels = (made label_id t l source b.stored.labels).1 })

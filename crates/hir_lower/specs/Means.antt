@@ -30,6 +30,9 @@ use Rattle.hir_store.specs.declared.diagnostics.ExpressionStoreDiagnostics.TheVa
 use Rattle.hir_env.specs.Spot.{Spot}
 use Rattle.hir_env.specs.declared.place.ImplTrait.{ImplTrait}
 use Rattle.hir_env.specs.declared.place.ImplTrait.TheVariants as mode
+use Rattle.hir_lower_form.specs.Generics.{predicates_of, unnamed_param}
+use Rattle.hir_lower_form.specs.Lowering.{param_type}
+use Rattle.hir_lower_form.specs.declared.generics.GenericLists.{GenericLists}
 use Rattle.hir_env.specs.Answering.{in_file}
 use Rattle.hir_env.specs.Answered as tree
 use Rattle.hir_env.specs.Answered.{Formals, OptionExpr, OptionPath, OptionType, SelfFormal}
@@ -176,10 +179,35 @@ pub record AddsType (old new : Stored) (i : TypeRefId) (ty : TypeRef) (at : Poin
 abbrev pub NoRoomForType : Stored → Type 0
 NoRoomForType old = old.types.limit ≤ length old.types.entries
 
--- what an `impl` with these bounds becomes
-abbrev pub becomes : ImplTrait → List TypeBound → TypeRef
-becomes mode.Error bounds = ty.Error
-becomes mode.Opaque bounds = ty.ImplTrait bounds
+-- the number that the next parameter of the lists gets; lists that aren't there have none
+abbrev pub next_param : Option GenericLists → ℕ
+next_param None = 0
+next_param (Some l) = length l.type_or_consts
+
+-- what an `impl` with these bounds becomes, behind these lists of parameters
+abbrev pub becomes : ImplTrait → Option GenericLists → List TypeBound → TypeRef
+becomes mode.Error lists bounds = ty.Error
+becomes mode.Opaque lists bounds = ty.ImplTrait bounds
+becomes (mode.Argument def) lists bounds = param_type def (next_param lists)
+
+-- a parameter more, which an `impl` became, with a predicate for each of its bounds
+abbrev pub with_impl : TypeRefId → List TypeBound → GenericLists → GenericLists
+with_impl target bounds l = record l {
+  type_or_consts = l.type_or_consts ++ unnamed_param ∷ [];
+  where_predicates = l.where_predicates ++ predicates_of target bounds;
+}
+
+-- the lists behind it, where there are any
+abbrev pub lists_behind : ImplTrait → Option GenericLists → TypeRefId → List TypeBound → Option GenericLists
+lists_behind mode.Error lists target bounds = lists
+lists_behind mode.Opaque lists target bounds = lists
+lists_behind (mode.Argument def) None target bounds = None
+lists_behind (mode.Argument def) (Some l) target bounds = Some (with_impl target bounds l)
+
+-- no type more, or no parameter more
+abbrev pub NoRoomForImpl : Stored → Option GenericLists → Type 0
+NoRoomForImpl old None = NoRoomForType old
+NoRoomForImpl old (Some l) = NoRoomForType old ⊎ (4294967295 ≤ length l.type_or_consts)
 
 -- What stands in a later store for the constants of a lowered path: as for the tree of a root.
 pub record ConstantsLive (old new later : Stored) (p : OptionPath) : Type 0 where

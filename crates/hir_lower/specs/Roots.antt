@@ -21,6 +21,7 @@ use Rattle.hir_store.specs.declared.ids.ModuleId.{ModuleId}
 use Rattle.hir_env.specs.declared.place.Place.{Place}
 use Rattle.hir_env.specs.declared.place.ImplTrait.{ImplTrait}
 use Rattle.hir_env.specs.declared.place.ImplTrait.TheVariants as becomes
+use Rattle.hir_env.specs.declared.place.LifetimeScope.TheVariants as scope
 use Rattle.hir_env.specs.declared.place.LoweringMode.{LoweringMode}
 use Rattle.hir_env.specs.declared.place.LoweringMode.TheVariants.{Analysis}
 use Rattle.hir_env.specs.Answers.{Answers}
@@ -155,6 +156,7 @@ body_spot env item file inside is_async =
       await_location = awaits_in;
       impl_trait = becomes.Error;
       in_impl = false;
+      lifetimes = scope.Nowhere;
       left = env.expansion_limit;
     })
 
@@ -167,6 +169,7 @@ outside_body env file inside mode = record {
   await_location = Some location.Unknown;
   impl_trait = becomes.Error;
   in_impl = false;
+  lifetimes = scope.Nowhere;
   left = env.expansion_limit;
 }
 

@@ -26,7 +26,7 @@ use crate::formals::{Given, formals_form, must_be_bare, self_node};
 use hir_base::Seq;
 use hir_base::node::{AstPtr, HirFileId, InFile};
 use hir_env::env::LowerEnv;
-use hir_env::place::{ImplTrait, LoweringMode, Place};
+use hir_env::place::{ImplTrait, LifetimeScope, LoweringMode, Place};
 use hir_lower_form::builder::BodyBuilder;
 use hir_store::diagnostics::{AwaitLocation, ExpressionStoreDiagnostics, MissingBodyItemKind};
 use hir_store::fault::StoreFault;
@@ -449,6 +449,7 @@ fn body_steps<E: LowerEnv>(
         await_location: await_location_of(owner, is_async_fn),
         impl_trait: ImplTrait::Error,
         in_impl: false,
+        lifetimes: LifetimeScope::Nowhere,
         left: db.expansion_limit(),
     };
     let kind = coroutine_kind_of(is_async_fn, is_gen_fn);

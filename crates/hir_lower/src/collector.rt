@@ -1,11 +1,13 @@
 //! The collector, which lowers trees into one store and stops for good after its first error.
 
-ghost use Rattle.std.specs.Prelude.{[], ◌+◌, ◌≡◌, ◌≢◌, false, true, Err, IfOk, IsErrOf, IsOkAnd, length, option_copied};
+ghost use Rattle.std.specs.Prelude.{[], ◌+◌, ◌++◌, ◌≡◌, ◌≢◌, ◌≤◌, ◌⊎◌, false, true, Err, IfOk, IsErrOf, IsOkAnd, OnOk, length};
+ghost use Rattle.std.specs.Prelude.{option_copied};
 ghost use Rattle.hir_store.specs.Range.{HasExpr, HasTypeParts, InRange};
 ghost use Rattle.hir_store.specs.Stored.{map_of, store_of};
 ghost use Rattle.hir_env.specs.Spot.{in_file};
 ghost use Rattle.hir_env.specs.Whole.{expr_part};
-ghost use Rattle.hir_lower_form.specs.Lowering.{Lowers, SomeEnd};
+ghost use Rattle.hir_lower_form.specs.Generics.{predicates_of};
+ghost use Rattle.hir_lower_form.specs.Lowering.{Lowers, SomeEnd, param_type};
 ghost use Rattle.hir_lower_form.specs.Methods.{LowersExprOpt};
 ghost use Rattle.hir_steps.specs.Keeps.{MadeApart, Mapped, Paired};
 ghost use Rattle.hir_one_result.specs.Definitions.{DefinitionsAre};
@@ -15,27 +17,36 @@ ghost use Rattle.hir_lower_handlers.specs.Spots.{spot_at};
 ghost use Rattle.hir_lower.specs.Beside.{TakesArguments};
 ghost use Rattle.hir_lower.specs.Calls.{Calls, Outside};
 ghost use Rattle.hir_lower.specs.Means.{AddsType, BearsNames, MadeOnce, NoRoomForType, PathRooted, ReadsBack, Rooted};
-ghost use Rattle.hir_lower.specs.Means.{whole_path};
+ghost use Rattle.hir_lower.specs.Means.{whole_path, with_impl};
+ghost use Rattle.hir_lower.specs.Named.{none_named};
 ghost use Rattle.hir_lower.specs.Roots.{becoming, fresh, outside_body, root_of};
 ghost use Rattle.hir_lower.specs.Stays.{Stays};
 
 use crate::error::LowerError;
-use crate::impl_trait::ImplTraitLower;
+use crate::impl_trait::{ImplTraitLower, ImplTraitMode};
+use crate::named::NamedLifetimeStore;
+use hir_base::Seq;
 use hir_base::node::{AstPtr, HirFileId, InFile};
 use hir_env::env::LowerEnv;
-use hir_env::place::{ImplTrait, LoweringMode, Place};
+use hir_env::place::{ImplTrait, LifetimeScope, LoweringMode, Place};
 use hir_lower_form::builder::BodyBuilder;
+use hir_lower_form::generics::GenericLists;
 use hir_lower_knot::knot::{collect_expr, lower_path};
 use hir_store::builder::ExpressionStoreBuilder;
 use hir_store::diagnostics::AwaitLocation;
 use hir_store::fault::StoreFault;
-use hir_store::ids::{ExprId, ModuleId, TypeRefId};
+use hir_store::generics::{
+    TypeOrConstParamData, TypeParamData, TypeParamProvenance, WherePredicate,
+};
+use hir_store::ids::{
+    ExprId, GenericDefId, LocalTypeOrConstParamId, ModuleId, TypeParamId, TypeRefId,
+};
 use hir_store::path::Path;
 use hir_store::source_map::ExpressionStoreSourceMap;
 use hir_store::store::ExpressionStore;
-use hir_store::type_ref::{ConstRef, TypeRef};
+use hir_store::type_ref::{ConstRef, TypeBound, TypeRef};
 use hir_syntax::{Boxed, ast};
-use std::alloc::Global;
+use std::alloc::{AllocError, Global};
 
 /// The expression in a box, where there is one.
 fn unboxed(expr: &Option<Boxed<ast::Expr>>) -> Option<&ast::Expr>
@@ -169,6 +180,81 @@ fn add_type(
     state.alloc_type(ty, Some(source))
 }
 
+/// A predicate for each of these bounds of a type, behind those that there are.
+fn push_bounds(
+    lists: &mut GenericLists,
+    target: TypeRefId,
+    mut left: &[TypeBound],
+) -> Result<(), AllocError>
+    ensures { OnOk result (lists.new
+        ≡ record lists.old { where_predicates = lists.old.where_predicates ++ predicates_of target left.entry.now }) }
+{
+    while let [one, rest @ ..] = left {
+        let bound = one.clone()?;
+        lists.where_predicates.push(WherePredicate::TypeBound {
+            lifetimes: None,
+            target,
+            bound,
+        })?;
+        left = rest;
+    }
+    Ok(())
+}
+
+/// Notes the parameter that an `impl` became, with its predicates.
+fn note_param(
+    lists: &mut GenericLists,
+    target: TypeRefId,
+    bounds: &Seq<TypeBound>,
+) -> Result<(), AllocError>
+    ensures { OnOk result (lists.new ≡ with_impl target bounds.now lists.old) }
+{
+    lists
+        .type_or_consts
+        .push(TypeOrConstParamData::TypeParamData(TypeParamData {
+            name: None,
+            default: None,
+            provenance: TypeParamProvenance::ArgumentImplTrait,
+        }))?;
+    push_bounds(lists, target, bounds.as_slice())
+}
+
+/// Stores the type of a parameter more of these lists, from this node, and notes the parameter.
+fn add_param(
+    state: &mut BodyBuilder,
+    lists: &mut GenericLists,
+    parent: GenericDefId,
+    bounds: &Seq<TypeBound>,
+    source: InFile<AstPtr>,
+) -> Result<TypeRefId, StoreFault>
+    ensures adds { IfOk result (λ i. AddsType state.old.stored state.new.stored i
+        (param_type parent (length lists.old.type_or_consts)) source) }
+    ensures lists { IfOk result (λ i. lists.new ≡ with_impl i bounds.now lists.old) }
+    ensures no_room { IsErrOf result StoreFault.Full
+        → NoRoomForType state.old.stored ⊎ (4294967295 ≤ length lists.old.type_or_consts) }
+    ensures unchanged { IsErrOf result StoreFault.Full → state.new.stored ≡ state.old.stored }
+    ensures scopes { result ≢ Err StoreFault.Memory → state.new.scopes ≡ state.old.scopes }
+    ensures names { result ≢ Err StoreFault.Memory → state.new.names ≡ state.old.names }
+    ensures owners { MayBeOwned state.old.stored → IfOk result (λ i. MayBeOwned state.new.stored) }
+    ensures defined { Defined state.old.stored → IfOk result (λ i. Defined state.new.stored) }
+    ensures mapped { ∥ Mapped state.old.stored ∥₁ → IfOk result (λ i. ∥ Mapped state.new.stored ∥₁) }
+    ensures outside { Outside state.old → IfOk result (λ i. Outside state.new) }
+    ensures apart { Paired state.old.stored → ∥ MadeApart state.old.names state.old.stored ∥₁
+        → IfOk result (λ i. ∥ MadeApart state.new.names state.new.stored ∥₁) }
+{
+    let number = lists.type_or_consts.len();
+    if number >= u32::MAX as usize {
+        return Err(StoreFault::Full);
+    }
+    let ty = TypeRef::TypeParam(TypeParamId {
+        parent,
+        local_id: LocalTypeOrConstParamId(number as u32),
+    });
+    let id = add_type(state, ty, source)?;
+    note_param(lists, id, bounds)?;
+    Ok(id)
+}
+
 /// Lowers trees into one store.
 ///
 /// After an error, and only then, each later lowering call and `into_store` answer `Failed`; the store stays readable,
@@ -178,7 +264,9 @@ pub struct ExprCollector<'db, E: LowerEnv> {
     db: &'db E,
     place: Place,
     state: BodyBuilder,
+    named: NamedLifetimeStore,
     failed: bool,
+    ghost unnamed: { named ≡ none_named },
     ghost paired: { failed ≡ false → Paired state.stored },
     ghost owners: { failed ≡ false → MayBeOwned state.stored },
     ghost defined: { failed ≡ false → Defined state.stored },
@@ -194,6 +282,7 @@ impl<'db, E: LowerEnv> Drop for ExprCollector<'db, E> {
             db: _,
             place: _,
             state: _,
+            named: _,
             failed: _,
         } = self;
     }
@@ -240,9 +329,11 @@ impl<'db, E: LowerEnv> ExprCollector<'db, E> {
                 await_location: Some(AwaitLocation::Unknown),
                 impl_trait: ImplTrait::Error,
                 in_impl: false,
+                lifetimes: LifetimeScope::Nowhere,
                 left: db.expansion_limit(),
             },
             state: BodyBuilder::new(alloc, limit),
+            named: NamedLifetimeStore::new(alloc),
             failed: false,
         }
     }
@@ -294,7 +385,8 @@ impl<'db, E: LowerEnv> ExprCollector<'db, E> {
     /// qualified type, its names are those of the written segments that bear one; and where it has no trait, beside each stands what is
     /// written behind its segment. `Memory` where a growth was refused, `Full` where an arena has no room for its types, lifetimes and
     /// constants and the patterns in them, or it has more `super`s, a pattern in it more parts in front of its two dots, a block in it more
-    /// definitions of one name by `macro_rules`, or more names are made up, than 32 bits count, `Failed` after an error. All that was
+    /// definitions of one name by `macro_rules`, or more names are made up, or more `impl`s become parameters, than 32 bits count,
+    /// `Failed` after an error. All that was
     /// stored is stored still, unless memory was refused, and nothing comes behind it but the path's types, its lifetimes and its
     /// constants, each of which is recorded as a root, with the patterns and bindings in them, what is wrong in it, the blocks in its
     /// constants, and the calls of macros that are entered, each behind what else was expanded for it; so it is also where the path is
@@ -360,6 +452,39 @@ impl<'db, E: LowerEnv> ExprCollector<'db, E> {
         Ok(id)
     }
 
+    /// Stores the type of a parameter more of these lists, from this node, and notes the parameter.
+    pub(crate) fn add_param(
+        &mut self,
+        lists: &mut GenericLists,
+        parent: GenericDefId,
+        bounds: &Seq<TypeBound>,
+        ptr: AstPtr,
+    ) -> Result<TypeRefId, LowerError>
+        ensures calls { Calls self.old.failed self.old.state result self.new.state self.new.failed }
+        ensures adds { IfOk result (λ i. AddsType self.old.state.stored self.new.state.stored i
+            (param_type parent (length lists.old.type_or_consts)) (in_file self.old.place ptr)) }
+        ensures lists { IfOk result (λ i. lists.new ≡ with_impl i bounds.now lists.old) }
+        ensures full { IsErrOf result LowerError.Full
+            → NoRoomForType self.old.state.stored ⊎ (4294967295 ≤ length lists.old.type_or_consts) }
+        ensures unchanged { IsErrOf result LowerError.Full → self.new.state.stored ≡ self.old.state.stored }
+        ensures scopes { result ≢ Err LowerError.Memory → self.new.state.scopes ≡ self.old.state.scopes }
+        ensures names { result ≢ Err LowerError.Memory → self.new.state.names ≡ self.old.state.names }
+        ensures db { self.new.db ≡ self.old.db }
+        ensures place { self.new.place ≡ self.old.place }
+    {
+        if self.failed {
+            return Err(LowerError::Failed);
+        }
+        self.failed = true;
+        let source = InFile {
+            file_id: self.place.file_id,
+            value: ptr,
+        };
+        let id = add_param(&mut self.state, lists, parent, bounds, source)?;
+        self.failed = false;
+        Ok(id)
+    }
+
     /// What is stored so far, after an error too. Each number in it is in range.
     pub fn store(&self) -> &ExpressionStoreBuilder
         ensures stored { result.now ≡ self.now.state.stored }
@@ -368,6 +493,13 @@ impl<'db, E: LowerEnv> ExprCollector<'db, E> {
         let store = self.state.store();
         store.in_range();
         store
+    }
+
+    /// The lifetimes that were named. What a collector lowers stands in no item, so none counts. It takes no memory.
+    pub fn named_lifetime_store(&self) -> &NamedLifetimeStore
+        ensures { result.now ≡ none_named }
+    {
+        &self.named
     }
 
     /// The store and its source map, in which each number is in range, each binding has the patterns that make it, and no name is made up
@@ -387,6 +519,7 @@ impl<'db, E: LowerEnv> ExprCollector<'db, E> {
             db: _,
             place: _,
             state,
+            named: _,
             failed,
         } = self;
         if failed {

@@ -1,29 +1,37 @@
 //! What becomes of an `impl` in a path that is lowered by itself.
 
-ghost use Rattle.std.specs.Prelude.{◌≡◌, ◌≢◌, Err, IfOk, IsErrOf};
+ghost use Rattle.std.specs.Prelude.{◌≡◌, ◌≢◌, Err, IfOk, IsErrOf, None, Option, Some};
 ghost use Rattle.hir_store.specs.Range.{HasBounds};
 ghost use Rattle.hir_env.specs.Spot.{in_file};
 ghost use Rattle.hir_env.specs.declared.place.ImplTrait.{ImplTrait as Mode};
 ghost use Rattle.hir_lower.specs.Calls.{Calls};
-ghost use Rattle.hir_lower.specs.Means.{AddsType, NoRoomForType, becomes};
+ghost use Rattle.hir_lower_form.specs.declared.generics.GenericLists.{GenericLists as AllLists};
+ghost use Rattle.hir_lower.specs.Means.{AddsType, NoRoomForImpl, NoRoomForType, becomes, lists_behind};
 
 use crate::collector::ExprCollector;
 use crate::error::LowerError;
 use hir_base::node::AstPtr;
 use hir_env::env::LowerEnv;
 use hir_env::place::ImplTrait;
-use hir_store::ids::TypeRefId;
+use hir_lower_form::generics::GenericLists;
+use hir_store::ids::{GenericDefId, TypeRefId};
 use hir_store::type_ref::{TypeBound, TypeRef};
 use hir_syntax::Seq;
 
-/// What an `impl` becomes, where the caller of `ExprCollector::lower_path` chooses.
-pub trait ImplTraitLower {
+/// What an `impl` becomes, by its kind.
+pub trait ImplTraitMode {
     /// What it becomes.
     ghost mode: { Self → Mode };
 
     /// What an `impl` becomes.
     fn mode(&self) -> ImplTrait
         ensures { result ≡ mode self.now };
+}
+
+/// What an `impl` becomes, where the caller of `ExprCollector::lower_path` chooses.
+pub trait ImplTraitLower: ImplTraitMode {
+    /// The parameter lists that it has.
+    ghost lists: { Self → Option AllLists };
 
     /// Stores what an `impl` at the node becomes, which has these bounds.
     fn lower<E: LowerEnv>(
@@ -35,8 +43,10 @@ pub trait ImplTraitLower {
         requires { HasBounds collector.old.state.stored bounds }
         ensures calls { Calls collector.old.failed collector.old.state result collector.new.state collector.new.failed }
         ensures adds { let at = in_file collector.old.place ptr in
-            IfOk result (λ i. AddsType collector.old.state.stored collector.new.state.stored i (becomes (mode self.old) bounds) at) }
-        ensures full { IsErrOf result LowerError.Full → NoRoomForType collector.old.state.stored }
+            IfOk result (λ i. AddsType collector.old.state.stored collector.new.state.stored i
+            (becomes (Self.mode self.old) (lists self.old) bounds) at) }
+        ensures lists { IfOk result (λ i. lists self.new ≡ lists_behind (Self.mode self.old) (lists self.old) i bounds) }
+        ensures full { IsErrOf result LowerError.Full → NoRoomForImpl collector.old.state.stored (lists self.old) }
         ensures unchanged { IsErrOf result LowerError.Full → collector.new.state.stored ≡ collector.old.state.stored }
         ensures scopes { result ≢ Err LowerError.Memory → collector.new.state.scopes ≡ collector.old.state.scopes }
         ensures names { result ≢ Err LowerError.Memory → collector.new.state.names ≡ collector.old.state.names }
@@ -52,12 +62,34 @@ pub struct ErrorImplTrait;
 #[derive(Clone, Copy)]
 pub struct OpaqueImplTrait;
 
-impl ImplTraitLower for ErrorImplTrait {
+/// An `impl` becomes a parameter of the definition, behind those of the lists that it borrows, with a predicate for each of its bounds.
+/// Only this crate makes one.
+#[derive(Drop)]
+pub struct ArgumentImplTrait<'l> {
+    parent: GenericDefId,
+    lists: &'l mut GenericLists,
+}
+
+impl<'l> ArgumentImplTrait<'l> {
+    pub(crate) fn new(parent: GenericDefId, lists: &'l mut GenericLists) -> ArgumentImplTrait<'l>
+        ensures parent { result.parent ≡ parent }
+        ensures value { result.lists.now ≡ lists.old }
+        ensures same_reference { result.lists.ghost_name ≡ lists.entry.ghost_name }
+    {
+        ArgumentImplTrait { parent, lists }
+    }
+}
+
+impl ImplTraitMode for ErrorImplTrait {
     ghost mode = { λ it. Mode.Error };
 
     fn mode(&self) -> ImplTrait {
         ImplTrait::Error
     }
+}
+
+impl ImplTraitLower for ErrorImplTrait {
+    ghost lists = { λ it. None };
 
     fn lower<E: LowerEnv>(
         &mut self,
@@ -69,12 +101,16 @@ impl ImplTraitLower for ErrorImplTrait {
     }
 }
 
-impl ImplTraitLower for OpaqueImplTrait {
+impl ImplTraitMode for OpaqueImplTrait {
     ghost mode = { λ it. Mode.Opaque };
 
     fn mode(&self) -> ImplTrait {
         ImplTrait::Opaque
     }
+}
+
+impl ImplTraitLower for OpaqueImplTrait {
+    ghost lists = { λ it. None };
 
     fn lower<E: LowerEnv>(
         &mut self,
@@ -83,6 +119,27 @@ impl ImplTraitLower for OpaqueImplTrait {
         bounds: Seq<TypeBound>,
     ) -> Result<TypeRefId, LowerError> {
         collector.add_type(TypeRef::ImplTrait(bounds), ptr)
+    }
+}
+
+impl ImplTraitMode for ArgumentImplTrait<'_> {
+    ghost mode = { λ it. Mode.Argument it.parent };
+
+    fn mode(&self) -> ImplTrait {
+        ImplTrait::Argument(self.parent)
+    }
+}
+
+impl ImplTraitLower for ArgumentImplTrait<'_> {
+    ghost lists = { λ it. Some it.lists.now };
+
+    fn lower<E: LowerEnv>(
+        &mut self,
+        collector: &mut ExprCollector<'_, E>,
+        ptr: AstPtr,
+        bounds: Seq<TypeBound>,
+    ) -> Result<TypeRefId, LowerError> {
+        collector.add_param(self.lists, self.parent, &bounds, ptr)
     }
 }
 

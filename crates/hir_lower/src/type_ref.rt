@@ -12,7 +12,7 @@ ghost use Rattle.hir_lower.specs.Roots.{AnswersFromNothing, RefusedAtEnd, type_s
 use crate::error::LowerError;
 use hir_base::node::InFile;
 use hir_env::env::LowerEnv;
-use hir_env::place::{ImplTrait, LoweringMode, Place};
+use hir_env::place::{ImplTrait, LifetimeScope, LoweringMode, Place};
 use hir_lower_form::builder::BodyBuilder;
 use hir_lower_knot::knot::lower_type_node;
 use hir_store::diagnostics::AwaitLocation;
@@ -63,6 +63,7 @@ fn type_steps<E: LowerEnv>(
         await_location: Some(AwaitLocation::Unknown),
         impl_trait: ImplTrait::Opaque,
         in_impl: false,
+        lifetimes: LifetimeScope::Nowhere,
         left: db.expansion_limit(),
     };
     let mut state = BodyBuilder::new(alloc, u32::MAX);

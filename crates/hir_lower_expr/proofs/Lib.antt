@@ -1,6 +1,7 @@
 pub mod CallLemmas
 pub mod ContentLemmas
 pub mod DefinitionLemmas
+pub mod Owning
 pub mod RunLemmas
 pub mod SpliceLemmas
 pub mod StatementLemmas

@@ -1,6 +1,6 @@
 //! Blocks and statements.
 
-ghost use Rattle.std.specs.Prelude.{◌≡◌, ◌-◌, false, length, slice_get};
+ghost use Rattle.std.specs.Prelude.{◌≡◌, ◌-◌, false, length, slice_get, true};
 ghost use Rattle.hir_syntax.specs.declared.ast.BlockExpr.{out-BlockExpr};
 ghost use Rattle.hir_store.specs.Range.{HasExpr, HasLabelOption};
 ghost use Rattle.hir_env.specs.Whole.{answered_block, label_part};
@@ -60,6 +60,7 @@ fn settle(statements: &mut Seq<Statement>, tail: Option<ExprId>) -> Option<ExprI
 }
 
 /// The statements, and then the tail, behind which the definitions among them are closed.
+#[inline(always)]
 pub(crate) fn flat_contents<P: LowerParts>(
     lowerer: &Lowerer<P>,
     state: &mut BodyBuilder,
@@ -208,6 +209,23 @@ fn labelled_block<P: LowerParts, N: WrittenBlock>(
     Ok(id)
 }
 
+/// An unsafe block, of which no label counts.
+fn unsafe_block<P: LowerParts, N: WrittenBlock>(
+    lowerer: &Lowerer<P>,
+    state: &mut BodyBuilder,
+    node: &N,
+) -> Result<ExprId, StoreFault>
+    requires { N.can (P.can lowerer.now.parts) (P.spot lowerer.now.parts).place node.now }
+    ensures { let block = N.read (P.spot lowerer.now.parts) node.now in
+        Lowers HasExpr (spec.lower_inside (role.Plain true None) block) state.old result state.new }
+{
+    let role = BlockRole::Plain {
+        is_unsafe: true,
+        label: None,
+    };
+    node.lower(lowerer, state, role)
+}
+
 /// A block with its modifier, beside which no label counts, or else with its label.
 fn headed_block<P: LowerParts>(
     lowerer: &Lowerer<P>,
@@ -220,13 +238,7 @@ fn headed_block<P: LowerParts>(
 {
     match node.mod_ {
         None => labelled_block(lowerer, state, &node.label, node),
-        Some(ast::BlockModifier::Unsafe) => {
-            let role = BlockRole::Plain {
-                is_unsafe: true,
-                label: None,
-            };
-            node.lower(lowerer, state, role)
-        }
+        Some(ast::BlockModifier::Unsafe) => unsafe_block(lowerer, state, node),
         Some(ast::BlockModifier::Try) => try_form(lowerer, state, &node.ty, node),
         Some(ast::BlockModifier::Const) => {
             let at = lowerer.pointer(node.id, node.range);

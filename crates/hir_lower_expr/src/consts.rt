@@ -97,7 +97,6 @@ fn stored_const<P: LowerParts, N: WrittenBlock>(
 /// { s; t }
 /// ```
 #[tactic(auto, unfolding(hir_lower_form::specs::Lowering::owning))]
-#[inline(never)]
 pub(crate) fn const_form<P: LowerParts, N: WrittenBlock>(
     lowerer: &Lowerer<P>,
     state: &mut BodyBuilder,

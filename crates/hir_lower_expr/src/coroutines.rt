@@ -115,7 +115,7 @@ fn bordered_coroutine<P: LowerParts, N: WrittenBlock>(
 /// || { s; t }
 /// ```
 #[tactic(auto, unfolding(hir_lower_form::specs::Lowering::owning))]
-#[inline(never)]
+#[inline(always)]
 pub(crate) fn coroutine_form<P: LowerParts, N: WrittenBlock>(
     lowerer: &Lowerer<P>,
     state: &mut BodyBuilder,

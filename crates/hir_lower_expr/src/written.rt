@@ -93,6 +93,7 @@ impl WrittenBlock for ast::BlockExpr {
         lowerer.parts.collect_block_inside(state, place, role, self)
     }
 
+    #[inline(always)]
     fn contents<P: LowerParts>(
         &self,
         lowerer: &Lowerer<P>,

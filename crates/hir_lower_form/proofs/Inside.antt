@@ -1,5 +1,5 @@
 -- What a call of a macro stands for counts less than the call.
-use Rattle.std.proofs.Common.{arith, ◌≡◌, ◌∙◌, ap, ℕ, suc, ◌+◌, ◌<◌, ◌≤◌, List, Option, Some, None, Ok}
+use Rattle.std.proofs.Common.{arith, ◌≡◌, ◌∙◌, ap, ℕ, suc, ◌<◌, ◌≤◌, List, Option, Some, None, Ok}
 use Rattle.hir_base.specs.declared.node.HirFileId.{HirFileId}
 use Rattle.hir_syntax.specs.declared.ast.ElseBranch.TheOpen.{ExprKind-F}
 use Rattle.hir_syntax.specs.declared.ast.Expr.{Expr as AstExpr}

@@ -1,5 +1,5 @@
 -- What is in statements, and in what stands behind them, counts no more than they do together.
-use Rattle.std.proofs.Common.{arith, ◌≡◌, ◌∙◌, ap, refl, ℕ, suc, ◌+◌, ◌<◌, List, [], ◌∷◌, Option, Some, None}
+use Rattle.std.proofs.Common.{arith, ◌≡◌, ap, refl, ℕ, suc, ◌+◌, ◌<◌, List, [], ◌∷◌, Option, Some, None}
 use Rattle.std.specs.Prelude.{Result, Ok, Err}
 use Rattle.hir_base.specs.declared.node.HirFileId.{HirFileId}
 use Rattle.hir_syntax.specs.declared.ast.BlockExpr.{BlockExpr as AstBlockExpr}
@@ -25,7 +25,7 @@ use Rattle.hir_env.specs.Answering.{asked_stmt, expr_kind, stmt_at, value_kind, 
 use Rattle.hir_env.specs.Calls.{append, asked_call, call_pointer, inside_file, stmts_of, value_or_none}
 use Rattle.hir_env.specs.Count.{count_block, count_expr, count_option_block, count_option_expr, count_option_pat, count_option_type}
 use Rattle.hir_env.specs.Count.{count_pat, count_path, count_stmt, count_stmts, count_type}
-use Rattle.hir_env.specs.Layers.{Defined, ExprKindLayer, Spliced, StmtKindLayer, StmtReading}
+use Rattle.hir_env.specs.Layers.{Defined, ExprKindLayer, StmtKindLayer, StmtReading}
 use Rattle.hir_env.specs.Spot.{Spot, ptr, site_of}
 use Rattle.hir_env.specs.Whole.{answered, answered_pat, answered_path, answered_plain, answered_type, answered_value, expr_part, into}
 use Rattle.hir_env.specs.Whole.{let_else_part, pat_part, pointer_at, read_stmt, read_value, reader, type_part, written}

@@ -4,9 +4,12 @@ use Rattle.hir_store.specs.Stored.{Stored}
 use Rattle.hir_store.specs.Storing.{empty}
 use Rattle.hir_store.specs.declared.ids.LabelId.{LabelId}
 use Rattle.hir_scope.specs.Ribs.{Rib, label_rib, try_rib, macro_rib, barrier_rib}
+use Rattle.hir_lower_form.specs.declared.generics.Notes.{Notes}
+use Rattle.hir_lower_form.specs.Generics.{no_notes}
 
--- what is stored, what is open, innermost first, how many names were made up, whether a counter came to its end, whether a root is
--- being lowered, and whether a kept `yield` stood in the body that is being lowered, so far, and in none inside of it
+-- What is stored, what is open, innermost first, how many names were made up, whether a counter came to its end, whether a root is
+-- being lowered, whether a kept `yield` stood in the body that is being lowered, so far, and in none inside of it, and what is noted
+-- beside what is stored.
 pub record Builder : Type 0 where
   pub stored : Stored
   pub scopes : List (Rib LabelId)
@@ -14,10 +17,20 @@ pub record Builder : Type 0 where
   pub counted_out : Bool
   pub in_root : Bool
   pub yields : Bool
+  pub notes : Notes
 
--- nothing is stored, no label is open, no name is made up, no counter is at its end, no root is being lowered and no `yield` stood there
+-- nothing is stored, no label is open, no name is made up, no counter is at its end, no root is being lowered, no `yield` stood there and
+-- nothing is noted
 abbrev pub fresh : ℕ → Builder
-fresh limit = record { stored = empty limit; scopes = []; names = 0; counted_out = false; in_root = false; yields = false }
+fresh limit = record {
+  stored = empty limit;
+  scopes = [];
+  names = 0;
+  counted_out = false;
+  in_root = false;
+  yields = false;
+  notes = no_notes;
+}
 
 -- the least number above those of the labels
 abbrev pub past_ribs : List (Rib LabelId) → ℕ
@@ -28,5 +41,8 @@ past_ribs (macro_rib d ∷ rs) = past_ribs rs
 past_ribs (barrier_rib ∷ rs) = past_ribs rs
 
 -- each open label exists
+abbrev pub RibsOf : Stored → List (Rib LabelId) → Type 0
+RibsOf s rs = past_ribs rs ≤ length s.labels.entries
+
 abbrev pub RibsExist : Builder → Type 0
-RibsExist b = past_ribs b.scopes ≤ length b.stored.labels.entries
+RibsExist b = RibsOf b.stored b.scopes

@@ -1,6 +1,6 @@
 -- The steps of lowering: each answers a value, or is refused because an arena is full, and leaves what is stored by then.
 use Rattle.std.specs.Prelude.{◌≡◌, ◌≢◌, ◌⊎◌, ◌^◌, ℕ, suc, nat_lt, if◌then◌else◌}
-use Rattle.std.specs.Prelude.{Bool, true, false, [], ◌∷◌, length, Option, Some, None, option_map, Ok, Err}
+use Rattle.std.specs.Prelude.{Bool, true, false, List, [], ◌∷◌, length, Option, Some, None, option_map, Ok, Err}
 use Rattle.hir_base.specs.declared.node.HirFileId.{HirFileId}
 use Rattle.hir_base.specs.declared.node.TextRange.{TextRange}
 use Rattle.hir_store.specs.Pointers.{Pointer}
@@ -18,7 +18,13 @@ use Rattle.hir_store.specs.declared.name.Name.TheVariants.{Generated}
 use Rattle.hir_store.specs.declared.pat.Binding.{Binding}
 use Rattle.hir_store.specs.declared.pat.Pat.{Pat}
 use Rattle.hir_store.specs.declared.type_ref.TypeRef.{TypeRef}
+use Rattle.hir_store.specs.declared.type_ref.TypeRef.TheVariants as type
+use Rattle.hir_store.specs.declared.type_ref.TypeBound.{TypeBound}
 use Rattle.hir_store.specs.declared.type_ref.LifetimeRef.{LifetimeRef}
+use Rattle.hir_store.specs.declared.generics.LifetimeParamData.{LifetimeParamData}
+use Rattle.hir_store.specs.declared.generics.TypeOrConstParamData.{TypeOrConstParamData}
+use Rattle.hir_store.specs.declared.generics.WherePredicate.{WherePredicate}
+use Rattle.hir_store.specs.declared.ids.GenericDefId.{GenericDefId}
 use Rattle.hir_store.specs.declared.ids.TypeRefId.{TypeRefId}
 use Rattle.hir_store.specs.declared.ids.LifetimeRefId.{LifetimeRefId}
 use Rattle.hir_store.specs.declared.ids.BindingId.{BindingId}
@@ -38,7 +44,11 @@ use Rattle.hir_lower_scope.specs.declared.labels.NoTarget.TheVariants as no
 use Rattle.hir_lower_scope.specs.Labels.{rest}
 use Rattle.hir_env.specs.NodeMap.{Site}
 use Rattle.hir_env.specs.Answered.{Label, Jump}
+use Rattle.hir_env.specs.declared.place.ImplTrait.{ImplTrait}
+use Rattle.hir_env.specs.declared.place.ImplTrait.TheVariants as becomes
 use Rattle.hir_lower_form.specs.Builder.{Builder}
+use Rattle.hir_lower_form.specs.Generics.{unnamed_param, with_bounds, with_lifetime_param, with_param, with_predicate}
+use Rattle.hir_lower_form.specs.declared.generics.Notes.{Notes}
 
 abbrev pub Lowering : Type 0 → Type 0
 Lowering A = Builder → Checked A × Builder
@@ -208,6 +218,66 @@ close_barrier outside = λ b. (Ok b.yields, record b { scopes = rest b.scopes; y
 -- a `yield` stands here
 unfoldable pub note_yield : Lowering (Unit {0})
 note_yield = λ b. (Ok tt, record b { yields = true })
+
+-- ---- what is noted
+
+-- of what is noted becomes this
+unfoldable pub note_down : (Notes → Notes) → Lowering (Unit {0})
+note_down f = λ b. (Ok tt, record b { notes = f b.notes })
+
+-- steps that depend on what is noted, and on what is stored
+unfoldable pub with_notes : {A : Type 0} → (Notes → Lowering A) → Lowering A
+with_notes f = λ b. f b.notes b
+
+unfoldable pub with_stored : {A : Type 0} → (Stored → Lowering A) → Lowering A
+with_stored f = λ b. f b.stored b
+
+abbrev pub param_numbered : TypeOrConstParamData → ℕ → Bool → Lowering ℕ
+param_numbered x k true = do
+  note_down (with_param x)
+  pure k
+param_numbered x k false = count_out
+
+-- a parameter that is a type or a constant, and its number, behind those that there are
+unfoldable pub add_param : TypeOrConstParamData → Lowering ℕ
+add_param x = with_notes (λ n.
+    let k = length n.generics.type_or_consts in
+    param_numbered x k (nat_lt k 4294967295))
+
+abbrev pub lifetime_counted : LifetimeParamData → Bool → Lowering (Unit {0})
+lifetime_counted x true = note_down (with_lifetime_param x)
+lifetime_counted x false = count_out
+
+-- a parameter that is a lifetime
+unfoldable pub add_lifetime_param : LifetimeParamData → Lowering (Unit {0})
+add_lifetime_param x = with_notes (λ n. lifetime_counted x (nat_lt (length n.generics.lifetimes) 4294967295))
+
+unfoldable pub add_predicate : WherePredicate → Lowering (Unit {0})
+add_predicate x = note_down (with_predicate x)
+
+-- the type that a parameter of this definition is
+abbrev pub param_type : GenericDefId → ℕ → TypeRef
+param_type def k = type.TypeParam (record { parent = def; local_id = record { 0 = k } })
+
+-- What an `impl` becomes in an argument: a parameter, behind those inside of its bounds, with a predicate for each of these.
+unfoldable pub argument_form : GenericDefId → Pointer → List TypeBound → Lowering TypeRefId
+argument_form def at bounds = do
+  k ← add_param unnamed_param
+  t ← alloc_type (param_type def k) (Some at)
+  note_down (with_bounds t bounds)
+  pure t
+
+-- What an `impl` with these bounds becomes. Where it isn't allowed it is an error, and its bounds are dropped.
+abbrev pub becoming : Pointer → ImplTrait → List TypeBound → Lowering TypeRefId
+becoming at becomes.Error bounds = alloc_type type.Error (Some at)
+becoming at becomes.Opaque bounds = alloc_type (type.ImplTrait bounds) (Some at)
+becoming at (becomes.Argument def) bounds = argument_form def at bounds
+
+-- how many names stand in arguments so far
+unfoldable pub input_end : Lowering ℕ
+input_end = with_notes (λ n. pure (length n.named.input))
+
+-- ---- definitions of macros
 
 -- how many definitions of a name stand before one is a number itself, which has an end
 unfoldable pub count_def : ℕ → Lowering (Unit {0})

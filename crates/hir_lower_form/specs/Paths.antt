@@ -1,5 +1,5 @@
 -- What is done with what a segment says.
-use Rattle.std.specs.Prelude.{codes, Bool, true, false, List, [], ◌∷◌, Option, Some, None}
+use Rattle.std.specs.Prelude.{codes, ℕ, Bool, true, false, List, [], ◌∷◌, reverse, Option, Some, None}
 use Rattle.hir_store.specs.Pointers.{Pointer}
 use Rattle.hir_store.specs.Generics.{of_args, of_binding}
 use Rattle.hir_store.specs.declared.ids.TypeRefId.{TypeRefId}
@@ -10,10 +10,15 @@ use Rattle.hir_store.specs.declared.path.GenericArg.TheVariants as arg
 use Rattle.hir_store.specs.declared.path.GenericArgsParentheses.TheVariants as parens
 use Rattle.hir_store.specs.declared.type_ref.TypeRef.TheVariants as ty
 use Rattle.hir_store.specs.declared.path.Path.{Path as HirPath}
+use Rattle.hir_store.specs.declared.path.Path.TheVariants.{BarePath, Normal, LangItem}
+use Rattle.hir_store.specs.declared.type_ref.LifetimeRef.{LifetimeRef}
+pub use Rattle.hir_env.specs.Paths.{alias_of}
+use Rattle.hir_lower_form.specs.declared.generics.Notes.{Notes}
+use Rattle.hir_lower_form.specs.Generics.{cut_args}
 use Rattle.hir_lower_form.specs.declared.walk.PathWalk.{PathWalk}
 use Rattle.hir_lower_form.specs.declared.walk.Reading.{Reading}
 use Rattle.hir_lower_form.specs.declared.walk.Reading.TheVariants.{Refused, Ended, Open}
-use Rattle.hir_lower_form.specs.Lowering.{Lowering, ◌>>=◌, ◌>>◌, pure, count_out, alloc_type}
+use Rattle.hir_lower_form.specs.Lowering.{Lowering, ◌>>=◌, ◌>>◌, pure, count_out, alloc_type, input_end, note_down, with_stored}
 use Rattle.hir_lower_form.specs.Walks.{projected}
 
 -- goes on with what stands before, unless the path is refused or ends here
@@ -45,6 +50,50 @@ unfoldable pub with_trait : Lowering (Option HirPath) → TypeRefId → Pointer 
 with_trait trait t at w = do
   p ← trait
   read_trait t at w p
+
+-- ---- the whole path
+
+abbrev pub first_args : List (Option GenericArgs) → Option GenericArgs
+first_args [] = None
+first_args (a ∷ as') = a
+
+-- what stands beside the last name
+abbrev pub last_args : HirPath → Option GenericArgs
+last_args (BarePath p) = None
+last_args (Normal p) = first_args (reverse p.generic_args)
+last_args (LangItem item) = None
+
+-- Of what was noted in an alias the lifetimes at the chosen places of its arguments stay. Where it is refused all does.
+abbrev pub cut_path : ℕ → List Bool → List LifetimeRef → Option HirPath → Notes → Notes
+cut_path mark places ls None n = n
+cut_path mark places ls (Some p) n = cut_args mark places ls (last_args p) n
+
+-- of one with these arguments
+abbrev pub cut_with : ℕ → List Bool → GenericArgs → Lowering (Unit {0})
+cut_with mark places a = with_stored (λ s. note_down (cut_args mark places s.lifetimes.entries (Some a)))
+
+unfoldable pub cut_back : ℕ → List Bool → Option HirPath → Lowering (Unit {0})
+cut_back mark places p = with_stored (λ s. note_down (cut_path mark places s.lifetimes.entries p))
+
+-- where it is an alias at all
+abbrev pub cut_where : ℕ → Option (List Bool) → Option HirPath → Lowering (Unit {0})
+cut_where mark None p = pure tt
+cut_where mark (Some places) p = cut_back mark places p
+
+-- a path that is read
+abbrev pub path_cut : ℕ → Option (List Bool) → Option HirPath → Lowering (Option HirPath)
+path_cut mark alias p = do
+  cut_where mark alias p
+  pure p
+
+-- a path, where it is an alias in an argument with the places of the lifetimes that its type names
+abbrev pub aliased : Option (List Bool) → Lowering (Option HirPath) → Lowering (Option HirPath)
+aliased None path = path
+aliased (Some places) path = do
+  mark ← input_end
+  p ← path
+  cut_back mark places p
+  pure p
 
 -- ---- arguments of a segment
 

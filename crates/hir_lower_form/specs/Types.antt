@@ -23,12 +23,12 @@ use Rattle.hir_store.specs.declared.type_ref.TypeBound.TheVariants as bound
 use Rattle.hir_store.specs.declared.type_ref.TraitBoundModifier.{TraitBoundModifier}
 use Rattle.hir_store.specs.declared.type_ref.TraitBoundModifier.TheVariants as modifier
 use Rattle.hir_env.specs.declared.place.ImplTrait.{ImplTrait}
-use Rattle.hir_env.specs.declared.place.ImplTrait.TheVariants as becomes
 use Rattle.hir_env.specs.Answered as tree
 use Rattle.hir_env.specs.Answered.{Binder, Called, FnHead, Lifetime, TypeLeaf, TypeUnary, UseRead}
 use Rattle.hir_lower_form.specs.declared.args.ArgLists.{ArgLists}
 use Rattle.hir_lower_form.specs.Calls.{told}
-use Rattle.hir_lower_form.specs.Lowering.{Lowering, ◌>>=◌, ◌>>◌, pure, alloc_type, alloc_lifetime, point_type}
+use Rattle.hir_lower_form.specs.Generics.{naming}
+use Rattle.hir_lower_form.specs.Lowering.{Lowering, ◌>>=◌, ◌>>◌, pure, alloc_type, alloc_lifetime, becoming, note_down, point_type}
 use Rattle.hir_lower_form.specs.Paths.{or_notation}
 
 -- steps that make a type
@@ -58,8 +58,11 @@ uncalled_type at called = called_type_form at called error_type
 
 -- ---- lifetimes
 
+-- it counts where it stands
 unfoldable pub lower_lifetime : Lifetime → Lowering LifetimeRefId
-lower_lifetime l = alloc_lifetime l.lifetime (Some l.pointer)
+lower_lifetime l = do
+  note_down (naming l.scope l.lifetime)
+  alloc_lifetime l.lifetime (Some l.pointer)
 
 -- the lifetime, where one is written
 abbrev pub lower_lifetime_option : Option Lifetime → Lowering (Option LifetimeRefId)
@@ -147,15 +150,10 @@ fn_type_form at binder head params output = do
   ts ← params
   alloc_type (stored_fn binder head (ts ++ r ∷ [])) (Some at)
 
--- where an `impl` isn't allowed it is an error, whose bounds are lowered and dropped
-abbrev pub stored_impl : ImplTrait → List TypeBound → TypeRef
-stored_impl becomes.Error bounds = ty.Error
-stored_impl becomes.Opaque bounds = ty.ImplTrait bounds
-
 unfoldable pub impl_type_form : Pointer → ImplTrait → Lowering (List TypeBound) → TypeSteps
 impl_type_form at mode bounds = do
   bs ← bounds
-  alloc_type (stored_impl mode bs) (Some at)
+  becoming at mode bs
 
 unfoldable pub dyn_type_form : Pointer → Lowering (List TypeBound) → TypeSteps
 dyn_type_form at bounds = do

@@ -139,6 +139,16 @@ path_read Refused = None
 path_read (Ended w) = Some (finished w)
 path_read (Open w) = Some (finished w)
 
+-- the names of a path, which an item of the language has none of
+abbrev pub names_in : Path → Option ModPath
+names_in (BarePath p) = Some p
+names_in (Normal p) = Some p.mod_path
+names_in (LangItem item) = None
+
+abbrev pub names_read : Option Path → Option ModPath
+names_read None = None
+names_read (Some p) = names_in p
+
 -- ---- what is named
 
 abbrev pub past_walk : PathWalk → Past

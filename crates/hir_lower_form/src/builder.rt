@@ -10,6 +10,8 @@ ghost use Rattle.hir_lower_form.specs.Lowering as spec;
 ghost use Rattle.hir_lower_scope.specs.Found.{try_of};
 ghost use Rattle.hir_lower_form.specs.Lowering.{HasFlag, HasNumber, HasStart, HasTry, Lowers};
 
+use crate::generics::Notes;
+use crate::labels::jump_fault;
 use crate::parts::LowerParts;
 use hir_base::node::{AstPtr, HirFileId, InFile, NodeId, TextRange};
 use hir_lower_scope::labels::{NoTarget, TryLabel};
@@ -32,7 +34,7 @@ use std::marker::Model;
 /// Each call answers `Full` exactly where the arena that it adds to has reached its limit, or the counter its end, and
 /// `Memory` where a growth was refused.
 pub struct BodyBuilder {
-    store: ExpressionStoreBuilder,
+    pub(crate) store: ExpressionStoreBuilder,
     scopes: LabelStacks,
     /// How many names were made up.
     names: u32,
@@ -40,6 +42,7 @@ pub struct BodyBuilder {
     in_root: bool,
     /// Whether a kept `yield` stood in the body that is being lowered, so far, and in none inside of it.
     yields: bool,
+    pub(crate) notes: Notes,
 }
 
 impl Drop for BodyBuilder {
@@ -51,12 +54,13 @@ impl Drop for BodyBuilder {
             counted_out: _,
             in_root: _,
             yields: _,
+            notes: _,
         } = self;
     }
 }
 
 impl Model for BodyBuilder {
-    ghost use Rattle.hir_lower_form.specs.Builder.{Builder, RibsExist};
+    ghost use Rattle.hir_lower_form.specs.Builder.{Builder, RibsOf};
     ghost use Rattle.hir_store.specs.contracts.path.GenericArgs as generic_args;
     ghost use Rattle.std.specs.Coded.{codes};
 
@@ -71,26 +75,10 @@ impl Model for BodyBuilder {
       counted_out = b.counted_out;
       in_root = b.in_root;
       yields = b.yields;
+      notes = b.notes;
     } };
 
-    ghost invariant = { λ b. RibsExist (record {
-      stored = b.store;
-      scopes = b.scopes;
-      names = b.names;
-      counted_out = b.counted_out;
-      in_root = b.in_root;
-      yields = b.yields;
-    }) };
-}
-
-/// What is wrong with a jump of this name, at this node, that has no target.
-fn jump_fault(cause: NoTarget, name: Name, node: InFile<AstPtr>) -> ExpressionStoreDiagnostics
-    ensures { result ≡ spec.jump_fault cause node name }
-{
-    match cause {
-        NoTarget::Unreachable => ExpressionStoreDiagnostics::UnreachableLabel { node, name },
-        NoTarget::Undeclared => ExpressionStoreDiagnostics::UndeclaredLabel { node, name },
-    }
+    ghost invariant = { λ b. RibsOf b.store b.scopes };
 }
 
 impl BodyBuilder {
@@ -105,6 +93,7 @@ impl BodyBuilder {
             counted_out: false,
             in_root: false,
             yields: false,
+            notes: Notes::new(alloc),
         }
     }
 
@@ -582,9 +571,17 @@ impl BodyBuilder {
         &self.store
     }
 
-    /// What is stored, without the scopes. It takes no memory.
+    /// What is stored, without the scopes and what is noted. It takes no memory.
     pub fn into_store(self) -> ExpressionStoreBuilder
         ensures { result ≡ self.stored }
+    {
+        self.into_parts().0
+    }
+
+    /// What is stored, and what is noted beside it. It takes no memory.
+    pub fn into_parts(self) -> (ExpressionStoreBuilder, Notes)
+        ensures stored { result.0 ≡ self.stored }
+        ensures notes { result.1 ≡ self.notes }
     {
         let BodyBuilder {
             store,
@@ -593,7 +590,8 @@ impl BodyBuilder {
             counted_out: _,
             in_root: _,
             yields: _,
+            notes,
         } = self;
-        store
+        (store, notes)
     }
 }

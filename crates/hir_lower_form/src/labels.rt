@@ -1,5 +1,6 @@
 //! Labels, and what jumps are for.
 
+ghost use Rattle.std.specs.Prelude.{◌≡◌};
 ghost use Rattle.hir_store.specs.Range.{HasLabel, HasLabelOption};
 ghost use Rattle.hir_env.specs.Answering.{label_of};
 ghost use Rattle.hir_env.specs.Whole.{jump_part};
@@ -9,10 +10,27 @@ ghost use Rattle.hir_lower_form.specs.Lowering as step;
 use crate::builder::BodyBuilder;
 use crate::names::name_of_label;
 use crate::parts::{LowerParts, Lowerer, site};
+use hir_base::node::{AstPtr, InFile};
+use hir_lower_scope::labels::NoTarget;
+use hir_store::diagnostics::ExpressionStoreDiagnostics;
 use hir_store::fault::StoreFault;
 use hir_store::ids::LabelId;
 use hir_store::name::Name;
 use hir_syntax::ast;
+
+/// What is wrong with a jump of this name, at this node, that has no target.
+pub(crate) fn jump_fault(
+    cause: NoTarget,
+    name: Name,
+    node: InFile<AstPtr>,
+) -> ExpressionStoreDiagnostics
+    ensures { result ≡ step.jump_fault cause node name }
+{
+    match cause {
+        NoTarget::Unreachable => ExpressionStoreDiagnostics::UnreachableLabel { node, name },
+        NoTarget::Undeclared => ExpressionStoreDiagnostics::UndeclaredLabel { node, name },
+    }
+}
 
 impl<P: LowerParts> Lowerer<P> {
     /// Stores and opens a label, at whose node its hygiene is asked for.

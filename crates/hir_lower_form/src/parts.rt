@@ -1,10 +1,11 @@
 //! What a form needs: the questions, and what lowers its parts. Both are parameters, so that each form is proved by
 //! itself.
 
-ghost use Rattle.std.specs.Prelude.{◌≡◌};
+ghost use Rattle.std.specs.Prelude.{◌≡◌, option_copied, option_map};
 ghost use Rattle.hir_env.specs.Answered as tree;
 ghost use Rattle.hir_env.specs.Lent.{shown};
 ghost use Rattle.hir_env.specs.LocalPaths.{local_root};
+ghost use Rattle.hir_env.specs.Paths.{alias_named, flags_of};
 ghost use Rattle.hir_env.specs.Spot.{Spot, in_file, ptr, site_of};
 ghost use Rattle.hir_env.specs.Whole.{answered, answered_arg_list, answered_path, answered_plain, answered_type};
 ghost use Rattle.hir_env.specs.Whole.{block_part, expr_part, pointer_at};
@@ -18,6 +19,7 @@ ghost use Rattle.hir_lower_form.specs.Methods.{HasWalk, LowersArgs, LowersConsta
 
 use crate::builder::BodyBuilder;
 use crate::walk::{PathWalk, Reading};
+use hir_alias::signature::AliasSignature;
 use hir_base::node::{AstPtr, InFile, NodeId, PredId, TextRange};
 use hir_env::expand::{Expansion, FragmentKind};
 use hir_env::lang::LangItems;
@@ -95,6 +97,10 @@ pub trait LowerParts: Copy {
     /// What the path stands for.
     fn resolve(&self, path: &ModPath, shadow: Shadow) -> Resolved
         ensures { let at = spot self.now in result ≡ at.answers.resolve at.place.module_id path.now shadow };
+
+    /// The alias that a path of these names stands for at this place, where that is in an argument; none of it where it isn't known.
+    fn alias(&self, place: Place, path: &ModPath) -> Option<Option<&AliasSignature>>
+        ensures { option_map (λ alias. flags_of (option_copied alias)) result ≡ alias_named (spot self.now).answers place path.now };
 
     /// What the call of a macro at the node is expanded to, as a fragment of this kind.
     fn expand(

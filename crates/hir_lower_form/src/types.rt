@@ -1,18 +1,51 @@
 //! Types, paths and arguments that may be absent.
 
-ghost use Rattle.hir_env.specs.Whole.{arg_list_part, path_part, type_part};
+ghost use Rattle.std.specs.Prelude.{◌≡◌, Some, option_copied};
+ghost use Rattle.hir_store.specs.Range.{HasNone, HasPathOption};
+ghost use Rattle.hir_env.specs.Answered.{some_path};
+ghost use Rattle.hir_env.specs.Paths.{alias_or_none};
+ghost use Rattle.hir_env.specs.Whole.{answered_path, arg_list_part, path_part, type_part};
+ghost use Rattle.hir_lower_form.specs.Lowering.{Lowers};
 ghost use Rattle.hir_lower_form.specs.Nests.{IfPresent};
-ghost use Rattle.hir_lower_form.specs.Methods.{LowersArgs, LowersPath, LowersTypeIfPresent, LowersTypeOpt, at_place};
+ghost use Rattle.hir_lower_form.specs.Methods.{HasReading, LowersArgs, LowersPath, LowersTypeIfPresent, LowersTypeOpt, at_place};
+ghost use Rattle.hir_lower_form.specs.Paths.{cut_where, path_cut};
+ghost use Rattle.hir_lower_form.specs.Paths as spec;
+ghost use Rattle.hir_lower_form.specs.Walks.{names_in, names_read};
+ghost use Rattle.hir_lower_form.specs.Walks.{path_read as read_of};
 
 use crate::builder::BodyBuilder;
 use crate::parts::{LowerParts, Lowerer};
-use crate::walk::{PathWalk, path_read};
+use crate::walk::{PathWalk, Reading, path_read};
 use hir_env::place::Place;
 use hir_store::fault::StoreFault;
 use hir_store::ids::TypeRefId;
 use hir_store::name::Name;
-use hir_store::path::{GenericArgs, Path};
+use hir_store::path::{GenericArgs, ModPath, Path};
 use hir_syntax::{Boxed, Seq, ast};
+
+/// What stands beside the last name.
+fn last_args(path: &Path) -> Option<&GenericArgs>
+    ensures { option_copied result ≡ spec.last_args path.now }
+{
+    match path {
+        Path::BarePath(_) | Path::LangItem(_) => None,
+        Path::Normal(path) => match path.generic_args.as_slice() {
+            [.., Some(args)] => Some(args),
+            _ => None,
+        },
+    }
+}
+
+/// The names of a path, which an item of the language has none of.
+fn names_in(path: &Path) -> Option<&ModPath>
+    ensures { option_copied result ≡ names_in path.now }
+{
+    match path {
+        Path::BarePath(names) => Some(names),
+        Path::Normal(path) => Some(&path.mod_path),
+        Path::LangItem(_) => None,
+    }
+}
 
 impl<P: LowerParts> Lowerer<P> {
     /// The type, read at this place, and an error where it is absent.
@@ -65,8 +98,74 @@ impl<P: LowerParts> Lowerer<P> {
         }
     }
 
-    /// The path, read at this place, or none where it is absent or refused.
+    /// Where the path is an alias in an argument, of what was noted in it, behind the mark, the lifetimes stay that the alias's type names.
+    #[tactic(auto, using(crate::proofs::Aliases::cut_found, crate::proofs::Aliases::no_cut))]
+    #[inline(never)]
+    fn cut_alias(
+        &self,
+        state: &mut BodyBuilder,
+        place: Place,
+        mark: usize,
+        path: &Option<Path>,
+    ) -> Result<(), StoreFault>
+        ensures { let alias = alias_or_none (P.spot self.now.parts).answers place (names_read path.now) in
+            Lowers HasNone (cut_where mark alias path.now) state.old result state.new }
+    {
+        let Some(path) = path else {
+            return Ok(());
+        };
+        let Some(args) = last_args(path) else {
+            return Ok(());
+        };
+        let Some(names) = names_in(path) else {
+            return Ok(());
+        };
+        match self.parts.alias(place, names) {
+            None => Ok(()),
+            Some(alias) => state.cut_back(mark, alias, args),
+        }
+    }
+
+    /// The path that was read at this place, or none where it is refused; it is cut behind the mark. (It is a function of its own since
+    /// what calls it is open at each level of a path.)
     #[tactic(auto, using(crate::proofs::Walked::path_read_has))]
+    #[inline(never)]
+    fn whole_path(
+        &self,
+        state: &mut BodyBuilder,
+        place: Place,
+        mark: usize,
+        reading: Reading,
+    ) -> Result<Option<Path>, StoreFault>
+        requires { HasReading state.old.stored reading }
+        ensures { let alias = alias_or_none (P.spot self.now.parts).answers place (names_read (read_of reading)) in
+            Lowers HasPathOption (path_cut mark alias (read_of reading)) state.old result state.new }
+    {
+        let path = path_read(reading);
+        self.cut_alias(state, place, mark, &path)?;
+        Ok(path)
+    }
+
+    /// The whole path, read at this place, or none where it is refused.
+    #[inline(never)]
+    pub fn lower_path(
+        &self,
+        state: &mut BodyBuilder,
+        place: Place,
+        node: &ast::Path,
+    ) -> Result<Option<Path>, StoreFault>
+        requires { (P.can self.now.parts).path place node.now }
+        ensures { LowersPath (some_path (answered_path (at_place (P.spot self.now.parts) place) node.now)) state.old result state.new }
+    {
+        let mark = state.input_end();
+        let walk = PathWalk::new(self.alloc);
+        match self.parts.read_path(state, place, walk, node) {
+            Ok(reading) => self.whole_path(state, place, mark, reading),
+            Err(fault) => Err(fault),
+        }
+    }
+
+    /// The path, read at this place, or none where it is absent or refused.
     #[inline(never)]
     pub fn path_if_present(
         &self,
@@ -79,11 +178,7 @@ impl<P: LowerParts> Lowerer<P> {
     {
         match part {
             None => Ok(None),
-            Some(part) => {
-                let walk = PathWalk::new(self.alloc);
-                let reading = self.parts.read_path(state, place, walk, part.get())?;
-                Ok(path_read(reading))
-            }
+            Some(part) => self.lower_path(state, place, part.get()),
         }
     }
 }

@@ -6,7 +6,9 @@ ghost use Rattle.hir_lower_pat.proofs.Nested.{pat_nests, target_is_place, target
 ghost use Rattle.hir_lower_handlers.specs.Nests.{Handled, HandlesExpr, HandlesPath, HandlesType};
 ghost use Rattle.hir_lower_handlers.specs.Spots.{complete, spot_at};
 
+use crate::aliases::alias_named;
 use crate::constant::constant_form;
+use hir_alias::signature::AliasSignature;
 use hir_base::node::{InFile, NodeId, PredId};
 use hir_env::env::LowerEnv;
 use hir_env::expand::{Expansion, FragmentKind};
@@ -151,6 +153,10 @@ impl<
 
     fn resolve(&self, path: &ModPath, shadow: Shadow) -> Resolved {
         self.env.resolve(self.place.module_id, path, shadow)
+    }
+
+    fn alias(&self, place: Place, path: &ModPath) -> Option<Option<&AliasSignature>> {
+        alias_named(self.env, place, path)
     }
 
     fn expand(

@@ -2,6 +2,7 @@
 //! itself.
 #![tactic(auto)]
 
-pub mod constant;
+pub mod aliases;
+mod constant;
 pub mod handlers;
 pub mod numbers;

@@ -27,7 +27,7 @@ use Rattle.hir_env.specs.Answered as tree
 use Rattle.hir_env.specs.Answered.{Parts}
 use Rattle.hir_env.specs.Answers.{Answers}
 use Rattle.hir_env.specs.Paths as of
-use Rattle.hir_env.specs.Paths.{inside_constant, inside_impl, outside_impl}
+use Rattle.hir_env.specs.Paths.{inside_constant, inside_impl, inside_projection, outside_impl}
 use Rattle.hir_env.specs.Wrapped.{AstConstArg, AstGenericArgList, AstParenArgs, AstRetType, AstTypeArg}
 use Rattle.hir_env.specs.Whole.{entering, written, reader, read_param, read_type_arg, read_ret_type, read_path_type}
 use Rattle.hir_env.specs.TypeLayers.{GenericArgLayer, TypeKindLayer, AssocTypeArgLayer, ParamLayer}
@@ -231,10 +231,12 @@ module _ (env : Answers) (C : Claims) (n : ℕ) (below : Below env C n) where
   parens p (Some x) r h = (type_args p x (omega (arith, h)), ret_option p r (omega (arith, h)))
 
   qualified : (p : Place) (o : Option AstType_) (t : Option AstPathType)
-      → count_segment (of.qualified_segment (type_part (spot_at env p) o) (path_type_part (spot_at env p) t)) < n → KidsQualified C p o t
+      → let inner = spot_at env (inside_projection p) in
+      count_segment (of.qualified_segment (type_part inner o) (path_type_part inner t)) < n → KidsQualified C p o t
   qualified p None t h = tt
-  qualified p (Some x) None h = (below.types p x h, tt)
-  qualified p (Some x) (Some t) h = (below.types p x (omega (arith, h)), trait_ p t (omega (arith, h)))
+  qualified p (Some x) None h = (below.types (inside_projection p) x h, tt)
+  qualified p (Some x) (Some t) h =
+      (below.types (inside_projection p) x (omega (arith, h)), trait_ (inside_projection p) t (omega (arith, h)))
 
   name : (p : Place) (o : Option AstName) (s : PathSegmentLayer written)
       → count_segment (of.named_segment env p o (tree.segment_args (arg_list_part (spot_at env p) s.generics)
@@ -256,8 +258,8 @@ module _ (env : Answers) (C : Claims) (n : ℕ) (below : Below env C n) where
     where
       by : (k : Option SegmentKind) → s.seg ≡ k
           → count_segment (of.kinded_segment env p k s.name (tree.segment_args (arg_list_part (spot_at env p) s.generics)
-          (parens_part (spot_at env p) s.parens s.ret) s.rtn) (type_part (spot_at env p) s.ty)
-          (path_type_part (spot_at env p) s.trait_)) < n
+          (parens_part (spot_at env p) s.parens s.ret) s.rtn) (type_part (spot_at env (inside_projection p)) s.ty)
+          (path_type_part (spot_at env (inside_projection p)) s.trait_)) < n
           → KidsSegment C p s
       by None e h = rw e tt
       by (Some kind.Name) e h = rw e (name p s.name (record s { seg = Some kind.Name }) h)

@@ -12,7 +12,7 @@ use hir_env::place::Place;
 use hir_lower_expr::blocks::block_node;
 use hir_lower_form::builder::BodyBuilder;
 use hir_lower_form::parts::{BlockRole, Lowerer};
-use hir_lower_form::walk::{PathWalk, Reading, path_read};
+use hir_lower_form::walk::{PathWalk, Reading};
 use hir_lower_handlers::handlers::Handlers;
 use hir_lower_handlers::numbers::{block_number, inside, number};
 use hir_lower_kinds::exprs::expr_node;
@@ -172,7 +172,6 @@ pub fn lower_arg_list<E: LowerEnv>(
 }
 
 /// The path, or none where it is refused.
-#[tactic(auto, using(hir_lower_form::proofs::Walked::path_read_has))]
 pub fn lower_path<E: LowerEnv>(
     alloc: Global,
     env: &E,
@@ -182,8 +181,20 @@ pub fn lower_path<E: LowerEnv>(
 ) -> Result<Option<Path>, StoreFault>
     ensures { LowersPath (some_path (answered_path (spot_at (E.answers env.now) place) node.now)) state.old result state.new }
 {
-    let walk = PathWalk::new(alloc);
-    Ok(path_read(read_path_segments(alloc, env, place, state, walk, node)?))
+    let lowerer = Lowerer {
+        alloc,
+        parts: Handlers {
+            alloc,
+            env,
+            place,
+            expr: maybe_collect_expr::<E>,
+            block: collect_block_inside::<E>,
+            path: read_path_segments::<E>,
+            type_ref: lower_type_node::<E>,
+            args: lower_arg_list::<E>,
+        },
+    };
+    lowerer.lower_path(state, place, node)
 }
 
 /// The expression, missing where a condition disables it.

@@ -1,5 +1,5 @@
 -- What comes of targets: what their answered trees say of their kinds.
-use Rattle.std.proofs.Common.{◌≡◌, ◌∙◌, ap, refl, subst, sym, Bool, true, false, List, [], Option, Some, None, Result, Ok, Err}
+use Rattle.std.proofs.Common.{◌≡◌, ◌∙◌, ap, refl, subst, sym, Bool, true, false, List, Option, Some, None, Result, Ok, Err}
 use Rattle.std.proofs.Common.{arith, ◌≤◌}
 use Rattle.std.specs.Prelude.{if◌then◌else◌}
 use Rattle.hir_base.specs.declared.op.BinaryOp.TheVariants as op
@@ -37,12 +37,13 @@ use Rattle.hir_lower_form.specs.Lower.{lower_kept, lower_path, lower_target}
 use Rattle.hir_lower_form.specs.Methods.{or_missing}
 use Rattle.hir_lower_form.specs.Targets.{alloc_target, path_target_form, path_target_of, place_form}
 use Rattle.hir_lower_form.proofs.Kept.{lower_on}
-use Rattle.hir_lower_pat.specs.Aims.{Aims, IsPlace, aim_of, aimed, dots_kind, dots_tuple, found_at, landed, names_read, path_aim}
+use Rattle.hir_lower_form.specs.Walks.{names_read}
+use Rattle.hir_lower_form.proofs.PathNames.{lowered_names}
+use Rattle.hir_lower_pat.specs.Aims.{Aims, IsPlace, aim_of, aimed, dots_kind, dots_tuple, found_at, landed, path_aim}
 use Rattle.hir_lower_pat.specs.Aims.{path_aimed, patterned, place_left, place_pat, placed, through, through_place}
 use Rattle.hir_lower_pat.specs.declared.aims.Aim.{Aim}
 use Rattle.hir_lower_pat.specs.declared.aims.Aim.TheVariants as aim
 use Rattle.hir_lower_pat.proofs.OfKinds.{of_called, of_closure, of_for, of_own, of_question, through_asked}
-use Rattle.hir_lower_pat.proofs.PathNames.{lowered_names}
 
 abbrev pub level : Spot → ExprKindLayer written → Pointer → Expr
 level at k s = expr_at at.answers (reader at.answers (into at)) k at.place s

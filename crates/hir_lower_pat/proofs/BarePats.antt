@@ -19,13 +19,13 @@ use Rattle.hir_env.specs.PatLayers.{PatKindLayer}
 use Rattle.hir_env.specs.Pats.{is_found, minus_fits, name_or_bind, pat_at, use_at}
 use Rattle.hir_env.specs.Spot.{Spot}
 use Rattle.hir_env.specs.TypePats.{bare_pat, is_plain, plain_or_barred}
-use Rattle.hir_env.specs.Whole.{answered_pat, entering, into, pat_level, pointer_at, reader, written}
+use Rattle.hir_env.specs.Whole.{answered_pat, entering, into, pointer_at, reader, written}
 use Rattle.hir_env.proofs.PatLevels.{pat_is_level}
 use Rattle.hir_store.specs.declared.ids.PatId.{PatId}
 use Rattle.hir_lower_form.specs.Builder.{Builder}
 use Rattle.hir_lower_form.specs.Calls.{Found, enter_left, entered_at, found_in, note, told}
 use Rattle.hir_lower_form.specs.Lower.{lower_pat}
-use Rattle.hir_lower_form.specs.Lowering.{Checked, Lowering, ◌>>=◌, ◌>>◌, pure}
+use Rattle.hir_lower_form.specs.Lowering.{Lowering, ◌>>=◌, ◌>>◌, pure}
 use Rattle.hir_lower_form.specs.Pats.{Table, called_pat_form}
 use Rattle.hir_lower_pat.specs.Bare.{Bare, bare_as, bare_kind, bare_there, barred, plain_name, uncalled, wild}
 use Rattle.hir_lower_pat.specs.Bare as bare

@@ -1,5 +1,5 @@
 -- A call is what the code makes of it: what is told of it, and then what it stands for.
-use Rattle.std.proofs.Common.{◌≡◌, ◌∙◌, ap, refl, sym, ℕ, zero, suc, ◌<◌, List, [], ◌∷◌, Option, Some, None, Ok, Err, arith}
+use Rattle.std.proofs.Common.{◌≡◌, ◌∙◌, ap, refl, sym, ℕ, zero, suc, List, Option, Some, None, Ok, Err}
 use Rattle.hir_base.specs.declared.node.HirFileId.{HirFileId}
 use Rattle.hir_syntax.specs.declared.macros.Fragment.TheVariants as fragment
 use Rattle.hir_syntax.specs.declared.macros.MacroCall.{MacroCall as AstMacroCall}
@@ -9,13 +9,11 @@ use Rattle.hir_syntax.specs.declared.pats.PatKind.{out-PatKind}
 use Rattle.hir_store.specs.Pointers.{Pointer}
 use Rattle.hir_store.specs.declared.ids.PatId.{PatId}
 use Rattle.hir_env.specs.declared.expand.FragmentKind.TheVariants as kind
-use Rattle.hir_env.specs.declared.lang.LangItems.{LangItems}
 use Rattle.hir_env.specs.declared.place.Place.{Place}
 use Rattle.hir_env.specs.Answers.{Answers, Eager, Expanding, unresolved, no_expansion, expanded}
 use Rattle.hir_env.specs.Answered as tree
-use Rattle.hir_env.specs.Answered.{Called, Entered, Pat}
+use Rattle.hir_env.specs.Answered.{Pat}
 use Rattle.hir_env.specs.Calls.{asked_call, call_pointer, called, entered_pat, inside_file, pat_in}
-use Rattle.hir_env.specs.Count.{count_pat}
 use Rattle.hir_env.specs.Layers.{Entering}
 use Rattle.hir_env.specs.Spot.{Spot}
 use Rattle.hir_env.specs.TypePats.{type_pat_of}
@@ -27,7 +25,6 @@ use Rattle.hir_lower_form.specs.Builder.{Builder}
 use Rattle.hir_lower_form.specs.Calls.{Found, enter_left, entered_at, found_in, note, told}
 use Rattle.hir_lower_form.specs.Lower.{lower_pat, lower_type_pat}
 use Rattle.hir_lower_form.specs.Lowering.{Checked, Lowering, ◌>>=◌, ◌>>◌, go_on, point_pat, pure}
-use Rattle.hir_lower_form.specs.Methods.{at_place}
 use Rattle.hir_lower_form.specs.Pats.{Table, called_pat_form, missing_pat}
 use Rattle.hir_lower_pat.specs.Calls.{There, element_there, lower_there, missing_led, pat_there, point_lone, point_named, type_pat_there}
 use Rattle.hir_lower_pat.specs.Calls.{written_call}

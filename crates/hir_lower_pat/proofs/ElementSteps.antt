@@ -1,5 +1,5 @@
 -- What is done of an element that is a call, one step after another.
-use Rattle.std.proofs.Common.{◌≡◌, ◌∙◌, ap, refl, arith, ◌≤◌, suc, Option, Some, None, Ok, Err}
+use Rattle.std.proofs.Common.{◌≡◌, ◌∙◌, ap, refl, arith, Option, Some, None, Ok, Err}
 use Rattle.std.specs.Prelude.{◌≢◌, IsErrAnd}
 use Rattle.hir_syntax.specs.declared.macros.MacroCall.{MacroCall as AstMacroCall}
 use Rattle.hir_syntax.specs.declared.pats.Pat.{Pat as AstPat}
@@ -17,8 +17,8 @@ use Rattle.hir_lower_form.specs.Builder.{Builder}
 use Rattle.hir_lower_form.specs.Calls.{Found, entered_at}
 use Rattle.hir_lower_form.specs.Lowering.{Checked, Lowering, Lowers, SomeEnd, ◌>>=◌, go_on, pure}
 use Rattle.hir_lower_form.specs.Methods.{at_place}
-use Rattle.hir_lower_form.specs.Pats.{Table, missing_pat}
-use Rattle.hir_lower_pat.specs.Bindings.{HasNames, LowersNamed, SameDepth, table_of}
+use Rattle.hir_lower_form.specs.Pats.{Table}
+use Rattle.hir_lower_pat.specs.Bindings.{HasNames, LowersNamed, table_of}
 use Rattle.hir_lower_pat.specs.Calls.{There, element_there, missing_led, pat_there, written_call}
 use Rattle.hir_lower_pat.specs.Methods.{element_steps, point_element, point_found}
 use Rattle.hir_lower_pat.specs.declared.bindings.Bindings.{Bindings}

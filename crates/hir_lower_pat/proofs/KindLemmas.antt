@@ -19,7 +19,7 @@ use Rattle.hir_env.specs.Answered.{OptionPat, Pat, Use}
 use Rattle.hir_env.specs.PatLayers.{PatKindLayer}
 use Rattle.hir_env.specs.Pats.{minus_fits, name_or_bind, pat_at, plain_side, side_of}
 use Rattle.hir_env.specs.TypePats.{is_plain}
-use Rattle.hir_env.specs.Whole.{answered_pat, into, pats_part, pointer_at, reader, written}
+use Rattle.hir_env.specs.Whole.{answered_pat, into, pats_part, reader, written}
 use Rattle.hir_store.specs.Range.{HasPat}
 use Rattle.hir_store.specs.declared.ids.PatId.{PatId}
 use Rattle.hir_lower_form.specs.Builder.{Builder}

@@ -3,7 +3,6 @@ pub mod KindLemmas
 pub mod Elements
 pub mod CallLemmas
 pub mod Kids
-pub mod PathNames
 mod OfKinds
 pub mod AimLemmas
 pub mod AimSteps

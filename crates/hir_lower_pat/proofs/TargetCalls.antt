@@ -1,5 +1,5 @@
 -- A call that is assigned to is what the code makes of it: what is told of it, and then what comes of what it stands for.
-use Rattle.std.proofs.Common.{◌≡◌, ◌∙◌, ap, refl, subst, sym, arith, ℕ, zero, suc, ◌≤◌, Bool, List, Option, Some, None, Ok, Err}
+use Rattle.std.proofs.Common.{◌≡◌, ◌∙◌, ap, refl, subst, sym, arith, ℕ, zero, suc, Bool, List, Option, Some, None, Ok, Err}
 use Rattle.hir_base.specs.declared.node.HirFileId.{HirFileId}
 use Rattle.hir_syntax.specs.declared.ast.ElseBranch.TheOpen.{ExprKind-F}
 use Rattle.hir_syntax.specs.declared.ast.Expr.{Expr as AstExpr}
@@ -15,7 +15,7 @@ use Rattle.hir_env.specs.declared.expand.FragmentKind.TheVariants as kind
 use Rattle.hir_env.specs.declared.place.Place.{Place}
 use Rattle.hir_env.specs.Answers.{Eager, Expanding, unresolved, no_expansion, expanded}
 use Rattle.hir_env.specs.Answered as tree
-use Rattle.hir_env.specs.Answered.{Called, Entered, Expr, Gone, Path, Target}
+use Rattle.hir_env.specs.Answered.{Entered, Expr, Gone, Path, Target}
 use Rattle.hir_env.specs.Calls.{around, asked_call, call_pointer, called, entered_expr, expr_in, inside_file, lacking_call}
 use Rattle.hir_env.specs.Spot.{Spot}
 use Rattle.hir_env.specs.Targets.{outermost, place_of, pointer_of, target_in, target_or}

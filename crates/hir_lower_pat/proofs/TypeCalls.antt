@@ -1,5 +1,5 @@
 -- What is done of a call as the pattern of a type, one step after another.
-use Rattle.std.proofs.Common.{◌≡◌, ◌∙◌, ap, Option, Some, None, Ok, Err}
+use Rattle.std.proofs.Common.{◌≡◌, ◌∙◌, ap, Some, None, Ok, Err}
 use Rattle.hir_syntax.specs.declared.macros.MacroCall.{MacroCall as AstMacroCall}
 use Rattle.hir_syntax.specs.declared.pats.Pat.{Pat as AstPat}
 use Rattle.hir_store.specs.Pointers.{Pointer}

@@ -1,7 +1,7 @@
 -- What patterns are in types.
 use Rattle.std.proofs.Common.{◌≡◌, ◌∙◌, ap, refl, sym, suc, ◌+◌, slice_index_or}
 use Rattle.std.proofs.Common.{Bool, true, false, List, [], ◌∷◌, ◌++◌, Option, Some, None, Ok, Err}
-use Rattle.std.specs.Prelude.{◌≤◌, ◌-◌, ◌≢◌, drop, is_some, length, take, IsErrAnd}
+use Rattle.std.specs.Prelude.{◌≤◌, ◌-◌, ◌≢◌, drop, length, take, IsErrAnd}
 use Rattle.hir_syntax.specs.declared.ast.ElseBranch.TheOpen.{PatKind-F}
 use Rattle.hir_syntax.specs.declared.ast.Name.{Name as AstName}
 use Rattle.hir_syntax.specs.declared.ast.Path.{Path as AstPath}

@@ -2,7 +2,6 @@
 use Rattle.std.specs.Prelude.{◌≡◌, if◌then◌else◌, Bool, true, false, List, Option, Some, None, is_none}
 use denote.Ref.{Bor, MutBor}
 use Rattle.hir_syntax.specs.declared.ast.Expr.{Expr as AstExpr}
-use Rattle.hir_syntax.specs.declared.ast.ExprKind.{out-ExprKind}
 use Rattle.hir_syntax.specs.declared.ast.ElseBranch.TheOpen.{ExprKind-F}
 use Rattle.hir_syntax.specs.declared.ast.Path.{Path as AstPath}
 use Rattle.hir_syntax.specs.declared.ast.RecordExprField.{RecordExprField as AstField, out-RecordExprField}
@@ -14,9 +13,7 @@ use Rattle.hir_store.specs.declared.hir.Expr.TheVariants as hir
 use Rattle.hir_store.specs.declared.ids.ExprId.{ExprId}
 use Rattle.hir_store.specs.declared.ids.HygieneId.{HygieneId}
 use Rattle.hir_store.specs.declared.ids.PatId.{PatId}
-use Rattle.hir_store.specs.declared.path.ModPath.{ModPath}
 use Rattle.hir_store.specs.declared.path.Path.{Path as HirPath}
-use Rattle.hir_store.specs.declared.path.Path.TheVariants.{BarePath, Normal, LangItem}
 use Rattle.hir_store.specs.declared.pat.Pat.TheVariants as pat
 use Rattle.hir_env.specs.Spot.{Spot}
 use Rattle.hir_env.specs.Layers.{ExprKindLayer}
@@ -31,6 +28,7 @@ use Rattle.hir_lower_form.specs.Lowering.{Checked, Lowering, Lowers, ◌>>=◌, 
 use Rattle.hir_lower_form.specs.Lower.{lower_kept, lower_path, lower_target}
 use Rattle.hir_lower_form.specs.Targets.{alloc_target, missing_target}
 use Rattle.hir_lower_form.specs.Nests.{Each, IfPresent}
+use Rattle.hir_lower_form.specs.Walks.{names_in}
 use Rattle.hir_lower_form.specs.declared.parts.Lowerer.{Lowerer}
 use Rattle.hir_lower_pat.specs.declared.aims.Aim.{Aim}
 use Rattle.hir_lower_pat.specs.declared.aims.Aim.TheVariants as aim
@@ -160,15 +158,6 @@ uncalled_aim call at = do
 -- ---- paths
 
 -- those of a language item are none
-abbrev pub names_in : HirPath → Option ModPath
-names_in (BarePath p) = Some p
-names_in (Normal p) = Some p.mod_path
-names_in (LangItem item) = None
-
-abbrev pub names_read : Option HirPath → Option ModPath
-names_read None = None
-names_read (Some p) = names_in p
-
 abbrev pub is_no_place : Spot → HirPath → Bool
 is_no_place at p = names_target at.answers at.place (names_in p)
 

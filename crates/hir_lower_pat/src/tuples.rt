@@ -2,9 +2,11 @@
 
 ghost use Rattle.std.specs.Prelude.{◌≡◌, ◌∷◌, IfOk, Some};
 ghost use Rattle.hir_store.specs.Range.{HasPat, HasPath, HasPats};
+ghost use Rattle.hir_store.specs.declared.pat.Pat.TheVariants as pat;
 ghost use Rattle.hir_env.specs.Answered as tree;
 ghost use Rattle.hir_lower_form.specs.Lower.{lower_elements};
 ghost use Rattle.hir_lower_form.specs.Lowering.{Lowers};
+ghost use Rattle.hir_lower_form.specs.Lowering as step;
 ghost use Rattle.hir_lower_form.specs.Pats as spec;
 ghost use Rattle.hir_lower_pat.specs.Bindings.{HasNames, LowersNamed};
 ghost use Rattle.hir_lower_pat.specs.Methods.{HasCounted, HasDots, HasElements, LowersPat, element_behind, element_steps};
@@ -152,6 +154,27 @@ pub(crate) fn tuple_form<S: PatParts, L: PatsPart>(
     state.alloc_pat(Pat::Tuple { ellipsis, args }, Some(at))
 }
 
+/// Stores a call of this path. A `Pat` is large: one that is made here stands in no frame in which a part is lowered.
+#[inline(never)]
+fn store_tuple_struct(
+    state: &mut BodyBuilder,
+    at: InFile<AstPtr>,
+    path: Path,
+    ellipsis: Option<u32>,
+    args: Seq<PatId>,
+) -> Result<PatId, StoreFault>
+    requires path { HasPath state.old.stored path }
+    requires args { HasPats state.old.stored args }
+    ensures { Lowers HasPat (step.alloc_pat (pat.TupleStruct path ellipsis args) (Some at)) state.old result state.new }
+{
+    let pat = Pat::TupleStruct {
+        path,
+        ellipsis,
+        args,
+    };
+    state.alloc_pat(pat, Some(at))
+}
+
 /// A call of this path.
 fn tuple_struct_of<S: PatParts, L: PatsPart>(
     parts: &S,
@@ -170,12 +193,7 @@ fn tuple_struct_of<S: PatParts, L: PatsPart>(
 {
     let done = fields.elements(parts, state, bindings)?;
     let (ellipsis, args) = stored_elements(parts.alloc(), state, leading_comma, done)?;
-    let pat = Pat::TupleStruct {
-        path,
-        ellipsis,
-        args,
-    };
-    state.alloc_pat(pat, Some(at))
+    store_tuple_struct(state, at, path, ellipsis, args)
 }
 
 /// Where the path is absent or refused the call is missing, and nothing else of it is read.

@@ -26,7 +26,8 @@ use Rattle.hir_env.specs.Answered as tree
 use Rattle.hir_env.specs.Answered.{OptionPath, OptionType, Path, Segment, SegmentArgs, Type_}
 use Rattle.hir_env.specs.LocalPaths.{at_local_root, behind_root, is_bare, lacking, local_root}
 use Rattle.hir_env.specs.PathNames.{behind_trait, mod_path_of, nothing_read, path_read, read_piece}
-use Rattle.hir_env.specs.Paths.{called_path, context_at, kinded_segment, crate_root_at, qualified_segment}
+use Rattle.hir_env.specs.Paths.{alias_at, called_path, context_at, kinded_segment, crate_root_at, inside_projection, qualified_segment}
+use Rattle.hir_env.specs.Paths.{with_alias}
 use Rattle.hir_env.specs.Spot.{Spot}
 use Rattle.hir_env.specs.Whole.{answered_type, arg_list_part, first_part, into, parens_part, path_level, path_part, path_type_level}
 use Rattle.hir_env.specs.Whole.{path_type_part, reader, rest_part, segment_level, type_part}
@@ -37,12 +38,11 @@ use Rattle.hir_lower_form.specs.Lowering.{Checked, Lowering, Lowers, go_on, pure
 use Rattle.hir_lower_form.specs.Lower.{lower_path, read_path, read_segment}
 use Rattle.hir_lower_form.specs.Methods.{HasReading, LowersPath, LowersType, ReadsPath, ReadsSegment, at_place}
 use Rattle.hir_lower_form.specs.Paths.{proceed, whole, with_trait}
-use Rattle.hir_lower_form.specs.Walks.{at_first, missing_name, named}
+use Rattle.hir_lower_form.specs.Walks.{at_first, missing_name, named, names_in}
 use Rattle.hir_lower_form.specs.declared.walk.PathWalk.{PathWalk}
 use Rattle.hir_lower_form.specs.declared.walk.Reading.{Reading}
 use Rattle.hir_lower_form.specs.declared.walk.Reading.TheVariants.{Refused, Ended, Open}
-use Rattle.hir_lower_pat.specs.Aims.{names_in}
-use Rattle.hir_lower_pat.proofs.PathNames.{lowered_names}
+use Rattle.hir_lower_form.proofs.PathNames.{lowered_names}
 use Rattle.hir_lower_path.specs.Rooted.{at_root, bare_segment, bare_trait, if_read, is_qualified, rooted}
 use Rattle.hir_lower_path.proofs.Ends.{open_stays}
 
@@ -76,7 +76,7 @@ as_bare o p old new h = ap is_bare (lowered_names o old new (Some p) h.0)
 -- ---- the steps of one segment
 
 abbrev alone : Bool → Segment → Path
-alone leading first = tree.path leading first tree.no_segments tree.no_path
+alone leading first = tree.path None leading first tree.no_segments tree.no_path
 
 abbrev own : Bool → Segment → PathWalk → Lowering Reading
 own leading first w = read_segment true first (at_first leading w)
@@ -211,32 +211,49 @@ module _ (env : Answers) (p : Place) (leading : Bool) (root : Option CrateId) (w
   local_reads (Some kind.SelfTypeKw) n a ty t = says_reads (not leading) root leading tree.self_type_segment w b (self_type_is leading)
   local_reads (Some kind.Qualified) n a ty t = qualified_reads ty t
 
--- ---- the level of a path in a call
+-- ---- the level of a path, whether it is an alias or not
+
+abbrev pub unaliased : Spot → AstPath → Path
+unaliased at x =
+    let o = out-Path x in
+    called_path at.answers (reader at.answers (into at)) o.in_macro o.leading o.segs o.use_ at.place
+    (tree.path None o.leading (first_part at o.segs) (rest_part at o.segs) (path_part at o.use_))
+
+reads_aliased : (alias : Option (List Bool)) (y : Path) (w : PathWalk) (old : Builder) (r : Checked Reading) (new : Builder)
+    → ReadsPath y w old r new → ReadsPath (with_alias alias y) w old r new
+reads_aliased alias (tree.path _ leading first rest use_) w old r new h = h
+
+pub reads_level : (at : Spot) (x : AstPath) (w : PathWalk) (old : Builder) (r : Checked Reading) (new : Builder)
+    → ReadsPath (unaliased at x) w old r new → ReadsPath (path_level at x) w old r new
+reads_level at x w old r new h =
+    reads_aliased (alias_at at.answers at.place (unaliased at x)) (unaliased at x) w old r new h
+
+-- in a call
 
 module _ (at : Spot) (x : AstPath) (called : (out-Path x).in_macro ≡ true) where
   abbrev plain_level : Path
-  plain_level = let o = out-Path x in tree.path o.leading (first_part at o.segs) (rest_part at o.segs) (path_part at o.use_)
+  plain_level = let o = out-Path x in tree.path None o.leading (first_part at o.segs) (rest_part at o.segs) (path_part at o.use_)
 
   abbrev level_with : Bool → Bool → List (Option AstSegment) → Option AstPath → Path
   level_with b leading ss u = called_path at.answers (reader at.answers (into at)) b leading ss u at.place
-      (tree.path leading (first_part at ss) (rest_part at ss) (path_part at u))
+      (tree.path None leading (first_part at ss) (rest_part at ss) (path_part at u))
 
-  pub one_level : (s : AstSegment) → (out-Path x).use_ ≡ None → (out-Path x).segs ≡ Some s ∷ [] → path_level at x
+  pub one_level : (s : AstSegment) → (out-Path x).use_ ≡ None → (out-Path x).segs ≡ Some s ∷ [] → unaliased at x
       ≡ at_local_root (local_root at.answers (context_at at.answers at.place (out-PathSegment s).id))
       (alone (out-Path x).leading (segment_level at s))
   one_level s u e = (λ j. level_with (called j) (out-Path x).leading (e j) (u j))
       ∙ ap (λ y. at_local_root (local_root at.answers (context_at at.answers at.place (out-PathSegment s).id))
       (alone (out-Path x).leading y)) (segment_is_level at s)
 
-  pub none_level : (out-Path x).use_ ≡ None → (out-Path x).segs ≡ [] → path_level at x
+  pub none_level : (out-Path x).use_ ≡ None → (out-Path x).segs ≡ [] → unaliased at x
       ≡ lacking (out-Path x).leading (alone (out-Path x).leading tree.absent_segment)
   none_level u e = λ j. level_with (called j) (out-Path x).leading (e j) (u j)
 
-  pub absent_level : (out-Path x).use_ ≡ None → (out-Path x).segs ≡ None ∷ [] → path_level at x
+  pub absent_level : (out-Path x).use_ ≡ None → (out-Path x).segs ≡ None ∷ [] → unaliased at x
       ≡ lacking (out-Path x).leading (alone (out-Path x).leading tree.absent_segment)
   absent_level u e = λ j. level_with (called j) (out-Path x).leading (e j) (u j)
 
-  pub more_level : 2 ≤ length (out-Path x).segs → path_level at x ≡ plain_level
+  pub more_level : 2 ≤ length (out-Path x).segs → unaliased at x ≡ plain_level
   more_level h = by (out-Path x).segs h
     where
       y : Path
@@ -262,14 +279,14 @@ module _ (at : Spot) (x : AstPath) (called : (out-Path x).in_macro ≡ true) whe
 
 module _ (at : Spot) (x : AstPath) where
   abbrev elsewhere : Path
-  elsewhere = let o = out-Path x in tree.path o.leading (first_part at o.segs) (rest_part at o.segs) (path_part at o.use_)
+  elsewhere = let o = out-Path x in tree.path None o.leading (first_part at o.segs) (rest_part at o.segs) (path_part at o.use_)
 
-  pub uncalled_level : (out-Path x).in_macro ≡ false → path_level at x ≡ elsewhere
+  pub uncalled_level : (out-Path x).in_macro ≡ false → unaliased at x ≡ elsewhere
   uncalled_level h =
       ap (λ b. called_path at.answers (reader at.answers (into at)) b (out-Path x).leading (out-Path x).segs (out-Path x).use_ at.place
       elsewhere) h
 
-  pub used_level : (u : AstPath) → (out-Path x).use_ ≡ Some u → path_level at x ≡ elsewhere
+  pub used_level : (u : AstPath) → (out-Path x).use_ ≡ Some u → unaliased at x ≡ elsewhere
   used_level u h =
       ap (λ o. called_path at.answers (reader at.answers (into at)) (out-Path x).in_macro (out-Path x).leading (out-Path x).segs o
       at.place elsewhere) h
@@ -308,6 +325,28 @@ trait_lowers t read w root bare old mid new id r h k = by r k
         → Lowers HasReading (rooted root bare (read_segment true (tree.trait_segment t read.pointer read.path) w)) old r new
     by (Ok a) k = (is ∙ k.0, grown old mid new h.1 k.1, k.2)
     by (Err e) k = λ n. (is ∙ (k n).0, (k n).1)
+
+plain_lowers : (t : Type_) (read : PathTypeReading) (w : PathWalk) (old mid new : Builder) (id : TypeRefId) (r : Checked Reading)
+    → LowersType None t old (Ok id) mid → Lowers HasReading (with_trait (lower_path read.path) id read.pointer w) mid r new
+    → Lowers HasReading (read_segment true (tree.trait_segment t read.pointer read.path) w) old r new
+plain_lowers t read w old mid new id (Ok a) h k =
+    (ap (λ o. go_on o.0 o.1 (λ i. with_trait (lower_path read.path) i read.pointer w)) h.0 ∙ k.0, grown old mid new h.1 k.1, k.2)
+plain_lowers t read w old mid new id (Err e) h k =
+    λ n. (ap (λ o. go_on o.0 o.1 (λ i. with_trait (lower_path read.path) i read.pointer w)) h.0 ∙ (k n).0, (k n).1)
+
+pub trait_reads : (at : Spot) (place : Place) (first : Bool) (ty : Option AstType_) (tr : Option AstPathType) (y z : AstType_)
+    (x : AstPathType) (w : PathWalk) (old mid new : Builder) (id : TypeRefId) (r : Checked Reading) → first ≡ true → ty ≡ Some y
+    → tr ≡ Some x → z ≡ y → place ≡ at.place → LowersType None (answered_type (at_place at place) z) old (Ok id) mid
+    → Lowers HasReading (with_trait (lower_path (path_type_level at x).path) id (path_type_level at x).pointer w) mid r new
+    → ReadsSegment first (qualified_segment (type_part at ty) (path_type_part at tr)) w old r new
+trait_reads at place first ty tr y z x w old mid new id r f t e same here h k =
+    subst (λ b. ReadsSegment b (qualified_segment (type_part at ty) (path_type_part at tr)) w old r new) (sym f)
+    (subst (λ o. ReadsSegment true (qualified_segment (type_part at o) (path_type_part at tr)) w old r new) (sym t)
+    (subst (λ o. ReadsSegment true (qualified_segment (type_part at (Some y)) o) w old r new)
+    (sym (ap (path_type_part at) e ∙ ap Some (path_type_is_level at x)))
+    (plain_lowers (answered_type at y) (path_type_level at x) w old mid new id r
+    (subst (λ v. LowersType None (answered_type at v) old (Ok id) mid) same
+    (subst (λ p. LowersType None (answered_type (at_place at p) z) old (Ok id) mid) here h)) k)))
 
 pub qualified_lowers : (at : Spot) (place : Place) (ty : Option AstType_) (y z : AstType_) (read : PathTypeReading) (w : PathWalk)
     (root : Option CrateId) (bare : Bool) (old mid new : Builder) (q : Checked TypeRefId) (id : TypeRefId) (r : Checked Reading)
@@ -348,6 +387,10 @@ module _ (at : Spot) (node : AstSegment) (leading : Bool) (w v : PathWalk) (firs
   abbrev own_steps : Lowering Reading
   own_steps = read_segment true (segment_level at node) (at_first leading w)
 
+  -- where the type and the trait are read
+  abbrev inner : Spot
+  inner = at_place at (inside_projection at.place)
+
   abbrev kind_of : Option SegmentKind
   kind_of = (out-PathSegment node).seg
 
@@ -366,20 +409,22 @@ module _ (at : Spot) (node : AstSegment) (leading : Bool) (w v : PathWalk) (firs
   kinded_lowers (Some kind.Qualified) n a ty t r q h = h
 
   pub trait_segment_lowers : (y : AstPathType) (r : Checked Reading) → (out-PathSegment node).trait_ ≡ Some y → is_qualified kind_of ≡ true
-      → Lowers HasReading (rooted root (is_bare (mod_path_of (path_type_level at y).path))
-      (read_segment true (qualified_segment (type_part at (out-PathSegment node).ty) (Some (path_type_level at y))) v)) old r new
-      → Lowers HasReading (rooted root (bare_segment leading kind_of (path_type_part at (out-PathSegment node).trait_)) own_steps) old r new
+      → Lowers HasReading (rooted root (is_bare (mod_path_of (path_type_level inner y).path))
+      (read_segment true (qualified_segment (type_part inner (out-PathSegment node).ty) (Some (path_type_level inner y))) v)) old r new
+      → Lowers HasReading (rooted root (bare_segment leading kind_of (path_type_part inner (out-PathSegment node).trait_)) own_steps) old r
+      new
   trait_segment_lowers y r e q h =
       let o = out-PathSegment node in
-      let part : path_type_part at o.trait_ ≡ Some (path_type_level at y) = ap (path_type_part at) e ∙ ap Some (path_type_is_level at y) in
+      let part : path_type_part inner o.trait_ ≡ Some (path_type_level inner y) =
+      ap (path_type_part inner) e ∙ ap Some (path_type_is_level inner y) in
       let a = tree.segment_args (arg_list_part at o.generics) (parens_part at o.parens o.ret) o.rtn in
       subst (λ t. Lowers HasReading (rooted root (bare_segment leading o.seg t)
-      (read_segment true (kinded_segment at.answers at.place o.seg o.name a (type_part at o.ty) t) (at_first leading w))) old r new)
+      (read_segment true (kinded_segment at.answers at.place o.seg o.name a (type_part inner o.ty) t) (at_first leading w))) old r new)
       (sym part)
-      (subst (λ u. Lowers HasReading (rooted root (bare_segment leading o.seg (Some (path_type_level at y)))
-      (read_segment true (kinded_segment at.answers at.place o.seg o.name a (type_part at o.ty) (Some (path_type_level at y))) u)) old r
-      new) first
-      (kinded_lowers o.seg o.name a (type_part at o.ty) (path_type_level at y) r q h))
+      (subst (λ u. Lowers HasReading (rooted root (bare_segment leading o.seg (Some (path_type_level inner y)))
+      (read_segment true (kinded_segment at.answers at.place o.seg o.name a (type_part inner o.ty) (Some (path_type_level inner y))) u))
+      old r new) first
+      (kinded_lowers o.seg o.name a (type_part inner o.ty) (path_type_level inner y) r q h))
 
   read_lowers : (bare own : Bool) (c r : Checked Reading) → own ≡ bare → ReadsSegment true (segment_level at node) v old c new
       → r ≡ if_read root bare c → Lowers HasReading (rooted root own own_steps) old r new
@@ -400,17 +445,19 @@ module _ (at : Spot) (node : AstSegment) (leading : Bool) (w v : PathWalk) (firs
 
   pub other_segment_lowers : (bare : Bool) (c r : Checked Reading) → is_qualified kind_of ≡ false → bare ≡ bare_segment leading kind_of None
       → ReadsSegment true (segment_level at node) v old c new → r ≡ if_read root bare c
-      → Lowers HasReading (rooted root (bare_segment leading kind_of (path_type_part at (out-PathSegment node).trait_)) own_steps) old r new
+      → Lowers HasReading (rooted root (bare_segment leading kind_of (path_type_part inner (out-PathSegment node).trait_)) own_steps) old r
+      new
   other_segment_lowers bare c r q b h is =
-      read_lowers bare (bare_segment leading kind_of (path_type_part at (out-PathSegment node).trait_)) c r
-      (no_trait_bare kind_of (path_type_part at (out-PathSegment node).trait_) q ∙ sym b) h is
+      read_lowers bare (bare_segment leading kind_of (path_type_part inner (out-PathSegment node).trait_)) c r
+      (no_trait_bare kind_of (path_type_part inner (out-PathSegment node).trait_) q ∙ sym b) h is
 
   pub traitless_segment_lowers : (bare : Bool) (c r : Checked Reading) → (out-PathSegment node).trait_ ≡ None
       → bare ≡ bare_segment leading kind_of None → ReadsSegment true (segment_level at node) v old c new → r ≡ if_read root bare c
-      → Lowers HasReading (rooted root (bare_segment leading kind_of (path_type_part at (out-PathSegment node).trait_)) own_steps) old r new
+      → Lowers HasReading (rooted root (bare_segment leading kind_of (path_type_part inner (out-PathSegment node).trait_)) own_steps) old r
+      new
   traitless_segment_lowers bare c r e b h is =
-      read_lowers bare (bare_segment leading kind_of (path_type_part at (out-PathSegment node).trait_)) c r
-      (ap (λ t. bare_segment leading kind_of (path_type_part at t)) e ∙ sym b) h is
+      read_lowers bare (bare_segment leading kind_of (path_type_part inner (out-PathSegment node).trait_)) c r
+      (ap (λ t. bare_segment leading kind_of (path_type_part inner t)) e ∙ sym b) h is
 
   -- where its macro isn't local
   pub far_lowers : (place : Place) (q : Option (Option CrateId)) (r : Checked Reading) → place ≡ at.place

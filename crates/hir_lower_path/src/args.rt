@@ -1,6 +1,6 @@
 //! What stands behind the name of a segment: `<..>`, `(A) -> C` or `(..)`.
 
-ghost use Rattle.std.specs.Prelude.{◌≡◌, IfOk};
+ghost use Rattle.std.specs.Prelude.{◌≡◌, IfOk, None};
 ghost use Rattle.hir_syntax.specs.declared.ast.PathSegment.{out-PathSegment};
 ghost use Rattle.hir_store.specs.Range.{HasArgsOption, HasType};
 ghost use Rattle.hir_env.specs.Whole.{parens_part, ret_part, segment_args_level, type_args_part};
@@ -9,6 +9,7 @@ ghost use Rattle.hir_lower_form.specs.Lower as spec;
 ghost use Rattle.hir_lower_form.specs.Paths as forms;
 ghost use Rattle.hir_lower_form.specs.Methods.{LowersParts};
 ghost use Rattle.hir_lower_form.specs.Nests.{Each, IfPresent, KidsParens, KidsRet, KidsSegmentArgs, KidsTypeArg};
+ghost use Rattle.hir_lower_path.specs.Found.{found_or};
 
 use hir_lower_form::args::or_notation;
 use hir_lower_form::builder::BodyBuilder;
@@ -93,8 +94,48 @@ fn parens<P: LowerParts>(
     Ok(Some(sugared_args(lowerer.alloc, tuple, output)?))
 }
 
+/// `(A) -> C`, or else `(..)`.
+fn parens_or_dots<P: LowerParts>(
+    lowerer: &Lowerer<P>,
+    state: &mut BodyBuilder,
+    node: &ast::PathSegment,
+) -> Result<Option<GenericArgs>, StoreFault>
+    requires { let level = out-PathSegment node.now in
+        KidsParens (P.can lowerer.now.parts) (P.spot lowerer.now.parts).place level.parens level.ret }
+    ensures { let level = out-PathSegment node.now in
+        let parens = spec.parens_part (parens_part (P.spot lowerer.now.parts) level.parens level.ret) in
+        Lowers HasArgsOption (found_or None parens level.rtn) state.old result state.new }
+{
+    match parens(lowerer, state, &node.parens, &node.ret) {
+        Ok(found) => Ok(or_notation(lowerer.alloc, found, node.rtn)),
+        Err(fault) => Err(fault),
+    }
+}
+
+/// These arguments, or else `(A) -> C`, or else `(..)`.
+#[inline(never)]
+fn found_or_parens<P: LowerParts>(
+    lowerer: &Lowerer<P>,
+    state: &mut BodyBuilder,
+    node: &ast::PathSegment,
+    found: Option<GenericArgs>,
+) -> Result<Option<GenericArgs>, StoreFault>
+    requires parts { let level = out-PathSegment node.now in
+        KidsParens (P.can lowerer.now.parts) (P.spot lowerer.now.parts).place level.parens level.ret }
+    requires found { HasArgsOption state.old.stored found }
+    ensures { let level = out-PathSegment node.now in
+        let parens = spec.parens_part (parens_part (P.spot lowerer.now.parts) level.parens level.ret) in
+        Lowers HasArgsOption (found_or found parens level.rtn) state.old result state.new }
+{
+    match found {
+        Some(args) => Ok(Some(args)),
+        None => parens_or_dots(lowerer, state, node),
+    }
+}
+
 /// Of `<..>`, `(A) -> C` and `(..)` the first that yields any.
 #[tactic(auto, unfolding(hir_lower_form::specs::Paths::segment_args_form))]
+#[inline(never)]
 pub(crate) fn segment_args<P: LowerParts>(
     lowerer: &Lowerer<P>,
     state: &mut BodyBuilder,
@@ -105,9 +146,6 @@ pub(crate) fn segment_args<P: LowerParts>(
         Lowers HasArgsOption (spec.lower_segment_args level) state.old result state.new }
 {
     let place = lowerer.parts.place();
-    let found = match lowerer.args_if_present(state, place, &node.generics)? {
-        Some(args) => Some(args),
-        None => parens(lowerer, state, &node.parens, &node.ret)?,
-    };
-    Ok(or_notation(lowerer.alloc, found, node.rtn))
+    let found = lowerer.args_if_present(state, place, &node.generics)?;
+    found_or_parens(lowerer, state, node, found)
 }

@@ -4,3 +4,4 @@
 mod args;
 mod local;
 pub mod path;
+mod places;

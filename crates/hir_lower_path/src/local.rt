@@ -9,19 +9,21 @@ ghost use Rattle.hir_env.specs.LocalPaths as crate_local;
 ghost use Rattle.hir_env.specs.LocalPaths.{at_local_root, local_root};
 ghost use Rattle.hir_env.specs.PathNames.{mod_path_of};
 ghost use Rattle.hir_env.specs.Paths.{context_at, qualified_segment};
+ghost use Rattle.hir_env.specs.Paths as of;
 ghost use Rattle.hir_env.specs.Whole.{path_level, path_type_level, path_type_part, segment_level, type_part};
 ghost use Rattle.hir_lower_form.specs.Lowering.{Lowers};
 ghost use Rattle.hir_lower_form.specs.Lower as spec;
-ghost use Rattle.hir_lower_form.specs.Methods.{HasReading, HasWalk, ReadsPath};
+ghost use Rattle.hir_lower_form.specs.Methods.{HasReading, HasWalk, ReadsPath, at_place};
 ghost use Rattle.hir_lower_form.specs.Nests.{KidsPath, KidsQualified, KidsSegment, KidsTrait};
 ghost use Rattle.hir_lower_form.specs.Paths as forms;
-ghost use Rattle.hir_lower_form.specs.Walks.{at_first};
-ghost use Rattle.hir_lower_pat.specs.Aims.{names_in};
+ghost use Rattle.hir_lower_form.specs.Walks.{at_first, names_in};
 ghost use Rattle.hir_lower_path.specs.Rooted.{bare_segment, bare_trait, rooted};
 ghost use Rattle.hir_lower_path.specs.Rooted as rule;
 
 use crate::path::{projected_form, segment_form, trait_path, whole_path};
+use crate::places::inside_projection;
 use hir_base::node::InFile;
+use hir_env::place::Place;
 use hir_lower_form::builder::BodyBuilder;
 use hir_lower_form::parts::{LowerParts, Lowerer};
 use hir_lower_form::walk::{PathWalk, Reading, crate_kind};
@@ -86,23 +88,24 @@ fn if_read(
 fn local_trait<P: LowerParts>(
     lowerer: &Lowerer<P>,
     state: &mut BodyBuilder,
+    place: Place,
     walk: PathWalk,
     root: Option<CrateId>,
     ty: TypeRefId,
     node: &ast::PathType,
 ) -> Result<Reading, StoreFault>
-    requires parts { KidsTrait (P.can lowerer.now.parts) (P.spot lowerer.now.parts).place node.now }
+    requires parts { KidsTrait (P.can lowerer.now.parts) place node.now }
     requires walk { HasWalk state.old.stored walk }
     requires ty { HasType state.old.stored ty }
-    ensures { let level = path_type_level (P.spot lowerer.now.parts) node.now in
+    ensures { let level = path_type_level (at_place (P.spot lowerer.now.parts) place) node.now in
         let own = forms.with_trait (spec.lower_path level.path) ty level.pointer walk in
         Lowers HasReading (rooted root (crate_local.is_bare (mod_path_of level.path)) own) state.old result state.new }
 {
-    let Some(path) = trait_path(lowerer, state, node)? else {
+    let Some(path) = trait_path(lowerer, state, place, node)? else {
         return Ok(Reading::Refused);
     };
     let bare = is_bare(&path);
-    let reading = projected_form(lowerer, state, walk, ty, node, path)?;
+    let reading = projected_form(lowerer, state, place, walk, ty, node, path)?;
     Ok(at_root(root, bare, reading))
 }
 
@@ -118,16 +121,17 @@ fn local_qualified<P: LowerParts>(
     requires parts { KidsQualified (P.can lowerer.now.parts) (P.spot lowerer.now.parts).place ty.now (Some trait_.now) }
     requires walk { HasWalk state.old.stored walk }
     ensures { let spot = P.spot lowerer.now.parts in
-        let read = path_type_level spot trait_.now in
-        let own = spec.read_segment true (qualified_segment (type_part spot ty.now) (Some read)) walk in
+        let inner = at_place spot (of.inside_projection spot.place) in
+        let read = path_type_level inner trait_.now in
+        let own = spec.read_segment true (qualified_segment (type_part inner ty.now) (Some read)) walk in
         Lowers HasReading (rooted root (crate_local.is_bare (mod_path_of read.path)) own) state.old result state.new }
 {
     let Some(ty) = ty else {
         return Ok(Reading::Refused);
     };
-    let place = lowerer.parts.place();
+    let place = inside_projection(lowerer.parts.place());
     match lowerer.parts.lower_type(state, place, &None, ty.get()) {
-        Ok(id) => local_trait(lowerer, state, walk, root, id, trait_),
+        Ok(id) => local_trait(lowerer, state, place, walk, root, id, trait_),
         Err(fault) => Err(fault),
     }
 }
@@ -165,8 +169,9 @@ fn local_segment<P: LowerParts>(
     requires walk { HasWalk state.old.stored walk }
     ensures { let spot = P.spot lowerer.now.parts in
         let level = out-PathSegment node.now in
+        let inner = at_place spot (of.inside_projection spot.place) in
         let own = spec.read_segment true (segment_level spot node.now) (at_first leading walk) in
-        Lowers HasReading (rooted root (bare_segment leading level.seg (path_type_part spot level.trait_)) own)
+        Lowers HasReading (rooted root (bare_segment leading level.seg (path_type_part inner level.trait_)) own)
         state.old result state.new }
 {
     let walk = walk.at_first(leading);
@@ -196,7 +201,7 @@ fn only_segment<P: LowerParts>(
     requires walk { HasWalk state.old.stored walk }
     ensures { let spot = P.spot lowerer.now.parts in
         let root = local_root spot.answers (context_at spot.answers spot.place (out-PathSegment node.now).id) in
-        let plain = tree.path leading (segment_level spot node.now) tree.no_segments tree.no_path in
+        let plain = tree.path None leading (segment_level spot node.now) tree.no_segments tree.no_path in
         ReadsPath (at_local_root root plain) walk state.old result state.new }
 {
     let at = InFile {
@@ -216,7 +221,7 @@ fn absent_path(
     leading: bool,
 ) -> Result<Reading, StoreFault>
     requires walk { HasWalk state.old.stored walk }
-    ensures { let plain = tree.path leading tree.absent_segment tree.no_segments tree.no_path in
+    ensures { let plain = tree.path None leading tree.absent_segment tree.no_segments tree.no_path in
         ReadsPath (crate_local.lacking leading plain) walk state.old result state.new }
 {
     if leading {

@@ -1,5 +1,6 @@
 -- How the labels of one name are searched beside the macro definitions, both innermost first.
-use Rattle.std.specs.Prelude.{ℕ, nat_eq, nat_lt, if◌then◌else◌, List, [], ◌∷◌, Option, Some, None, option_to_list, ◌++◌}
+use Rattle.std.specs.Prelude.{◌≡◌, ℕ, nat_eq, nat_lt, if◌then◌else◌, List, [], ◌∷◌, Option, Some, None, option_to_list, ◌++◌}
+use Rattle.hir_store.specs.declared.ids.CtxId.{CtxId}
 use Rattle.hir_store.specs.declared.ids.LabelId.{LabelId}
 use Rattle.hir_store.specs.declared.ids.MacroDefId.{MacroDefId}
 use Rattle.hir_env.specs.Answers.{Contexts}
@@ -11,6 +12,14 @@ use Rattle.hir_lower_scope.specs.declared.found.Ahead.{Ahead}
 
 abbrev pub sought_of : Wanted → Sought
 sought_of w = record { hygiene = w.hygiene; context = w.context }
+
+-- its macro is the one that its context came from
+abbrev pub Asked : Contexts → Wanted → Type 0
+Asked contexts w = by w.context
+  where
+    by : Option CtxId → Type 0
+    by None = Unit {0}
+    by (Some c) = w.outer ≡ contexts.outer_macro c
 
 -- what was looked at and not passed, and what wasn't looked at
 abbrev pub ahead : Ahead → List OpenMacro

@@ -4,7 +4,7 @@ ghost use Rattle.std.specs.Prelude.{◌≡◌, ◌≤◌, ◌<◌, ◌+◌, ◌^
 ghost use Rattle.hir_scope.specs.Ribs.{sought_first, past_macro, is_the, search};
 ghost use Rattle.hir_lower_scope.specs.Ribs.{labels_of, macros_of};
 ghost use Rattle.hir_lower_scope.specs.Labels.{answer};
-ghost use Rattle.hir_lower_scope.specs.Walk.{sought_of, ahead, first_deeper, climb};
+ghost use Rattle.hir_lower_scope.specs.Walk.{Asked, sought_of, ahead, first_deeper, climb};
 
 use crate::labels::NoTarget;
 use crate::looks::Looks;
@@ -13,11 +13,12 @@ use hir_env::env::LowerEnv;
 use hir_store::ids::{CtxId, HygieneId, LabelId, MacroDefId};
 use hir_store::name::Name;
 
-/// The hygiene that a label is to have, and the context that it is of.
+/// The hygiene that a label is to have, the context that it is of, and the macro that this came from, which is asked once a context.
 #[derive(Clone, Copy)]
 struct Wanted {
     hygiene: HygieneId,
     context: Option<CtxId>,
+    outer: Option<MacroDefId>,
 }
 
 /// Macro definitions that were not passed: the innermost of them, once it was looked at, and those that weren't.
@@ -36,9 +37,8 @@ impl<'a> Drop for Ahead<'a> {
 /// at each macro definition once at most, and all its looks are counted in the one `Looks` that it is lent: it makes no other.
 ///
 /// The definitions that are deeper than a label are passed one by one. So n jumps behind n definitions in one block look n² / 2 times,
-/// where an index from each definition to its places would go straight to the next one that matters. Of 10,000 that are 50 million
-/// looks, less than the reading of such a document takes; the index would be a second form of the same list, to be kept at each entering
-/// and leaving.
+/// which of many takes longer than to read their document, where an index from each definition to its places would go straight to the
+/// next one that matters. The index would be a second form of the same list, to be kept at each entering and leaving.
 pub fn find_label<E: LowerEnv>(
     env: &E,
     stacks: &LabelStacks,
@@ -51,12 +51,7 @@ pub fn find_label<E: LowerEnv>(
     ensures bounded { looks.new ≤ length (labels_of name.now stacks.now) + length (macros_of stacks.now) }
 {
     let border = stacks.border();
-    let context = if hygiene == HygieneId::ROOT {
-        None
-    } else {
-        Some(CtxId(hygiene.0))
-    };
-    let mut wanted = Wanted { hygiene, context };
+    let mut wanted = first_wanted(env, hygiene);
     let mut labels = stacks.labels(name);
     let mut macros = Ahead {
         next: None,
@@ -90,30 +85,61 @@ impl LabelStacks {
     }
 }
 
-/// Whether the context came from the macro of this definition.
-fn came_from<E: LowerEnv>(env: &E, context: CtxId, def: MacroDefId) -> bool
-    ensures { result ≡ is_the ((E.answers env.now).contexts.outer_macro context) def }
+/// The macro that the context came from.
+fn outer_of<E: LowerEnv>(env: &E, context: CtxId) -> Option<MacroDefId>
+    ensures { result ≡ (E.answers env.now).contexts.outer_macro context }
 {
     match env.outer_macro(context) {
-        Some(outer) => outer.def == def,
+        Some(outer) => Some(outer.def),
+        None => None,
+    }
+}
+
+fn first_wanted<E: LowerEnv>(env: &E, hygiene: HygieneId) -> Wanted
+    ensures sought { sought_of result ≡ sought_first hygiene }
+    ensures asked { Asked (E.answers env.now).contexts result }
+{
+    if hygiene == HygieneId::ROOT {
+        return Wanted {
+            hygiene,
+            context: None,
+            outer: None,
+        };
+    }
+    let context = CtxId(hygiene.0);
+    Wanted {
+        hygiene,
+        context: Some(context),
+        outer: outer_of(env, context),
+    }
+}
+
+fn is_the(outer: Option<MacroDefId>, def: MacroDefId) -> bool
+    ensures { result ≡ is_the outer def }
+{
+    match outer {
+        Some(outer) => outer == def,
         None => false,
     }
 }
 
 /// What is sought behind the definition of a macro.
 fn past<E: LowerEnv>(env: &E, def: MacroDefId, wanted: Wanted) -> Wanted
-    ensures { sought_of result ≡ past_macro (E.answers env.now).contexts def (sought_of wanted) wanted.context }
+    requires { Asked (E.answers env.now).contexts wanted }
+    ensures sought { sought_of result ≡ past_macro (E.answers env.now).contexts def (sought_of wanted) wanted.context }
+    ensures asked { Asked (E.answers env.now).contexts result }
 {
     let Some(context) = wanted.context else {
         return wanted;
     };
-    if !came_from(env, context, def) {
+    if !is_the(wanted.outer, def) {
         return wanted;
     }
     let parent = env.context_parent(context);
     Wanted {
         hygiene: env.opaque(parent),
         context: Some(parent),
+        outer: outer_of(env, parent),
     }
 }
 
@@ -125,10 +151,12 @@ fn climb<E: LowerEnv>(
     macros: &mut Ahead<'_>,
     looks: &mut Looks,
 ) -> Wanted
-    requires { looks.old + length macros.old.unseen < 2 ^ 128 }
+    requires looks { looks.old + length macros.old.unseen < 2 ^ 128 }
+    requires asked { Asked (E.answers env.now).contexts wanted }
     ensures climbed { climb (E.answers env.now).contexts depth (sought_of wanted) (ahead macros.old)
         ≡ (sought_of result, ahead macros.new) }
     ensures counted { looks.new + length macros.new.unseen ≡ looks.old + length macros.old.unseen }
+    ensures asked { Asked (E.answers env.now).contexts result }
 {
     while let Some(def) = deeper(depth, macros, looks) {
         wanted = past(env, def, wanted);

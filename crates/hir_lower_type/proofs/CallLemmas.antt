@@ -9,7 +9,7 @@ use Rattle.hir_env.specs.declared.expand.FragmentKind.TheVariants as kind
 use Rattle.hir_env.specs.declared.place.Place.{Place}
 use Rattle.hir_env.specs.Answers.{Answers, Eager, Expanding, unresolved, no_expansion, expanded}
 use Rattle.hir_env.specs.Answered as tree
-use Rattle.hir_env.specs.Answered.{Binder, Entered}
+use Rattle.hir_env.specs.Answered.{Binder}
 use Rattle.hir_env.specs.Calls.{asked_call, call_pointer, called, entered_type, inside_file, type_in}
 use Rattle.hir_env.specs.Layers.{Entering}
 use Rattle.hir_env.specs.Spot.{Spot}

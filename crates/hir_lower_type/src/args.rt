@@ -7,15 +7,18 @@ ghost use Rattle.hir_store.specs.declared.name.Name.TheVariants as name;
 ghost use Rattle.hir_store.specs.Range.{HasBinding};
 ghost use Rattle.hir_env.specs.Answered as tree;
 ghost use Rattle.hir_env.specs.Whole.{answered_arg, answered_assoc_arg, arg_level, arg_list_level, arg_list_part, assoc_arg_level};
-ghost use Rattle.hir_env.specs.Whole.{bounds_part, generic_args_part, type_part};
+ghost use Rattle.hir_env.specs.Paths.{lifetime_arg_of};
+ghost use Rattle.hir_env.specs.Whole.{bounds_part, generic_args_part, type_arg_level, type_part};
 ghost use Rattle.hir_lower_form.specs.Lowering.{Lowers};
 ghost use Rattle.hir_lower_form.specs.Lower as spec;
 ghost use Rattle.hir_lower_form.specs.Types as forms;
-ghost use Rattle.hir_lower_form.specs.Methods.{HasLists, LowersArgs, at_place};
-ghost use Rattle.hir_lower_form.specs.Nests.{Each, KidsArg, KidsArgs, KidsAssoc, KidsBinding};
+ghost use Rattle.hir_lower_form.specs.Methods.{HasLists, LowersArgs, at_place, constant_at};
+ghost use Rattle.hir_lower_type.specs.Single.{HasOne, single_arg};
+ghost use Rattle.hir_lower_form.specs.Nests.{Each, KidsArg, KidsArgs, KidsAssoc, KidsBinding, KidsTypeArg};
 
 use crate::bounds::BoundsPart;
 use crate::lifetimes::lifetime;
+use crate::one_arg::OneArg;
 use crate::places::outside_impl;
 use hir_env::place::Place;
 use hir_lower_form::args::{ArgLists, or_notation};
@@ -56,69 +59,110 @@ fn binding_form<P: LowerParts>(
 fn assoc_form<P: LowerParts>(
     lowerer: &Lowerer<P>,
     state: &mut BodyBuilder,
-    lists: ArgLists,
     node: &ast::AssocTypeArg,
-) -> Result<ArgLists, StoreFault>
-    requires parts { KidsAssoc (P.can lowerer.now.parts) (P.spot lowerer.now.parts).place (out-AssocTypeArg node.now) }
-    requires lists { HasLists state.old.stored lists }
-    ensures { Lowers HasLists (spec.lower_arg lists (assoc_arg_level (P.spot lowerer.now.parts) node.now)) state.old result state.new }
+) -> Result<OneArg, StoreFault>
+    requires { KidsAssoc (P.can lowerer.now.parts) (P.spot lowerer.now.parts).place (out-AssocTypeArg node.now) }
+    ensures { Lowers HasOne (single_arg (assoc_arg_level (P.spot lowerer.now.parts) node.now)) state.old result state.new }
 {
-    if node.params {
-        return Ok(lists);
-    }
-    let Some(name) = &node.name else {
-        return Ok(lists);
+    let (false, Some(name)) = (node.params, &node.name) else {
+        return Ok(OneArg::Skipped);
     };
     let place = outside_impl(lowerer.parts.place());
-    let binding = binding_form(lowerer, state, place, name, node)?;
-    Ok(lists.with_binding(binding)?)
+    Ok(OneArg::Binding(binding_form(lowerer, state, place, name, node)?))
 }
 
 fn assoc_arg<P: LowerParts>(
     lowerer: &Lowerer<P>,
     state: &mut BodyBuilder,
-    lists: ArgLists,
     node: &ast::AssocTypeArg,
-) -> Result<ArgLists, StoreFault>
-    requires parts { KidsAssoc (P.can lowerer.now.parts) (P.spot lowerer.now.parts).place (out-AssocTypeArg node.now) }
-    requires lists { HasLists state.old.stored lists }
-    ensures { Lowers HasLists (spec.lower_arg lists (answered_assoc_arg (P.spot lowerer.now.parts) node.now)) state.old result state.new }
+) -> Result<OneArg, StoreFault>
+    requires { KidsAssoc (P.can lowerer.now.parts) (P.spot lowerer.now.parts).place (out-AssocTypeArg node.now) }
+    ensures { Lowers HasOne (single_arg (answered_assoc_arg (P.spot lowerer.now.parts) node.now)) state.old result state.new }
 {
-    assoc_form(lowerer, state, lists, node)
+    assoc_form(lowerer, state, node)
 }
 
-fn arg_form<P: LowerParts>(
+#[inline(never)]
+fn type_arg<P: LowerParts>(
     lowerer: &Lowerer<P>,
     state: &mut BodyBuilder,
-    lists: ArgLists,
-    node: &ast::GenericArg,
-) -> Result<ArgLists, StoreFault>
-    requires parts { KidsArg (P.can lowerer.now.parts) (P.spot lowerer.now.parts).place (out-GenericArg node.now) }
-    requires lists { HasLists state.old.stored lists }
-    ensures { Lowers HasLists (spec.lower_arg lists (arg_level (P.spot lowerer.now.parts) node.now)) state.old result state.new }
+    node: &ast::TypeArg,
+) -> Result<OneArg, StoreFault>
+    requires { KidsTypeArg (P.can lowerer.now.parts) (P.spot lowerer.now.parts).place node.now }
+    ensures { let level = tree.type_arg (type_arg_level (P.spot lowerer.now.parts) node.now) in
+        Lowers HasOne (single_arg level) state.old result state.new }
 {
-    match node {
-        ast::GenericArg::TypeArg(node) => {
-            let id = lowerer.type_or_error(state, lowerer.parts.place(), &None, node)?;
-            Ok(lists.with_arg(GenericArg::Type_(id))?)
-        }
-        ast::GenericArg::AssocTypeArg(node) => assoc_arg(lowerer, state, lists, node),
-        ast::GenericArg::LifetimeArg(node) => match &node.lifetime {
-            None => Ok(lists),
-            Some(written) => {
-                let id = lifetime(state, lowerer.parts.place(), written)?;
-                Ok(lists.with_arg(GenericArg::Lifetime(id))?)
-            }
-        },
-        ast::GenericArg::ConstArg(node) => {
-            let place = lowerer.parts.place();
-            let constant = lowerer.parts.collect_constant(state, place, node)?;
-            Ok(lists.with_arg(GenericArg::Const(constant))?)
+    let place = lowerer.parts.place();
+    match lowerer.type_or_error(state, place, &None, node) {
+        Ok(id) => Ok(OneArg::Arg(GenericArg::Type_(id))),
+        Err(fault) => Err(fault),
+    }
+}
+
+/// A lifetime that isn't there is skipped.
+#[inline(never)]
+fn lifetime_arg<P: LowerParts>(
+    lowerer: &Lowerer<P>,
+    state: &mut BodyBuilder,
+    written: &Option<ast::Lifetime>,
+) -> Result<OneArg, StoreFault>
+    ensures { let level = lifetime_arg_of (P.spot lowerer.now.parts).place written.now in
+        Lowers HasOne (single_arg level) state.old result state.new }
+{
+    match written {
+        None => Ok(OneArg::Skipped),
+        Some(written) => {
+            let id = lifetime(state, lowerer.parts.place(), written)?;
+            Ok(OneArg::Arg(GenericArg::Lifetime(id)))
         }
     }
 }
 
+#[inline(never)]
+fn const_arg<P: LowerParts>(
+    lowerer: &Lowerer<P>,
+    state: &mut BodyBuilder,
+    node: &ast::ConstArg,
+) -> Result<OneArg, StoreFault>
+    requires { (P.can lowerer.now.parts).constant (P.spot lowerer.now.parts).place node.now }
+    ensures { let level = tree.const_arg (constant_at (P.spot lowerer.now.parts) node.now) in
+        Lowers HasOne (single_arg level) state.old result state.new }
+{
+    let place = lowerer.parts.place();
+    let constant = lowerer.parts.collect_constant(state, place, node)?;
+    Ok(OneArg::Arg(GenericArg::Const(constant)))
+}
+
+#[inline(never)]
+fn arg_form<P: LowerParts>(
+    lowerer: &Lowerer<P>,
+    state: &mut BodyBuilder,
+    node: &ast::GenericArg,
+) -> Result<OneArg, StoreFault>
+    requires { KidsArg (P.can lowerer.now.parts) (P.spot lowerer.now.parts).place (out-GenericArg node.now) }
+    ensures { Lowers HasOne (single_arg (arg_level (P.spot lowerer.now.parts) node.now)) state.old result state.new }
+{
+    match node {
+        ast::GenericArg::TypeArg(node) => type_arg(lowerer, state, node),
+        ast::GenericArg::AssocTypeArg(node) => assoc_arg(lowerer, state, node),
+        ast::GenericArg::LifetimeArg(node) => lifetime_arg(lowerer, state, &node.lifetime),
+        ast::GenericArg::ConstArg(node) => const_arg(lowerer, state, node),
+    }
+}
+
 fn arg<P: LowerParts>(
+    lowerer: &Lowerer<P>,
+    state: &mut BodyBuilder,
+    node: &ast::GenericArg,
+) -> Result<OneArg, StoreFault>
+    requires { KidsArg (P.can lowerer.now.parts) (P.spot lowerer.now.parts).place (out-GenericArg node.now) }
+    ensures { Lowers HasOne (single_arg (answered_arg (P.spot lowerer.now.parts) node.now)) state.old result state.new }
+{
+    arg_form(lowerer, state, node)
+}
+
+/// The lists with an argument more.
+fn with_arg<P: LowerParts>(
     lowerer: &Lowerer<P>,
     state: &mut BodyBuilder,
     lists: ArgLists,
@@ -128,7 +172,10 @@ fn arg<P: LowerParts>(
     requires lists { HasLists state.old.stored lists }
     ensures { Lowers HasLists (spec.lower_arg lists (answered_arg (P.spot lowerer.now.parts) node.now)) state.old result state.new }
 {
-    arg_form(lowerer, state, lists, node)
+    match arg(lowerer, state, node) {
+        Ok(one) => Ok(one.behind(lists)?),
+        Err(fault) => Err(fault),
+    }
 }
 
 fn args<P: LowerParts>(
@@ -144,7 +191,7 @@ fn args<P: LowerParts>(
         Lowers HasLists (spec.lower_args lists all) state.old result state.new }
 {
     while let [one, rest @ ..] = left {
-        lists = arg(lowerer, state, lists, one)?;
+        lists = with_arg(lowerer, state, lists, one)?;
         left = rest;
     }
     Ok(lists)

@@ -151,7 +151,8 @@ fn bound_form<P: LowerParts>(
     }
 }
 
-fn bound<P: LowerParts>(
+/// A bound, read at this place.
+pub fn bound_node<P: LowerParts>(
     lowerer: &Lowerer<P>,
     state: &mut BodyBuilder,
     place: Place,
@@ -195,7 +196,7 @@ impl BoundsPart for Seq<ast::TypeBound> {
         let mut done = Seq::new(lowerer.alloc);
         let mut left = self.as_slice();
         while let [one, rest @ ..] = left {
-            let bound = bound(lowerer, state, place, one)?;
+            let bound = bound_node(lowerer, state, place, one)?;
             push_bound(&mut done, bound)?;
             left = rest;
         }

@@ -2,10 +2,11 @@
 #![tactic(auto)]
 
 pub mod args;
-mod bounds;
+pub mod bounds;
 mod calls;
 mod functions;
-mod lifetimes;
+pub mod lifetimes;
+pub mod one_arg;
 mod part;
 pub mod places;
 mod simple;

@@ -17,7 +17,7 @@ use hir_syntax::{Seq, ast};
 use std::alloc::{AllocError, Global};
 
 /// What the text of a lifetime says.
-fn lifetime_ref(written: &ast::Lifetime) -> Result<LifetimeRef, AllocError>
+pub fn lifetime_ref(written: &ast::Lifetime) -> Result<LifetimeRef, AllocError>
     ensures { IfOk result (λ l. l ≡ of.lifetime_ref written.now.t) }
 {
     let text = written.t.as_str();
@@ -33,10 +33,10 @@ fn lifetime_ref(written: &ast::Lifetime) -> Result<LifetimeRef, AllocError>
     Ok(LifetimeRef::Named(Name::Text(written.t.clone()?)))
 }
 
-/// A lifetime of the file of this place.
+/// A lifetime of the file of this place, which is noted where lifetimes count there.
 #[tactic(auto, unfolding(hir_lower_form::specs::Types::lower_lifetime))]
 #[inline(never)]
-pub(crate) fn lifetime(
+pub fn lifetime(
     state: &mut BodyBuilder,
     place: Place,
     written: &ast::Lifetime,
@@ -44,11 +44,13 @@ pub(crate) fn lifetime(
     ensures { Lowers HasLifetime (lower_lifetime (of.lifetime_of place written.now)) state.old result state.new }
 {
     let at = pointer_in(place, written.id, written.range);
-    state.alloc_lifetime(lifetime_ref(written)?, Some(at))
+    let lifetime = lifetime_ref(written)?;
+    state.note_lifetime(place.lifetimes, &lifetime)?;
+    state.alloc_lifetime(lifetime, Some(at))
 }
 
 /// The lifetime, where one is written.
-pub(crate) fn lifetime_if_present(
+pub fn lifetime_if_present(
     state: &mut BodyBuilder,
     place: Place,
     written: &Option<ast::Lifetime>,
@@ -77,10 +79,7 @@ fn binder_names(alloc: Global, mut left: &[Option<ast::Lifetime>]) -> Result<Seq
 
 /// The names that a binder introduces, none where it is absent.
 #[inline(never)]
-pub(crate) fn binder(
-    alloc: Global,
-    written: &Option<ast::ForBinder>,
-) -> Result<Seq<Name>, AllocError>
+pub fn binder(alloc: Global, written: &Option<ast::ForBinder>) -> Result<Seq<Name>, AllocError>
     ensures { IfOk result (λ names. names ≡ of.binder_of written.now) }
 {
     match written {

@@ -3,13 +3,27 @@
 ghost use Rattle.std.specs.Prelude.{◌≡◌};
 ghost use Rattle.hir_env.specs.Paths as spec;
 
-use hir_env::place::{ImplTrait, Place};
+use hir_env::place::{ImplTrait, LifetimeScope, Place};
+
+/// Where a lifetime counts in an `impl`.
+fn in_impl_scope(scope: LifetimeScope) -> LifetimeScope
+    ensures { result ≡ spec.in_impl_scope scope }
+{
+    match scope {
+        LifetimeScope::Nowhere => LifetimeScope::Output,
+        LifetimeScope::Bound => LifetimeScope::Bound,
+        LifetimeScope::Input => LifetimeScope::Bound,
+        LifetimeScope::Projection => LifetimeScope::Bound,
+        LifetimeScope::Output => LifetimeScope::Output,
+    }
+}
 
 pub(crate) fn inside_impl(place: Place) -> Place
     ensures { result ≡ spec.inside_impl place }
 {
     Place {
         in_impl: true,
+        lifetimes: in_impl_scope(place.lifetimes),
         ..place
     }
 }

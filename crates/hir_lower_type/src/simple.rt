@@ -17,7 +17,6 @@ use crate::lifetimes::{binder, lifetime_if_present};
 use crate::part::{ConstPart, TypePart, TypePatPart, TypesPart};
 use crate::places::inside_impl;
 use hir_base::node::{AstPtr, InFile};
-use hir_env::place::ImplTrait;
 use hir_lower_form::builder::BodyBuilder;
 use hir_lower_form::parts::{LowerParts, Lowerer};
 use hir_lower_pat::paths::PathPart;
@@ -200,10 +199,7 @@ pub(crate) fn impl_form<P: LowerParts, L: BoundsPart>(
         return state.alloc_type(TypeRef::Error, Some(at));
     }
     let read = written.lower(lowerer, state, inside_impl(place))?;
-    match place.impl_trait {
-        ImplTrait::Error => state.alloc_type(TypeRef::Error, Some(at)),
-        ImplTrait::Opaque => state.alloc_type(TypeRef::ImplTrait(read), Some(at)),
-    }
+    state.become_type(at, place.impl_trait, read)
 }
 
 #[tactic(auto, unfolding(hir_lower_form::specs::Types::dyn_type_form))]

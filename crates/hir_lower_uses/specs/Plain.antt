@@ -19,6 +19,7 @@ plain_answers items = record {
   container = λ owner. holder.ModuleId (record { 0 = 0 });
   module_of = λ container. record { 0 = 0 };
   resolve = λ inside path shadow. record { types = None; values = None; rest = None };
+  alias = λ id. None;
   lang_items = items;
   new_range = λ inside. false;
   expand = λ node call inside kind. no_expansion;

@@ -6,16 +6,16 @@ ghost use Rattle.hir_store.specs.Range.{InRange};
 use crate::calls::count_calls;
 use hir_base::node::{AstPtr, HirFileId};
 use hir_env::env::LowerEnv;
+use hir_items::ast as items;
 use hir_lower::{Body, BodySourceMap, LowerError, lower_body};
 use hir_store::ids::{DefWithBodyId, FunctionId, ModuleId};
-use hir_syntax::ast;
 use std::alloc::Global;
 
 /// The body of a function that stands in module 0 and file 0.
 pub fn lowered<E: LowerEnv>(
     alloc: Global,
     env: &E,
-    item: &ast::Fn,
+    item: &items::Fn,
 ) -> Result<(Body, BodySourceMap), LowerError>
     ensures { IfOk result (λ r. InRange r.0.store r.1.store) }
 {
@@ -24,7 +24,11 @@ pub fn lowered<E: LowerEnv>(
         node: item.id,
         range: item.range,
     };
-    let (params, body) = (item.params.as_ref(), item.body.as_ref());
+    let params = item.params.as_ref();
+    let body = match &item.body {
+        Some(body) => Some(body.get()),
+        None => None,
+    };
     let (is_async, is_gen) = (item.async_, item.gen_);
     lower_body(
         alloc,
@@ -41,7 +45,7 @@ pub fn lowered<E: LowerEnv>(
 }
 
 /// How many calls the body of the function has.
-pub fn calls_of<E: LowerEnv>(alloc: Global, env: &E, item: &ast::Fn) -> Result<u32, LowerError> {
+pub fn calls_of<E: LowerEnv>(alloc: Global, env: &E, item: &items::Fn) -> Result<u32, LowerError> {
     let (body, source_map) = lowered(alloc, env, item)?;
     let calls = count_calls(&body.store);
     drop(body);
@@ -53,7 +57,7 @@ pub fn calls_of<E: LowerEnv>(alloc: Global, env: &E, item: &ast::Fn) -> Result<u
 pub fn calls_by_object(
     alloc: Global,
     env: &dyn LowerEnv,
-    item: &ast::Fn,
+    item: &items::Fn,
 ) -> Result<u32, LowerError> {
     calls_of(alloc, &env, item)
 }

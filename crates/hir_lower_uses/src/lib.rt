@@ -1,6 +1,7 @@
 //! Uses of `hir_lower`, which its page `CALLING.md` quotes.
 #![tactic(auto)]
 
+pub mod aliases;
 pub mod bodies;
 pub mod calls;
 pub mod nodes;

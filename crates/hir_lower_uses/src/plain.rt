@@ -1,12 +1,14 @@
 //! An environment of its own.
 
+use hir_alias::signature::AliasSignature;
 use hir_base::node::{InFile, NodeId, PredId};
 use hir_env::env::LowerEnv;
 use hir_env::expand::{Expansion, FragmentKind, OuterMacro};
 use hir_env::lang::LangItems;
 use hir_env::resolved::{Resolved, Shadow};
 use hir_store::ids::{
-    BlockId, CfgId, CrateId, CtxId, DefWithBodyId, HygieneId, ItemContainerId, MacroDefId, ModuleId,
+    BlockId, CfgId, CrateId, CtxId, DefWithBodyId, HygieneId, ItemContainerId, MacroDefId,
+    ModuleId, TypeAliasId,
 };
 use hir_store::name::Name;
 use hir_store::path::ModPath;
@@ -77,6 +79,10 @@ impl LowerEnv for Plain {
             values: None,
             rest: None,
         }
+    }
+
+    fn alias(&self, _id: TypeAliasId) -> Option<&AliasSignature> {
+        None
     }
 
     fn lang_items(&self) -> &LangItems {

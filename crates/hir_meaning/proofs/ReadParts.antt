@@ -1,5 +1,5 @@
 -- Paths that stand alone in a call, and bare parameters, computed level by level.
-use Rattle.std.proofs.Common.{◌≡◌, ◌∙◌, ap, ℕ, Bool, true, false, [], ◌∷◌, Some, None}
+use Rattle.std.proofs.Common.{◌≡◌, ◌∙◌, refl, ap, ℕ, Bool, true, false, List, [], ◌∷◌, Option, Some, None}
 use Rattle.hir_base.specs.declared.node.NodeId.{NodeId}
 use Rattle.hir_syntax.specs.declared.ast.ElseBranch.TheOpen.{PatKind-F}
 use Rattle.hir_syntax.specs.declared.ast.Path.{roll-Path, out-roll-Path}
@@ -20,6 +20,7 @@ use Rattle.hir_env.specs.Answered as tree
 use Rattle.hir_env.specs.Answered.{Formal, Pat, Path, Segment}
 use Rattle.hir_env.proofs.PathLevels.{path_is_level, segment_is_level}
 use Rattle.hir_data.specs.Trees.{node, no_range}
+use Rattle.hir_data.specs.Data.{PathData}
 use Rattle.hir_data.specs.Written.{written_path}
 use Rattle.hir_meaning.specs.Reading.{pat_of, calling_pat, from, spot_of, first_call, second_call}
 use Rattle.hir_meaning.specs.ReadParts.{segment_layer, path_layer, written_as, coming}
@@ -28,6 +29,9 @@ use Rattle.hir_meaning.specs.ReadParts.{param_of, bare_at, in_calls, BarsThrough
 use Rattle.hir_meaning.proofs.OneLevel.{spot_in, pat_called, pat_made}
 
 -- ---- paths
+
+abbrev said : Path → Option PathData
+said x = written_path (tree.some_path x)
 
 module _ (env : Answers) (p : Place) where
   abbrev here : Spot
@@ -44,67 +48,75 @@ module _ (env : Answers) (p : Place) where
   segment_made l = segment_is_level here (roll-PathSegment l)
       ∙ ap (λ m. of.segment_step env (reader env (into here)) m here.place) (out-roll-PathSegment l)
 
+  -- what is read of it doesn't look at the alias
+  aliased_said : (alias : Option (List Bool)) (x : Path) → said (of.with_alias alias x) ≡ said x
+  aliased_said alias (tree.path _ leading first rest use_) = refl
+
+  abbrev called_at : PathLayer written → Path
+  called_at l = of.called_path env (reader env (into here)) l.in_macro l.leading l.segs l.use_ here.place
+      (of.plain_path env (reader env (into here)) l here.place)
+
+  path_said : (l : PathLayer written) → said (answered_path here (roll-Path l)) ≡ said (called_at l)
+  path_said l = ap said (path_made l) ∙ aliased_said (of.alias_at env here.place (called_at l)) (called_at l)
+
   -- one segment, alone in a call
   abbrev alone_at : Segment → NodeId → Path
-  alone_at s n = at_local_root (local_root env (of.context_at env here.place n)) (tree.path false s tree.no_segments tree.no_path)
+  alone_at s n = at_local_root (local_root env (of.context_at env here.place n)) (tree.path None false s tree.no_segments tree.no_path)
 
   one_alone : (l : PathSegmentLayer written)
-      → answered_path here (written_as true false (Some (roll-PathSegment l) ∷ []))
-      ≡ alone_at (step l) l.id
-  one_alone l = path_made (path_layer true false (Some (roll-PathSegment l) ∷ []) None)
-      ∙ (ap (λ s. alone_at s (out-PathSegment (roll-PathSegment l)).id) (segment_made l)
+      → said (answered_path here (written_as true false (Some (roll-PathSegment l) ∷ [])))
+      ≡ said (alone_at (step l) l.id)
+  one_alone l = path_said (path_layer true false (Some (roll-PathSegment l) ∷ []) None)
+      ∙ ap said (ap (λ s. alone_at s (out-PathSegment (roll-PathSegment l)).id) (segment_made l)
       ∙ ap (λ m. alone_at (step l) m.id) (out-roll-PathSegment l))
 
   -- two segments, and one behind `::` or not in a call
   abbrev plainly : Bool → Segment → Path
-  plainly leading s = tree.path leading s tree.no_segments tree.no_path
+  plainly leading s = tree.path None leading s tree.no_segments tree.no_path
 
   two_alone : (l m : PathSegmentLayer written)
-      → answered_path here (written_as true false (Some (roll-PathSegment l) ∷ Some (roll-PathSegment m) ∷ []))
-      ≡ tree.path false (step l) (tree.more_segments (step m) tree.no_segments) tree.no_path
-  two_alone l m = path_made (path_layer true false (Some (roll-PathSegment l) ∷ Some (roll-PathSegment m) ∷ []) None)
-      ∙ (λ j. tree.path false (segment_made l j) (tree.more_segments (segment_made m j) tree.no_segments) tree.no_path)
+      → said (answered_path here (written_as true false (Some (roll-PathSegment l) ∷ Some (roll-PathSegment m) ∷ [])))
+      ≡ said (tree.path None false (step l) (tree.more_segments (step m) tree.no_segments) tree.no_path)
+  two_alone l m = path_said (path_layer true false (Some (roll-PathSegment l) ∷ Some (roll-PathSegment m) ∷ []) None)
+      ∙ (λ j. said (tree.path None false (segment_made l j) (tree.more_segments (segment_made m j) tree.no_segments) tree.no_path))
 
   outside : (l : PathSegmentLayer written)
-      → answered_path here (written_as false false (Some (roll-PathSegment l) ∷ []))
-      ≡ plainly false (step l)
-  outside l = path_made (path_layer false false (Some (roll-PathSegment l) ∷ []) None) ∙ ap (plainly false) (segment_made l)
+      → said (answered_path here (written_as false false (Some (roll-PathSegment l) ∷ [])))
+      ≡ said (plainly false (step l))
+  outside l = path_said (path_layer false false (Some (roll-PathSegment l) ∷ []) None) ∙ ap (λ s. said (plainly false s)) (segment_made l)
 
 abbrev name_layer : ℕ → PathSegmentLayer written
 name_layer n = segment_layer (Some segment.Name) (Some (n ∷ []))
 
 -- the same behind `::`
 leading_one : (env : Answers) (p : Place) (l : PathSegmentLayer written)
-    → answered_path (here env p) (written_as true true (Some (roll-PathSegment l) ∷ []))
-    ≡ (let at = here env p in at_local_root (local_root env (of.context_at env at.place l.id))
+    → said (answered_path (here env p) (written_as true true (Some (roll-PathSegment l) ∷ [])))
+    ≡ said (let at = here env p in at_local_root (local_root env (of.context_at env at.place l.id))
     (plainly env p true (step env p l)))
 leading_one env p l = let at = here env p in
-    path_made env p (path_layer true true (Some (roll-PathSegment l) ∷ []) None)
-    ∙ (ap (λ s. at_local_root (local_root env (of.context_at env at.place (out-PathSegment (roll-PathSegment l)).id))
+    path_said env p (path_layer true true (Some (roll-PathSegment l) ∷ []) None)
+    ∙ ap said (ap (λ s. at_local_root (local_root env (of.context_at env at.place (out-PathSegment (roll-PathSegment l)).id))
     (plainly env p true s)) (segment_made env p l)
     ∙ ap (λ m. at_local_root (local_root env (of.context_at env at.place m.id))
     (plainly env p true (step env p l))) (out-roll-PathSegment l))
-
-abbrev data_of : {x y : Path} → x ≡ y → written_path (tree.some_path x) ≡ written_path (tree.some_path y)
-data_of h = ap (λ x. written_path (tree.some_path x)) h
 
 pub begins_at_the_local_root : BeginsAtTheLocalRoot
 begins_at_the_local_root env p c =
     let rooted = coming env true (Some c) in (
       record {
-        local = data_of (one_alone rooted p (name_layer 97));
-        rootless = data_of (one_alone (coming env true None) p (name_layer 97));
-        other = data_of (one_alone (coming env false (Some c)) p (name_layer 97));
+        local = one_alone rooted p (name_layer 97);
+        rootless = one_alone (coming env true None) p (name_layer 97);
+        other = one_alone (coming env false (Some c)) p (name_layer 97);
       },
       record {
-        outside = data_of (outside rooted p (name_layer 97));
-        two = data_of (two_alone rooted p (name_layer 97) (name_layer 98));
-        leading = data_of (leading_one rooted p (name_layer 97));
-        self_alone = data_of (one_alone rooted p (segment_layer (Some segment.SelfKw) None));
+        outside = outside rooted p (name_layer 97);
+        two = two_alone rooted p (name_layer 97) (name_layer 98);
+        leading = leading_one rooted p (name_layer 97);
+        self_alone = one_alone rooted p (segment_layer (Some segment.SelfKw) None);
       },
       record {
-        inside = data_of (path_made env p (path_layer true false (None ∷ []) None));
-        outside = data_of (path_made env p (path_layer false false (None ∷ []) None));
+        inside = path_said env p (path_layer true false (None ∷ []) None);
+        outside = path_said env p (path_layer false false (None ∷ []) None);
       },
     )
 

@@ -115,7 +115,7 @@ HandsInInOrder = (k : CoroutineKind) (mode : BindingAnnotation) (h : HygieneId) 
 
 abbrev pub with_constant : OptionPat
 with_constant = tree.some_pat (tree.path_pat (at 2) (tree.some_path
-    (tree.path false (tree.type_segment (array (at 3) (never (at 4)) (tree.some_expr (literal_at 5 one))))
+    (tree.path None false (tree.type_segment (array (at 3) (never (at 4)) (tree.some_expr (literal_at 5 one))))
     (tree.more_segments (a_name plain) tree.no_segments) tree.no_path)))
 
 abbrev pub cast_of_one : OptionExpr

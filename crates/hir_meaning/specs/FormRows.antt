@@ -5,6 +5,7 @@ use Rattle.hir_base.specs.declared.op.RangeOp.{RangeOp}
 use Rattle.hir_syntax.specs.declared.ast.Literal.{Literal}
 use Rattle.hir_store.specs.Pointers.{Pointer}
 use Rattle.hir_store.specs.Names.{IsWritten}
+use Rattle.hir_store.specs.declared.ids.GenericDefId.{GenericDefId}
 use Rattle.hir_store.specs.declared.hir.Mutability.{Mutability}
 use Rattle.hir_store.specs.declared.ids.LangItemId.{LangItemId}
 use Rattle.hir_store.specs.declared.name.Name.{Name}
@@ -12,7 +13,7 @@ use Rattle.hir_env.specs.Answered as tree
 use Rattle.hir_env.specs.Answered.{Expr, OptionExpr, Exprs, Block, OptionBlock, Type_, OptionType, Pat, OptionPat, Unary, Binary}
 use Rattle.hir_env.specs.Answered.{Leaving, RangeForm, Use, PatUnary, TypeUnary, FnHead, Binder, Listing}
 use Rattle.hir_env.specs.Answered.{Called, Origin, QuestionItems, Target}
-use Rattle.hir_env.specs.declared.place.ImplTrait.TheVariants.{Error, Opaque}
+use Rattle.hir_env.specs.declared.place.ImplTrait.TheVariants.{Error, Opaque, Argument}
 use Rattle.hir_meaning.specs.Inner.{Bodies, bodies_in, pat_part_bodies, part_bodies}
 use Rattle.hir_meaning.specs.InnerRows.{body, constants, constant, just, nevers, one_segment, with_list}
 
@@ -94,7 +95,7 @@ ExprsListParts = (at : Pointer) (l : Literal) (k : ℕ → Literal) (n : Name) (
 
 abbrev pub TypesListParts : Type 0
 TypesListParts = (at : Pointer) (l : Literal) (k : ℕ → Literal) (un : TypeUnary) (m : Mutability) (h : FnHead) (binder : Binder)
-    (maybe : Bool) (c : Called)
+    (maybe : Bool) (def : GenericDefId) (c : Called)
     → let t = t at l k in let lists = type_lists at l k in
     let bound = λ (i : ℕ). tree.path_bound at (one_segment (with_list (just (constant (body at (k i)))))) maybe binder in
     let bounds = tree.more_bounds (bound 0) (tree.more_bounds (bound 1) tree.no_bounds) in
@@ -106,6 +107,7 @@ TypesListParts = (at : Pointer) (l : Literal) (k : ℕ → Literal) (un : TypeUn
     × lists (tree.fn_type at h (tree.more_parts (t 0) (tree.more_parts (t 1) tree.no_parts)) (t 2)) (0 ∷ 1 ∷ 2 ∷ [])
     × lists (tree.impl_type at Opaque bounds) (0 ∷ 1 ∷ [])
     × lists (tree.impl_type at Error bounds) []
+    × lists (tree.impl_type at (Argument def) bounds) []
     × lists (tree.dyn_type at bounds) (0 ∷ 1 ∷ [])
     × lists (tree.macro_type at c (t 0)) (0 ∷ [])
 

@@ -127,6 +127,7 @@ module _ (r : Inners) where
   of_type (ty.ImplTrait bs) = all_of of_bound bs
   of_type (ty.DynTrait bs) = all_of of_bound bs
   of_type (ty.Pattern t p) = r.type t ++ r.type_pat p
+  of_type (ty.TypeParam p) = []
 
   abbrev pub of_limit : ExprId → List Inside
   of_limit e = by_itself e ∷ r.expr e

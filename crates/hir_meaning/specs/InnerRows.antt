@@ -66,18 +66,18 @@ plain = with_list tree.no_arg_list
 
 -- `A` with these arguments, and behind it another segment
 abbrev pub one_segment : SegmentArgs → OptionPath
-one_segment as' = tree.some_path (tree.path false (a_name as') tree.no_segments tree.no_path)
+one_segment as' = tree.some_path (tree.path None false (a_name as') tree.no_segments tree.no_path)
 
 abbrev pub then_another : SegmentArgs → Segment → OptionPath
-then_another as' s = tree.some_path (tree.path false (a_name as') (tree.more_segments s tree.no_segments) tree.no_path)
+then_another as' s = tree.some_path (tree.path None false (a_name as') (tree.more_segments s tree.no_segments) tree.no_path)
 
 -- `<[!; e] as A>`, and behind it another segment or none
 abbrev pub in_trait : Pointer → OptionExpr → OptionPath
 in_trait at e =
-    tree.some_path (tree.path false (tree.trait_segment (array at (never at) e) at (one_segment plain)) tree.no_segments tree.no_path)
+    tree.some_path (tree.path None false (tree.trait_segment (array at (never at) e) at (one_segment plain)) tree.no_segments tree.no_path)
 
 abbrev pub in_trait_then : Pointer → OptionExpr → OptionPath
-in_trait_then at e = tree.some_path (tree.path false (tree.trait_segment (array at (never at) e) at (one_segment plain))
+in_trait_then at e = tree.some_path (tree.path None false (tree.trait_segment (array at (never at) e) at (one_segment plain))
     (tree.more_segments (a_name plain) tree.no_segments) tree.no_path)
 
 -- `[[!; a]; b]`, `[!; a as [!; b]]` and `fn([!; a]) -> [!; b]`

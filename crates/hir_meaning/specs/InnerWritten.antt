@@ -9,7 +9,7 @@ use Rattle.hir_store.specs.declared.hir.CoroutineSource.{CoroutineSource}
 use Rattle.hir_store.specs.declared.hir.CoroutineSource.TheVariants as source
 use Rattle.hir_store.specs.declared.ids.BlockId.{BlockId}
 use Rattle.hir_env.specs.declared.place.ImplTrait.{ImplTrait}
-use Rattle.hir_env.specs.declared.place.ImplTrait.TheVariants.{Error, Opaque}
+use Rattle.hir_env.specs.declared.place.ImplTrait.TheVariants.{Error, Opaque, Argument}
 use Rattle.hir_env.specs.Answered as tree
 use Rattle.hir_env.specs.Answered.{Type_, OptionType, Parts, Path, OptionPath, Segments, Segment, SegmentArgs, OptionParens, OptionRet}
 use Rattle.hir_env.specs.Answered.{OptionArgs, Args, Arg, Bounds, Bound, Constant}
@@ -127,6 +127,7 @@ if_present (Some a) bs = bs
 abbrev pub if_opaque : ImplTrait → Bodies → Bodies
 if_opaque Error bs = []
 if_opaque Opaque bs = bs
+if_opaque (Argument def) bs = []
 
 abbrev mutual
   -- ---- constants
@@ -249,7 +250,7 @@ abbrev mutual
 
   -- the segments of a path and of the use trees around it, before these
   pub path_parts : Path → List Part → List Part
-  path_parts (tree.path leading first rest use_) behind =
+  path_parts (tree.path alias leading first rest use_) behind =
       outer_parts use_ (record {
         item = record { leading = leading; what = what true first };
         anchor = anchor_bodies first;

@@ -93,7 +93,7 @@ wild_data n = pat_at (Some (at n)) datum.wild_pattern
 -- `(a, .., S) = c`, where S stands for a struct
 
 abbrev pub path_s : Path
-path_s = tree.path false (tree.name_segment (name.Text (codes "S")) tt none_beside) tree.no_segments tree.no_path
+path_s = tree.path None false (tree.name_segment (name.Text (codes "S")) tt none_beside) tree.no_segments tree.no_path
 
 abbrev pub pair_target : Target
 pair_target = tree.tuple_target (origin None (at 1)) (tree.more_targets (tree.place_target (at 2) (name_at 97 2))

@@ -56,7 +56,7 @@ none_beside = tree.segment_args tree.no_arg_list tree.no_parens false
 
 -- the path of a name of one byte
 abbrev pub path_of : ℕ → OptionPath
-path_of c = tree.some_path (tree.path false (tree.name_segment (name.Text (c ∷ [])) tt none_beside) tree.no_segments tree.no_path)
+path_of c = tree.some_path (tree.path None false (tree.name_segment (name.Text (c ∷ [])) tt none_beside) tree.no_segments tree.no_path)
 
 abbrev pub name_at : ℕ → ℕ → Expr
 name_at c n = tree.path_expr (at n) (path_of c) root

@@ -60,6 +60,7 @@ pats_called b at i e = record {
   pat_leads = refl;
   type_leads = refl;
   names = unnamed refl;
+  params = unnamed refl;
   as_many = refl;
   owners = λ h. no_owners b.stored.bindings.owners refl;
 }
@@ -83,6 +84,7 @@ types_called b at i e = record {
   pat_leads = refl;
   type_leads = refl;
   names = unnamed refl;
+  params = unnamed refl;
   as_many = refl;
   owners = λ h. no_owners b.stored.bindings.owners refl;
 }

@@ -66,6 +66,7 @@ owning_takes {A = A} {owner = owner} {n = n} {p = p} h k =
       pat_leads = took.pat_leads;
       type_leads = took.type_leads;
       names = took.names;
+      params = took.params;
       as_many = as_many_owned n.exprs n.owners took.as_many;
       owners = λ m. last_owns b.stored.bindings.owners (length b.stored.exprs.entries) n.exprs n.owners (owner a)
           (length b.stored.bindings.entries) m (last ∙ took.exprs.more) (took.owners m);

@@ -25,7 +25,7 @@ define_takes k d = takes_end (takes_count k) (λ u. takes_pure (Some (defined d)
 
 pub takes_open_macro : (d : MacroDefId) → Takes nothing (open_macro d)
 unfolding open_macro
-takes_open_macro d = record { takes = λ b e. took_besides _ _ refl refl refl refl refl refl refl refl refl refl refl refl }
+takes_open_macro d = record { takes = λ b e. took_besides _ _ refl refl refl refl refl refl refl refl refl refl refl refl refl }
 
 pub inside_takes : {A : Type 0} {n : Size} (d : MacroDefId) {p : Lowering A} → Takes n p → Takes n (inside_macro d p)
 unfolding inside_macro

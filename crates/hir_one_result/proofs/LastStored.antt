@@ -22,6 +22,9 @@ use Rattle.hir_store.specs.declared.type_ref.ConstRef.{ConstRef}
 use Rattle.hir_store.specs.declared.type_ref.TypeBound.{TypeBound}
 use Rattle.hir_store.specs.declared.type_ref.TypeRef.{TypeRef}
 use Rattle.hir_env.specs.declared.place.ImplTrait.{ImplTrait}
+use Rattle.hir_env.specs.declared.place.ImplTrait.TheVariants as becomes
+use Rattle.hir_lower_form.specs.declared.generics.Notes.{Notes}
+use Rattle.hir_lower_form.specs.Lowering.{add_param, argument_form, becoming, note_down}
 use Rattle.hir_env.specs.Answered as tree
 use Rattle.hir_env.specs.Answered.{Binder, Called, FnHead, TypeUnary, OptionPat, OptionType, Pat, Pats, PatUnary, Signed, Type_}
 use Rattle.hir_env.specs.Answered.{TypePat, Use}
@@ -356,6 +359,19 @@ module _ (at : Pointer) where
   uncalled_type_last tree.callless = stored_last _ _
   uncalled_type_last c = called_type_last c error_last
 
+-- what an `impl` becomes
+
+stays_note_down : (f : Notes → Notes) → Stays types_in (note_down f)
+unfolding note_down
+stays_note_down f = record { stays = λ b. refl }
+
+becoming_last : (at : Pointer) (mode : ImplTrait) (bounds : List TypeBound) → LastType (becoming at mode bounds)
+unfolding argument_form
+becoming_last at becomes.Error bounds = stored_last _ _
+becoming_last at becomes.Opaque bounds = stored_last _ _
+becoming_last at (becomes.Argument def) bounds = lastly types_in (add_param _)
+    (λ k. last_before types_in (λ i. i) (λ i. refl) (stored_last _ _) (λ t. stays_note_down _))
+
 -- forms of types
 
 module _ (at : Pointer) where
@@ -387,7 +403,7 @@ module _ (at : Pointer) where
 
   impl_last : (mode : ImplTrait) (bs : Lowering (List TypeBound)) → LastType (types.impl_type_form at mode bs)
   unfolding types.impl_type_form
-  impl_last mode bs = lastly types_in bs (λ is. stored_last _ _)
+  impl_last mode bs = lastly types_in bs (λ is. becoming_last at mode is)
 
   dyn_last : (bs : Lowering (List TypeBound)) → LastType (types.dyn_type_form at bs)
   unfolding types.dyn_type_form

@@ -71,6 +71,7 @@ takes_made e source = record { takes = λ b d. by b (nat_lt (length b.stored.exp
       pat_leads = refl;
       type_leads = refl;
       names = unnamed refl;
+      params = unnamed refl;
       as_many = refl;
       owners = λ h. no_owners b.stored.bindings.owners refl;
     }
@@ -108,11 +109,12 @@ takes_number = record { takes = λ b d. by b (nat_lt (suc b.names) (2 ^ 32)) ref
       pat_leads = refl;
       type_leads = refl;
       names = sym (add-one b.names);
+      params = unnamed refl;
       as_many = refl;
       owners = λ h. no_owners b.stored.bindings.owners refl;
     }
     by b false is = let far = ltb-false (suc b.names) (2 ^ 32) is in
-        inr (inr (inr (inr (inr (inr (inr (subst (λ k. 2 ^ 32 ≤ k) (sym (add-one b.names)) far)))))))
+        inr (inr (inr (inr (inr (inr (inr (inl (subst (λ k. 2 ^ 32 ≤ k) (sym (add-one b.names)) far))))))))
 
 pub takes_target : Takes nothing try_target
 unfolding try_target
@@ -156,6 +158,7 @@ takes_named at typed k = record { takes = λ b d. by b (nat_lt (length b.stored.
       pat_leads = refl;
       type_leads = refl;
       names = unnamed refl;
+      params = unnamed refl;
       as_many = refl;
       owners = λ h. no_owners b.stored.bindings.owners refl;
     }

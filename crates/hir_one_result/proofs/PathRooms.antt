@@ -39,11 +39,12 @@ use Rattle.hir_lower_form.specs.Types.{TypeSteps, error_type, unit_type, lower_l
 use Rattle.hir_lower_form.specs.Types.{over_form, array_type_form, tuple_type_form, path_type_form, ref_type_form, fn_type_form}
 use Rattle.hir_lower_form.specs.Types.{impl_type_form, dyn_type_form, add_arg, add_binding, is_none_of, yielded, binding_form}
 use Rattle.hir_lower_form.specs.Types.{path_bound_of, path_bound_form}
-use Rattle.hir_one_result.specs.Size.{Size, nothing, a_type, a_lifetime, a_super, ◌∪◌, if_so}
+use Rattle.hir_one_result.specs.Size.{Size, an_impl, nothing, a_type, a_lifetime, a_super, ◌∪◌, if_so}
 use Rattle.hir_one_result.specs.PathRoom as room
 use Rattle.hir_one_result.specs.Room.{Short}
 use Rattle.hir_one_result.specs.PathRoom.{Seen, Read, refused, ended, goes_on, after, at_first, anew, one_more, self_read, found}
 use Rattle.hir_one_result.specs.PathRoom.{projected, before, lifetime_size, use_size, uses_size}
+use Rattle.hir_one_result.proofs.NoteRooms.{becoming_takes, naming_keeps, takes_noted}
 use Rattle.hir_one_result.proofs.Rooms.{Takes, takes_then, takes_end, takes_pure, takes_type, takes_lifetime}
 use Rattle.hir_one_result.proofs.Took.{Same}
 use Rattle.hir_one_result.proofs.Tellings.{Tells, tells_then, tells_as, tells_pure, tells_end, anything, tells_any, takes_of}
@@ -179,6 +180,7 @@ counts_so_far X = record {
   bindings = refl;
   owners = refl;
   names = refl;
+  params = refl;
   pats = refl;
   types = refl;
   lifetimes = refl;
@@ -224,7 +226,7 @@ unit_takes = takes_type _ None
 
 pub lifetime_takes : (l : Lifetime) → Takes (a_lifetime (Some l.pointer)) (lower_lifetime l)
 unfolding lower_lifetime
-lifetime_takes l = takes_lifetime _ _
+lifetime_takes l = takes_noted _ (naming_keeps l.scope l.lifetime) (takes_lifetime _ _)
 
 pub lifetime_option_takes : (l : Option Lifetime) → Takes (lifetime_size l) (lower_lifetime_option l)
 lifetime_option_takes None = takes_pure None
@@ -267,9 +269,9 @@ module _ (at : Pointer) where
   fn_takes binder head h m = takes_then h (λ r. takes_then m (λ ts. takes_type _ _))
 
   pub impl_takes : (mode : ImplTrait) {n : Size} {bs : Lowering (List TypeBound)} → Takes n bs
-      → Takes (n ∪ a_type (Some at)) (impl_type_form at mode bs)
+      → Takes (n ∪ an_impl mode at) (impl_type_form at mode bs)
   unfolding impl_type_form
-  impl_takes mode h = takes_then h (λ bs. takes_type _ _)
+  impl_takes mode h = takes_then h (λ bs. becoming_takes at mode bs)
 
   pub dyn_takes : {n : Size} {bs : Lowering (List TypeBound)} → Takes n bs → Takes (n ∪ a_type (Some at)) (dyn_type_form at bs)
   unfolding dyn_type_form

@@ -50,6 +50,7 @@ use Rattle.hir_data.specs.Written.{written_path}
 use Rattle.hir_read_back.proofs.Now.{path_now}
 use Rattle.hir_steps.proofs.Constants.{with_root}
 use Rattle.hir_steps.proofs.Frames.{ribs}
+use Rattle.hir_steps.proofs.Noted.{correct_becoming, correct_noted}
 use Rattle.hir_steps.proofs.Steps.{with_lifetime, with_type}
 use Rattle.hir_one_result.specs.Leads.{Way, Ways, No, OneUnled, OwnedBy, ◌&◌}
 use Rattle.hir_one_result.specs.Stands.{Open, WhereOn, WherePath, Unless, StandsAlone, StandsItem, StandsOneName}
@@ -102,7 +103,7 @@ unit_leaves = type_leaves _ None
 
 pub lifetime_leaves : (l : Lifetime) → Correct (lower_lifetime l) (Leaves nothing)
 unfolding lower_lifetime
-lifetime_leaves l = lifetime_ref_leaves _ _
+lifetime_leaves l = correct_noted _ (lifetime_ref_leaves _ _)
 
 lifetime_option_leaves : (l : Option Lifetime) → Correct (lower_lifetime_option l) (Leaves nothing)
 lifetime_option_leaves None = ways_pure None
@@ -163,7 +164,7 @@ module _ (at : Pointer) where
   pub impl_leaves : (mode : ImplTrait) {D : Stored → Open → Ways} {bs : Lowering (List TypeBound)} → Correct bs (Leaves D)
       → Correct (impl_type_form at mode bs) (Leaves D)
   unfolding impl_type_form
-  impl_leaves mode h = ways_end h (λ bs. type_leaves _ _)
+  impl_leaves mode h = ways_end h (λ bs. correct_becoming at mode bs (λ t e. type_leaves t (Some at)))
 
   pub dyn_leaves : {D : Stored → Open → Ways} {bs : Lowering (List TypeBound)} → Correct bs (Leaves D)
       → Correct (dyn_type_form at bs) (Leaves D)

@@ -6,6 +6,7 @@ use Rattle.hir_lower_form.specs.Paths as steps
 use Rattle.hir_one_result.specs.Blocks.{where_goes_on, unless}
 use Rattle.hir_one_result.specs.PathRoom.{Seen, Read, at_first}
 use Rattle.hir_steps.proofs.Aside.{aside_type, lifetime_option_aside, counted_aside}
+use Rattle.hir_steps.proofs.Noted.{correct_becoming}
 use Rattle.hir_steps.proofs.Steps.{Correct, correct_bind, correct_as}
 use Rattle.hir_one_result.proofs.Tellings as known
 use Rattle.hir_one_result.proofs.PathRooms.{seen, seen_of, Gives, Yields}
@@ -73,7 +74,7 @@ module _ {X : Type 0} (L : Listing X) where
     pub impl_tells : (mode : ImplTrait) {D : List Scope → List X} {bs : Lowering (List TypeBound)} → Correct bs (Tells L D)
         → Correct (impl_type_form at mode bs) (Tells L D)
     unfolding impl_type_form
-    impl_tells mode h = tells_end L h (λ bs. tells_type _ _)
+    impl_tells mode h = tells_end L h (λ bs. correct_becoming at mode bs (λ t e. tells_type t (Some at)))
 
     pub dyn_tells : {D : List Scope → List X} {bs : Lowering (List TypeBound)} → Correct bs (Tells L D)
         → Correct (dyn_type_form at bs) (Tells L D)

@@ -87,13 +87,13 @@ takes_pure a = record { takes = λ b d. took_none b }
 
 pub takes_report : (d : ExpressionStoreDiagnostics) → Takes nothing (report d)
 unfolding report storing.report
-takes_report d = record { takes = λ b d. took_besides _ _ refl refl refl refl refl refl refl refl refl refl refl refl }
+takes_report d = record { takes = λ b d. took_besides _ _ refl refl refl refl refl refl refl refl refl refl refl refl refl }
 
 -- what only tells
 pub takes_only : {es : Expansions} {ds : List ExpressionStoreDiagnostics} {p : Lowering (Unit {0})} → Only es ds p → Takes nothing p
 takes_only h = record {
   takes = λ b d. subst (λ r. Room nothing b r.0 r.1) (sym (h.is b))
-      (took_besides _ _ refl refl refl refl refl refl refl refl refl refl refl refl);
+      (took_besides _ _ refl refl refl refl refl refl refl refl refl refl refl refl refl);
 }
 
 pub takes_report_await : (at : Pointer) (location : Option AwaitLocation) → Takes nothing (report_await at location)
@@ -104,19 +104,19 @@ takes_report_await at (Some l) = takes_report _
 pub takes_block : (n : Option BlockId) → Takes nothing (enter_block n)
 unfolding enter_block storing.enter_block
 takes_block None = takes_pure tt
-takes_block (Some n) = record { takes = λ b d. took_besides _ _ refl refl refl refl refl refl refl refl refl refl refl refl }
+takes_block (Some n) = record { takes = λ b d. took_besides _ _ refl refl refl refl refl refl refl refl refl refl refl refl refl }
 
 pub takes_close : Takes nothing close
 unfolding close
-takes_close = record { takes = λ b d. took_besides _ _ refl refl refl refl refl refl refl refl refl refl refl refl }
+takes_close = record { takes = λ b d. took_besides _ _ refl refl refl refl refl refl refl refl refl refl refl refl refl }
 
 pub takes_point : (at : Pointer) (i : ExprId) → Takes nothing (point at i)
 unfolding point storing.point
-takes_point at i = record { takes = λ b d. took_besides _ _ refl refl refl refl refl refl refl refl refl refl refl refl }
+takes_point at i = record { takes = λ b d. took_besides _ _ refl refl refl refl refl refl refl refl refl refl refl refl refl }
 
 pub takes_point_field : (i : ExprId) (at : Pointer) → Takes nothing (point_field i at)
 unfolding point_field storing.point_field
-takes_point_field i at = record { takes = λ b d. took_besides _ _ refl refl refl refl refl refl refl refl refl refl refl refl }
+takes_point_field i at = record { takes = λ b d. took_besides _ _ refl refl refl refl refl refl refl refl refl refl refl refl refl }
 
 pub takes_jump : (j : Option Jump) → Takes nothing (jump_target j)
 unfolding jump_target report storing.report
@@ -124,9 +124,9 @@ takes_jump None = takes_pure None
 takes_jump (Some j) = record { takes = λ b d. by b (target j b.scopes) }
   where
     by : (b : Builder) (t : Target LabelId) → Room nothing b (found_or_fault j t b).0 (found_or_fault j t b).1
-    by b (reachable n) = took_besides _ _ refl refl refl refl refl refl refl refl refl refl refl refl
-    by b unreachable = took_besides _ _ refl refl refl refl refl refl refl refl refl refl refl refl
-    by b undeclared = took_besides _ _ refl refl refl refl refl refl refl refl refl refl refl refl
+    by b (reachable n) = took_besides _ _ refl refl refl refl refl refl refl refl refl refl refl refl refl
+    by b unreachable = took_besides _ _ refl refl refl refl refl refl refl refl refl refl refl refl refl
+    by b undeclared = took_besides _ _ refl refl refl refl refl refl refl refl refl refl refl refl refl
 
 abbrev pub made_expr : Bool → Expr → Option Pointer → Sourced Expr ExprId → Checked ExprId × Sourced Expr ExprId
 made_expr t e source a = if t then (Ok (expr_id (length a.entries)), with_entry expr_id a e source) else (Err Full, a)
@@ -161,6 +161,7 @@ takes_alloc e source = record { takes = λ b d. by b (nat_lt (length b.stored.ex
       pat_leads = refl;
       type_leads = refl;
       names = unnamed refl;
+      params = unnamed refl;
       as_many = refl;
       owners = λ h. no_owners b.stored.bindings.owners refl;
     }
@@ -204,6 +205,7 @@ takes_open l = record { takes = λ b d. by b (nat_lt (length b.stored.labels.ent
       pat_leads = refl;
       type_leads = refl;
       names = unnamed refl;
+      params = unnamed refl;
       as_many = refl;
       owners = λ h. no_owners b.stored.bindings.owners refl;
     }
@@ -242,6 +244,7 @@ takes_type x source = record { takes = λ b d. by b (nat_lt (length b.stored.typ
       pat_leads = refl;
       type_leads = refl;
       names = unnamed refl;
+      params = unnamed refl;
       as_many = refl;
       owners = λ h. no_owners b.stored.bindings.owners refl;
     }
@@ -282,6 +285,7 @@ takes_lifetime x source = record { takes = λ b d. by b (nat_lt (length b.stored
       pat_leads = refl;
       type_leads = refl;
       names = unnamed refl;
+      params = unnamed refl;
       as_many = refl;
       owners = λ h. no_owners b.stored.bindings.owners refl;
     }
@@ -324,6 +328,7 @@ takes_pat x source = record { takes = λ b d. by b (nat_lt (length b.stored.pats
       pat_leads = refl;
       type_leads = refl;
       names = unnamed refl;
+      params = unnamed refl;
       as_many = refl;
       owners = λ h. no_owners b.stored.bindings.owners refl;
     }
@@ -364,6 +369,7 @@ takes_made_pat x source = record { takes = λ b d. by b (nat_lt (length b.stored
       pat_leads = refl;
       type_leads = refl;
       names = unnamed refl;
+      params = unnamed refl;
       as_many = refl;
       owners = λ h. no_owners b.stored.bindings.owners refl;
     }
@@ -402,6 +408,7 @@ takes_binding x = record { takes = λ b d. by b (nat_lt (length b.stored.binding
       pat_leads = refl;
       type_leads = refl;
       names = unnamed refl;
+      params = unnamed refl;
       as_many = refl;
       owners = λ h. refl;
     }
@@ -410,41 +417,41 @@ takes_binding x = record { takes = λ b d. by b (nat_lt (length b.stored.binding
 
 pub takes_define : (id : BindingId) (p : PatId) → Takes nothing (define id p)
 unfolding define storing.define
-takes_define id p = record { takes = λ b d. took_besides _ _ refl refl refl refl refl refl refl refl refl refl refl refl }
+takes_define id p = record { takes = λ b d. took_besides _ _ refl refl refl refl refl refl refl refl refl refl refl refl refl }
 
 pub takes_problem : (id : BindingId) (problem : Option BindingProblems) → Takes nothing (set_problem id problem)
 unfolding set_problem storing.set_problem
 takes_problem id problem = record {
   takes = λ b d. took_besides _ _ refl refl refl refl (length_at id.0 (problem_set problem) b.stored.bindings.entries)
-      refl refl refl refl refl refl refl;
+      refl refl refl refl refl refl refl refl;
 }
 
 pub takes_point_pat_field : (i : PatId) (at : Pointer) → Takes nothing (point_pat_field i at)
 unfolding point_pat_field storing.point_pat_field
-takes_point_pat_field i at = record { takes = λ b d. took_besides _ _ refl refl refl refl refl refl refl refl refl refl refl refl }
+takes_point_pat_field i at = record { takes = λ b d. took_besides _ _ refl refl refl refl refl refl refl refl refl refl refl refl refl }
 
 -- behind a barrier, and a constant there in a root
 
 pub takes_barrier : Takes nothing open_barrier
 unfolding open_barrier
-takes_barrier = record { takes = λ b d. took_besides _ _ refl refl refl refl refl refl refl refl refl refl refl refl }
+takes_barrier = record { takes = λ b d. took_besides _ _ refl refl refl refl refl refl refl refl refl refl refl refl refl }
 
 pub takes_close_barrier : (outside : Bool) → Takes nothing (close_barrier outside)
 unfolding close_barrier
-takes_close_barrier outside = record { takes = λ b d. took_besides _ _ refl refl refl refl refl refl refl refl refl refl refl refl }
+takes_close_barrier outside = record { takes = λ b d. took_besides _ _ refl refl refl refl refl refl refl refl refl refl refl refl refl }
 
 pub takes_note : Takes nothing note_yield
 unfolding note_yield
-takes_note = record { takes = λ b d. took_besides _ _ refl refl refl refl refl refl refl refl refl refl refl refl }
+takes_note = record { takes = λ b d. took_besides _ _ refl refl refl refl refl refl refl refl refl refl refl refl refl }
 
 takes_enter : Takes nothing enter_root
 unfolding enter_root
-takes_enter = record { takes = λ b d. took_besides _ _ refl refl refl refl refl refl refl refl refl refl refl refl }
+takes_enter = record { takes = λ b d. took_besides _ _ refl refl refl refl refl refl refl refl refl refl refl refl refl }
 
 takes_leave : (outer : Bool) (id : ExprId) → Takes nothing (leave_root outer id)
 unfolding leave_root record_root outside_root storing.record_root
 takes_leave true id = takes_pure tt
-takes_leave false id = record { takes = λ b d. took_besides _ _ refl refl refl refl refl refl refl refl refl refl refl refl }
+takes_leave false id = record { takes = λ b d. took_besides _ _ refl refl refl refl refl refl refl refl refl refl refl refl refl }
 
 as_body : (x : InnerBody) (n : Size) → Same n (a_body x n)
 as_body x n = record {
@@ -453,6 +460,7 @@ as_body x n = record {
   bindings = refl;
   owners = refl;
   names = refl;
+  params = refl;
   pats = refl;
   types = refl;
   lifetimes = refl;

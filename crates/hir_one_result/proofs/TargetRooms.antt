@@ -56,6 +56,7 @@ targets_pointed b at i e = record {
   pat_leads = refl;
   type_leads = refl;
   names = unnamed refl;
+  params = unnamed refl;
   as_many = refl;
   owners = λ h. no_owners b.stored.bindings.owners refl;
 }
@@ -104,6 +105,7 @@ module _ (at : Origin) where
     bindings = refl;
     owners = refl;
     names = refl;
+    params = refl;
     pats = refl;
     types = refl;
     lifetimes = refl;
@@ -117,6 +119,7 @@ module _ (at : Origin) where
     bindings = refl;
     owners = refl;
     names = refl;
+    params = refl;
     pats = refl;
     types = refl;
     lifetimes = refl;

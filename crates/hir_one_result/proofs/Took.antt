@@ -50,7 +50,10 @@ listed_first xs ys l a h = over_as l a (joined xs ys) (over_first (length xs) (l
 listed_then : {A : Type 0} (xs ys : List A) {l a l' b : ℕ} → Grew (length xs) l a l' b → l' < b + length ys → l < a + length (xs ++ ys)
 listed_then xs ys {l = l} {a = a} g h = over_as l a (joined xs ys) (over_then (length ys) g h)
 
--- so much more is stored, and so many names more are made up
+abbrev pub params_in : Builder → ℕ
+params_in b = length b.notes.generics.type_or_consts
+
+-- so much more is stored, so many names more are made up, and there are so many parameters more
 pub record Took (n : Size) (before after : Builder) : Type 0 where
   pub exprs : let a = before.stored.exprs in let b = after.stored.exprs in
       Grew n.exprs a.limit (length a.entries) b.limit (length b.entries)
@@ -75,6 +78,7 @@ pub record Took (n : Size) (before after : Builder) : Type 0 where
   pub pat_leads : length (sources_led n.pat_leads) ≡ length n.pats
   pub type_leads : sources_led n.type_leads ≡ n.types
   pub names : after.names ≡ before.names + n.names
+  pub params : params_in after ≡ params_in before + n.params
   pub as_many : length n.owners ≡ n.bindings
   pub owners : MayBeOwned before.stored
       → after.stored.bindings.owners ≡ before.stored.bindings.owners ++ placed (length before.stored.exprs.entries) n.owners
@@ -90,6 +94,7 @@ pub record Same (n k : Size) : Type 0 where
   pub bindings : n.bindings ≡ k.bindings
   pub owners : n.owners ≡ k.owners
   pub names : n.names ≡ k.names
+  pub params : n.params ≡ k.params
   pub pats : n.pats ≡ k.pats
   pub types : n.types ≡ k.types
   pub lifetimes : n.lifetimes ≡ k.lifetimes
@@ -97,7 +102,8 @@ pub record Same (n k : Size) : Type 0 where
   pub type_leads : n.type_leads ≡ k.type_leads
   pub overcounts : n.overcounts → k.overcounts
 
--- there is as little room for more, where it is so for each arena, for what overcounts, and for the names that are made up
+-- there is as little room for more, where it is so for each arena, for what overcounts, for the names that are made up, and for
+-- parameters
 shorter : (n k : Size) (b c : Builder) → let s = b.stored in let t = c.stored in
     (s.exprs.limit < length s.exprs.entries + n.exprs → t.exprs.limit < length t.exprs.entries + k.exprs)
     → (s.labels.limit < length s.labels.entries + n.labels → t.labels.limit < length t.labels.entries + k.labels)
@@ -106,11 +112,12 @@ shorter : (n k : Size) (b c : Builder) → let s = b.stored in let t = c.stored 
     → (s.types.limit < length s.types.entries + length n.types → t.types.limit < length t.types.entries + length k.types)
     → (s.lifetimes.limit < length s.lifetimes.entries + length n.lifetimes
     → t.lifetimes.limit < length t.lifetimes.entries + length k.lifetimes)
-    → (n.overcounts → k.overcounts) → (2 ^ 32 ≤ b.names + n.names → 2 ^ 32 ≤ c.names + k.names) → Short n b → Short k c
-shorter n k b c e l p d y f o m h =
+    → (n.overcounts → k.overcounts) → (2 ^ 32 ≤ b.names + n.names → 2 ^ 32 ≤ c.names + k.names)
+    → (2 ^ 32 ≤ params_in b + n.params → 2 ^ 32 ≤ params_in c + k.params) → Short n b → Short k c
+shorter n k b c e l p d y f o m r h =
     ⊎_elim (λ x. inl (e x)) (λ g. inr (⊎_elim (λ x. inl (l x)) (λ g. inr (⊎_elim (λ x. inl (p x)) (λ g. inr (⊎_elim (λ x. inl (d x))
-    (λ g. inr (⊎_elim (λ x. inl (y x)) (λ g. inr (⊎_elim (λ x. inl (f x)) (λ g. inr (⊎_elim (λ x. inl (o x)) (λ x. inr (m x))
-    g)) g)) g)) g)) g)) g)) h
+    (λ g. inr (⊎_elim (λ x. inl (y x)) (λ g. inr (⊎_elim (λ x. inl (f x)) (λ g. inr (⊎_elim (λ x. inl (o x)) (λ g. inr (⊎_elim
+    (λ x. inl (m x)) (λ x. inr (r x)) g)) g)) g)) g)) g)) g)) g)) h
 
 -- of names
 as_far : (far a n k : ℕ) → far ≤ a + n → far ≤ a + (n + k)
@@ -130,7 +137,7 @@ short_first n k b h = let s = b.stored in shorter n (n ∪ k) b b
     (λ x. over_first n.bindings k.bindings s.bindings.limit (length s.bindings.entries) x)
     (λ x. listed_first n.types k.types s.types.limit (length s.types.entries) x)
     (λ x. listed_first n.lifetimes k.lifetimes s.lifetimes.limit (length s.lifetimes.entries) x)
-    (λ o. inl o) (λ x. as_far (2 ^ 32) b.names n.names k.names x) h
+    (λ o. inl o) (λ x. as_far (2 ^ 32) b.names n.names k.names x) (λ x. as_far (2 ^ 32) (params_in b) n.params k.params x) h
 
 pub short_then : {n : Size} (k : Size) (a b : Builder) → Took n a b → Short k b → Short (n ∪ k) a
 short_then {n = n} k a b t h = shorter k (n ∪ k) b a
@@ -140,7 +147,8 @@ short_then {n = n} k a b t h = shorter k (n ∪ k) b a
     (λ x. over_then k.bindings t.bindings x)
     (λ x. listed_then n.types k.types t.types x)
     (λ x. listed_then n.lifetimes k.lifetimes t.lifetimes x)
-    (λ o. inr o) (λ x. as_far_then (2 ^ 32) a.names b.names n.names k.names t.names x) h
+    (λ o. inr o) (λ x. as_far_then (2 ^ 32) a.names b.names n.names k.names t.names x)
+    (λ x. as_far_then (2 ^ 32) (params_in a) (params_in b) n.params k.params t.params x) h
 
 pub short_as : {n k : Size} (b : Builder) → Same n k → Short n b → Short k b
 short_as {n = n} {k = k} b same h = let s = b.stored in shorter n k b b
@@ -150,7 +158,7 @@ short_as {n = n} {k = k} b same h = let s = b.stored in shorter n k b b
     (λ x. over_as s.bindings.limit (length s.bindings.entries) same.bindings x)
     (λ x. over_as s.types.limit (length s.types.entries) (ap length same.types) x)
     (λ x. over_as s.lifetimes.limit (length s.lifetimes.entries) (ap length same.lifetimes) x)
-    same.overcounts (λ x. as_far_as (2 ^ 32) b.names same.names x) h
+    same.overcounts (λ x. as_far_as (2 ^ 32) b.names same.names x) (λ x. as_far_as (2 ^ 32) (params_in b) same.params x) h
 
 then_more : (xs ys zs : List (Option Pointer)) {us vs : List (Option Pointer)} → us ≡ xs ++ ys → vs ≡ us ++ zs → vs ≡ xs ++ (ys ++ zs)
 then_more xs ys zs e f = f ∙ (ap (λ ws. ws ++ zs) e ∙ append_assoc xs ys zs)
@@ -202,6 +210,7 @@ took_then {n = n} {k = k} a b c t u = record {
   pat_leads = long_both n.pat_leads k.pat_leads n.pats k.pats t.pat_leads u.pat_leads;
   type_leads = same_both n.type_leads k.type_leads t.type_leads u.type_leads;
   names = named_then a.names b.names c.names n.names k.names t.names u.names;
+  params = named_then (params_in a) (params_in b) (params_in c) n.params k.params t.params u.params;
   as_many = as_many_both n.exprs n.owners k.owners t.as_many u.as_many;
   owners = λ h. owners_then a.stored.bindings.owners (length a.stored.exprs.entries) n.exprs n.owners k.owners t.exprs.more (t.owners h)
       (u.owners (may_be_owned t h));
@@ -226,6 +235,7 @@ took_as {a = a} same t = record {
   pat_leads = sym (ap (λ xs. length (sources_led xs)) same.pat_leads) ∙ (t.pat_leads ∙ ap length same.pats);
   type_leads = sym (ap sources_led same.type_leads) ∙ (t.type_leads ∙ same.types);
   names = t.names ∙ ap (λ k. a.names + k) same.names;
+  params = t.params ∙ ap (λ k. params_in a + k) same.params;
   as_many = sym (ap length same.owners) ∙ (t.as_many ∙ same.bindings);
   owners = λ h. t.owners h
       ∙ ap (λ os. a.stored.bindings.owners ++ placed (length a.stored.exprs.entries) os) same.owners;
@@ -254,8 +264,8 @@ pub took_besides : (before after : Builder) → let a = before.stored in let b =
     b.exprs.entries ≡ a.exprs.entries → b.exprs.sources ≡ a.exprs.sources → b.exprs.limit ≡ a.exprs.limit → b.labels ≡ a.labels
     → length b.bindings.entries ≡ length a.bindings.entries → b.bindings.limit ≡ a.bindings.limit → b.bindings.owners ≡ a.bindings.owners
     → b.pats ≡ a.pats → b.target_map ≡ a.target_map → b.types ≡ a.types → b.lifetimes ≡ a.lifetimes → after.names ≡ before.names
-    → Took nothing before after
-took_besides before after e from limit l n most os p w t f k = let a = before.stored in record {
+    → params_in after ≡ params_in before → Took nothing before after
+took_besides before after e from limit l n most os p w t f k r = let a = before.stored in record {
   exprs = grew_none (ap length e) limit;
   labels = still a.labels l;
   bindings = grew_none n most;
@@ -278,12 +288,13 @@ took_besides before after e from limit l n most os p w t f k = let a = before.st
   type_sources = no_sources a.types t;
   lifetime_sources = no_sources a.lifetimes f;
   names = unnamed k;
+  params = unnamed r;
   as_many = refl;
   owners = λ h. no_owners a.bindings.owners os;
 }
 
 pub took_none : (b : Builder) → Took nothing b b
-took_none b = took_besides b b refl refl refl refl refl refl refl refl refl refl refl refl
+took_none b = took_besides b b refl refl refl refl refl refl refl refl refl refl refl refl refl
 
 no_more : (n : ℕ) → n + 0 ≡ n
 no_more n = omega arith
@@ -301,6 +312,7 @@ none_after n = record {
   bindings = no_more n.bindings;
   owners = append-nil n.owners;
   names = no_more n.names;
+  params = no_more n.params;
   pats = append-nil n.pats;
   types = append-nil n.types;
   lifetimes = append-nil n.lifetimes;
@@ -316,6 +328,7 @@ none_before n = record {
   bindings = none_first n.bindings;
   owners = further_none n.owners;
   names = none_first n.names;
+  params = none_first n.params;
   pats = refl;
   types = refl;
   lifetimes = refl;
@@ -332,6 +345,7 @@ nothing_first n = record {
   bindings = sym (none_first n.bindings);
   owners = sym (further_none n.owners);
   names = sym (none_first n.names);
+  params = sym (none_first n.params);
   pats = refl;
   types = refl;
   lifetimes = refl;
@@ -347,6 +361,7 @@ moved_in n k j = record {
   bindings = one_by_one n.bindings k.bindings j.bindings;
   owners = owners_joined n.exprs k.exprs n.owners k.owners j.owners;
   names = one_by_one n.names k.names j.names;
+  params = one_by_one n.params k.params j.params;
   pats = sym (append_assoc n.pats k.pats j.pats);
   types = sym (append_assoc n.types k.types j.types);
   lifetimes = sym (append_assoc n.lifetimes k.lifetimes j.lifetimes);
@@ -362,6 +377,7 @@ moved_out n k j = record {
   bindings = sym (one_by_one n.bindings k.bindings j.bindings);
   owners = sym (owners_joined n.exprs k.exprs n.owners k.owners j.owners);
   names = sym (one_by_one n.names k.names j.names);
+  params = sym (one_by_one n.params k.params j.params);
   pats = append_assoc n.pats k.pats j.pats;
   types = append_assoc n.types k.types j.types;
   lifetimes = append_assoc n.lifetimes k.lifetimes j.lifetimes;

@@ -27,6 +27,7 @@ use Rattle.hir_env.specs.Targets.{head_pointer}
 use Rattle.hir_lower_form.specs.Lowering.{Lowering}
 use Rattle.hir_steps.proofs.Aside.{error_aside, unit_aside, lifetime_aside, uses_aside}
 use Rattle.hir_steps.proofs.Frames.{frames, ribs}
+use Rattle.hir_steps.proofs.Noted.{correct_aliased}
 use Rattle.hir_steps.proofs.Steps.{Correct, with_block}
 use Rattle.hir_one_result.specs.Blocks.{blocks_of_fields, blocks_of_field, blocks_of_spread, blocks_of, blocks_of_part, blocks_of_each}
 use Rattle.hir_one_result.specs.Blocks.{blocks_of_block, blocks_of_block_part, blocks_of_stmts, blocks_of_stmt, blocks_of_type}
@@ -66,6 +67,7 @@ use Rattle.hir_lower_form.specs.declared.args.ArgLists.{ArgLists}
 use Rattle.hir_lower_form.specs.declared.closures.ClosureParams.{ClosureParams}
 use Rattle.hir_lower_form.specs.Lower.{lower_params, lower_param, lower_rooted, no_closure_params}
 use Rattle.hir_lower_form.specs.declared.walk.PathWalk.{PathWalk}
+use Rattle.hir_lower_form.specs.Paths.{alias_of}
 use Rattle.hir_lower_form.specs.Types.{no_lists}
 use Rattle.hir_store.specs.declared.hir.MatchArm.{MatchArm}
 use Rattle.hir_store.specs.declared.pat.RecordFieldPat.{RecordFieldPat}
@@ -190,7 +192,7 @@ mutual
       reads_then entered (λ y ss. blocks_of_segment false s y) (segments_enters more w) (each_tells more w) (λ v. segment_enters false s v)
 
   reading_enters : (p : Path) (w : PathWalk) → Enters (blocks_of_path p (seen w)) (read_path p w)
-  reading_enters (tree.path leading first rest use_) w =
+  reading_enters (tree.path alias leading first rest use_) w =
       whole_tells entered (λ y ss. blocks_of_outer use_ y)
       (reads_then entered (λ y ss. blocks_of_segment true first (at_first leading y)) (segments_enters rest w) (each_tells rest w)
       (λ v. first_tells entered leading v (λ y ss. blocks_of_segment true first y)
@@ -203,7 +205,8 @@ mutual
 
   pub whole_enters : (p : OptionPath) → Enters (blocks_of_whole p) (lower_path p)
   whole_enters tree.no_path = tells_pure entered None
-  whole_enters (tree.some_path p) = tells_end entered (reading_enters p start) (λ r. tells_pure entered _)
+  whole_enters (tree.some_path p) =
+      correct_aliased (alias_of p) (tells_end entered (reading_enters p start) (λ r. tells_pure entered _))
 
   beside_enters : (as' : SegmentArgs) → Enters (blocks_of_beside as') (lower_segment_args as')
   beside_enters (tree.segment_args as' ps dots) = beside_tells entered (args_enters as') (args_tell as') (parens_enters ps) dots
@@ -488,7 +491,8 @@ mutual
       tells_bind entered (told_tells entered c) (λ u. pointed_tells entered at (target_enters t))
   target_enters (tree.wild_target at) = target_tells entered _ at
   target_enters (tree.path_target at p h) =
-      path_target_tells entered at h (tells_end entered (reading_enters p start) (λ r. tells_pure entered _))
+      path_target_tells entered at h (correct_aliased (alias_of p)
+      (tells_end entered (reading_enters p start) (λ r. tells_pure entered _)))
   target_enters (tree.tuple_target at ts) = tuple_target_tells entered at (targets_enters no_elements ts)
   target_enters (tree.call_target at p ts) = call_target_tells entered at p (whole_enters p) (targets_enters no_elements ts)
   target_enters (tree.array_target at before dots behind) =

@@ -30,6 +30,7 @@ use Rattle.hir_env.specs.Targets.{head_pointer}
 use Rattle.hir_lower_form.specs.Lowering.{Lowering}
 use Rattle.hir_steps.proofs.Aside.{error_aside, unit_aside, lifetime_aside, uses_aside}
 use Rattle.hir_steps.proofs.Frames.{ribs_frames}
+use Rattle.hir_steps.proofs.Noted.{correct_aliased}
 use Rattle.hir_steps.proofs.Steps.{Correct, with_block}
 use Rattle.hir_one_result.specs.Diagnostics.{fields_diagnostics, field_diagnostics, spread_diagnostics, spread_faults, Faults, Around}
 use Rattle.hir_one_result.specs.Diagnostics.{diagnostics, part_diagnostics, each_diagnostics, block_diagnostics, block_part_diagnostics}
@@ -66,6 +67,7 @@ use Rattle.hir_lower_form.specs.declared.args.ArgLists.{ArgLists}
 use Rattle.hir_lower_form.specs.declared.closures.ClosureParams.{ClosureParams}
 use Rattle.hir_lower_form.specs.Lower.{lower_params, lower_param, lower_rooted, no_closure_params}
 use Rattle.hir_lower_form.specs.declared.walk.PathWalk.{PathWalk}
+use Rattle.hir_lower_form.specs.Paths.{alias_of}
 use Rattle.hir_lower_form.specs.Types.{no_lists}
 use Rattle.hir_store.specs.declared.hir.MatchArm.{MatchArm}
 use Rattle.hir_store.specs.declared.pat.RecordFieldPat.{RecordFieldPat}
@@ -195,7 +197,7 @@ mutual
       (segments_reports more w) (each_tells more w) (λ v. segment_reports false s v)
 
   reading_reports : (p : Path) (w : PathWalk) → Reports (λ ss. path_faults ss p (seen w)) (read_path p w)
-  reading_reports (tree.path leading first rest use_) w =
+  reading_reports (tree.path alias leading first rest use_) w =
       whole_tells reported (λ y ss. outer_faults ss use_ y)
       (reads_then reported (λ y ss. segment_faults ss true first (at_first leading y)) (segments_reports rest w) (each_tells rest w)
       (λ v. first_tells reported leading v (λ y ss. segment_faults ss true first y)
@@ -208,7 +210,8 @@ mutual
 
   pub whole_reports : (p : OptionPath) → Reports (λ ss. whole_faults ss p) (lower_path p)
   whole_reports tree.no_path = tells_pure reported None
-  whole_reports (tree.some_path p) = tells_end reported (reading_reports p start) (λ r. tells_pure reported _)
+  whole_reports (tree.some_path p) =
+      correct_aliased (alias_of p) (tells_end reported (reading_reports p start) (λ r. tells_pure reported _))
 
   beside_reports : (as' : SegmentArgs) → Reports (λ ss. beside_faults ss as') (lower_segment_args as')
   beside_reports (tree.segment_args as' ps dots) = beside_tells reported (args_reports as') (args_tell as') (parens_reports ps) dots
@@ -498,7 +501,8 @@ mutual
       tells_bind reported (told_tells reported c) (λ u. pointed_tells reported at (target_reports t))
   target_reports (tree.wild_target at) = target_tells reported _ at
   target_reports (tree.path_target at p h) =
-      path_target_tells reported at h (tells_end reported (reading_reports p start) (λ r. tells_pure reported _))
+      path_target_tells reported at h (correct_aliased (alias_of p)
+      (tells_end reported (reading_reports p start) (λ r. tells_pure reported _)))
   target_reports (tree.tuple_target at ts) = tuple_target_tells reported at (targets_reports no_elements ts)
   target_reports (tree.call_target at p ts) = call_target_tells reported at p (whole_reports p) (targets_reports no_elements ts)
   target_reports (tree.array_target at before dots behind) =

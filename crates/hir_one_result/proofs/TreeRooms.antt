@@ -86,12 +86,13 @@ use Rattle.hir_lower_form.specs.declared.args.ArgLists.{ArgLists}
 use Rattle.hir_lower_form.specs.declared.walk.PathWalk.{PathWalk}
 use Rattle.hir_lower_form.specs.Walks as walks
 use Rattle.hir_lower_form.specs.Walks.{start}
-use Rattle.hir_lower_form.specs.Paths.{proceed}
+use Rattle.hir_lower_form.specs.Paths.{alias_of, proceed}
 use Rattle.hir_one_result.proofs.ExprRooms.{missing_takes, some_takes, if_takes, loop_takes, turn_takes, call_takes, continue_takes}
 use Rattle.hir_one_result.proofs.ExprRooms.{break_takes, repeat_takes}
 use Rattle.hir_one_result.proofs.ExprRooms.{paren_takes, path_takes, operand_takes, operands_take, value_takes, list_takes}
 use Rattle.hir_one_result.proofs.ExprRooms.{method_call_takes, cast_takes, offset_of_takes, record_takes, field_takes, await_takes}
 use Rattle.hir_one_result.proofs.Giving.{tells_given, stmts_value}
+use Rattle.hir_one_result.proofs.NoteRooms.{aliased_takes, tells_aliased}
 use Rattle.hir_one_result.proofs.MadeRooms.{for_takes, question_takes, try_block_takes, typed_try_takes}
 use Rattle.hir_one_result.proofs.ExprRooms.{block_form_takes, contents_take, labelled_takes, kept_takes}
 
@@ -186,7 +187,7 @@ mutual
       (λ v. segment_tells false s v))
 
   reading_tells : (p : TreePath) (w : PathWalk) → Tells (path_size p (seen w)) (Gives (path_read p (seen w))) (read_path p w)
-  reading_tells (tree.path leading first rest use_) w =
+  reading_tells (tree.path alias leading first rest use_) w =
       whole_tells (λ y. outer_size use_ y) (λ y. outer_read use_ y)
       (own_segments leading first rest w (each_tells rest w) (λ u. segment_tells true first u)) (λ v. outer_tells use_ v)
 
@@ -197,7 +198,7 @@ mutual
   pub path_tells : (p : OptionPath) → Tells (whole_size p) (GivesPath (whole_read p)) (lower_path p)
   path_tells tree.no_path = tells_pure _ _ refl
   path_tells (tree.some_path p) =
-      tells_end (reading_tells p start) (λ r e. tells_pure _ _ (seen_read r ∙ ap found e))
+      tells_aliased (alias_of p) (tells_end (reading_tells p start) (λ r e. tells_pure _ _ (seen_read r ∙ ap found e)))
 
   segment_args_take : (as' : SegmentArgs) → Takes (beside_size as') (lower_segment_args as')
   segment_args_take (tree.segment_args as' ps dots) = beside_takes (args_tell as') (parens_part_takes ps) dots
@@ -497,7 +498,7 @@ mutual
   target_takes (tree.macro_target (Some at) c t) = called_target_takes at c (lower_target_last t) (target_takes t)
   target_takes (tree.wild_target at) = alloc_target_takes _ at
   target_takes (tree.path_target at p h) =
-      path_target_takes at h (takes_end (takes_of (reading_tells p start)) (λ r. takes_pure _))
+      path_target_takes at h (aliased_takes (alias_of p) (takes_end (takes_of (reading_tells p start)) (λ r. takes_pure _)))
   target_takes (tree.tuple_target at ts) = tuple_target_takes at (whole_targets ts (targets_take ts no_elements))
   target_takes (tree.call_target at p ts) = call_target_takes at (path_tells p) (whole_targets ts (targets_take ts no_elements))
   target_takes (tree.array_target at before dots behind) =

@@ -37,7 +37,9 @@ use Rattle.hir_lower_form.specs.Lower.{lower_target_fields, lower_pat_fields, lo
 use Rattle.hir_lower_form.specs.Lowering.{Lowering}
 use Rattle.hir_lower_form.specs.Pats as forms
 use Rattle.hir_lower_form.specs.Pats.{Elements, no_elements}
+use Rattle.hir_lower_form.specs.Paths.{alias_of}
 use Rattle.hir_lower_form.specs.Types.{no_lists}
+use Rattle.hir_steps.proofs.Noted.{correct_aliased}
 use Rattle.hir_lower_form.specs.Walks.{start, super_read}
 use Rattle.hir_lower_form.specs.declared.args.ArgLists.{ArgLists}
 use Rattle.hir_lower_form.specs.declared.closures.ClosureParams.{ClosureParams}
@@ -161,7 +163,7 @@ mutual
       (segments_left more w) (each_tells more w) (λ v. segment_left false s v)
 
   reading_left : (p : Path) (w : PathWalk) → Stays (λ final rs. PathWays (store_of final) (map_of final) rs p (seen w)) (read_path p w)
-  reading_left (tree.path leading first rest use_) w =
+  reading_left (tree.path alias leading first rest use_) w =
       whole_leaves (λ y final rs. OuterWays (store_of final) (map_of final) rs use_ y)
       (reads_leave (λ y final rs. SegmentWays (store_of final) (map_of final) rs true first (at_first leading y))
       (segments_left rest w) (each_tells rest w)
@@ -176,7 +178,7 @@ mutual
 
   pub whole_left : (p : OptionPath) → Stays (λ final rs. WholeWays (store_of final) (map_of final) rs p) (lower_path p)
   whole_left tree.no_path = ways_pure None
-  whole_left (tree.some_path p) = ways_end (reading_left p start) (λ r. ways_pure _)
+  whole_left (tree.some_path p) = correct_aliased (alias_of p) (ways_end (reading_left p start) (λ r. ways_pure _))
 
   beside_left : (as' : SegmentArgs) → Stays (λ final rs. BesideWays (store_of final) (map_of final) rs as') (lower_segment_args as')
   beside_left (tree.segment_args as' ps dots) = beside_leaves (args_left as') (args_tell as') (parens_left ps) dots
@@ -558,7 +560,8 @@ mutual
   target_stands (tree.macro_target None c t) = told_stands c (target_stands t)
   target_stands (tree.macro_target (Some at) c t) = told_stands c (pointed_stands at (target_stands t))
   target_stands (tree.wild_target at) = facts_leave (target_facts pat.Wild at tt)
-  target_stands (tree.path_target at p h) = path_target_stands at h (ways_end (reading_left p start) (λ r. ways_pure _))
+  target_stands (tree.path_target at p h) =
+      path_target_stands at h (correct_aliased (alias_of p) (ways_end (reading_left p start) (λ r. ways_pure _)))
   target_stands (tree.tuple_target at ts) =
       tuple_target_stands at (λ final rs is. targets final rs ts is) (all_targets_stand ts (targets_stand ts no_elements))
   target_stands (tree.call_target at p ts) =

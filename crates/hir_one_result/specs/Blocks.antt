@@ -70,7 +70,7 @@ abbrev mutual
       blocks_of_segments ss x ++ where_goes_on (segments_read ss x) (λ y. blocks_of_segment false s y)
 
   pub blocks_of_path : Path → Seen → List BlockId
-  blocks_of_path (tree.path leading first rest use_) x =
+  blocks_of_path (tree.path alias leading first rest use_) x =
       (blocks_of_segments rest x ++ where_goes_on (segments_read rest x) (λ y. blocks_of_segment true first (at_first leading y)))
       ++ where_goes_on (own_read leading first rest x) (λ y. blocks_of_outer use_ y)
 

@@ -95,7 +95,7 @@ abbrev mutual
       segments_faults ss more x ++ where_goes_on (segments_read more x) (λ y. segment_faults ss false s y)
 
   pub path_faults : List Scope → Path → Seen → Faults
-  path_faults ss (tree.path leading first rest use_) x =
+  path_faults ss (tree.path alias leading first rest use_) x =
       (segments_faults ss rest x ++ where_goes_on (segments_read rest x) (λ y. segment_faults ss true first (at_first leading y)))
       ++ where_goes_on (own_read leading first rest x) (λ y. outer_faults ss use_ y)
 

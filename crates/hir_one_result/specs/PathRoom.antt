@@ -76,7 +76,7 @@ abbrev mutual
 
   -- its own segments, and then those of the use tree around it
   pub path_read : Path → Seen → Read
-  path_read (tree.path leading first rest use_) x =
+  path_read (tree.path alias leading first rest use_) x =
       after (after (segments_read rest x) (λ y. segment_read true first (at_first leading y))) (λ y. outer_read use_ y)
 
   pub outer_read : OptionPath → Seen → Read

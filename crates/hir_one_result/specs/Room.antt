@@ -26,7 +26,7 @@ use Rattle.hir_one_result.specs.PreludeRoom.{handed_size, prelude_size, self_let
 use Rattle.hir_one_result.specs.Size.{Size, nothing, an_expr, a_label, a_binding, a_pat, a_type, a_lifetime, a_super, a_body, dots_behind}
 use Rattle.hir_one_result.specs.Size.{a_def, a_made_pat, a_pat_call, a_target, a_target_way, a_type_call, uncalled_pat_size}
 use Rattle.hir_one_result.specs.Size.{a_made_name, a_made_bind, a_flow_arm, a_for_turn, an_item_call, owned, ◌∪◌, if_so, or_missing}
-use Rattle.hir_one_result.specs.Size.{or_missing_target, uncalled_type_size}
+use Rattle.hir_one_result.specs.Size.{an_impl, or_missing_target, uncalled_type_size}
 use Rattle.hir_one_result.specs.PathRoom.{Seen, nothing_seen, at_first, segments_read, own_read, whole_read, before, yields, lifetime_size}
 use Rattle.hir_one_result.specs.PathRoom.{uses_size}
 
@@ -61,7 +61,7 @@ abbrev mutual
   type_size (tree.path_type at p) = whole_size p ∪ a_type (Some at)
   type_size (tree.ref_type at l mutability t) = type_part_size t ∪ lifetime_size l ∪ a_type (Some at)
   type_size (tree.fn_type at head ts r) = type_part_size r ∪ parts_size ts ∪ a_type (Some at)
-  type_size (tree.impl_type at mode bs) = bounds_size bs ∪ a_type (Some at)
+  type_size (tree.impl_type at mode bs) = bounds_size bs ∪ an_impl mode at
   type_size (tree.nested_impl at) = a_type (Some at)
   type_size (tree.dyn_type at bs) = bounds_size bs ∪ a_type (Some at)
   type_size (tree.pattern_type at t own p) = type_part_size t ∪ type_pat_part_size p ∪ a_type (Some at)
@@ -92,7 +92,7 @@ abbrev mutual
   segments_size (tree.more_segments s ss) x = segments_size ss x ∪ before (segments_read ss x) (λ y. segment_size false s y)
 
   pub path_size : Path → Seen → Size
-  path_size (tree.path leading first rest use_) x =
+  path_size (tree.path alias leading first rest use_) x =
       (segments_size rest x ∪ before (segments_read rest x) (λ y. segment_size true first (at_first leading y)))
       ∪ before (own_read leading first rest x) (λ y. outer_size use_ y)
 
@@ -458,7 +458,7 @@ body_size (Some kind) skipped f e =
     self_size f.receiver ∪ owned (in_coroutine_size skipped f e) ∪ handed_size (formals_data skipped f.formals)
 
 -- There is no room for so much behind what a builder has: some arena would hold more than it may, or something counts too far, be it
--- the names that are made up.
+-- the names that are made up, or the parameters that are types or constants.
 abbrev pub Short : Size → Builder → Type 0
 Short n b =
     let s = b.stored in
@@ -468,7 +468,8 @@ Short n b =
     ⊎ ((s.bindings.limit < length s.bindings.entries + n.bindings)
     ⊎ ((s.types.limit < length s.types.entries + length n.types)
     ⊎ ((s.lifetimes.limit < length s.lifetimes.entries + length n.lifetimes)
-    ⊎ (n.overcounts ⊎ (2 ^ 32 ≤ b.names + n.names)))))))
+    ⊎ (n.overcounts ⊎ ((2 ^ 32 ≤ b.names + n.names)
+    ⊎ (2 ^ 32 ≤ length b.notes.generics.type_or_consts + n.params))))))))
 
 -- behind what there is there is no room for the tree
 abbrev pub TooLarge : Builder → OptionExpr → Type 0

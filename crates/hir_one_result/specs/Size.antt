@@ -5,6 +5,8 @@ use Rattle.hir_store.specs.Arenas.{pointed}
 use Rattle.hir_store.specs.Pointers.{Pointer, same_pointer}
 use Rattle.hir_store.specs.Storing.{expr_id}
 use Rattle.hir_store.specs.declared.ids.ExprId.{ExprId}
+use Rattle.hir_env.specs.declared.place.ImplTrait.{ImplTrait}
+use Rattle.hir_env.specs.declared.place.ImplTrait.TheVariants as becomes
 use Rattle.hir_env.specs.Answered as tree
 use Rattle.hir_env.specs.Answered.{Called, Origin}
 use Rattle.hir_env.specs.Targets.{source_of}
@@ -64,6 +66,8 @@ pub record Size : Type 1 where
   pub owners : List (Option ℕ)
   -- names that lowering makes up
   pub names : ℕ
+  -- type parameters that `impl`s become
+  pub params : ℕ
   -- of each pattern, each type and each lifetime where it comes from, in the order in which they are stored
   pub pats : List (Option Pointer)
   pub types : List (Option Pointer)
@@ -84,6 +88,7 @@ nothing = record {
   bindings = 0;
   owners = [];
   names = 0;
+  params = 0;
   pats = [];
   types = [];
   lifetimes = [];
@@ -125,6 +130,10 @@ a_pat_call at = record nothing { pat_leads = called_at at ∷ [] }
 
 abbrev pub a_type_call : Pointer → Size
 a_type_call at = record nothing { type_leads = called_at at ∷ [] }
+
+-- a type parameter that an `impl` becomes
+abbrev pub a_param : Size
+a_param = record nothing { params = 1 }
 
 abbrev pub a_lifetime : Option Pointer → Size
 a_lifetime source = record nothing { lifetimes = source ∷ [] }
@@ -175,6 +184,7 @@ a ∪ b = record {
   bindings = a.bindings + b.bindings;
   owners = a.owners ++ map (further a.exprs) b.owners;
   names = a.names + b.names;
+  params = a.params + b.params;
   pats = a.pats ++ b.pats;
   types = a.types ++ b.types;
   lifetimes = a.lifetimes ++ b.lifetimes;
@@ -183,6 +193,12 @@ a ∪ b = record {
   inner = a.inner ++ b.inner;
   overcounts = a.overcounts ⊎ b.overcounts;
 }
+
+-- what an `impl` becomes, without its bounds
+abbrev pub an_impl : ImplTrait → Pointer → Size
+an_impl becomes.Error at = a_type (Some at)
+an_impl becomes.Opaque at = a_type (Some at)
+an_impl (becomes.Argument def) at = a_param ∪ a_type (Some at)
 
 -- what is assigned to: it comes from its node, or from the outermost call around it, and its node leads to it
 abbrev pub a_target : Origin → Size

@@ -209,7 +209,7 @@ module _ (store : Store) (source_map : SourceMap) where
         SegmentsWays rs more x & WhereOn (segments_read more x) (λ y. SegmentWays rs false s y)
 
     pub PathWays : Open → WrittenPath → Seen → Ways
-    PathWays rs (tree.path leading first rest use_) x =
+    PathWays rs (tree.path alias leading first rest use_) x =
         (SegmentsWays rs rest x & WhereOn (segments_read rest x) (λ y. SegmentWays rs true first (at_first leading y)))
         & WhereOn (own_read leading first rest x) (λ y. OuterWays rs use_ y)
 

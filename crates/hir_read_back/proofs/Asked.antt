@@ -393,7 +393,7 @@ mutual
   rest_is (tree.more_segments s ss) behind = λ j. read_piece false (piece_is false s j) (rest_is ss behind j)
 
   outward_is : (p : Path) (behind : List Item) → read_outward p (reading_of behind) ≡ reading_of (segments p behind)
-  outward_is (tree.path leading first rest use_) behind =
+  outward_is (tree.path alias leading first rest use_) behind =
       (λ j. read_use use_ (read_piece leading (piece_is true first j) (rest_is rest behind j)))
       ∙ use_is use_ (record { leading = leading; what = what true first } ∷ items rest behind)
 

@@ -16,13 +16,14 @@ use Rattle.hir_env.specs.Answered.{Limit, Side, TypePat, OptionTypePat, TypePats
 use Rattle.hir_lower_form.specs.declared.args.ArgLists.{ArgLists}
 use Rattle.hir_lower_form.specs.declared.walk.PathWalk.{PathWalk}
 use Rattle.hir_lower_form.specs.declared.walk.Reading.TheVariants.{Refused, Open}
-use Rattle.hir_lower_form.specs.Lowering.{pure}
+use Rattle.hir_lower_form.specs.Lowering.{◌>>=◌, pure}
 use Rattle.hir_lower_form.specs.Walks as walks
 use Rattle.hir_lower_form.specs.Walks.{start, at_first, missing_name, self_type_name}
-use Rattle.hir_lower_form.specs.Paths.{whole}
+use Rattle.hir_lower_form.specs.Paths.{alias_of, proceed, whole}
 use Rattle.hir_lower_form.specs.Types.{no_lists}
 use Rattle.hir_lower_form.specs.Lower as lower
 use Rattle.hir_steps.proofs.Calls.{correct_note_gone}
+use Rattle.hir_steps.proofs.Noted.{correct_aliased}
 use Rattle.hir_steps.proofs.Steps.{Correct}
 use Rattle.hir_steps.proofs.Keeping.{part_any, present_any, each_any, block_part_any, contents_part_any, contents_any, fields_any}
 use Rattle.hir_steps.proofs.Keeping.{any, turn_any, spread_any, one_type_any, type_any, lower_path_any, args_any, top_any, arms_any}
@@ -61,7 +62,7 @@ mutual
 
   -- ---- types
 
-  type_reads : (b : Option Binder) (t : Type_) → Correct (lower.lower_type b t) (Reads a_type (written.type_data b t))
+  pub type_reads : (b : Option Binder) (t : Type_) → Correct (lower.lower_type b t) (Reads a_type (written.type_data b t))
   type_reads b (tree.paren_type t) = part_reads b t
   type_reads b (tree.macro_type at c tree.no_type) = calls.uncalled_type_reads at c
   type_reads b (tree.macro_type at c (tree.some_type t)) = calls.called_type_reads at c (type_reads b t)
@@ -98,12 +99,12 @@ mutual
 
   -- ---- bounds
 
-  bounds_read : (bs : Bounds) (done : List TypeBound)
+  pub bounds_read : (bs : Bounds) (done : List TypeBound)
       → Correct (lower.lower_bounds done bs) (Pushed done (Reads many_bounds (written.bounds_data bs)))
   bounds_read tree.no_bounds done = kinds.bounds_none done
   bounds_read (tree.more_bounds b bs) done = kinds.bounds_more (bound_reads b) (bounds_read bs) done
 
-  bound_reads : (b : Bound) → Correct (lower.lower_bound b) (Reads a_bound (written.bound_data b))
+  pub bound_reads : (b : Bound) → Correct (lower.lower_bound b) (Reads a_bound (written.bound_data b))
   bound_reads tree.error_bound = value0 {l = a_bound} bound.Error (λ final r. refl)
   bound_reads (tree.path_bound at p maybe binder) = path_bound_reads (written.path_of p) at maybe binder (path_reads p)
   bound_reads (tree.lifetime_bound l) = kinds.lifetime_bound_reads l
@@ -170,14 +171,14 @@ mutual
   behind_goes (tree.type_segment t) w = broken_goes false w
   behind_goes (tree.trait_segment t at p) w = broken_goes false w
 
-  each_goes : (ss : Segments) (w : PathWalk) → Correct (lower.read_each ss w) (Goes (Open w) (written.items ss))
+  pub each_goes : (ss : Segments) (w : PathWalk) → Correct (lower.read_each ss w) (Goes (Open w) (written.items ss))
   each_goes tree.no_segments w = goes_at_once (Open w) (λ final n is h. h)
   each_goes (tree.more_segments s ss) w =
       then_goes {add = written.items ss} {more = λ is. item false (written.what false s) ∷ is} (each_goes ss w)
       (λ final n r c is h. one_closed final n r c (item false (written.what false s)) is h) (behind_goes s)
 
-  path_goes : (p : Path) (w : PathWalk) → Correct (lower.read_path p w) (Goes (Open w) (written.segments p))
-  path_goes (tree.path leading first rest use_) w =
+  pub path_goes : (p : Path) (w : PathWalk) → Correct (lower.read_path p w) (Goes (Open w) (written.segments p))
+  path_goes (tree.path alias leading first rest use_) w =
       then_goes {add = λ is. item leading (written.what true first) ∷ written.items rest is} {more = written.outer use_}
       (then_goes {add = written.items rest} {more = λ is. item leading (written.what true first) ∷ is} (each_goes rest w)
       (λ final n r c is h. one_closed final n r c (item leading (written.what true first)) is h) (first_goes leading first))
@@ -189,7 +190,7 @@ mutual
 
   pub path_reads : (p : OptionPath) → Correct (lower.lower_path p) (PathIs (written.path_of p))
   path_reads tree.no_path = none_is
-  path_reads (tree.some_path p) = path_is {add = written.segments p} (path_goes p start)
+  path_reads (tree.some_path p) = correct_aliased (alias_of p) (path_is {add = written.segments p} (path_goes p start))
 
   -- ---- patterns of types
 
@@ -284,3 +285,11 @@ mutual
   expr_from (tree.match_expr at e arms) = sites.match_from at (part_any e) (arms_any [] arms)
   expr_from (tree.range_expr at form start end) = sites.range_from at form (present_any start) (present_any end)
   expr_from (tree.assign_expr at e t v) = sites.assign_from at (target_any t) (part_any v)
+
+-- the segments of a path, without those of the use tree around it
+pub own_goes : (leading : Bool) (first : Segment) (rest : Segments) (w : PathWalk)
+    → Correct (lower.read_each rest w >>= (λ r. proceed r (λ v. lower.read_segment true first (at_first leading v))))
+    (Goes (Open w) (λ is. item leading (written.what true first) ∷ written.items rest is))
+own_goes leading first rest w =
+    then_goes {add = written.items rest} {more = λ is. item leading (written.what true first) ∷ is} (each_goes rest w)
+    (λ final n r c is h. one_closed final n r c (item leading (written.what true first)) is h) (first_goes leading first)

@@ -33,6 +33,7 @@ use Rattle.hir_lower_form.specs.Types.{array_type_form}
 use Rattle.hir_lower_form.specs.Types.{fn_type_form}
 use Rattle.hir_lower_form.specs.Types.{impl_type_form, dyn_type_form, yielded, binding_form, add_arg, add_binding, no_lists}
 use Rattle.hir_steps.proofs.Frames.{Frame}
+use Rattle.hir_steps.proofs.Noted.{correct_becoming, correct_noted}
 use Rattle.hir_steps.proofs.Steps.{Mark, Rel, Correct, correct_bind, correct_as, correct_pure}
 use Rattle.hir_steps.proofs.TypeSteps.{correct_alloc_type, correct_alloc_lifetime}
 use Rattle.hir_data.specs.Data as datum
@@ -44,7 +45,7 @@ use Rattle.hir_data.specs.Reading as reading
 use Rattle.hir_data.specs.Reading.{Readers}
 use Rattle.hir_read_back.proofs.Layers.{a_constant}
 use Rattle.hir_read_back.proofs.Layers.{Layer, a_lifetime, maybe_lifetime, a_use, many_uses, a_type, types_before, maybe_type}
-use Rattle.hir_read_back.proofs.Layers.{a_bound, many_bounds, arguments_before, a_binding, bindings_before, a_list, within, Reads}
+use Rattle.hir_read_back.proofs.Layers.{a_bound, a_shape, many_bounds, arguments_before, a_binding, bindings_before, a_list, within, Reads}
 use Rattle.hir_read_back.proofs.Layers.{value0, value1, Pushed, pushed_all, none_read, more_read, type_at, type0, type1, type2}
 use Rattle.hir_read_back.proofs.Generics.{args_roll, binding_roll}
 
@@ -52,8 +53,8 @@ use Rattle.hir_read_back.proofs.Generics.{args_roll, binding_roll}
 
 pub lifetime_reads : (l : Lifetime) → Correct (lower_lifetime l) (Reads a_lifetime (written.lifetime_data l))
 unfolding lower_lifetime
-lifetime_reads l = correct_as (correct_alloc_lifetime l.lifetime (Some l.pointer))
-    (λ final ps m m' i g at. record { is = λ d le. rw (at.number, at.here, at.from) refl })
+lifetime_reads l = correct_noted _ (correct_as (correct_alloc_lifetime l.lifetime (Some l.pointer))
+    (λ final ps m m' i g at. record { is = λ d le. rw (at.number, at.here, at.from) refl }))
 
 pub lifetime_option_reads : (l : Option Lifetime)
     → Correct (lower_lifetime_option l) (Reads maybe_lifetime (option_map written.lifetime_data l))
@@ -140,6 +141,10 @@ pub impl_reads : {x : BoundsData} {p : Lowering (List TypeBound)} (at : Pointer)
 unfolding impl_type_form
 impl_reads at becomes.Error h = type1 (Some at) (λ bs. ty.Error) (λ x. datum.error_shape) h (λ final r a. refl)
 impl_reads at becomes.Opaque h = type1 (Some at) ty.ImplTrait datum.impl_shape h (λ final r a. refl)
+impl_reads {x = x} at (becomes.Argument def) h = correct_as
+    (correct_bind h (λ bs. correct_becoming at (becomes.Argument def) bs (λ t is.
+    type0 {x = written.impl_shape_of (becomes.Argument def) x} t (Some at) (λ final r. ap (a_shape final r) is.1))))
+    (λ final ps m m' i g row. record { is = row.second.is })
 
 pub dyn_reads : {x : BoundsData} {p : Lowering (List TypeBound)} (at : Pointer) → Correct p (Reads many_bounds x)
     → Correct (dyn_type_form at p) (Reads a_type (typed (Some at) (datum.dyn_shape x)))

@@ -573,7 +573,7 @@ module _ (Holds : List Item → Type 0) (one : (i : Item) (is : List Item) → H
 
   mutual
     path_still : (p : Path) (is : List Item) → Holds is → Holds (written.segments p is)
-    path_still (tree.path leading first rest use_) is h =
+    path_still (tree.path alias leading first rest use_) is h =
         outer_still use_ (item leading (written.what true first) ∷ written.items rest is)
         (one (item leading (written.what true first)) (written.items rest is) (items_still rest is h))
 

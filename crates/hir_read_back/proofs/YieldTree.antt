@@ -24,6 +24,7 @@ use Rattle.hir_lower_form.specs.Forms.{ExprSteps, StoredFields, kept, record_for
 use Rattle.hir_lower_form.specs.Lower as lower
 use Rattle.hir_lower_form.specs.Lowering.{Lowering, ◌>>=◌, alloc_made_pat}
 use Rattle.hir_lower_form.specs.Pats.{Elements, elements_form, no_elements}
+use Rattle.hir_lower_form.specs.Paths.{alias_of}
 use Rattle.hir_lower_form.specs.Targets as targets
 use Rattle.hir_lower_form.specs.Targets.{alloc_target}
 use Rattle.hir_lower_form.specs.Walks.{path_read, start}
@@ -35,6 +36,7 @@ use Rattle.hir_steps.proofs.CoroutineClosures.{still_coroutine_closure}
 use Rattle.hir_steps.proofs.Calls.{only_gone, only_note, only_told, raises_only}
 use Rattle.hir_steps.proofs.Logic.{mark}
 use Rattle.hir_steps.proofs.Owning.{raises_owning, still_owning}
+use Rattle.hir_steps.proofs.StillNotes.{raises_aliased}
 use Rattle.hir_steps.proofs.StillPats.{elements_still, named_still}
 use Rattle.hir_steps.proofs.StillTree as still
 use Rattle.hir_steps.proofs.TargetSteps.{alloc_target_apart, alloc_target_still, made_pat_apart}
@@ -280,7 +282,8 @@ mutual
   target_raises (tree.macro_target at c t) = calls.called_target_raises at c (target_raises t)
   target_raises (tree.wild_target at) = target_off _ at
   target_raises (tree.path_target at p h) = path_target_off at h
-      (raises_begin (raises_still (apart.reading_apart p start) (still.reading_still p start)) (λ r. raises_pure (path_read r)))
+      (raises_aliased (alias_of p)
+      (raises_begin (raises_still (apart.reading_apart p start) (still.reading_still p start)) (λ r. raises_pure (path_read r))))
   target_raises (tree.tuple_target at ts) = tuple_target_raises at (targets_raise no_elements ts)
   target_raises (tree.call_target at p ts) = call_target_raises at p (targets_raise no_elements ts)
   target_raises (tree.array_target at before dots behind) =

@@ -17,9 +17,10 @@ use Rattle.hir_lower_form.specs.declared.walk.Reading.TheVariants.{Refused, Ende
 use Rattle.hir_lower_form.specs.Lowering.{Lowering, ◌>>=◌, pure}
 use Rattle.hir_lower_form.specs.Walks as walks
 use Rattle.hir_lower_form.specs.Walks.{start, at_first, missing_name, self_type_name, one_more_super, super_read, path_read}
-use Rattle.hir_lower_form.specs.Paths.{proceed, whole, counted, with_trait}
+use Rattle.hir_lower_form.specs.Paths.{alias_of, proceed, whole, counted, with_trait}
 use Rattle.hir_lower_form.specs.Lower as lower
 use Rattle.hir_steps.proofs.Frames.{Frame}
+use Rattle.hir_steps.proofs.Noted.{correct_aliased}
 use Rattle.hir_steps.proofs.Steps.{Mark, Correct, correct_bind, correct_as, correct_pure, correct_both, correct_count_out}
 use Rattle.hir_data.specs.Rule as rule
 use Rattle.hir_data.specs.Rule.{Item, PathRead, ended, read}
@@ -216,7 +217,7 @@ module _ (Stays : List Part → Type 0) (one : (x : Part) (ps : List Part) → S
 
   mutual
     path_still : (p : Path) (ps : List Part) → Stays ps → Stays (path_parts p ps)
-    path_still (tree.path leading first rest use_) ps h = outer_still use_ (first_part leading first ∷ behind_parts rest ps)
+    path_still (tree.path alias leading first rest use_) ps h = outer_still use_ (first_part leading first ∷ behind_parts rest ps)
         (one (first_part leading first) (behind_parts rest ps) (parts_still rest ps h))
 
     outer_still : (p : OptionPath) (ps : List Part) → Stays ps → Stays (outer_parts p ps)
@@ -232,7 +233,7 @@ SegmentsHold (tree.more_segments s ss) = SegmentHolds s × SegmentsHold ss
 -- what is in the segments of a path, and of the use trees around it, holds its bodies
 abbrev mutual
   pub AllHold : Path → Type 0
-  AllHold (tree.path leading first rest use_) = SegmentHolds first × SegmentsHold rest × OuterHolds use_
+  AllHold (tree.path alias leading first rest use_) = SegmentHolds first × SegmentsHold rest × OuterHolds use_
 
   pub OuterHolds : OptionPath → Type 0
   OuterHolds tree.no_path = Unit {0}
@@ -249,7 +250,7 @@ mutual
   unfolding whole
 
   path_moves : (p : Path) (w : PathWalk) → AllHold p → Correct (lower.read_path p w) (Moves (Open w) (path_parts p))
-  path_moves (tree.path leading first rest use_) w h =
+  path_moves (tree.path alias leading first rest use_) w h =
       then_moves {add = λ ps. first_part leading first ∷ behind_parts rest ps} {more = outer_parts use_}
       (then_moves {add = behind_parts rest} {more = λ ps. first_part leading first ∷ ps} (each_moves rest w h.1)
       (λ final k n r c ps s. one_still final k n r c (first_part leading first) ps s)
@@ -269,7 +270,7 @@ behind_items (tree.more_segments s ss) ps = ap (λ is. (behind_part s).item ∷ 
 
 mutual
   path_items : (p : Path) (ps : List Part) → items_of (path_parts p ps) ≡ written.segments p (items_of ps)
-  path_items (tree.path leading first rest use_) ps =
+  path_items (tree.path alias leading first rest use_) ps =
       outer_items use_ (first_part leading first ∷ behind_parts rest ps)
       ∙ ap (λ is. written.outer use_ ((first_part leading first).item ∷ is)) (behind_items rest ps)
 
@@ -282,13 +283,14 @@ mutual
 -- the path keeps, in the type that it is relative to and beside each of its names, the bodies that are written there
 pub path_holds : (p : OptionPath) → OuterHolds p → Correct (lower.lower_path p) (PathHolds (held p))
 path_holds tree.no_path h = correct_as (correct_pure None) (λ final fs m m' o g row. rw row.is (record { kept = refl }))
-path_holds (tree.some_path p) h = correct_as (correct_bind (path_moves p start h) (λ r. correct_pure (path_read r)))
+path_holds (tree.some_path p) h = correct_aliased (alias_of p) (correct_as
+    (correct_bind (path_moves p start h) (λ r. correct_pure (path_read r)))
     (λ final fs m m' o g row. rw (row.second.is, row.second.still) (record {
       kept = let c = row.middle in
           let s = row.first.moves [] (record { says = begins final m.entries; keeps = begins_kept final (total m) }) in
           subst (λ is. MaybeKept final (total c) (held_of (rule.path_read (read is)) (path_parts p [])) (path_read row.one))
           (path_items p []) (walk_kept final (total c) c.entries (path_parts p []) row.one s.says s.keeps);
-    }))
+    })))
 
 path_bodies_held : (p : OptionPath) → path_bodies p ≡ in_held (held p)
 path_bodies_held tree.no_path = refl

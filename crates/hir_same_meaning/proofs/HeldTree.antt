@@ -198,7 +198,7 @@ mutual
   segments_hold (tree.more_segments s ss) = (segment_holds s, segments_hold ss)
 
   all_hold : (p : Path) → paths.AllHold p
-  all_hold (tree.path leading first rest use_) = (segment_holds first, segments_hold rest, outer_holds use_)
+  all_hold (tree.path alias leading first rest use_) = (segment_holds first, segments_hold rest, outer_holds use_)
 
   outer_holds : (p : OptionPath) → paths.OuterHolds p
   outer_holds tree.no_path = tt

@@ -38,6 +38,7 @@ use Rattle.hir_read_back.proofs.Layers.{a_list, within, Reads}
 use Rattle.hir_steps.proofs.Frames.{Frame}
 use Rattle.hir_steps.proofs.Steps.{Mark, Grows, Rel, Correct, correct_bind, correct_as, correct_both, correct_pure}
 use Rattle.hir_steps.proofs.Steps.{correct_alloc_type}
+use Rattle.hir_steps.proofs.Noted.{correct_becoming}
 use Rattle.hir_steps.proofs.TypeAny.{lifetime_any, lifetime_option_any}
 use Rattle.hir_same_meaning.proofs.Holding.{SameIn, inners_in, same_append, same_ids, same_bodies, Ids, nothing, a_type, each, maybe, Holds}
 use Rattle.hir_same_meaning.proofs.Holding.{a_type_pat}
@@ -150,12 +151,14 @@ module _ (at : Pointer) {es : Bodies} where
   unfolding dyn_type_form
   dyn_held h = type1 (Some at) ty.DynTrait (λ r bs. refl) h
 
-  -- the bounds of an `impl` that is an error aren't held
+  -- the bounds of an `impl` that is an error or a parameter aren't held
   pub impl_held : (mode : ImplTrait) {bs : Lowering (List TypeBound)} → Correct bs (Holds (each a_bound) es)
       → Correct (impl_type_form at mode bs) (Holds a_type (if_opaque mode es))
   unfolding impl_type_form
   impl_held becomes.Error h = holds_behind h (λ bs. type0 ty.Error (Some at) (λ r. refl))
   impl_held becomes.Opaque h = type1 (Some at) ty.ImplTrait (λ r bs. refl) h
+  impl_held (becomes.Argument def) h = holds_behind h (λ bs. correct_becoming at (becomes.Argument def) bs
+      (λ t is. type0 t (Some at) (λ r. ap (of_type r) is.1)))
 
 -- a bound whose path is refused holds nothing
 

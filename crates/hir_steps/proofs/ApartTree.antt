@@ -19,6 +19,7 @@ use Rattle.hir_lower_form.specs.declared.args.ArgLists.{ArgLists}
 use Rattle.hir_lower_form.specs.declared.closures.ClosureParams.{ClosureParams}
 use Rattle.hir_lower_form.specs.declared.walk.PathWalk.{PathWalk}
 use Rattle.hir_lower_form.specs.declared.walk.Reading.TheVariants.{Open}
+use Rattle.hir_lower_form.specs.Paths.{alias_of}
 use Rattle.hir_lower_form.specs.Walks.{start, at_first, super_read, path_read}
 use Rattle.hir_lower_form.specs.Types.{no_lists}
 use Rattle.hir_lower_form.specs.Lower.{lower_type, type_part, present_type, type_or_unit, lower_parts, read_segment, read_each, read_path}
@@ -56,6 +57,7 @@ use Rattle.hir_steps.proofs.CallForms.{called_apart, called_pat_apart, called_ty
 use Rattle.hir_steps.proofs.TargetSteps.{alloc_target_apart, called_target_apart}
 use Rattle.hir_steps.proofs.CallForms.{uncalled_apart, uncalled_pat_apart, uncalled_type_apart}
 use Rattle.hir_steps.proofs.Definitions.{behind_apart, define_apart}
+use Rattle.hir_steps.proofs.Noted.{correct_aliased}
 use Rattle.hir_steps.proofs.Steps.{Correct}
 use Rattle.hir_steps.proofs.ApartForms.{missing_apart, stored_apart, some_apart, if_apart, loop_apart, turn_apart, call_apart}
 use Rattle.hir_steps.proofs.ApartForms.{continue_apart, break_apart, paren_apart, path_apart, operand_apart, operands_apart, value_apart}
@@ -119,7 +121,7 @@ mutual
   segments_apart (tree.more_segments s ss) w = then_apart (segments_apart ss w) (λ r. proceed_apart r (λ v. segment_apart false s v))
 
   pub reading_apart : (p : TreePath) (w : PathWalk) → Correct (read_path p w) Apart
-  reading_apart (tree.path leading first rest use_) w =
+  reading_apart (tree.path alias leading first rest use_) w =
       whole_apart (then_apart (segments_apart rest w) (λ r. proceed_apart r (λ v. segment_apart true first (at_first leading v))))
       (λ v. outer_apart use_ v)
 
@@ -129,7 +131,7 @@ mutual
 
   pub lower_path_apart : (p : OptionPath) → Correct (lower_path p) Apart
   lower_path_apart tree.no_path = pure_apart None
-  lower_path_apart (tree.some_path p) = then_apart (reading_apart p start) (λ r. pure_apart (path_read r))
+  lower_path_apart (tree.some_path p) = correct_aliased (alias_of p) (then_apart (reading_apart p start) (λ r. pure_apart (path_read r)))
 
   segment_args_apart : (as' : SegmentArgs) → Correct (lower_segment_args as') Apart
   segment_args_apart (tree.segment_args as' ps dots) = args_form_apart (args_apart as') (parens_apart ps) dots
@@ -411,7 +413,8 @@ mutual
   target_apart (tree.place_target at e) = place_target_apart at (node_apart e)
   target_apart (tree.macro_target at c t) = called_target_apart at c (target_apart t)
   target_apart (tree.wild_target at) = alloc_target_apart _ at
-  target_apart (tree.path_target at p h) = path_target_apart at h (then_apart (reading_apart p start) (λ r. pure_apart (path_read r)))
+  target_apart (tree.path_target at p h) =
+      path_target_apart at h (correct_aliased (alias_of p) (then_apart (reading_apart p start) (λ r. pure_apart (path_read r))))
   target_apart (tree.tuple_target at ts) = tuple_target_apart at (targets_apart no_elements ts)
   target_apart (tree.call_target at p ts) = call_target_apart at (targets_apart no_elements ts) (lower_path_apart p)
   target_apart (tree.array_target at before dots behind) =

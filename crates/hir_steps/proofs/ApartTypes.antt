@@ -24,6 +24,7 @@ use Rattle.hir_lower_form.specs.Types.{binding_form, path_bound_of, path_bound_f
 use Rattle.hir_lower_form.specs.Types.{array_type_form}
 use Rattle.hir_store.specs.declared.type_ref.ConstRef.{ConstRef}
 use Rattle.hir_steps.proofs.Apart.{Apart, pure_apart, stored_lifetime_apart, stored_type_apart, then_apart}
+use Rattle.hir_steps.proofs.Noted.{correct_becoming, correct_noted}
 use Rattle.hir_steps.proofs.Steps.{Correct, correct_count_out}
 
 -- types
@@ -38,7 +39,7 @@ unit_apart = stored_type_apart _ None
 
 pub lifetime_apart : (l : Lifetime) → Correct (lower_lifetime l) Apart
 unfolding lower_lifetime
-lifetime_apart l = stored_lifetime_apart _ _
+lifetime_apart l = correct_noted _ (stored_lifetime_apart _ _)
 
 pub lifetime_option_apart : (l : Option Lifetime) → Correct (lower_lifetime_option l) Apart
 lifetime_option_apart None = pure_apart None
@@ -81,7 +82,7 @@ module _ (at : Pointer) where
 
   pub impl_apart : (mode : ImplTrait) {bs : Lowering (List TypeBound)} → Correct bs Apart → Correct (impl_type_form at mode bs) Apart
   unfolding impl_type_form
-  impl_apart mode h = then_apart h (λ bs. stored_type_apart _ _)
+  impl_apart mode h = then_apart h (λ bs. correct_becoming at mode bs (λ t is. stored_type_apart t (Some at)))
 
   pub dyn_apart : {bs : Lowering (List TypeBound)} → Correct bs Apart → Correct (dyn_type_form at bs) Apart
   unfolding dyn_type_form

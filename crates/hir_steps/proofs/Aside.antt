@@ -13,6 +13,7 @@ use Rattle.hir_lower_form.specs.Lowering.{Lowering, ◌>>=◌, pure, alloc_type,
 use Rattle.hir_lower_form.specs.Paths.{counted}
 use Rattle.hir_lower_form.specs.Types.{error_type, unit_type, lower_lifetime, lower_lifetime_option, lower_use, lower_uses}
 use Rattle.hir_steps.proofs.Frames.{Frame}
+use Rattle.hir_steps.proofs.Noted.{correct_noted}
 use Rattle.hir_steps.proofs.Steps.{Mark, Correct, correct_bind, correct_as, correct_pure, correct_count_out, correct_alloc_type}
 use Rattle.hir_steps.proofs.Steps.{correct_alloc_lifetime}
 
@@ -87,7 +88,7 @@ unit_aside = aside_type _ None
 
 pub lifetime_aside : (l : Lifetime) → Correct (lower_lifetime l) Aside
 unfolding lower_lifetime
-lifetime_aside l = aside_lifetime _ _
+lifetime_aside l = correct_noted _ (aside_lifetime _ _)
 
 pub lifetime_option_aside : (l : Option Lifetime) → Correct (lower_lifetime_option l) Aside
 lifetime_option_aside None = aside_pure None

@@ -8,6 +8,8 @@ pub mod Steps
 pub mod MadeSteps
 pub mod Constants
 pub mod Yields
+pub mod Noted
+pub mod StillNotes
 pub mod Owning
 pub mod Opening
 pub mod Barriers

@@ -13,6 +13,7 @@ use Rattle.hir_lower_form.specs.declared.args.ArgLists.{ArgLists}
 use Rattle.hir_lower_form.specs.declared.closures.ClosureParams.{ClosureParams}
 use Rattle.hir_lower_form.specs.declared.walk.PathWalk.{PathWalk}
 use Rattle.hir_lower_form.specs.declared.walk.Reading.TheVariants.{Open}
+use Rattle.hir_lower_form.specs.Paths.{alias_of}
 use Rattle.hir_lower_form.specs.Walks.{start, at_first, super_read, path_read}
 use Rattle.hir_lower_form.specs.Types.{no_lists}
 use Rattle.hir_lower_form.specs.Lower.{lower_type, type_part, present_type, type_or_unit, lower_parts, read_segment, read_each, read_path}
@@ -25,6 +26,7 @@ use Rattle.hir_lower_form.specs.Pats.{Table, no_names, next_alternative, Element
 use Rattle.hir_steps.proofs.Barriers.{still_constant, still_inner, param_still}
 use Rattle.hir_steps.proofs.CallForms.{called_pat_still, called_type_still, uncalled_pat_still, uncalled_type_still}
 use Rattle.hir_steps.proofs.Calls.{told_still}
+use Rattle.hir_steps.proofs.StillNotes.{still_aliased}
 use Rattle.hir_steps.proofs.Owning.{still_owning}
 use Rattle.hir_steps.proofs.StillPats.{alone_still, bind_still, element_still, limits_still, literal_pat_still, literal_side_still}
 use Rattle.hir_steps.proofs.StillPats.{missing_pat_still, name_side_still, or_still, over_pat_still, pat_field_still, path_pat_still}
@@ -93,7 +95,7 @@ mutual
   segments_still (tree.more_segments s ss) w = still_then (segments_still ss w) (λ r. proceed_still r (λ v. segment_still false s v))
 
   pub reading_still : (p : TreePath) (w : PathWalk) → Still (read_path p w)
-  reading_still (tree.path leading first rest use_) w =
+  reading_still (tree.path alias leading first rest use_) w =
       whole_still (still_then (segments_still rest w) (λ r. proceed_still r (λ v. segment_still true first (at_first leading v))))
       (λ v. outer_still use_ v)
 
@@ -103,7 +105,7 @@ mutual
 
   pub lower_path_still : (p : OptionPath) → Still (lower_path p)
   lower_path_still tree.no_path = still_pure None
-  lower_path_still (tree.some_path p) = still_then (reading_still p start) (λ r. still_pure (path_read r))
+  lower_path_still (tree.some_path p) = still_aliased (alias_of p) (still_then (reading_still p start) (λ r. still_pure (path_read r)))
 
   segment_args_still : (as' : SegmentArgs) → Still (lower_segment_args as')
   segment_args_still (tree.segment_args as' ps dots) = args_form_still (args_still as') (parens_still ps) dots

@@ -23,6 +23,7 @@ use Rattle.hir_lower_form.specs.Types.{tuple_type_form, path_type_form, ref_type
 use Rattle.hir_lower_form.specs.Types.{binding_form, path_bound_of, path_bound_form}
 use Rattle.hir_lower_form.specs.Types.{array_type_form}
 use Rattle.hir_store.specs.declared.type_ref.ConstRef.{ConstRef}
+use Rattle.hir_steps.proofs.StillNotes.{still_becoming, still_noted}
 use Rattle.hir_steps.proofs.Yields.{Still, still_count_out, still_lifetime, still_pure, still_then, still_type}
 
 -- types
@@ -37,7 +38,7 @@ unit_still = still_type _ None
 
 pub lifetime_still : (l : Lifetime) → Still (lower_lifetime l)
 unfolding lower_lifetime
-lifetime_still l = still_lifetime _ _
+lifetime_still l = still_noted _ (still_lifetime _ _)
 
 pub lifetime_option_still : (l : Option Lifetime) → Still (lower_lifetime_option l)
 lifetime_option_still None = still_pure None
@@ -80,7 +81,7 @@ module _ (at : Pointer) where
 
   pub impl_still : (mode : ImplTrait) {bs : Lowering (List TypeBound)} → Still bs → Still (impl_type_form at mode bs)
   unfolding impl_type_form
-  impl_still mode h = still_then h (λ bs. still_type _ _)
+  impl_still mode h = still_then h (λ bs. still_becoming at mode bs)
 
   pub dyn_still : {bs : Lowering (List TypeBound)} → Still bs → Still (dyn_type_form at bs)
   unfolding dyn_type_form

@@ -161,6 +161,7 @@ past_type (ty.Fn f) = past_type_ids f.params
 past_type (ty.ImplTrait bounds) = past_bounds bounds
 past_type (ty.DynTrait bounds) = past_bounds bounds
 past_type (ty.Pattern id p) = join (past_type_id id) (past_pat_id p)
+past_type (ty.TypeParam p) = nothing
 
 -- ---- patterns, statements and arms
 

@@ -3,7 +3,7 @@
 ghost use Rattle.std.specs.Prelude.{◌≡◌, IfOk};
 
 use crate::hir::Mutability;
-use crate::ids::{ExprId, LifetimeRefId, PatId, TypeRefId};
+use crate::ids::{ExprId, LifetimeRefId, PatId, TypeParamId, TypeRefId};
 use crate::name::{Name, copy_names};
 use crate::path::Path;
 use hir_base::Seq;
@@ -114,6 +114,12 @@ pub fn copy_bounds(bounds: &Seq<TypeBound>) -> Result<Seq<TypeBound>, AllocError
     bounds.clone()
 }
 
+/// A trait, by the path that names it.
+#[derive(Clone, Copy, PartialEq, Eq)]
+pub struct TraitRef {
+    pub path: TypeRefId,
+}
+
 /// A lowered constant.
 #[derive(Clone, Copy, PartialEq, Eq)]
 pub struct ConstRef {
@@ -195,6 +201,9 @@ pub enum TypeRef {
     DynTrait(Seq<TypeBound>),
     /// The values of a type that a pattern fits.
     Pattern(TypeRefId, PatId),
+    /// What is given for a parameter of an item. Where the parameter is an `impl` of an argument, its bounds stand among the item's
+    /// predicates.
+    TypeParam(TypeParamId),
 }
 
 impl Drop for TypeRef {
@@ -213,6 +222,7 @@ impl Drop for TypeRef {
             TypeRef::ImplTrait(_) => {}
             TypeRef::DynTrait(_) => {}
             TypeRef::Pattern(_, _) => {}
+            TypeRef::TypeParam(_) => {}
         }
     }
 }

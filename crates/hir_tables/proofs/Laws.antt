@@ -17,8 +17,8 @@ use Rattle.hir_store.specs.declared.path.PathKind.{PathKind}
 use Rattle.hir_store.specs.declared.path.PathKind.TheVariants as kind
 use Rattle.hir_tables.proofs.First.{found_first, found_first_below}
 use Rattle.hir_tables.specs.Laws.{same_kind, same_path, PathsAsKeys, SamePathsAreOne, NamesAsKeys, PlacesAsKeys, said}
-use Rattle.hir_tables.specs.Laws.{FirstOfCall, FirstOfDefinition, FirstOfLegacy, FirstOfPath, PathEntry, is_of, told, first_told}
-use Rattle.hir_tables.specs.Tables.{Tables, place, place_cmp, found, path_found, with_path, definition_found, legacy_found}
+use Rattle.hir_tables.specs.Laws.{FirstOfAlias, FirstOfCall, FirstOfDefinition, FirstOfLegacy, FirstOfPath, PathEntry, is_of, told, first_told}
+use Rattle.hir_tables.specs.Tables.{Tables, place, place_cmp, found, alias_found, path_found, with_path, definition_found, legacy_found}
 
 -- ---- the same keys
 
@@ -143,6 +143,11 @@ pub first_of_call : FirstOfCall
 first_of_call es a b answer =
     found_first place_cmp place_total es (place a) answer (place b)
     ∙ ap (λ same. said (found es b) same answer) (places_as_keys b a)
+
+pub first_of_alias : FirstOfAlias
+first_of_alias es i j a =
+    found_first nat_cmp nat_cmp_total es i.0 a j.0
+    ∙ (λ x. said (alias_found es j) (unsigned_tied j.0 i.0 x) a)
 
 pub first_of_definition : FirstOfDefinition
 first_of_definition es i j a b d =

@@ -2,6 +2,7 @@
 use Rattle.std.specs.Prelude.{◌≡◌, ◌&&◌, ℕ, nat_eq, Bool, true, false, List, [], ◌∷◌, Option, Some, None, if◌then◌else◌, unwrap_or}
 use Rattle.std.specs.Ordering.{eq_by_cmp}
 use lib.Pointwise.{pointwise}
+use Rattle.hir_alias.specs.Alias.{Alias}
 use Rattle.hir_env.specs.NodeMap.{Site}
 use Rattle.hir_env.specs.declared.resolved.Resolved.{Resolved}
 use Rattle.hir_env.specs.declared.resolved.Shadow.{Shadow}
@@ -9,12 +10,13 @@ use Rattle.hir_store.specs.NameOrder.{name_cmp, path_cmp}
 use Rattle.hir_store.specs.Names.{same_name}
 use Rattle.hir_store.specs.declared.ids.MacroDefId.{MacroDefId}
 use Rattle.hir_store.specs.declared.ids.ModuleId.{ModuleId}
+use Rattle.hir_store.specs.declared.ids.TypeAliasId.{TypeAliasId}
 use Rattle.hir_store.specs.declared.name.Name.{Name}
 use Rattle.hir_store.specs.declared.path.ModPath.{ModPath}
 use Rattle.hir_store.specs.declared.path.PathKind.{PathKind}
 use Rattle.hir_store.specs.declared.path.PathKind.TheVariants as kind
 use Rattle.hir_tables.specs.Tables.{Tables, answers_of, place, place_cmp, found, with_first, with_path}
-use Rattle.hir_tables.specs.Tables.{definition_found, with_definition, legacy_found, with_legacy}
+use Rattle.hir_tables.specs.Tables.{alias_found, with_alias, definition_found, with_definition, legacy_found, with_legacy}
 use Rattle.hir_tables.specs.declared.table.MacroAnswer.{MacroAnswer}
 
 -- paths are the same where they begin alike, and their names are the same one by one
@@ -56,6 +58,10 @@ said None false now = None
 abbrev pub FirstOfCall : Type 0
 FirstOfCall = (es : List ((ℕ × ℕ) × MacroAnswer)) (a b : Site) (answer : MacroAnswer)
     → found (with_first es a answer) b ≡ said (found es b) (same_node b a) answer
+
+abbrev pub FirstOfAlias : Type 0
+FirstOfAlias = (es : List (ℕ × Alias)) (i j : TypeAliasId) (a : Alias)
+    → alias_found (with_alias es i a) j ≡ said (alias_found es j) (nat_eq j.0 i.0) a
 
 abbrev pub FirstOfDefinition : Type 0
 FirstOfDefinition = (es : List (Name × List (ℕ × MacroDefId))) (i j : ModuleId) (a b : Name) (d : MacroDefId)

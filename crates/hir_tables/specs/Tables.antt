@@ -2,6 +2,7 @@
 use Rattle.std.specs.Prelude.{ℕ, Bool, false, ◌&&◌, List, [], Option, Some, None, Result, Ok, Err, is_some, unwrap_or}
 use Rattle.std.specs.Ordering.{nat_cmp, ordering_then}
 use Rattle.std.specs.declared.cmp.Ordering.{Ordering}
+use Rattle.hir_alias.specs.Alias.{Alias}
 use Rattle.hir_base.specs.declared.node.PredId.{PredId}
 use Rattle.hir_env.specs.Answers.{Contexts, Answers, Expanding, unresolved, no_expansion, expanded}
 use Rattle.hir_env.specs.NodeMap.{Site}
@@ -16,6 +17,7 @@ use Rattle.hir_store.specs.declared.ids.HygieneId.{HygieneId}
 use Rattle.hir_store.specs.declared.ids.ItemContainerId.{ItemContainerId}
 use Rattle.hir_store.specs.declared.ids.MacroDefId.{MacroDefId}
 use Rattle.hir_store.specs.declared.ids.ModuleId.{ModuleId}
+use Rattle.hir_store.specs.declared.ids.TypeAliasId.{TypeAliasId}
 use Rattle.hir_store.specs.declared.name.Name.{Name}
 use Rattle.hir_store.specs.declared.path.ModPath.{ModPath}
 use Rattle.hir_tables.specs.FirstOf.{found_by, with_first_by, found_below, with_first_below}
@@ -50,6 +52,12 @@ with_pred es p t = with_number es p.0 t
 abbrev pub with_context : {T : Type 0} → List (ℕ × T) → CtxId → T → List (ℕ × T)
 with_context es c t = with_number es c.0 t
 
+abbrev pub alias_found : List (ℕ × Alias) → TypeAliasId → Option Alias
+alias_found es id = number_found es id.0
+
+abbrev pub with_alias : List (ℕ × Alias) → TypeAliasId → Alias → List (ℕ × Alias)
+with_alias es id a = with_number es id.0 a
+
 -- and of the path in the module
 abbrev pub path_found : List (ModPath × List (ℕ × Resolved)) → ModuleId → ModPath → Option Resolved
 path_found es inside p = found_below path_cmp nat_cmp es p inside.0
@@ -81,6 +89,7 @@ pub record Tables : Type 0 where
   pub skip : Bool
   pub container : ItemContainerId
   pub paths : List (ModPath × List (ℕ × Resolved))
+  pub aliases : List (ℕ × Alias)
   pub lang_items : LangItems
   pub new_range : Bool
   pub macros : List ((ℕ × ℕ) × MacroAnswer)
@@ -98,6 +107,7 @@ empty container = record {
   skip = false;
   container = container;
   paths = [];
+  aliases = [];
   lang_items = numbered_items;
   new_range = false;
   macros = [];
@@ -165,6 +175,7 @@ answers_of t = record {
   container = λ _. t.container;
   module_of = module_in;
   resolve = λ inside p _. resolved_in t.paths inside p;
+  alias = alias_found t.aliases;
   lang_items = t.lang_items;
   new_range = λ _. t.new_range;
   expand = λ s c inside k. expanded_by (found t.macros s);

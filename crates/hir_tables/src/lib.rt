@@ -4,7 +4,7 @@
 #![tactic(auto)]
 
 ghost use Rattle.hir_tables.specs.Laws.{PathsAsKeys, SamePathsAreOne, NamesAsKeys, PlacesAsKeys};
-ghost use Rattle.hir_tables.specs.Laws.{FirstOfCall, FirstOfDefinition, FirstOfLegacy, FirstOfPath};
+ghost use Rattle.hir_tables.specs.Laws.{FirstOfAlias, FirstOfCall, FirstOfDefinition, FirstOfLegacy, FirstOfPath};
 
 mod first_below;
 mod first_of;
@@ -33,6 +33,11 @@ pub fn finds_the_same_node()
 /// Of two answers for one call the first counts, and another call's answer is left alone.
 pub fn first_of_a_call_counts()
     ensures { FirstOfCall }
+{}
+
+/// Of two answers for one alias the first counts, and another alias's answer is left alone.
+pub fn first_of_an_alias_counts()
+    ensures { FirstOfAlias }
 {}
 
 /// Of two numbers of a macro of one name in one module the first counts.

@@ -2,10 +2,11 @@
 
 ghost use Rattle.std.specs.Prelude.{◌≡◌, OnOk, OnErr, is_some};
 ghost use Rattle.hir_tables.specs.Tables as spec;
-ghost use Rattle.hir_tables.specs.Tables.{found, with_first, with_pred, with_context, with_path, with_definition, with_legacy};
+ghost use Rattle.hir_tables.specs.Tables.{found, with_alias, with_first, with_pred, with_context, with_path, with_definition, with_legacy};
 
 use crate::first_below::FirstBelow;
 use crate::first_of::FirstOf;
+use hir_alias::signature::AliasSignature;
 use hir_base::Seq;
 use hir_base::node::{HirFileId, InFile, NodeId, PredId};
 use hir_env::env::LowerEnv;
@@ -13,7 +14,8 @@ use hir_env::expand::{Expansion, FragmentKind, OuterMacro};
 use hir_env::lang::LangItems;
 use hir_env::resolved::{Resolved, Shadow};
 use hir_store::ids::{
-    BlockId, CfgId, CrateId, CtxId, DefWithBodyId, HygieneId, ItemContainerId, MacroDefId, ModuleId,
+    BlockId, CfgId, CrateId, CtxId, DefWithBodyId, HygieneId, ItemContainerId, MacroDefId,
+    ModuleId, TypeAliasId,
 };
 use hir_store::name::Name;
 use hir_store::path::ModPath;
@@ -47,8 +49,8 @@ pub enum MacroAnswer {
 /// An environment that answers all from tables. A node that stands in none is enabled, has root hygiene and no
 /// block, and a call that stands in none has no expansion. A name's context has the number of its hygiene. A context that
 /// stands in no table was made in the root, has the hygiene of its own number, came from no macro, and its crate has no root. A
-/// path that stands in none stands for nothing, and one that does stands for the same in every way that it is looked up. Of two
-/// entries for one node, one context, one call, one path or one name the first counts.
+/// path that stands in none stands for nothing, and one that does stands for the same in every way that it is looked up. An alias that
+/// stands in none has no answer. Of two entries for one node, one context, one call, one path, one alias or one name the first counts.
 ///
 /// A node is known by the numbers of its file and its own, all else by number, path or name.
 pub struct TableEnv {
@@ -60,6 +62,7 @@ pub struct TableEnv {
     skip: bool,
     container: ItemContainerId,
     paths: FirstBelow<ModPath, u32, Resolved>,
+    aliases: FirstOf<u32, AliasSignature>,
     lang_items: LangItems,
     new_range: bool,
     macros: FirstOf<(u32, u32), MacroAnswer>,
@@ -86,6 +89,7 @@ impl Drop for TableEnv {
             skip: _,
             container: _,
             paths: _,
+            aliases: _,
             lang_items: _,
             new_range: _,
             macros: _,
@@ -99,6 +103,7 @@ impl Drop for TableEnv {
 impl Model for TableEnv {
     ghost use Rattle.hir_tables.specs.Tables.{Tables};
     ghost use Rattle.std.specs.Coded.{codes};
+    ghost use Rattle.hir_store.specs.contracts.path.GenericArgs as generic_args;
     ghost use Rattle.hir_syntax.specs.contracts.ast.Expr as expr_tree;
     ghost use Rattle.hir_syntax.specs.contracts.ast.Stmt as stmt_tree;
     ghost use Rattle.hir_syntax.specs.contracts.pats.Pat as pat_tree;
@@ -108,6 +113,7 @@ impl Model for TableEnv {
 
     ghost coded = { Prim.hlevel (
       codes,
+      generic_args.the_row.coded,
       expr_tree.the_row.coded,
       stmt_tree.the_row.coded,
       pat_tree.the_row.coded,
@@ -123,6 +129,7 @@ impl Model for TableEnv {
       skip = t.skip;
       container = t.container;
       paths = t.paths;
+      aliases = t.aliases;
       lang_items = t.lang_items;
       new_range = t.new_range;
       macros = t.macros;
@@ -147,6 +154,7 @@ impl TableEnv {
             skip: false,
             container,
             paths: FirstBelow::new(alloc),
+            aliases: FirstOf::new(alloc),
             lang_items: LangItems::numbered(),
             new_range: false,
             macros: FirstOf::new(alloc),
@@ -237,6 +245,14 @@ impl TableEnv {
         ensures err { OnErr result (self.new ≡ self.old) }
     {
         self.paths.insert(path, inside.0, resolved)
+    }
+
+    /// Says what is answered of an alias.
+    pub fn set_alias(&mut self, id: TypeAliasId, alias: AliasSignature) -> Result<(), AllocError>
+        ensures ok { OnOk result (self.new ≡ record self.old { aliases = with_alias self.old.aliases id alias }) }
+        ensures err { OnErr result (self.new ≡ self.old) }
+    {
+        self.aliases.insert(id.0, alias)
     }
 
     /// Says which items of the language are there.
@@ -385,6 +401,10 @@ impl LowerEnv for TableEnv {
             rest: None,
         };
         self.paths.get(path, inside.0).unwrap_or(unsaid)
+    }
+
+    fn alias(&self, id: TypeAliasId) -> Option<&AliasSignature> {
+        self.aliases.get(id.0)
     }
 
     fn lang_items(&self) -> &LangItems {

@@ -1,7 +1,9 @@
 -- What the answers of steps are, from wherever they begin.
-use Rattle.std.proofs.Common.{Ok, Err}
+use Rattle.std.proofs.Common.{Bool, List, Option, Some, None, Ok, Err}
+use Rattle.hir_store.specs.declared.path.Path.{Path as HirPath}
 use Rattle.hir_lower_form.specs.Builder.{Builder}
-use Rattle.hir_lower_form.specs.Lowering.{Checked, go_on, Lowering, ◌>>=◌, pure}
+use Rattle.hir_lower_form.specs.Lowering.{Checked, go_on, Lowering, ◌>>=◌, pure, input_end}
+use Rattle.hir_lower_form.specs.Paths.{aliased, cut_back}
 
 abbrev pub AnsweredTo : {A : Type 0} → (A → Type 0) → Checked A → Type 0
 AnsweredTo P (Ok a) = P a
@@ -38,3 +40,10 @@ answering_less {A = A} {P = P} {Q = Q} {p = p} less h = record { answers = λ b.
     by : (o : Checked A) → AnsweredTo P o → AnsweredTo Q o
     by (Ok a) x = less a x
     by (Err e) x = tt
+
+-- a path that is an alias in an argument answers what it is without it
+pub answering_aliased : (alias : Option (List Bool)) {P : Option HirPath → Type 0} {p : Lowering (Option HirPath)} → Answering P p
+    → Answering P (aliased alias p)
+answering_aliased None h = h
+answering_aliased (Some places) h = answering_then (answering_any input_end) (λ n u. answering_then h (λ p e.
+    answering_then (answering_any (cut_back n places p)) (λ v w. answering_pure p e)))

@@ -21,6 +21,7 @@ use Rattle.hir_steps.proofs.ApartTypes.{counted_apart}
 use Rattle.hir_steps.proofs.Barriers.{correct_yield}
 use Rattle.hir_steps.proofs.Definitions as definitions
 use Rattle.hir_steps.proofs.Frames.{block_at, loop_at}
+use Rattle.hir_steps.proofs.Noted.{correct_aliased, correct_becoming, correct_noted}
 use Rattle.hir_steps.proofs.Steps.{Correct, correct_as}
 use Rattle.hir_steps.proofs.TargetSteps.{made_pat_apart}
 use Rattle.hir_told.specs.Silent.{silent}
@@ -53,6 +54,9 @@ apart_graded = record {
   top_is = λ h. then_apart h (λ r. then_apart (settle_apart r.1) (λ u. pure_apart r.0));
   type_is = λ t at. stored_type_apart t at;
   lifetime_is = λ l at. stored_lifetime_apart l at;
+  noted_down_is = λ f k h. correct_noted f h;
+  aliased_is = λ alias h. correct_aliased alias h;
+  impl_is = λ at mode bounds. correct_becoming at mode bounds (λ t e. stored_type_apart t (Some at));
   pat_is = λ p at. stored_pat_apart p at;
   made_pat_is = λ p at. made_pat_apart p at;
   expr_is = λ e at. expr_apart e at;

@@ -1,8 +1,14 @@
 -- Which calls of macros are entered: an instance, by that of lists, of which these are alike in all scopes.
-use Rattle.std.proofs.Common.{◌≡◌, ◌∙◌, refl, sym, [], ◌++◌, append-nil, Option, Some, None, Ok}
+use Rattle.std.proofs.Common.{◌≡◌, ◌∙◌, refl, sym, [], ◌++◌, append-nil, Option, Some, None, Ok, List}
 use Rattle.hir_store.specs.Stored.{Stored}
 use Rattle.hir_store.specs.declared.expansions.ExpandedCall.{ExpandedCall}
 use Rattle.hir_store.specs.declared.ids.BlockId.{BlockId}
+use Rattle.hir_store.specs.Pointers.{Pointer}
+use Rattle.hir_store.specs.declared.type_ref.TypeBound.{TypeBound}
+use Rattle.hir_env.specs.declared.place.ImplTrait.{ImplTrait}
+use Rattle.hir_env.specs.declared.place.ImplTrait.TheVariants as becomes
+use Rattle.hir_lower_form.specs.Lowering.{becoming}
+use Rattle.hir_told.specs.Grading.{grade_impl}
 use Rattle.hir_lower_form.specs.Builder.{Builder}
 use Rattle.hir_lower_form.specs.Lowering.{Lowering}
 use Rattle.hir_steps.specs.Calls.{Expansions}
@@ -44,6 +50,12 @@ expanded = record {
   both = λ xs ys us vs e f. λ i. e i ++ f i;
 }
 
+pub impls : (at : Pointer) (mode : ImplTrait) (bounds : List TypeBound)
+    → Correct (becoming at mode bounds) (Tells expanded (λ ss. grade_impl expansions mode at))
+impls at becomes.Error bounds = (tells_graded expanded).impl_is at becomes.Error bounds
+impls at becomes.Opaque bounds = (tells_graded expanded).impl_is at becomes.Opaque bounds
+impls at (becomes.Argument def) bounds = (tells_graded expanded).impl_is at (becomes.Argument def) bounds
+
 abbrev pub expansions_graded : Graded expansions
 expansions_graded = let all = tells_graded expanded in record {
   Claim = λ es p. Correct p (Tells expanded (λ ss. es));
@@ -64,6 +76,9 @@ expansions_graded = let all = tells_graded expanded in record {
   top_is = λ h. all.top_is h;
   type_is = λ t at. all.type_is t at;
   lifetime_is = λ l at. all.lifetime_is l at;
+  noted_down_is = λ f k h. all.noted_down_is f k h;
+  aliased_is = λ alias h. all.aliased_is alias h;
+  impl_is = λ at mode bounds. impls at mode bounds;
   pat_is = λ p at. all.pat_is p at;
   made_pat_is = λ p at. all.made_pat_is p at;
   expr_is = λ e at. all.expr_is e at;

@@ -1,7 +1,7 @@
 -- As much as is told is stored, or there is no room for it: an instance. Of steps that make an expression it is claimed besides that it is
 -- the last one.
 use Rattle.std.proofs.Common.{◌≡◌, refl, sym, subst, add-one, ℕ, suc, ◌^◌, nat_lt, if◌then◌else◌, Bool, true, false}
-use Rattle.std.proofs.Common.{[], Option, Some, None, Ok, Err}
+use Rattle.std.proofs.Common.{[], Option, Some, None, Ok, Err, List}
 use Rattle.std.proofs.lemmas.Bool.{ltb-false}
 use Rattle.hir_binding.specs.declared.binding.BindingAnnotation.{BindingAnnotation}
 use Rattle.hir_store.specs.Pointers.{Pointer}
@@ -17,6 +17,12 @@ use Rattle.hir_lower_form.specs.Lower.{lower_part}
 use Rattle.hir_lower_form.specs.Builder.{Builder}
 use Rattle.hir_lower_form.specs.Forms.{ExprSteps, StoredContents, paren_form, value_form, yield_form}
 use Rattle.hir_lower_form.specs.Lowering.{Checked, go_on, Lowering, ◌>>=◌, pure, close, count_out, made_number, note_yield}
+use Rattle.hir_store.specs.declared.type_ref.TypeBound.{TypeBound}
+use Rattle.hir_env.specs.declared.place.ImplTrait.{ImplTrait}
+use Rattle.hir_env.specs.declared.place.ImplTrait.TheVariants as becomes
+use Rattle.hir_lower_form.specs.Lowering.{becoming}
+use Rattle.hir_told.specs.Grading.{grade_impl}
+use Rattle.hir_one_result.proofs.NoteRooms.{aliased_takes, becoming_takes, takes_noted}
 use Rattle.hir_lower_form.specs.Lowering.{open_label, open_try, point}
 use Rattle.hir_lower_form.specs.Made.{made_bind_form}
 use Rattle.hir_lower_form.specs.Pats.{counted_dots, counted_place, moved_dots, new_binding, small_place}
@@ -63,6 +69,13 @@ given {A = A} {P = P} {n = n} {p = p} h t = record { tells = λ b d. by b (p b).
     by b (Ok a) c x y = (x, y)
     by b (Err e) c x y = x
 
+-- ---- what an `impl` becomes
+
+pub impls : (at : Pointer) (mode : ImplTrait) (bounds : List TypeBound) → Takes (grade_impl sizes mode at) (becoming at mode bounds)
+impls at becomes.Error bounds = becoming_takes at becomes.Error bounds
+impls at becomes.Opaque bounds = becoming_takes at becomes.Opaque bounds
+impls at (becomes.Argument def) bounds = becoming_takes at (becomes.Argument def) bounds
+
 -- ---- two dots
 
 counts : (n : Option ℕ) → Same nothing (dots_behind n)
@@ -72,6 +85,7 @@ counts None = record {
   bindings = refl;
   owners = refl;
   names = refl;
+  params = refl;
   pats = refl;
   types = refl;
   lifetimes = refl;
@@ -85,6 +99,7 @@ counts (Some n) = record {
   bindings = refl;
   owners = refl;
   names = refl;
+  params = refl;
   pats = refl;
   types = refl;
   lifetimes = refl;
@@ -190,6 +205,9 @@ rooms_graded = record {
   top_is = λ h. takes_end h (λ r. takes_end (settle_takes r.1) (λ u. takes_pure r.0));
   type_is = λ t at. takes_type t at;
   lifetime_is = λ l at. takes_lifetime l at;
+  noted_down_is = λ f k h. takes_noted f k h;
+  aliased_is = λ alias h. aliased_takes alias h;
+  impl_is = λ at mode bounds. impls at mode bounds;
   pat_is = λ p at. takes_pat p at;
   made_pat_is = λ p at. takes_made_pat p at;
   expr_is = λ e at. (takes_alloc e at, last_alloc e at);

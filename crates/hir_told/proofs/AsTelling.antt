@@ -23,6 +23,12 @@ use Rattle.hir_steps.proofs.MadeSteps.{correct_alloc_made, correct_opened_try, c
 use Rattle.hir_steps.proofs.PatSteps.{correct_point_pat_field, with_field_pat}
 use Rattle.hir_steps.proofs.Steps.{Correct, correct_as, correct_count_out}
 use Rattle.hir_one_result.specs.Diagnostics.{Around}
+use Rattle.hir_store.specs.declared.type_ref.TypeBound.{TypeBound}
+use Rattle.hir_env.specs.declared.place.ImplTrait.{ImplTrait}
+use Rattle.hir_env.specs.declared.place.ImplTrait.TheVariants as becomes
+use Rattle.hir_lower_form.specs.Lowering.{becoming}
+use Rattle.hir_told.specs.Grading.{grade_impl}
+use Rattle.hir_steps.proofs.Noted.{correct_aliased, correct_becoming, correct_noted}
 use Rattle.hir_one_result.proofs.AfterLowering.{after_lowering}
 use Rattle.hir_one_result.proofs.Around.{block_is_rib, in_loop, loop_is_rib, try_is_rib}
 use Rattle.hir_one_result.proofs.CallTelling.{gone_tells, note_tells, tells_point_pat, tells_point_type, told_tells}
@@ -82,6 +88,15 @@ module _ {X : Type 0} (L : Listing X) where
   made_bind_tells mode n = tells_end L (tells_binding L _)
       (λ i. tells_end L (tells_pat L _ None) (λ p. tells_end L (tells_define L i p) (λ u. tells_pure L p)))
 
+  -- ---- what an `impl` becomes
+
+  pub impls_tell : (at : Pointer) (mode : ImplTrait) (bounds : List TypeBound)
+      → Correct (becoming at mode bounds) (Tells L (grade_impl (listed L.of_faults L.of_block L.of_told) mode at))
+  impls_tell at becomes.Error bounds = tells_aside L (aside_type _ (Some at))
+  impls_tell at becomes.Opaque bounds = tells_aside L (aside_type _ (Some at))
+  impls_tell at (becomes.Argument def) bounds =
+      correct_becoming at (becomes.Argument def) bounds (λ t e. tells_aside L (aside_type t (Some at)))
+
   -- ---- a `try`
 
   added_is : (k : Bool → List X) {b c : Bool} {x y : Stored} → b ≡ c → Added L (k b) x y → Added L (k c) x y
@@ -125,6 +140,9 @@ module _ {X : Type 0} (L : Listing X) where
     top_is = λ h. tells_end L h (λ r. tells_end L (settle_tells L r.1) (λ u. tells_pure L r.0));
     type_is = λ t at. tells_aside L (aside_type t at);
     lifetime_is = λ l at. tells_aside L (aside_lifetime l at);
+    noted_down_is = λ f k h. correct_noted f h;
+    aliased_is = λ alias h. correct_aliased alias h;
+    impl_is = λ at mode bounds. impls_tell at mode bounds;
     pat_is = λ p at. tells_pat L p at;
     made_pat_is = λ p at. tells_made_pat L p at;
     expr_is = λ e at. tells_alloc L e at;

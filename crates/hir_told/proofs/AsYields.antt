@@ -1,8 +1,13 @@
 -- Whether a `yield` stands in it: an instance, beside that made names stay apart.
-use Rattle.std.proofs.Common.{◌≡◌, ◌∙◌, ap, subst, ◌||◌, ℕ, Bool, false, Some, None, Ok, Err}
+use Rattle.std.proofs.Common.{◌≡◌, ◌∙◌, ap, subst, ◌||◌, ℕ, Bool, false, Some, None, Ok, Err, List}
 use Rattle.hir_binding.specs.declared.binding.BindingAnnotation.{BindingAnnotation}
 use Rattle.hir_store.specs.Pointers.{Pointer}
 use Rattle.hir_store.specs.declared.ids.LabelId.{LabelId}
+use Rattle.hir_store.specs.declared.type_ref.TypeBound.{TypeBound}
+use Rattle.hir_env.specs.declared.place.ImplTrait.{ImplTrait}
+use Rattle.hir_env.specs.declared.place.ImplTrait.TheVariants as becomes
+use Rattle.hir_lower_form.specs.Lowering.{becoming}
+use Rattle.hir_told.specs.Grading.{grade_impl}
 use Rattle.hir_env.specs.Answered as tree
 use Rattle.hir_lower_form.specs.Builder.{Builder}
 use Rattle.hir_lower_form.specs.Forms.{ExprSteps, StoredContents}
@@ -24,6 +29,7 @@ use Rattle.hir_steps.proofs.Opening.{raises_close, raises_open_label, raises_ope
 use Rattle.hir_steps.proofs.Owning.{raises_owning, still_owning}
 use Rattle.hir_steps.proofs.PatSteps.{correct_alloc_binding, correct_alloc_pat, correct_define}
 use Rattle.hir_steps.proofs.StillPats.{dots_still, settle_still}
+use Rattle.hir_steps.proofs.StillNotes.{raises_aliased, raises_noted_down, still_becoming}
 use Rattle.hir_steps.proofs.StillTypes.{counted_still}
 use Rattle.hir_steps.proofs.Steps.{Correct}
 use Rattle.hir_steps.proofs.Yields.{RaisedTo, Raises, Still, or_assoc, raises_begin, raises_end, raises_pure, raises_still, raises_then}
@@ -78,6 +84,13 @@ pub try_raises : (at : Pointer) (typed : Bool) {y z : Bool} (k : Bool → Bool) 
 try_raises at typed k of b {f = f} hs hp t more = raises_begin (raises_open_try at typed) (λ n. raises_then hs (λ u.
     raises_where hp t (λ r is. raises_begin raises_close (λ v. subst (λ x. Raises (k x) (f n r)) is (more n r)))))
 
+-- nor in what an `impl` becomes
+pub impls : (at : Pointer) (mode : ImplTrait) (bounds : List TypeBound) → Notes (grade_impl yields mode at) (becoming at mode bounds)
+impls at becomes.Error bounds = off (apart_graded.impl_is at becomes.Error bounds) (still_becoming at becomes.Error bounds)
+impls at becomes.Opaque bounds = off (apart_graded.impl_is at becomes.Opaque bounds) (still_becoming at becomes.Opaque bounds)
+impls at (becomes.Argument def) bounds =
+    off (apart_graded.impl_is at (becomes.Argument def) bounds) (still_becoming at (becomes.Argument def) bounds)
+
 abbrev pub yields_graded : Graded yields
 yields_graded = let apart = apart_graded in record {
   Claim = λ y p. Notes y p;
@@ -104,6 +117,9 @@ yields_graded = let apart = apart_graded in record {
   );
   type_is = λ t at. off (apart.type_is t at) (still_type t at);
   lifetime_is = λ l at. off (apart.lifetime_is l at) (still_lifetime l at);
+  noted_down_is = λ f k h. (apart.noted_down_is f k h.0, raises_noted_down f h.1);
+  aliased_is = λ alias h. (apart.aliased_is alias h.0, raises_aliased alias h.1);
+  impl_is = λ at mode bounds. impls at mode bounds;
   pat_is = λ p at. off (apart.pat_is p at) (still_pat p at);
   made_pat_is = λ p at. off (apart.made_pat_is p at) (still_made_pat p at);
   expr_is = λ e at. off (apart.expr_is e at) (still_expr e at);

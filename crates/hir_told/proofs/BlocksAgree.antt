@@ -7,6 +7,8 @@ use Rattle.hir_store.specs.declared.diagnostics.AwaitLocation.{AwaitLocation}
 use Rattle.hir_store.specs.declared.ids.BlockId.{BlockId}
 use Rattle.hir_store.specs.declared.name.Name.{Name}
 use Rattle.hir_store.specs.declared.name.Name.TheVariants as name
+use Rattle.hir_env.specs.declared.place.ImplTrait.{ImplTrait}
+use Rattle.hir_env.specs.declared.place.ImplTrait.TheVariants as becomes
 use Rattle.hir_env.specs.Answered as tree
 use Rattle.hir_env.specs.Answered.{Called}
 use Rattle.hir_env.specs.Answered.{Type_, OptionType, Parts, Path, OptionPath, Segments, Segment, SegmentArgs, OptionParens, OptionRet}
@@ -67,6 +69,11 @@ before_is (goes_on x) k ss h = h x
 lifetime_none : (l : Option Lifetime) (ss : List Scope) → p.grade_lifetime blocks l ss ≡ []
 lifetime_none None ss = refl
 lifetime_none (Some l) ss = refl
+
+impl_none : (mode : ImplTrait) (at : Pointer) (ss : List Scope) → p.grade_impl blocks mode at ss ≡ []
+impl_none becomes.Error at ss = refl
+impl_none becomes.Opaque at ss = refl
+impl_none (becomes.Argument def) at ss = refl
 
 uses_none : (us : List UseRead) (ss : List Scope) → p.grade_uses blocks us ss ≡ []
 uses_none [] ss = refl
@@ -194,7 +201,7 @@ mutual
   type_is (tree.path_type at q) ss = behind (whole_is q ss)
   type_is (tree.ref_type at l mutability t) ss = first (part_is t ss) (behind (lifetime_none l ss))
   type_is (tree.fn_type at head ts r) ss = both (part_is r ss) (behind (parts_is ts ss))
-  type_is (tree.impl_type at mode bs) ss = behind (bounds_are bs ss)
+  type_is (tree.impl_type at mode bs) ss = first (bounds_are bs ss) (impl_none mode at ss)
   type_is (tree.nested_impl at) ss = refl
   type_is (tree.dyn_type at bs) ss = behind (bounds_are bs ss)
   type_is (tree.pattern_type at t own q) ss = both (part_is t ss) (behind (type_pat_part_is q ss))
@@ -239,7 +246,7 @@ mutual
       both (segments_are st x ss) (before_is (segments_read st x) (λ y. g.grade_segment blocks false s y) ss (λ y. segment_is false s y ss))
 
   path_is : (q : Path) (x : Seen) (ss : List Scope) → g.grade_path blocks q x ss ≡ now.blocks_of_path q x
-  path_is (tree.path leading s rest use_) x ss =
+  path_is (tree.path alias leading s rest use_) x ss =
       both (both (segments_are rest x ss) (before_is (segments_read rest x)
       (λ y. g.grade_segment blocks true s (at_first leading y)) ss (λ y. segment_is true s (at_first leading y) ss)))
       (before_is (own_read leading s rest x) (λ y. g.grade_outer blocks use_ y) ss (λ y. outer_is use_ y ss))

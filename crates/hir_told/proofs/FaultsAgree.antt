@@ -7,14 +7,14 @@ use Rattle.hir_store.specs.declared.diagnostics.AwaitLocation.{AwaitLocation}
 use Rattle.hir_store.specs.declared.ids.BlockId.{BlockId}
 use Rattle.hir_store.specs.declared.name.Name.{Name}
 use Rattle.hir_store.specs.declared.name.Name.TheVariants as name
+use Rattle.hir_env.specs.declared.place.ImplTrait.{ImplTrait}
+use Rattle.hir_env.specs.declared.place.ImplTrait.TheVariants as becomes
 use Rattle.hir_env.specs.Answered as tree
-use Rattle.hir_env.specs.Answered.{Called}
 use Rattle.hir_env.specs.Answered.{Type_, OptionType, Parts, Path, OptionPath, Segments, Segment, SegmentArgs, OptionParens, OptionRet}
 use Rattle.hir_env.specs.Answered.{OptionArgs, Args, Arg, Bounds, Bound, Constant, Expr, OptionExpr, Exprs, Fields, Field, Spread, Block}
 use Rattle.hir_env.specs.Answered.{OptionBlock, Stmts, Stmt, Arms, Arm, Guard, Pat, OptionPat, Pats, PatFields, PatField, Side, TypePat}
-use Rattle.hir_env.specs.Answered.{OptionTypePat, TypePats, Limit, Param, Params}
-use Rattle.hir_env.specs.Answered.{Target, Targets, TargetFields, TargetField, Label, Lifetime}
-use Rattle.hir_env.specs.Answered.{Listing, RangeForm, UseRead}
+use Rattle.hir_env.specs.Answered.{OptionTypePat, TypePats, Limit, Param, Params, Called}
+use Rattle.hir_env.specs.Answered.{Target, Targets, TargetFields, TargetField, Label, Lifetime, Listing, RangeForm, UseRead}
 use Rattle.hir_data.specs.Patterns.{is_dots}
 use Rattle.hir_data.specs.Uses.{FirstUses}
 use Rattle.hir_data.specs.Written.{written_path}
@@ -93,6 +93,11 @@ before_is (goes_on x) k ss h = h x
 lifetime_none : (l : Option Lifetime) (ss : List Scope) → p.grade_lifetime faults l ss ≡ []
 lifetime_none None ss = refl
 lifetime_none (Some l) ss = refl
+
+impl_none : (mode : ImplTrait) (at : Pointer) (ss : List Scope) → p.grade_impl faults mode at ss ≡ []
+impl_none becomes.Error at ss = refl
+impl_none becomes.Opaque at ss = refl
+impl_none (becomes.Argument def) at ss = refl
 
 uses_none : (us : List UseRead) (ss : List Scope) → p.grade_uses faults us ss ≡ []
 uses_none [] ss = refl
@@ -221,7 +226,7 @@ mutual
   type_is (tree.path_type at q) ss = behind (whole_is q ss)
   type_is (tree.ref_type at l mutability t) ss = first (part_is t ss) (behind_none (lifetime_none l ss))
   type_is (tree.fn_type at head ts r) ss = both (part_is r ss) (behind (parts_is ts ss))
-  type_is (tree.impl_type at mode bs) ss = behind (bounds_are bs ss)
+  type_is (tree.impl_type at mode bs) ss = first (bounds_are bs ss) (impl_none mode at ss)
   type_is (tree.nested_impl at) ss = same _
   type_is (tree.dyn_type at bs) ss = behind (bounds_are bs ss)
   type_is (tree.pattern_type at t own q) ss = both (part_is t ss) (behind (type_pat_part_is q ss))
@@ -266,7 +271,7 @@ mutual
       both (segments_are st x ss) (before_is (segments_read st x) (λ y. g.grade_segment faults false s y) ss (λ y. segment_is false s y ss))
 
   path_is : (q : Path) (x : Seen) (ss : List Scope) → Like (g.grade_path faults q x ss) (now.path_faults ss q x)
-  path_is (tree.path leading s rest use_) x ss =
+  path_is (tree.path alias leading s rest use_) x ss =
       both (both (segments_are rest x ss) (before_is (segments_read rest x)
       (λ y. g.grade_segment faults true s (at_first leading y)) ss (λ y. segment_is true s (at_first leading y) ss)))
       (before_is (own_read leading s rest x) (λ y. g.grade_outer faults use_ y) ss (λ y. outer_is use_ y ss))

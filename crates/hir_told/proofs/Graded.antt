@@ -1,5 +1,5 @@
 -- Claims that are closed under steps, and steps of which it is known besides what they answer.
-use Rattle.std.proofs.Common.{◌≡◌, refl, ℕ, Bool, [], ◌∷◌, ◌++◌, Option, Some, None}
+use Rattle.std.proofs.Common.{◌≡◌, refl, ℕ, Bool, List, [], ◌∷◌, ◌++◌, Option, Some, None}
 use Rattle.hir_binding.specs.declared.binding.BindingAnnotation.{BindingAnnotation}
 use Rattle.hir_store.specs.Names.{IsWritten}
 use Rattle.hir_store.specs.Pointers.{Pointer}
@@ -15,12 +15,16 @@ use Rattle.hir_store.specs.declared.ids.MacroDefId.{MacroDefId}
 use Rattle.hir_store.specs.declared.ids.PatId.{PatId}
 use Rattle.hir_store.specs.declared.ids.TypeRefId.{TypeRefId}
 use Rattle.hir_store.specs.declared.pat.Pat.{Pat as HirPat}
+use Rattle.hir_store.specs.declared.path.Path.{Path as HirPath}
 use Rattle.hir_store.specs.declared.type_ref.LifetimeRef.{LifetimeRef}
+use Rattle.hir_store.specs.declared.type_ref.TypeBound.{TypeBound}
 use Rattle.hir_store.specs.declared.type_ref.TypeRef.{TypeRef}
+use Rattle.hir_env.specs.declared.place.ImplTrait.{ImplTrait}
 use Rattle.hir_env.specs.Answered.{Called, Entered, Gone, Jump, Label, Limit, OptionExpr, OptionType, Params, Use}
 use Rattle.hir_data.specs.Patterns.{moved_by}
 use Rattle.hir_scope.specs.Ribs.{Try}
 use Rattle.hir_lower_form.specs.declared.closures.ClosureParams.{ClosureParams}
+use Rattle.hir_lower_form.specs.declared.generics.Notes.{Notes}
 use Rattle.hir_lower_form.specs.declared.walk.PathWalk.{PathWalk}
 use Rattle.hir_lower_form.specs.Calls.{define_form, inside_macro, note, note_gone, told}
 use Rattle.hir_lower_form.specs.Forms.{ExprSteps, StoredContents, closure_form, constant_form, coroutine_block_form}
@@ -29,17 +33,18 @@ use Rattle.hir_lower_form.specs.Lower.{lower_params, lower_part, present_type}
 use Rattle.hir_lower_form.specs.Lowering.{Lowering, ◌>>=◌, pure, alloc_binding, alloc_expr, alloc_lifetime, alloc_made, alloc_made_pat}
 use Rattle.hir_lower_form.specs.Lowering.{alloc_pat, alloc_type, close, define, enter_block, jump_target, made_number, open_label}
 use Rattle.hir_lower_form.specs.Lowering.{open_try, owning, point, point_field, point_pat, point_pat_field, point_target, point_type}
-use Rattle.hir_lower_form.specs.Lowering.{report, try_target}
+use Rattle.hir_lower_form.specs.Lowering.{◌>>◌, becoming, note_down, report, try_target}
 use Rattle.hir_lower_form.specs.Made.{made_bind_form}
-use Rattle.hir_lower_form.specs.Paths.{counted}
+use Rattle.hir_lower_form.specs.Paths.{aliased, counted}
 use Rattle.hir_lower_form.specs.Pats.{Table, counted_dots, key_of, new_binding, no_names, settle}
 use Rattle.hir_lower_form.specs.Preludes.{coroutine_closure_form}
 use Rattle.hir_lower_form.specs.Ranges.{inner_form}
 use Rattle.hir_lower_form.specs.Types.{TypeSteps}
 use Rattle.hir_lower_form.specs.Walks.{super_read, supers}
 use Rattle.hir_one_result.proofs.LastStored.{LastPat, LastType}
-use Rattle.hir_told.specs.Grading.{Grading, made_bind}
-use Rattle.hir_told.proofs.Answering.{Answering, anything, answering_any, answering_pure, answering_then, answering_less}
+use Rattle.hir_one_result.proofs.NoteRooms.{KeepsParams}
+use Rattle.hir_told.specs.Grading.{Grading, grade_impl, made_bind}
+use Rattle.hir_told.proofs.Answering.{Answering, anything, answering_aliased, answering_any, answering_pure, answering_then, answering_less}
 
 -- how what is told is claimed of steps
 pub record Graded {ℓ} (S : Grading {ℓ}) : Type (ℓ ⊔ 1) where
@@ -90,6 +95,11 @@ pub record Graded {ℓ} (S : Grading {ℓ}) : Type (ℓ ⊔ 1) where
   pub binding_is : (u : Use) → IsWritten u.name → Claim S.binding (alloc_binding (new_binding u))
   pub define_is : (b : BindingId) (p : PatId) → Claim S.none (define b p)
   pub field_is : (p : PatId) (at : Pointer) → Claim S.none (point_pat_field p at)
+  -- ---- what is noted: beside steps, in a path that is an alias in an argument, and what an `impl` becomes
+  pub noted_down_is : (f : Notes → Notes) → KeepsParams f → {A : Type 0} {g : S.G} {p : Lowering A} → Claim g p
+      → Claim g (note_down f >> p)
+  pub aliased_is : (alias : Option (List Bool)) {g : S.G} {p : Lowering (Option HirPath)} → Claim g p → Claim g (aliased alias p)
+  pub impl_is : (at : Pointer) (mode : ImplTrait) (bounds : List TypeBound) → Claim (grade_impl S mode at) (becoming at mode bounds)
   -- ---- what is reported, counted, entered and asked
   pub fault_is : (d : ExpressionStoreDiagnostics) → Claim (S.fault d) (report d)
   -- of calls of macros; the node of one leads to the last pattern, or to the last type
@@ -182,6 +192,11 @@ module _ {ℓ} {S : Grading {ℓ}} (L : Graded S) where
 
   pub told_pure : {A : Type 0} {P : A → Type 0} (a : A) → P a → Told L S.none P (pure a)
   told_pure a h = record { claim = L.pure_is a; known = answering_pure a h }
+
+  -- a path that is an alias in an argument
+  pub told_aliased : (alias : Option (List Bool)) {P : Option HirPath → Type 0} {g : S.G} {p : Lowering (Option HirPath)} → Told L g P p
+      → Told L g P (aliased alias p)
+  told_aliased alias x = record { claim = L.aliased_is alias x.claim; known = answering_aliased alias x.known }
 
   pub told_then : {A B : Type 0} {P : A → Type 0} {Q : B → Type 0} {g h : S.G} {p : Lowering A} {f : A → Lowering B} → Told L g P p
       → ((a : A) → P a → Told L h Q (f a)) → Told L (S.then' g h) Q (p >>= f)

@@ -209,13 +209,13 @@ mutual
       (segments_like ss is (walk.goes_on x) h) (λ y k. segment_like false false s (items ss is) y k)
 
   whole_like : (p : Path) (is : List Item) (r : Read) → IsRead is r → IsRead (segments p is) (after r (λ x. path_read p x))
-  whole_like (tree.path leading first rest use_) is walk.refused h =
+  whole_like (tree.path alias leading first rest use_) is walk.refused h =
       outer_like use_ (item leading true first ∷ items rest is) walk.refused
       (still_refused (item leading true first) (items rest is) (segments_like rest is walk.refused h))
-  whole_like (tree.path leading first rest use_) is (walk.ended x) h =
+  whole_like (tree.path alias leading first rest use_) is (walk.ended x) h =
       outer_like use_ (item leading true first ∷ items rest is) (walk.ended x)
       (still_ended (item leading true first) (items rest is) x (segments_like rest is (walk.ended x) h))
-  whole_like (tree.path leading first rest use_) is (walk.goes_on x) h = outer_like use_ (item leading true first ∷ items rest is)
+  whole_like (tree.path alias leading first rest use_) is (walk.goes_on x) h = outer_like use_ (item leading true first ∷ items rest is)
       (after (segments_read rest x) (λ y. segment_read true first (at_first leading y)))
       (in_front (item leading true first) (items rest is) (segments_read rest x) (λ y. segment_read true first (at_first leading y))
       (segments_like rest is (walk.goes_on x) h) (λ y k.

@@ -40,6 +40,7 @@ use Rattle.hir_lower_form.specs.Lower.{lower_params, lower_param, lower_part, pr
 use Rattle.hir_lower_form.specs.Lower.{lower_arms, lower_arm, lower_guard, lower_spread, lower_block, lower_block_part, present_block}
 use Rattle.hir_lower_form.specs.Lower.{lower_stmts, lower_stmt, no_closure_params, try_block_form}
 use Rattle.hir_lower_form.specs.Lowering.{Lowering}
+use Rattle.hir_lower_form.specs.Paths.{alias_of}
 use Rattle.hir_meaning.specs.Left.{is_left, gives_value}
 use Rattle.hir_read_back.proofs.PatParts.{dots_behind, no_dots, dots_here, one_further}
 use Rattle.hir_one_result.specs.PathRoom.{at_first, found, segment_read, segments_read, path_read, outer_read, whole_read}
@@ -53,7 +54,7 @@ use Rattle.hir_one_result.proofs.PatRooms.{none_keyed, from_none}
 use Rattle.hir_told.specs.Grading.{Grading, grade_try}
 use Rattle.hir_told.specs.Grades as g
 use Rattle.hir_told.proofs.Graded.{Graded, Told, next, made_next, map_is, told_any, told_less, told_map, told_pure, told_then, told_last}
-use Rattle.hir_told.proofs.Graded.{hand_pure, hand_as, hand_less, hand_then, hand_map, hand_last}
+use Rattle.hir_told.proofs.Graded.{told_aliased, hand_pure, hand_as, hand_less, hand_then, hand_map, hand_last}
 use Rattle.hir_told.proofs.TypeForms as forms
 use Rattle.hir_told.proofs.PatForms as pats
 use Rattle.hir_told.proofs.PatForms.{PatTold, PartsTold, LaterTold}
@@ -173,7 +174,7 @@ module _ {ℓ} {S : Grading {ℓ}} (L : Graded S) where
         (λ v. segment_graded false s v))
 
     reading_graded : (p : Path) (w : PathWalk) → Told L (g.grade_path S p (seen w)) (Gives (path_read p (seen w))) (read_path p w)
-    reading_graded (tree.path leading first rest use_) w =
+    reading_graded (tree.path alias leading first rest use_) w =
         forms.whole_graded L (λ y. g.grade_outer S use_ y) (λ y. outer_read use_ y)
         (told_then L (segments_graded rest w) (λ r e.
         forms.proceed_graded L r (segments_read rest (seen w)) (λ y. g.grade_segment S true first (at_first leading y))
@@ -188,7 +189,8 @@ module _ {ℓ} {S : Grading {ℓ}} (L : Graded S) where
 
     pub path_graded : (p : OptionPath) → Told L (g.grade_whole S p) (GivesPath (whole_read p)) (lower_path p)
     path_graded tree.no_path = told_pure L _ refl
-    path_graded (tree.some_path p) = told_map L _ (reading_graded p start) (λ r e. seen_read r ∙ ap found e)
+    path_graded (tree.some_path p) =
+        told_aliased L (alias_of p) (told_map L _ (reading_graded p start) (λ r e. seen_read r ∙ ap found e))
 
     segment_args_graded : (as' : SegmentArgs) → L.Claim (g.grade_beside S as') (lower_segment_args as')
     segment_args_graded (tree.segment_args as' ps dots) = forms.beside_graded L (args_graded as') (parens_graded ps) dots
@@ -354,7 +356,8 @@ module _ {ℓ} {S : Grading {ℓ}} (L : Graded S) where
     target_graded (tree.macro_target (Some at) c t) =
         calls.told_target_graded L c (L.target_way_is at (lower_target_last t) (target_graded t))
     target_graded (tree.wild_target at) = targets.assigned_graded L _ at
-    target_graded (tree.path_target at p h) = targets.path_target_graded L at h (map_is L _ (reading_graded p start).claim)
+    target_graded (tree.path_target at p h) =
+        targets.path_target_graded L at h (L.aliased_is (alias_of p) (map_is L _ (reading_graded p start).claim))
     target_graded (tree.tuple_target at ts) = targets.tuple_target_graded L at (all_targets ts (targets_graded ts no_elements))
     target_graded (tree.call_target at p ts) =
         targets.call_target_graded L at (path_graded p) (all_targets ts (targets_graded ts no_elements))

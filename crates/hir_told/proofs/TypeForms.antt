@@ -28,7 +28,8 @@ use Rattle.hir_lower_form.specs.Types.{over_form, array_type_form, tuple_type_fo
 use Rattle.hir_lower_form.specs.Types.{impl_type_form, dyn_type_form, pattern_type_form, binding_form, path_bound_of, path_bound_form}
 use Rattle.hir_one_result.specs.PathRoom.{Seen, Read, goes_on, after, one_more, projected}
 use Rattle.hir_one_result.proofs.PathRooms.{seen, seen_of, option_seen, Gives, GivesPath, Yields}
-use Rattle.hir_told.specs.Grading.{Grading, if_so, before, grade_lifetime, grade_use, grade_uses}
+use Rattle.hir_one_result.proofs.NoteRooms.{naming_keeps}
+use Rattle.hir_told.specs.Grading.{Grading, if_so, before, grade_impl, grade_lifetime, grade_use, grade_uses}
 use Rattle.hir_told.proofs.Answering.{anything}
 use Rattle.hir_told.proofs.Graded.{HandsTold, hand_beside, Graded, Told, next, map_is, told_any, told_pure, told_then, told_last}
 use Rattle.hir_told.proofs.Knowing.{counted_gives, projected_is}
@@ -68,7 +69,7 @@ module _ {ℓ} {S : Grading {ℓ}} (L : Graded S) where
 
   pub lifetime_graded : (l : Lifetime) → L.Claim (S.lifetime_at (Some l.pointer)) (lower_lifetime l)
   unfolding lower_lifetime
-  lifetime_graded l = L.lifetime_is _ _
+  lifetime_graded l = L.noted_down_is _ (naming_keeps l.scope l.lifetime) (L.lifetime_is _ _)
 
   pub lifetime_option_graded : (l : Option Lifetime) → L.Claim (grade_lifetime S l) (lower_lifetime_option l)
   lifetime_option_graded None = L.pure_is None
@@ -114,9 +115,9 @@ module _ {ℓ} {S : Grading {ℓ}} (L : Graded S) where
     fn_graded binder head h k = next L h (λ r. next L k (λ ts. L.type_is _ _))
 
     pub impl_graded : (mode : ImplTrait) {g : S.G} {bs : Lowering (List TypeBound)} → L.Claim g bs
-        → L.Claim (S.then' g (S.type_at (Some at))) (impl_type_form at mode bs)
+        → L.Claim (S.then' g (grade_impl S mode at)) (impl_type_form at mode bs)
     unfolding impl_type_form
-    impl_graded mode h = next L h (λ bs. L.type_is _ _)
+    impl_graded mode h = next L h (λ bs. L.impl_is at mode bs)
 
     pub dyn_graded : {g : S.G} {bs : Lowering (List TypeBound)} → L.Claim g bs
         → L.Claim (S.then' g (S.type_at (Some at))) (dyn_type_form at bs)

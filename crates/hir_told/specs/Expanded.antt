@@ -17,6 +17,7 @@ expansions = record {
   expr = [];
   binding = [];
   fault = λ d. [];
+  param = [];
   noted = λ c. expansions_of_entered c;
   told = λ c. expansions_of_called c;
   gone = λ why. expansions_of_gone why;

@@ -16,7 +16,7 @@ use Rattle.hir_one_result.specs.PatRoom.{names_after, names_after_part, names_af
 use Rattle.hir_told.specs.Grading.{Grading, if_so, before, grade_lifetime, grade_uses, or_missing, grade_name, behind_comma, grade_or}
 use Rattle.hir_told.specs.Grading.{grade_name_side, grade_rest, grade_spread, kept_of, labelled_of, grade_front, record_of, grade_await}
 use Rattle.hir_told.specs.Grading.{grade_assigned, grade_behind, grade_uncalled_pat, grade_uncalled_type, or_missing_target}
-use Rattle.hir_told.specs.Grading.{grade_range, made_bind, item_call, flow_arm, residual, for_turn, grade_try}
+use Rattle.hir_told.specs.Grading.{grade_impl, grade_range, made_bind, item_call, flow_arm, residual, for_turn, grade_try}
 
 module _ {ℓ} (S : Grading {ℓ}) where
   abbrev mutual
@@ -36,7 +36,7 @@ module _ {ℓ} (S : Grading {ℓ}) where
     grade_type (tree.ref_type at l mutability t) = S.then' (grade_part t) (S.then' (grade_lifetime S l) (S.type_at (Some at)))
     -- what it answers before its parameters
     grade_type (tree.fn_type at head ts r) = S.then' (grade_part r) (S.then' (grade_parts ts) (S.type_at (Some at)))
-    grade_type (tree.impl_type at mode bs) = S.then' (grade_bounds bs) (S.type_at (Some at))
+    grade_type (tree.impl_type at mode bs) = S.then' (grade_bounds bs) (grade_impl S mode at)
     grade_type (tree.nested_impl at) = S.type_at (Some at)
     grade_type (tree.dyn_type at bs) = S.then' (grade_bounds bs) (S.type_at (Some at))
     grade_type (tree.pattern_type at t own p) = S.then' (grade_part t) (S.then' (grade_type_pat_part p) (S.type_at (Some at)))
@@ -71,7 +71,7 @@ module _ {ℓ} (S : Grading {ℓ}) where
 
     -- its own segments, and then those of the use tree around it
     pub grade_path : Path → Seen → S.G
-    grade_path (tree.path leading first rest use_) x =
+    grade_path (tree.path alias leading first rest use_) x =
         S.then' (S.then' (grade_segments rest x) (before S (segments_read rest x) (λ y. grade_segment true first (at_first leading y))))
         (before S (own_read leading first rest x) (λ y. grade_outer use_ y))
 

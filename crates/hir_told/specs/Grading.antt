@@ -9,6 +9,8 @@ use Rattle.hir_store.specs.declared.ids.BlockId.{BlockId}
 use Rattle.hir_store.specs.declared.ids.MacroDefId.{MacroDefId}
 use Rattle.hir_store.specs.declared.name.Name.{Name}
 use Rattle.hir_store.specs.declared.name.Name.TheVariants as name
+use Rattle.hir_env.specs.declared.place.ImplTrait.{ImplTrait}
+use Rattle.hir_env.specs.declared.place.ImplTrait.TheVariants as becomes
 use Rattle.hir_env.specs.Answered as tree
 use Rattle.hir_env.specs.Answered.{Called, Entered, Expr, Gone, Jump, Label, Lifetime, Limit, Listing, OptionExpr, Params, Pats, RangeForm}
 use Rattle.hir_env.specs.Answered.{Origin, Stmt, Stmts, Use, UseRead}
@@ -34,6 +36,8 @@ pub record Grading {ℓ} : Type (ℓ + 1) where
   pub expr : G
   pub binding : G
   pub fault : ExpressionStoreDiagnostics → G
+  -- ---- what is noted: a type parameter that an `impl` becomes
+  pub param : G
   -- ---- calls of macros: one that is entered, what a call comes to, and why something is gone; the node of one leads to the last pattern
   -- or to the last type
   pub noted : Entered → G
@@ -91,6 +95,14 @@ module _ {ℓ} (S : Grading {ℓ}) where
   abbrev pub grade_uses : List UseRead → S.G
   grade_uses [] = S.none
   grade_uses (u ∷ us) = S.then' (grade_use u) (grade_uses us)
+
+  -- ---- types
+
+  -- what an `impl` becomes, without its bounds
+  abbrev pub grade_impl : ImplTrait → Pointer → S.G
+  grade_impl becomes.Error at = S.type_at (Some at)
+  grade_impl becomes.Opaque at = S.type_at (Some at)
+  grade_impl (becomes.Argument def) at = S.then' S.param (S.type_at (Some at))
 
   -- ---- patterns
 

@@ -27,6 +27,7 @@ module _ {X : Type 0} (of_faults : List ExpressionStoreDiagnostics → List X) (
     expr = nothing;
     binding = nothing;
     fault = λ d. λ ss. of_faults (d ∷ []);
+    param = nothing;
     noted = λ c. λ ss. of_told (expansions_of_entered c) [];
     told = λ c. λ ss. of_told (expansions_of_called c) (called_faults c);
     gone = λ why. λ ss. of_told (expansions_of_gone why) (condition_faults why.condition);

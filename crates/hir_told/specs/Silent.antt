@@ -14,6 +14,7 @@ silent = record {
   expr = tt;
   binding = tt;
   fault = λ d. tt;
+  param = tt;
   noted = λ c. tt;
   told = λ c. tt;
   gone = λ why. tt;

@@ -7,7 +7,7 @@ use Rattle.hir_one_result.specs.PreludeRoom.{handed_size, prelude_size, self_let
 use Rattle.hir_one_result.specs.Room.{formals_data, label_size}
 use Rattle.hir_one_result.specs.Size as size
 use Rattle.hir_one_result.specs.Size.{Size, a_binding, a_body, a_label, a_lifetime, a_made_name, a_pat, a_super, a_type}
-use Rattle.hir_one_result.specs.Size.{a_def, a_made_pat, a_pat_call, a_target_way, a_type_call}
+use Rattle.hir_one_result.specs.Size.{a_def, a_made_pat, a_param, a_pat_call, a_target_way, a_type_call}
 use Rattle.hir_one_result.specs.Size.{an_expr, dots_behind, nothing, ◌∪◌}
 use Rattle.hir_told.specs.Bodies.{GradingBodies}
 use Rattle.hir_told.specs.Grading.{Grading}
@@ -25,6 +25,7 @@ sizes = record {
   expr = an_expr;
   binding = a_binding;
   fault = λ d. nothing;
+  param = a_param;
   noted = λ c. nothing;
   told = λ c. nothing;
   gone = λ why. nothing;

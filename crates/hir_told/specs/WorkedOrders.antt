@@ -55,7 +55,8 @@ module _ (a b : Pointer) (f g : HirFileId) where
         (tree.array_type at (tree.constant (tree.some_expr (expr_call a f))) (tree.some_type (type_call b g))))
     -- of a path the last segment first
     pub paths : (n k : Name) (is : IsWritten n) (also : IsWritten k) → first_then (grade_whole expansions
-        (tree.some_path (tree.path false (segment_of n is b g) (tree.more_segments (segment_of k also a f) tree.no_segments) tree.no_path)))
+        (tree.some_path
+        (tree.path None false (segment_of n is b g) (tree.more_segments (segment_of k also a f) tree.no_segments) tree.no_path)))
     -- a call that stands for two dots in front of the parts behind them
     pub dots : (at : Pointer) → first_then (grade_pat expansions (tree.tuple_pat at false (tree.noted_pats (tree.entered (call_alone a f))
         (tree.more_pats (tree.leaf_pat a tree.rest_leaf) (tree.more_pats (pat_call b g) tree.no_pats)))) [])

@@ -31,7 +31,7 @@ dots_expr at form = tree.range_expr at form tree.no_expr tree.no_expr
 
 -- `Self`
 abbrev pub own_type : OptionPath
-own_type = tree.some_path (tree.path false tree.self_type_segment tree.no_segments tree.no_path)
+own_type = tree.some_path (tree.path None false tree.self_type_segment tree.no_segments tree.no_path)
 
 -- two elements of a tuple, and two arguments of a call
 abbrev pub pair_of : Pointer → Expr → Expr → Expr

@@ -15,6 +15,7 @@ yields = record {
   expr = false;
   binding = false;
   fault = λ d. false;
+  param = false;
   noted = λ c. false;
   told = λ c. false;
   gone = λ why. false;

@@ -25,6 +25,7 @@ use Rattle.hir_lower_form.specs.declared.walk.PathWalk.{PathWalk}
 use Rattle.hir_lower_form.specs.declared.walk.Reading.TheVariants.{Open}
 use Rattle.hir_lower_form.specs.Builder.{Builder}
 use Rattle.hir_lower_form.specs.Lowering.{Lowering}
+use Rattle.hir_lower_form.specs.Paths.{alias_of}
 use Rattle.hir_lower_form.specs.Walks.{start, at_first, path_read}
 use Rattle.hir_lower_form.specs.Types.{no_lists}
 use Rattle.hir_lower_form.specs.Pats.{Elements, no_elements, no_names, is_dots, next_alternative}
@@ -42,6 +43,7 @@ use Rattle.hir_lower_form.specs.Lower.{lower_target_field, push_some, lower_para
 use Rattle.hir_meaning.specs.Inner.{Inside, by_itself, of_bound, of_path, of_present}
 use Rattle.hir_steps.specs.Keeps.{Paired}
 use Rattle.hir_steps.proofs.Calls.{correct_note, correct_note_gone, correct_told}
+use Rattle.hir_steps.proofs.Noted.{correct_aliased}
 use Rattle.hir_steps.proofs.Steps.{Correct, correct_in_store, correct_report}
 use Rattle.hir_steps.proofs.PatAny.{settle_any}
 use Rattle.hir_steps.proofs.TypeAny.{lifetime_any, uses_any}
@@ -136,7 +138,7 @@ mutual
   each_adds (tree.more_segments s ss) w = adds_then (each_adds ss w) (λ r. proceed_adds r (λ v. segment_adds false s v))
 
   reading_adds : (p : TreePath) (w : PathWalk) → Correct (read_path p w) (Adds (walk w) reading)
-  reading_adds (tree.path leading first rest use_) w =
+  reading_adds (tree.path alias leading first rest use_) w =
       whole_adds (adds_then (each_adds rest w)
       (λ r. proceed_adds r (λ v. at_first_adds leading v (segment_adds true first (at_first leading v)))))
       (λ v. option_adds use_ v)
@@ -147,8 +149,8 @@ mutual
 
   pub path_adds : (p : OptionPath) → Correct (lower_path p) (Adds free maybe_path)
   path_adds tree.no_path = adds_pure None (λ v. omega arith)
-  path_adds (tree.some_path p) = adds_then (reading_adds p start) (λ r. adds_pure (path_read r)
-      (λ v. weights.path_read_less v.weight v.held r))
+  path_adds (tree.some_path p) = correct_aliased (alias_of p) (adds_then (reading_adds p start) (λ r. adds_pure (path_read r)
+      (λ v. weights.path_read_less v.weight v.held r)))
 
   segment_args_add : (as' : SegmentArgs) → Correct (lower_segment_args as') (Adds free arguments)
   segment_args_add (tree.segment_args as' ps dots) = args_form_adds (args_add as') (parens_add ps) dots
@@ -446,8 +448,8 @@ mutual
   target_adds (tree.macro_target None c t) = adds_then (adds_any (correct_told c)) (λ u. target_adds t)
   target_adds (tree.macro_target (Some at) c t) = adds_then (adds_any (correct_told c)) (λ u. aims.pointed_adds at (target_adds t))
   target_adds (tree.wild_target at) = aims.adds_target _ at (λ v. omega arith)
-  target_adds (tree.path_target at p h) = aims.path_target_adds at h (adds_then (reading_adds p start)
-      (λ r. adds_pure (path_read r) (λ v. weights.path_read_less v.weight v.held r)))
+  target_adds (tree.path_target at p h) = aims.path_target_adds at h (correct_aliased (alias_of p) (adds_then (reading_adds p start)
+      (λ r. adds_pure (path_read r) (λ v. weights.path_read_less v.weight v.held r))))
   target_adds (tree.tuple_target at ts) = aims.tuple_target_adds at (targets_add no_elements ts)
   target_adds (tree.call_target at p ts) = aims.call_target_adds at (targets_add no_elements ts) (path_adds p)
   target_adds (tree.array_target at before dots behind) =

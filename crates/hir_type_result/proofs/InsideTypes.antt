@@ -1,5 +1,5 @@
 -- What is answered for types, paths, arguments and bounds holds what their parts hold, and constants that were stored, each once.
-use Rattle.std.proofs.Common.{◌≤◌, Bool, List, [], ◌∷◌, ◌++◌, Option, Some, None, arith}
+use Rattle.std.proofs.Common.{sym, subst, ◌≤◌, Bool, List, [], ◌∷◌, ◌++◌, Option, Some, None, arith}
 use Rattle.std.specs.Prelude.{option_map}
 use Rattle.hir_store.specs.Pointers.{Pointer}
 use Rattle.hir_store.specs.declared.hir.Mutability.{Mutability}
@@ -22,16 +22,17 @@ use Rattle.hir_lower_form.specs.declared.args.ArgLists.{ArgLists}
 use Rattle.hir_lower_form.specs.declared.walk.PathWalk.{PathWalk}
 use Rattle.hir_lower_form.specs.declared.walk.Reading.{Reading}
 use Rattle.hir_lower_form.specs.declared.walk.Reading.TheVariants.{Refused, Ended, Open}
-use Rattle.hir_lower_form.specs.Lowering.{Lowering, ◌>>=◌, pure, alloc_type}
+use Rattle.hir_lower_form.specs.Lowering.{Lowering, ◌>>=◌, pure, alloc_type, param_type}
 use Rattle.hir_lower_form.specs.Walks.{at_first, no_names, self_read, super_read, one_more_super, named}
 use Rattle.hir_lower_form.specs.Paths.{proceed, whole, counted, read_trait, with_trait, parens_form, or_else, segment_args_form}
 use Rattle.hir_lower_form.specs.Types.{TypeSteps, error_type, unit_type, lower_lifetime_option, over_form, array_type_form}
 use Rattle.hir_lower_form.specs.Types.{called_type_form, pattern_type_form, uncalled_type}
 use Rattle.hir_lower_form.specs.Types.{tuple_type_form, path_type_form, ref_type_form, fn_type_form, impl_type_form, dyn_type_form}
-use Rattle.hir_lower_form.specs.Types.{stored_leaf_type, stored_over_type, path_or_error, stored_impl}
+use Rattle.hir_lower_form.specs.Types.{stored_leaf_type, stored_over_type, path_or_error}
 use Rattle.hir_lower_form.specs.Types.{binding_form, path_bound_of, path_bound_form}
 use Rattle.hir_meaning.specs.Inner.{Inners, Inside, all_of, of_present, of_bound, of_constant, of_type}
 use Rattle.hir_steps.proofs.Calls.{correct_point_type, correct_told}
+use Rattle.hir_steps.proofs.Noted.{BecomesType, correct_becoming}
 use Rattle.hir_steps.proofs.Steps.{Correct, correct_alloc_type, correct_count_out}
 use Rattle.hir_steps.proofs.TypeAny.{lifetime_option_any}
 use Rattle.hir_same_meaning.proofs.HeldArgs.{of_binding}
@@ -90,9 +91,15 @@ path_inside : (p : Option HirPath) (v : View) → in_type (path_or_error p) v �
 path_inside None v = omega arith
 path_inside (Some p) v = omega arith
 
-impl_inside : (mode : ImplTrait) (bs : List TypeBound) (v : View) → in_type (stored_impl mode bs) v ≤ bounds bs v
-impl_inside becomes.Error bs v = omega arith
-impl_inside becomes.Opaque bs v = omega arith
+impl_inside : (mode : ImplTrait) (bs : List TypeBound) (t : TypeRef) → BecomesType mode bs t → (v : View) → in_type t v ≤ bounds bs v
+impl_inside becomes.Error bs t e v =
+    let of_error : in_type ty.Error v ≤ bounds bs v = omega arith in subst (λ x. in_type x v ≤ bounds bs v) (sym e) of_error
+impl_inside becomes.Opaque bs t e v =
+    let of_impl : in_type (ty.ImplTrait bs) v ≤ bounds bs v = omega arith in
+    subst (λ x. in_type x v ≤ bounds bs v) (sym e) of_impl
+impl_inside (becomes.Argument def) bs t e v =
+    let of_param : in_type (param_type def e.0) v ≤ bounds bs v = omega arith in
+    subst (λ x. in_type x v ≤ bounds bs v) (sym e.1) of_param
 
 pub error_adds : Correct error_type (Adds free a_type)
 unfolding error_type
@@ -156,7 +163,7 @@ module _ (at : Pointer) where
   pub impl_adds : (mode : ImplTrait) {bs : Lowering (List TypeBound)} → Correct bs (Adds free bounds)
       → Correct (impl_type_form at mode bs) (Adds free a_type)
   unfolding impl_type_form
-  impl_adds mode h = adds_then h (λ bs. adds_type _ (Some at) (impl_inside mode bs))
+  impl_adds mode h = adds_then h (λ bs. correct_becoming at mode bs (λ t e. adds_type t (Some at) (impl_inside mode bs t e)))
 
   pub dyn_adds : {bs : Lowering (List TypeBound)} → Correct bs (Adds free bounds) → Correct (dyn_type_form at bs) (Adds free a_type)
   unfolding dyn_type_form

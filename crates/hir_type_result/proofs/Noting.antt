@@ -1,6 +1,6 @@
 -- Steps by the bodies inside that they record as roots, where no root is being lowered.
 use Rattle.std.proofs.Common.{◌≡◌, ◌∙◌, refl, sym, ap, subst, arith, ℕ, ◌≤◌, length, Bool, true, false, true≢false, List, [], ◌∷◌}
-use Rattle.std.proofs.Common.{◌++◌, append_assoc, append-nil, Option, Ok, Err}
+use Rattle.std.proofs.Common.{◌++◌, append_assoc, append-nil, Option, Some, None, Ok, Err}
 use Rattle.hir_store.specs.Arenas.{Prefix}
 use Rattle.hir_store.specs.Stored.{Store, SourceMap, Stored, store_of, map_of}
 use Rattle.hir_store.specs.Storing as storing
@@ -15,16 +15,22 @@ use Rattle.hir_store.specs.declared.pat.Pat.{Pat}
 use Rattle.hir_store.specs.declared.roots.ExprRoot.{ExprRoot}
 use Rattle.hir_store.specs.declared.type_ref.ConstRef.{ConstRef}
 use Rattle.hir_store.specs.declared.type_ref.LifetimeRef.{LifetimeRef}
+use Rattle.hir_store.specs.declared.path.Path.{Path as HirPath}
+use Rattle.hir_store.specs.declared.type_ref.TypeBound.{TypeBound}
 use Rattle.hir_store.specs.declared.type_ref.TypeRef.{TypeRef}
 use Rattle.hir_store.proofs.Arenas.{prefix_refl, prefix_trans}
 use Rattle.hir_store.proofs.Extending.{extends_refl, extends_root, extends_trans}
+use Rattle.hir_env.specs.declared.place.ImplTrait.{ImplTrait}
+use Rattle.hir_env.specs.declared.place.ImplTrait.TheVariants as becomes
 use Rattle.hir_env.specs.Answered as tree
 use Rattle.hir_env.specs.Answered.{Limit, OptionExpr}
 use Rattle.hir_scope.specs.Ribs.{barrier_rib}
 use Rattle.hir_lower_form.specs.Builder.{Builder}
 use Rattle.hir_lower_form.specs.Lowering.{Checked, go_on, Lowering, ◌>>=◌, ◌>>◌, pure, alloc_pat, alloc_type, alloc_lifetime, open_barrier}
 use Rattle.hir_lower_form.specs.Lowering.{enter_root, close_barrier, leave_root, outside_root, record_root, count_out, bindings_end, own}
-use Rattle.hir_lower_form.specs.Lowering.{owning, point_pat, point_type}
+use Rattle.hir_lower_form.specs.declared.generics.Notes.{Notes as Beside}
+use Rattle.hir_lower_form.specs.Lowering.{argument_form, becoming, note_down, owning, point_pat, point_type}
+use Rattle.hir_lower_form.specs.Paths.{aliased}
 use Rattle.hir_lower_form.specs.Lower.{ExprSteps, constant_form, lower_limit, lower_part}
 use Rattle.hir_lower_form.specs.Ranges.{inner_form}
 use Rattle.hir_meaning.specs.Inner.{Bodies, InnerBody, by_itself, constant_body, limit_body}
@@ -37,10 +43,11 @@ use Rattle.hir_steps.proofs.Keeping.{kept_by, part_any}
 use Rattle.hir_steps.proofs.Logic.{kept_trans, longer}
 use Rattle.hir_steps.proofs.Owning.{correct_bindings_end, correct_own}
 use Rattle.hir_steps.proofs.PatSteps.{correct_alloc_pat}
+use Rattle.hir_steps.proofs.Noted.{Idle, correct_add_param, correct_cut_back, correct_input_end, correct_note_down, idle_of}
 use Rattle.hir_steps.proofs.Steps.{Mark, mark, Rel, Holds, Correct, correct_pure, correct_alloc_type, correct_alloc_lifetime}
 use Rattle.hir_steps.proofs.TypeAny.{Any, any}
 use Rattle.hir_one_result.specs.Laws.{Settled}
-use Rattle.hir_one_result.specs.Size.{Size}
+use Rattle.hir_one_result.specs.Size.{Size, an_impl}
 use Rattle.hir_one_result.specs.Stands.{Open}
 use Rattle.hir_one_result.proofs.Tellings.{Told, Tells}
 use Rattle.hir_scope.specs.Each.{Each}
@@ -225,6 +232,29 @@ notes_type t source = notes_none (correct_alloc_type t source) (λ final ps m m'
   roots = ap (λ s. s.roots) row.stored;
   bindings = ap (λ s. s.bindings.entries) row.stored;
 })
+
+-- what stores nothing
+notes_idle : {A : Type 0} {p : Lowering A} → Correct p Idle → Notes [] p
+notes_idle h = notes_none h (λ final ps m m' a row. record {
+  roots = ap (λ x. x.stored.roots) row.still;
+  bindings = ap (λ x. x.stored.bindings.entries) row.still;
+})
+
+pub notes_noted : (f : Beside → Beside) {A : Type 0} {es : Bodies} {p : Lowering A} → Notes es p → Notes es (note_down f >> p)
+notes_noted f h = notes_then (notes_idle (idle_of (correct_note_down f))) (λ u. h)
+
+pub notes_aliased : (alias : Option (List Bool)) {es : Bodies} {p : Lowering (Option HirPath)} → Notes es p → Notes es (aliased alias p)
+notes_aliased None h = h
+notes_aliased (Some places) h = notes_then (notes_idle correct_input_end) (λ n. notes_end h (λ p.
+    notes_end (notes_idle (correct_cut_back n places p)) (λ u. notes_pure p)))
+
+-- what an `impl` becomes
+pub notes_becoming : (at : Pointer) (mode : ImplTrait) (bounds : List TypeBound) → Notes (an_impl mode at).inner (becoming at mode bounds)
+unfolding argument_form
+notes_becoming at becomes.Error bounds = notes_type _ _
+notes_becoming at becomes.Opaque bounds = notes_type _ _
+notes_becoming at (becomes.Argument def) bounds = notes_then (notes_idle (correct_add_param _)) (λ k. notes_end (notes_type _ _)
+    (λ t. notes_end (notes_idle (idle_of (correct_note_down _))) (λ u. notes_pure t)))
 
 pub notes_lifetime : (l : LifetimeRef) (source : Option Pointer) → Notes [] (alloc_lifetime l source)
 notes_lifetime l source = notes_none (correct_alloc_lifetime l source) (λ final ps m m' i row. record {

@@ -29,12 +29,14 @@ use Rattle.hir_lower_form.specs.Types.{called_type_form, ref_type_form, fn_type_
 use Rattle.hir_lower_form.specs.Types.{impl_type_form, dyn_type_form, binding_form, path_bound_of, path_bound_form}
 use Rattle.hir_meaning.specs.Inner.{Bodies}
 use Rattle.hir_steps.proofs.Calls.{only_told}
-use Rattle.hir_one_result.specs.Size.{Size, a_pat, a_pat_call, a_type, a_type_call, if_so, uncalled_pat_size, uncalled_type_size, ◌∪◌}
+use Rattle.hir_one_result.specs.Size.{Size, a_pat, a_pat_call, a_type, a_type_call, an_impl, if_so, uncalled_pat_size}
+use Rattle.hir_one_result.specs.Size.{uncalled_type_size, ◌∪◌}
 use Rattle.hir_one_result.specs.PathRoom.{Seen, Read, at_first, before, lifetime_size, use_size, uses_size}
 use Rattle.hir_one_result.proofs.PathRooms.{seen, seen_of, Gives, Yields}
 use Rattle.hir_one_result.proofs.Tellings.{Tells}
 use Rattle.hir_type_result.proofs.Noting.{Notes, notes_then, notes_given, notes_end, notes_pure, notes_type, notes_lifetime}
-use Rattle.hir_type_result.proofs.Noting.{notes_count_out, notes_only, notes_pat, notes_point_pat, notes_point_type}
+use Rattle.hir_type_result.proofs.Noting.{notes_becoming, notes_count_out, notes_noted, notes_only, notes_pat, notes_point_pat}
+use Rattle.hir_type_result.proofs.Noting.{notes_point_type}
 
 -- what becomes so much
 abbrev pub NotesOf : {A : Type 0} → Size → Lowering A → Type 0
@@ -52,7 +54,7 @@ unit_notes = notes_type _ None
 
 pub lifetime_notes : (l : Lifetime) → Notes [] (lower_lifetime l)
 unfolding lower_lifetime
-lifetime_notes l = notes_lifetime _ _
+lifetime_notes l = notes_noted _ (notes_lifetime _ _)
 
 pub lifetime_option_notes : (l : Option Lifetime) → NotesOf (lifetime_size l) (lower_lifetime_option l)
 lifetime_option_notes None = notes_pure None
@@ -115,9 +117,9 @@ module _ (at : Pointer) where
   alternatives_notes h = notes_then h (λ ps. notes_pat _ _)
 
   pub impl_notes : (mode : ImplTrait) {es : Bodies} {bs : Lowering (List TypeBound)} → Notes es bs
-      → Notes (es ++ []) (impl_type_form at mode bs)
+      → Notes (es ++ (an_impl mode at).inner) (impl_type_form at mode bs)
   unfolding impl_type_form
-  impl_notes mode h = notes_then h (λ bs. notes_type _ _)
+  impl_notes mode h = notes_then h (λ bs. notes_becoming at mode bs)
 
   pub dyn_notes : {es : Bodies} {bs : Lowering (List TypeBound)} → Notes es bs → Notes (es ++ []) (dyn_type_form at bs)
   unfolding dyn_type_form

@@ -1,5 +1,5 @@
 -- What is answered for types, paths, arguments and bounds names what their parts name, and types that were stored, each once.
-use Rattle.std.proofs.Common.{refl, ℕ, ◌+◌, ◌≤◌, Bool, List, [], ◌∷◌, ◌++◌, Option, Some, None, arith}
+use Rattle.std.proofs.Common.{refl, sym, subst, ℕ, ◌+◌, ◌≤◌, Bool, List, [], ◌∷◌, ◌++◌, Option, Some, None, arith}
 use Rattle.std.specs.Prelude.{option_map}
 use Rattle.hir_store.specs.Pointers.{Pointer}
 use Rattle.hir_store.specs.declared.hir.Mutability.{Mutability}
@@ -23,14 +23,15 @@ use Rattle.hir_lower_form.specs.declared.args.ArgLists.{ArgLists}
 use Rattle.hir_lower_form.specs.declared.walk.PathWalk.{PathWalk}
 use Rattle.hir_lower_form.specs.declared.walk.Reading.{Reading}
 use Rattle.hir_lower_form.specs.declared.walk.Reading.TheVariants.{Refused, Ended, Open}
-use Rattle.hir_lower_form.specs.Lowering.{Lowering, ◌>>=◌, pure}
+use Rattle.hir_lower_form.specs.Lowering.{Lowering, ◌>>=◌, pure, param_type}
 use Rattle.hir_lower_form.specs.Walks.{at_first, no_names, self_read, super_read, one_more_super, named}
 use Rattle.hir_lower_form.specs.Paths.{proceed, whole, counted, read_trait, with_trait, parens_form, or_else, segment_args_form}
 use Rattle.hir_lower_form.specs.Types.{TypeSteps, error_type, unit_type, lower_lifetime, lower_lifetime_option, lower_use, lower_uses}
 use Rattle.hir_lower_form.specs.Types.{over_form, array_type_form, pattern_type_form}
 use Rattle.hir_lower_form.specs.Types.{tuple_type_form, path_type_form, ref_type_form, fn_type_form, impl_type_form, dyn_type_form}
-use Rattle.hir_lower_form.specs.Types.{stored_leaf_type, stored_over_type, path_or_error, stored_impl}
+use Rattle.hir_lower_form.specs.Types.{stored_leaf_type, stored_over_type, path_or_error}
 use Rattle.hir_lower_form.specs.Types.{binding_form, path_bound_of, path_bound_form, uncalled_type}
+use Rattle.hir_steps.proofs.Noted.{BecomesType, correct_becoming, correct_noted}
 use Rattle.hir_steps.proofs.Steps.{Correct, correct_count_out}
 use Rattle.hir_type_result.specs.Reached.{of_present, of_each, of_bound, of_args, of_binding, below}
 use Rattle.hir_type_result.specs.Named.{Look}
@@ -88,7 +89,7 @@ beside more now f = more f ++ now f
 
 pub lifetime_adds : {was : Numbers} (l : Lifetime) → Correct (lower_lifetime l) (Adds was (λ i. was))
 unfolding lower_lifetime
-lifetime_adds l = adds_lifetime _ _
+lifetime_adds l = correct_noted _ (adds_lifetime _ _)
 
 pub lifetime_option_adds : {was : Numbers} (l : Option Lifetime) → Correct (lower_lifetime_option l) (Adds was (λ i. was))
 lifetime_option_adds None = adds_pure None (λ f k. omega arith)
@@ -120,9 +121,17 @@ path_below : (p : Option HirPath) (l : Look) (k : ℕ) → in_type (path_or_erro
 path_below None l k = omega arith
 path_below (Some p) l k = omega arith
 
-impl_below : (mode : ImplTrait) (bs : List TypeBound) (l : Look) (k : ℕ) → in_type (stored_impl mode bs) l k ≤ times k (bounds bs l)
-impl_below becomes.Error bs l k = omega arith
-impl_below becomes.Opaque bs l k = omega arith
+impl_below : (mode : ImplTrait) (bs : List TypeBound) (t : TypeRef) → BecomesType mode bs t → (l : Look) (k : ℕ)
+    → in_type t l k ≤ times k (bounds bs l)
+impl_below becomes.Error bs t e l k =
+    let of_error : in_type ty.Error l k ≤ times k (bounds bs l) = omega arith in
+    subst (λ x. in_type x l k ≤ times k (bounds bs l)) (sym e) of_error
+impl_below becomes.Opaque bs t e l k =
+    let of_impl : in_type (ty.ImplTrait bs) l k ≤ times k (bounds bs l) = omega arith in
+    subst (λ x. in_type x l k ≤ times k (bounds bs l)) (sym e) of_impl
+impl_below (becomes.Argument def) bs t e l k =
+    let of_param : in_type (param_type def e.0) l k ≤ times k (bounds bs l) = omega arith in
+    subst (λ x. in_type x l k ≤ times k (bounds bs l)) (sym e.1) of_param
 
 pub error_adds : Correct error_type (Adds none a_type)
 unfolding error_type
@@ -176,7 +185,7 @@ module _ (at : Pointer) where
   pub impl_adds : (mode : ImplTrait) {bs : Lowering (List TypeBound)} → Correct bs (Adds none bounds)
       → Correct (impl_type_form at mode bs) (Adds none a_type)
   unfolding impl_type_form
-  impl_adds mode h = adds_then h (λ bs. adds_type _ (Some at) (impl_below mode bs))
+  impl_adds mode h = adds_then h (λ bs. correct_becoming at mode bs (λ t e. adds_type t (Some at) (impl_below mode bs t e)))
 
   pub dyn_adds : {bs : Lowering (List TypeBound)} → Correct bs (Adds none bounds) → Correct (dyn_type_form at bs) (Adds none a_type)
   unfolding dyn_type_form

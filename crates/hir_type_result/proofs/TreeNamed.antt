@@ -24,6 +24,7 @@ use Rattle.hir_lower_form.specs.Lower.{lower_param, lower_params, no_closure_par
 use Rattle.hir_lower_form.specs.declared.walk.PathWalk.{PathWalk}
 use Rattle.hir_lower_form.specs.declared.walk.Reading.TheVariants.{Open}
 use Rattle.hir_lower_form.specs.Lowering.{Lowering, ◌>>=◌, pure}
+use Rattle.hir_lower_form.specs.Paths.{alias_of}
 use Rattle.hir_lower_form.specs.Walks.{start, at_first, path_read}
 use Rattle.hir_lower_form.specs.Types.{no_lists}
 use Rattle.hir_lower_form.specs.Pats.{Elements, no_elements, no_names, is_dots, next_alternative}
@@ -40,6 +41,7 @@ use Rattle.hir_lower_form.specs.Lower.{lower_later, lower_pat_fields, lower_pat_
 use Rattle.hir_lower_form.specs.Lower.{lower_type_pats, lower_limit, limit_side, lower_target, lower_targets, lower_target_fields}
 use Rattle.hir_lower_form.specs.Lower.{lower_target_field}
 use Rattle.hir_steps.proofs.Calls.{only_gone, only_note, only_told}
+use Rattle.hir_steps.proofs.Noted.{correct_aliased}
 use Rattle.hir_steps.proofs.Steps.{Correct}
 use Rattle.hir_type_result.specs.Reached.{of_bound, of_each, of_present}
 use Rattle.hir_type_result.specs.Named.{Look, of_arm, of_pat_field, of_statement}
@@ -152,7 +154,7 @@ mutual
   each_adds (tree.more_segments s ss) w = adds_then (each_adds ss w) (λ r. proceed_adds r (λ v. segment_adds false s v))
 
   reading_adds : (p : TreePath) (w : PathWalk) → Correct (read_path p w) (Adds (walk w) reading)
-  reading_adds (tree.path leading first rest use_) w =
+  reading_adds (tree.path alias leading first rest use_) w =
       whole_adds (adds_then (each_adds rest w)
       (λ r. proceed_adds r (λ v. at_first_adds leading v (segment_adds true first (at_first leading v)))))
       (λ v. option_adds use_ v)
@@ -163,7 +165,8 @@ mutual
 
   pub path_adds : (p : OptionPath) → Correct (lower_path p) (Adds none maybe_path)
   path_adds tree.no_path = adds_pure None (λ f k. omega arith)
-  path_adds (tree.some_path p) = adds_then (reading_adds p start) (λ r. adds_pure (path_read r) (λ o. numbers.path_read_less o.types r))
+  path_adds (tree.some_path p) =
+      correct_aliased (alias_of p) (adds_then (reading_adds p start) (λ r. adds_pure (path_read r) (λ o. numbers.path_read_less o.types r)))
 
   segment_args_add : (as' : SegmentArgs) → Correct (lower_segment_args as') (Adds none arguments)
   segment_args_add (tree.segment_args as' ps dots) = args_form_adds (args_add as') (parens_add ps) dots
@@ -452,8 +455,8 @@ mutual
   target_adds (tree.macro_target None c t) = adds_then (quiet_only (only_told c)) (λ u. target_adds t)
   target_adds (tree.macro_target (Some at) c t) = adds_then (quiet_only (only_told c)) (λ u. pats.pointed_adds at (target_adds t))
   target_adds (tree.wild_target at) = pats.adds_target _ at (λ l k. omega arith)
-  target_adds (tree.path_target at p h) = pats.path_target_adds at h (adds_then (reading_adds p start)
-      (λ r. adds_pure (path_read r) (λ o. numbers.path_read_less o.types r)))
+  target_adds (tree.path_target at p h) = pats.path_target_adds at h (correct_aliased (alias_of p) (adds_then (reading_adds p start)
+      (λ r. adds_pure (path_read r) (λ o. numbers.path_read_less o.types r))))
   target_adds (tree.tuple_target at ts) = pats.tuple_target_adds at (targets_add no_elements ts)
   target_adds (tree.call_target at p ts) = pats.call_target_adds at (targets_add no_elements ts) (path_adds p)
   target_adds (tree.array_target at before dots behind) =

@@ -15,6 +15,7 @@ use Rattle.hir_lower_form.specs.Lower.{lower_type, type_part, present_type, type
 use Rattle.hir_lower_form.specs.Lower.{read_option, lower_path, lower_segment_args, parens_part, output_part, args_part, lower_args}
 use Rattle.hir_lower_form.specs.Lower.{lower_arg, lower_bounds, lower_bound, lower_constant, lower_limit, lower_type_pat}
 use Rattle.hir_lower_form.specs.Lower.{lower_type_pat_part, lower_type_pats}
+use Rattle.hir_lower_form.specs.Paths.{alias_of}
 use Rattle.hir_one_result.specs.PathRoom.{at_first, whole_read}
 use Rattle.hir_one_result.specs.Room.{constant_size, type_size, type_part_size, present_size, parts_size, segment_size, segments_size}
 use Rattle.hir_one_result.specs.Room.{path_size, outer_size, whole_size, beside_size, parens_size, output_size, args_size, each_arg_size}
@@ -22,7 +23,7 @@ use Rattle.hir_one_result.specs.Room.{arg_size, bounds_size, bound_size, limit_s
 use Rattle.hir_one_result.proofs.PathRooms.{seen}
 use Rattle.hir_one_result.proofs.TreeRooms.{each_tells, own_tells, args_tell}
 use Rattle.hir_type_result.proofs.Noting.{notes_then, notes_end, notes_pure, notes_type, notes_constant, notes_limit, notes_pat}
-use Rattle.hir_type_result.proofs.Noting.{notes_owning}
+use Rattle.hir_type_result.proofs.Noting.{notes_aliased, notes_owning}
 use Rattle.hir_type_result.proofs.NotingForms.{NotesOf, error_notes, unit_notes, lifetime_notes, lifetime_option_notes, uses_note}
 use Rattle.hir_type_result.proofs.NotingForms.{over_notes, array_notes, tuple_notes, path_type_notes, ref_notes, fn_notes, impl_notes}
 use Rattle.hir_type_result.proofs.NotingForms.{called_pat_notes, called_type_notes, uncalled_pat_notes, uncalled_type_notes}
@@ -116,7 +117,7 @@ mutual
       reads_note (λ y. segment_size false s y) (segments_note ss w) (each_tells ss w) (λ v. segment_notes false s v)
 
   reading_notes : (p : Path) (w : PathWalk) → NotesOf (path_size p (seen w)) (read_path p w)
-  reading_notes (tree.path leading first rest use_) w =
+  reading_notes (tree.path alias leading first rest use_) w =
       whole_notes (λ y. outer_size use_ y)
       (reads_note (λ y. segment_size true first (at_first leading y)) (segments_note rest w) (each_tells rest w)
       (λ v. first_notes leading v (λ y. segment_size true first y) {f = λ u. read_segment true first u}
@@ -129,7 +130,7 @@ mutual
 
   pub path_notes : (p : OptionPath) → NotesOf (whole_size p) (lower_path p)
   path_notes tree.no_path = notes_pure None
-  path_notes (tree.some_path p) = notes_end (reading_notes p start) (λ r. notes_pure _)
+  path_notes (tree.some_path p) = notes_aliased (alias_of p) (notes_end (reading_notes p start) (λ r. notes_pure _))
 
   segment_args_note : (as' : SegmentArgs) → NotesOf (beside_size as') (lower_segment_args as')
   segment_args_note (tree.segment_args as' ps dots) =

@@ -78,6 +78,7 @@ module _ (f : TypeRefId → List ℕ) where
   below (ty.ImplTrait bounds) = of_each of_bound bounds
   below (ty.DynTrait bounds) = of_each of_bound bounds
   below (ty.Pattern t p) = f t
+  below (ty.TypeParam k) = []
 
   abbrev pub below_found : Option TypeRef → List ℕ
   below_found None = []

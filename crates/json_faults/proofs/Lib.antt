@@ -5,3 +5,4 @@ pub mod Using
 pub mod Cells
 pub mod Beside
 pub mod Entries
+pub mod AliasPairs

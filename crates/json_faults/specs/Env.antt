@@ -8,6 +8,7 @@ use Rattle.json_kinds.specs.declared.words.Words.TheVariants as set
 use Rattle.json_faults.specs.Values.{count, flag_if_there, index_of, small_of, is_small_or_null, is_decision, is_resolution}
 use Rattle.json_faults.specs.PathTexts.{is_path}
 use Rattle.json_faults.specs.Expansions.{expansions_if_there}
+use Rattle.json_faults.specs.Aliases.{aliases_if_there}
 use Rattle.json_faults.specs.Nodes.{◌>>=◌, wanted}
 use Rattle.json_faults.specs.Faults.{Fault, fault_of}
 use Rattle.json_faults.specs.Faults as fault
@@ -91,8 +92,9 @@ whole_env kinds env levels = do
   _ ← wanted (limit_if_there (get (codes "limit") env)) (fault.Env (codes "limit") 0)
   _ ← wanted (flag_if_there (get (codes "new_range") env)) (fault.Env (codes "new_range") 0)
   _ ← lists tables env
-  used ← expansions_if_there kinds (get (codes "macros") env) levels
+  expanded ← expansions_if_there kinds (get (codes "macros") env) levels
   _ ← lists macro_tables env
+  used ← aliases_if_there kinds (get (codes "aliases") env) expanded
   _ ← wanted (items_if_there (get (codes "lang") env)) (fault.Env (codes "lang") 0)
   Ok used
 

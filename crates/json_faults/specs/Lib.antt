@@ -8,5 +8,6 @@ pub mod Nodes
 pub mod Tables
 pub mod PathTexts
 pub mod Expansions
+pub mod Aliases
 pub mod Env
 pub mod Documents

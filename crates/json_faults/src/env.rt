@@ -9,6 +9,7 @@ ghost use Rattle.json_faults.specs.Env.{Finds};
 ghost use Rattle.json_faults.specs.Nodes.{Walks};
 ghost use Rattle.json_faults.specs.Tables.{table_of};
 
+use crate::aliases::check_aliases;
 use crate::expansions::check_expansions;
 use crate::fault::Fault;
 use crate::path_text::is_path;
@@ -188,6 +189,7 @@ fn check_tables(kinds: &[Option<Kind>], env: &Value, levels: &mut [u16]) -> Resu
     lists(tables(), env)?;
     check_expansions(kinds, env.get("macros"), levels)?;
     lists(macro_tables(), env)?;
+    check_aliases(kinds, env.get("aliases"), levels)?;
     if !items_if_there(env.get("lang")) {
         return Err(Fault::Env {
             table: "lang",

@@ -1,6 +1,7 @@
 //! Documents in JSON: the first fault of one that is none.
 #![tactic(auto)]
 
+mod aliases;
 pub mod document;
 mod env;
 mod expansions;

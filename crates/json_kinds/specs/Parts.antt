@@ -113,15 +113,3 @@ part_row kind.Name = record {
   groups = group.Name ∷ group.UseArg ∷ [];
   fields = (codes "t" ∶ sort.Text) ∷ [];
 }
-part_row kind.Fn = record {
-  word = codes "Fn";
-  groups = group.Fn ∷ [];
-  fields = (codes "generics" ∶ sort.NotYet)
-      ∷ (codes "where" ∶ sort.NotYet)
-      ∷ (codes "params" ∶ sort.Part group.ParamList)
-      ∷ (codes "ret" ∶ sort.NotYet)
-      ∷ (codes "body" ∶ sort.Part group.Expr)
-      ∷ (codes "async" ∶ sort.Flag)
-      ∷ (codes "gen" ∶ sort.Flag)
-      ∷ [];
-}

@@ -7,6 +7,7 @@ use Rattle.json_kinds.specs.Stmts.{stmt_row}
 use Rattle.json_kinds.specs.Pats.{pat_row}
 use Rattle.json_kinds.specs.Types.{type_row}
 use Rattle.json_kinds.specs.Paths.{path_row}
+use Rattle.json_kinds.specs.Items.{item_row}
 use Rattle.json_kinds.specs.Parts.{part_row}
 use Rattle.json_kinds.specs.declared.kind.Kind.{Kind}
 use Rattle.json_kinds.specs.declared.kind.Kind.TheVariants as kind
@@ -15,6 +16,7 @@ use Rattle.json_kinds.specs.declared.kind.StmtNode.TheVariants as stmt
 use Rattle.json_kinds.specs.declared.kind.PatNode.TheVariants as pat
 use Rattle.json_kinds.specs.declared.kind.TypeNode.TheVariants as type
 use Rattle.json_kinds.specs.declared.kind.PathNode.TheVariants as path
+use Rattle.json_kinds.specs.declared.kind.ItemNode.TheVariants as item
 use Rattle.json_kinds.specs.declared.kind.PartNode.TheVariants as part
 use Rattle.json_kinds.specs.declared.group.Group.TheVariants as group
 use Rattle.json_kinds.specs.declared.words.Words.TheVariants as words
@@ -58,6 +60,7 @@ row (kind.Stmt k) = stmt_row k
 row (kind.Pat k) = pat_row k
 row (kind.Type_ k) = type_row k
 row (kind.Path k) = path_row k
+row (kind.Item k) = item_row k
 row (kind.Part k) = part_row k
 
 -- the kinds that serve as expressions: those of the core
@@ -126,10 +129,16 @@ abbrev pub macros : List Kind
 macros = kind.Expr expr.MacroExpr ∷ kind.Pat pat.MacroPat ∷ kind.Type_ type.MacroType ∷ kind.Part part.MacroCall
     ∷ kind.Part part.MacroStmts ∷ kind.Stmt stmt.MacroRules ∷ kind.Stmt stmt.MacroDef ∷ []
 
+-- items, and what is generic in them
+abbrev pub items : List Kind
+items = kind.Item item.TypeParam ∷ kind.Item item.ConstParam ∷ kind.Item item.LifetimeParam ∷ kind.Item item.GenericParamList
+    ∷ kind.Item item.WherePred ∷ kind.Item item.WhereClause ∷ kind.Item item.Fn ∷ kind.Item item.Impl ∷ kind.Item item.Trait
+    ∷ kind.Item item.TypeAlias ∷ []
+
 -- all other kinds
 abbrev pub others : List Kind
 others = kind.Stmt stmt.ExprStmt ∷ kind.Stmt stmt.Item ∷ kind.Part part.SelfParam ∷ kind.Part part.ParamList
-    ∷ kind.Part part.Label ∷ kind.Part part.Lifetime ∷ kind.Part part.Name ∷ kind.Part part.Fn ∷ []
+    ∷ kind.Part part.Label ∷ kind.Part part.Lifetime ∷ kind.Part part.Name ∷ []
 
 -- the first of some kinds with a word
 abbrev pub kind_with : List Kind → List ℕ → Option Kind
@@ -146,7 +155,8 @@ abbrev pub type_of : List ℕ → Option Kind
 type_of t = or_else (kind_with types t) (kind_with other_types t)
 
 abbrev pub other_of : List ℕ → Option Kind
-other_of t = or_else (kind_with paths t) (or_else (kind_with type_parts t) (or_else (kind_with macros t) (kind_with others t)))
+other_of t = or_else (kind_with paths t) (or_else (kind_with type_parts t) (or_else (kind_with macros t)
+    (or_else (kind_with items t) (kind_with others t))))
 
 -- the kind with a word
 abbrev pub kind_of : List ℕ → Option Kind

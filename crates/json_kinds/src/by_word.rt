@@ -4,7 +4,7 @@ ghost use Rattle.std.specs.Prelude.{◌≡◌};
 ghost use Rattle.json_kinds.specs.Table.{kind_of, kind_with};
 ghost use Rattle.json_kinds.specs.Table as spec;
 
-use crate::kind::{ExprNode, Kind, PartNode, PatNode, PathNode, StmtNode, TypeNode};
+use crate::kind::{ExprNode, ItemNode, Kind, PartNode, PatNode, PathNode, StmtNode, TypeNode};
 
 fn exprs(word: &str) -> Option<Kind>
     ensures { result ≡ kind_with spec.exprs word.now }
@@ -209,7 +209,25 @@ fn others(word: &str) -> Option<Kind>
         "Label" => Some(Kind::Part(PartNode::Label)),
         "Lifetime" => Some(Kind::Part(PartNode::Lifetime)),
         "Name" => Some(Kind::Part(PartNode::Name)),
-        "Fn" => Some(Kind::Part(PartNode::Fn)),
+        _ => None,
+    }
+}
+
+/// Items, and what is generic in them.
+fn items(word: &str) -> Option<Kind>
+    ensures { result ≡ kind_with spec.items word.now }
+{
+    match word {
+        "TypeParam" => Some(Kind::Item(ItemNode::TypeParam)),
+        "ConstParam" => Some(Kind::Item(ItemNode::ConstParam)),
+        "LifetimeParam" => Some(Kind::Item(ItemNode::LifetimeParam)),
+        "GenericParamList" => Some(Kind::Item(ItemNode::GenericParamList)),
+        "WherePred" => Some(Kind::Item(ItemNode::WherePred)),
+        "WhereClause" => Some(Kind::Item(ItemNode::WhereClause)),
+        "Fn" => Some(Kind::Item(ItemNode::Fn)),
+        "Impl" => Some(Kind::Item(ItemNode::Impl)),
+        "Trait" => Some(Kind::Item(ItemNode::Trait)),
+        "TypeAlias" => Some(Kind::Item(ItemNode::TypeAlias)),
         _ => None,
     }
 }
@@ -260,6 +278,9 @@ fn other(word: &str) -> Option<Kind>
         return Some(kind);
     }
     if let Some(kind) = macros(word) {
+        return Some(kind);
+    }
+    if let Some(kind) = items(word) {
         return Some(kind);
     }
     others(word)

@@ -38,8 +38,6 @@ pub enum Sort {
     Integer,
     /// `true` or `false`, as a text, which has to be there.
     Truth,
-    /// No value: what the field says isn't read yet.
-    NotYet,
 }
 
 /// A field of a kind.

@@ -36,5 +36,10 @@ pub enum Group {
     Label,
     Lifetime,
     Name,
+    GenericParams,
+    GenericParam,
+    Where,
+    WherePred,
     Fn,
+    TypeAlias,
 }

@@ -16,6 +16,8 @@ pub enum Kind {
     Type_(TypeNode),
     /// A path, or what stands beside a name.
     Path(PathNode),
+    /// An item, or what is generic in one.
+    Item(ItemNode),
     /// A part of any other.
     Part(PartNode),
 }
@@ -126,6 +128,21 @@ pub enum PathNode {
     ParenArgs,
 }
 
+/// An item that is read by itself, or what is generic in one.
+#[derive(Clone, Copy)]
+pub enum ItemNode {
+    TypeParam,
+    ConstParam,
+    LifetimeParam,
+    GenericParamList,
+    WherePred,
+    WhereClause,
+    Fn,
+    Impl,
+    Trait,
+    TypeAlias,
+}
+
 /// A kind of parts that are none of these.
 #[derive(Clone, Copy)]
 pub enum PartNode {
@@ -146,5 +163,4 @@ pub enum PartNode {
     Label,
     Lifetime,
     Name,
-    Fn,
 }

@@ -2,6 +2,7 @@
 
 ghost use Rattle.std.specs.Prelude.{◌≡◌, map};
 ghost use Rattle.json_kinds.specs.Exprs.{expr_row};
+ghost use Rattle.json_kinds.specs.Items.{item_row};
 ghost use Rattle.json_kinds.specs.Parts.{part_row};
 ghost use Rattle.json_kinds.specs.Paths.{path_row};
 ghost use Rattle.json_kinds.specs.Pats.{pat_row};
@@ -12,17 +13,17 @@ ghost use Rattle.json_kinds.specs.Types.{type_row};
 
 use crate::field::Field;
 use crate::field::Sort::{
-    Elements, Flag, List, ListWithNulls, LiteralText, NotYet, Number, Part, PlainLabel, Repeated,
-    Text, TextIfThere, TryType, Word, WordIfThere,
+    Elements, Flag, List, ListWithNulls, LiteralText, Number, Part, PlainLabel, Repeated, Text,
+    TextIfThere, TryType, Word, WordIfThere,
 };
 use crate::group::Group;
 use crate::group::Group::{
-    Arm, Binder, Block, Bound, ConstArg, Else, Expr, Fn, GenericArg, GenericArgs, Guard, Label,
-    LetElse, Lifetime, Literal, MacroCall, MacroStmts, Name, Param, ParamList, ParenArgs, Pat,
-    PatField, Path, PathType, RecordField, RecordList, Ret, Segment, SelfParam, Stmt, Type_,
-    TypeArg, UseArg,
+    Arm, Binder, Block, Bound, ConstArg, Else, Expr, Fn, GenericArg, GenericArgs, GenericParam,
+    GenericParams, Guard, Label, LetElse, Lifetime, Literal, MacroCall, MacroStmts, Name, Param,
+    ParamList, ParenArgs, Pat, PatField, Path, PathType, RecordField, RecordList, Ret, Segment,
+    SelfParam, Stmt, Type_, TypeAlias, TypeArg, UseArg, Where, WherePred,
 };
-use crate::kind::{ExprNode, Kind, PartNode, PatNode, PathNode, StmtNode, TypeNode};
+use crate::kind::{ExprNode, ItemNode, Kind, PartNode, PatNode, PathNode, StmtNode, TypeNode};
 use crate::words::Words;
 
 macro_rules! exprs {
@@ -152,6 +153,32 @@ macro_rules! paths {
     };
 }
 
+macro_rules! items {
+    ($use:ident $at:expr) => {
+        $use! { ItemNode $at;
+            TypeParam [GenericParam] { "name": Part(Name), "bounds": List(Bound), "default": Part(Type_) }
+            ConstParam [GenericParam] { "name": Part(Name), "ty": Part(Type_), "default": Part(ConstArg) }
+            LifetimeParam [GenericParam] { "lifetime": Part(Lifetime), "bounds": List(Bound) }
+            GenericParamList [GenericParams] { "params": List(GenericParam) }
+            WherePred [WherePred] {
+                "ty": Part(Type_), "lifetime": Part(Lifetime), "binder": Part(Binder), "bounds": List(Bound)
+            }
+            WhereClause [Where] { "preds": List(WherePred) }
+            Fn [Fn] {
+                "generics": Part(GenericParams), "where": Part(Where), "params": Part(ParamList), "ret": Part(Ret),
+                "body": Part(Expr), "async": Flag, "gen": Flag
+            }
+            Impl [] {
+                "self_ty": Part(Type_), "trait": Part(Type_), "generics": Part(GenericParams), "where": Part(Where)
+            }
+            Trait [] { "bounds": List(Bound), "generics": Part(GenericParams), "where": Part(Where) }
+            TypeAlias [TypeAlias] {
+                "bounds": List(Bound), "generics": Part(GenericParams), "where": Part(Where), "ty": Part(Type_)
+            }
+        }
+    };
+}
+
 macro_rules! parts {
     ($use:ident $at:expr) => {
         $use! { PartNode $at;
@@ -175,10 +202,6 @@ macro_rules! parts {
             Label [Label] { "lifetime": Part(Lifetime) }
             Lifetime [Lifetime UseArg] { "t": Text }
             Name [Name UseArg] { "t": Text }
-            Fn [Fn] {
-                "generics": NotYet, "where": NotYet, "params": Part(ParamList), "ret": NotYet, "body": Part(Expr),
-                "async": Flag, "gen": Flag
-            }
         }
     };
 }
@@ -271,6 +294,20 @@ impl PathNode {
     }
 }
 
+impl ItemNode {
+    fn groups(self) -> &'static [Group]
+        ensures { result.now ≡ (item_row self).groups }
+    {
+        items!(groups_of self)
+    }
+
+    fn fields(self) -> &'static [Field]
+        ensures { map named_sort result.now ≡ (item_row self).fields }
+    {
+        items!(fields_of self)
+    }
+}
+
 impl PartNode {
     fn groups(self) -> &'static [Group]
         ensures { result.now ≡ (part_row self).groups }
@@ -300,6 +337,7 @@ impl Kind {
             Kind::Pat(kind) => kind.groups(),
             Kind::Type_(kind) => kind.groups(),
             Kind::Path(kind) => kind.groups(),
+            Kind::Item(kind) => kind.groups(),
             Kind::Part(kind) => kind.groups(),
         }
     }
@@ -323,6 +361,7 @@ impl Kind {
             Kind::Pat(kind) => kind.fields(),
             Kind::Type_(kind) => kind.fields(),
             Kind::Path(kind) => kind.fields(),
+            Kind::Item(kind) => kind.fields(),
             Kind::Part(kind) => kind.fields(),
         }
     }

@@ -1,4 +1,4 @@
--- Blocks, statements, labels, names and functions.
+-- Blocks, statements, labels and names.
 use Rattle.std.specs.Prelude.{codes, List, [], ◌∷◌, ℕ, Option, Some, None, option_map, option_and_then}
 use Rattle.serde_json.specs.Find.{get}
 use Rattle.hir_syntax.specs.declared.ast.StmtKind.{StmtKind}
@@ -6,14 +6,13 @@ use Rattle.hir_syntax.specs.declared.ast.StmtKind.TheVariants as stmt
 use Rattle.hir_syntax.specs.declared.ast.BlockExpr.{roll-BlockExpr}
 use Rattle.hir_syntax.specs.declared.ast.BlockModifier.{BlockModifier}
 use Rattle.hir_syntax.specs.declared.ast.BlockModifier.TheVariants as modifiers
-use Rattle.hir_syntax.specs.declared.ast.Fn.{Fn}
 use Rattle.json_kinds.specs.ByWord.{with_word}
 use Rattle.json_kinds.specs.declared.kind.StmtNode.{StmtNode}
 use Rattle.json_kinds.specs.declared.kind.StmtNode.TheVariants as stmt_kind
 use Rattle.json_kinds.specs.declared.kind.PartNode.{PartNode}
 use Rattle.json_kinds.specs.declared.kind.PartNode.TheVariants as kind
 use Rattle.json_nodes.specs.Fields.{flag_of, text_in}
-use Rattle.json_nodes.specs.Groups.{as_expr, as_stmt, as_label, as_let_else, as_lifetime, as_name, as_param_list, as_pat, as_type}
+use Rattle.json_nodes.specs.Groups.{as_expr, as_stmt, as_label, as_let_else, as_lifetime, as_name, as_pat, as_type}
 use Rattle.json_nodes.specs.Parts.{Here, part_in, list_in}
 use Rattle.json_nodes.specs.Any.{CodePart}
 use Rattle.json_nodes.specs.declared.code_parts.CodeOf.TheVariants as code_part
@@ -78,14 +77,3 @@ other h kind.Label = label h
 other h kind.Lifetime = lifetime h
 other h kind.Name = name h
 other h _ = None
-
--- a function: its parameters, its body, and what makes a coroutine of that
-unfoldable pub function : Here → Fn
-function h = record {
-  id = h.id;
-  range = h.range;
-  params = part_in h as_param_list (codes "params");
-  body = part_in h as_expr (codes "body");
-  async_ = flag_of (get (codes "async") h.value);
-  gen_ = flag_of (get (codes "gen") h.value);
-}

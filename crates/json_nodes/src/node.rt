@@ -5,9 +5,9 @@ ghost use Rattle.serde_json.specs.View.{view, items_view};
 ghost use Rattle.json_nodes.specs.Kept.{Kept};
 ghost use Rattle.json_nodes.specs.Parts as spec;
 ghost use Rattle.json_nodes.specs.Parts.{all_read, or_null};
-ghost use Rattle.json_nodes.specs.Nodes.{here};
+ghost use Rattle.json_nodes.specs.Nodes.{here, node_at};
 
-use crate::field::own_text;
+use crate::field::{number_or, own_text, range};
 use crate::name_parts::NamePart;
 use crate::part::{AnyPart, BoxedGroup, Group, ReadParts, in_box, served};
 use hir_base::node::{NodeId, TextRange};
@@ -28,6 +28,26 @@ pub struct Node<'a, P> {
     pub value: &'a Value,
     pub id: NodeId,
     pub range: TextRange,
+}
+
+/// A node at an index, with what reads its parts.
+pub fn node_at<'a, P: ReadParts>(
+    alloc: Global,
+    parts: &'a P,
+    value: &'a Value,
+    at: u32,
+) -> Node<'a, P>
+    ensures here { here P.parts result ≡ node_at (P.parts parts.entry.now) at (view value.entry.now) }
+    ensures parts { result.parts.now ≡ parts.entry.now }
+{
+    let id = number_or(value, "id", at);
+    Node {
+        alloc,
+        parts,
+        value,
+        id: NodeId(id),
+        range: range(value, id),
+    }
 }
 
 /// What a list may hold.

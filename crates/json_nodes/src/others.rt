@@ -1,4 +1,4 @@
-//! Blocks, statements, labels, names and functions.
+//! Blocks, statements, labels and names.
 
 ghost use Rattle.std.specs.Prelude.{◌≡◌, codes, option_and_then};
 ghost use Rattle.serde_json.specs.View.{view};
@@ -10,9 +10,9 @@ use crate::code_parts::{CodePart, ExprPart, Exprs, LetElses, Stmts, block_in_box
 use crate::field::{flag, text};
 use crate::fields::{All, Fields, InBox, One, Written};
 use crate::name_parts::{Labels, Lifetimes, NamePart, Names};
-use crate::param_parts::{ParamLists, Pats};
+use crate::param_parts::Pats;
 use crate::type_parts::Types;
-use hir_syntax::ast::{BlockExpr, BlockModifier, Fn, Label, Lifetime, Name, Stmt, StmtKind};
+use hir_syntax::ast::{BlockExpr, BlockModifier, Label, Lifetime, Name, Stmt, StmtKind};
 use json_kinds::kind::{PartNode, StmtNode};
 use serde_json::Value;
 
@@ -159,23 +159,5 @@ pub fn other<F: Fields>(node: &F, refused: &mut bool, kind: PartNode) -> Option<
         PartNode::Lifetime => lifetime(node, refused),
         PartNode::Name => name(node, refused),
         _ => None,
-    }
-}
-
-/// A function: its parameters, its body, and what makes a coroutine of that.
-#[tactic(auto, unfolding(crate::specs::Others::function))]
-pub fn function<F: Fields>(node: &F, refused: &mut bool) -> Fn
-    requires { F.can node.now }
-    ensures { Kept refused.old refused.new (result ≡ spec.function (F.here node.now)) }
-{
-    let params = node.field::<One<ParamLists>>(refused, "params");
-    let body = node.field::<One<Exprs>>(refused, "body");
-    Fn {
-        id: node.id(),
-        range: node.range(),
-        params,
-        body,
-        async_: flag(node.value(), "async"),
-        gen_: flag(node.value(), "gen"),
     }
 }

@@ -5,7 +5,8 @@ use Rattle.serde_json.specs.Data.{Data, Items}
 use Rattle.serde_json.specs.Find.{get_item}
 use Rattle.json_faults.specs.Kinds.{kind_at}
 use Rattle.json_kinds.specs.declared.kind.Kind.{Kind}
-use Rattle.lower_json.specs.Reading.{part_at, node_at, of_kind}
+use Rattle.lower_json.specs.Reading.{part_at, of_kind}
+use Rattle.json_nodes.specs.Nodes.{node_at}
 use Rattle.json_nodes.specs.Any.{AnyPart}
 
 pub no_level : (n : ℕ) (kinds : List (Option Kind)) (ns : Items) (at : ℕ) → n ≡ 0 → None ≡ part_at n kinds ns at

@@ -5,6 +5,7 @@ use Rattle.serde_json.specs.declared.value.Value.{Value}
 use Rattle.json_kinds.specs.declared.kind.Kind.{Kind}
 use Rattle.serde_json.specs.Data.{Items}
 use Rattle.hir_tables.specs.declared.table.MacroAnswer.TheVariants as answer
+use Rattle.lower_json.specs.Aliases.{pair_in}
 use Rattle.lower_json.specs.Macros.{answer_in, call_in, defined_of, legacy_of}
 use Rattle.lower_json.specs.Tables.{alias_of, decided_of, triple_of, quadruple_of, said_of, context_of}
 
@@ -143,3 +144,16 @@ legacy_over_four (a ∷ b ∷ []) h = absurd (omega arith)
 legacy_over_four (a ∷ b ∷ c ∷ []) h = absurd (omega arith)
 legacy_over_four (a ∷ b ∷ c ∷ d ∷ []) h = absurd (omega arith)
 legacy_over_four (a ∷ b ∷ c ∷ d ∷ e ∷ vs) h = refl
+
+pub entry_under_two : (ks : List (Option Kind)) (ns : Items) (vs : List Value) → length vs < 2
+    → None ≡ pair_in ks ns (Some (items_view vs))
+entry_under_two ks ns [] h = refl
+entry_under_two ks ns (a ∷ []) h = refl
+entry_under_two ks ns (a ∷ b ∷ vs) h = absurd (omega arith)
+
+pub entry_over_two : (ks : List (Option Kind)) (ns : Items) (vs : List Value) → 3 ≤ length vs
+    → None ≡ pair_in ks ns (Some (items_view vs))
+entry_over_two ks ns [] h = absurd (omega arith)
+entry_over_two ks ns (a ∷ []) h = absurd (omega arith)
+entry_over_two ks ns (a ∷ b ∷ []) h = absurd (omega arith)
+entry_over_two ks ns (a ∷ b ∷ c ∷ vs) h = refl

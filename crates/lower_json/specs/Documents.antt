@@ -18,6 +18,7 @@ use Rattle.json_faults.specs.Faults.{Fault}
 use Rattle.json_faults.specs.Kinds.{kinds_of}
 use Rattle.json_nodes.specs.Fields.{number_or, flag_of, text_in}
 use Rattle.lower_json.specs.Reading.{tree_at}
+use Rattle.lower_json.specs.Aliases.{aliases_of}
 use Rattle.lower_json.specs.Environment.{tables_of}
 use Rattle.json_kinds.specs.ByWord.{with_word}
 use Rattle.lower_json.specs.declared.document.Document.{Document}
@@ -109,6 +110,7 @@ document_of want d = record {
   sources = flag_of (get (codes "sources") d);
   mode = mode_of d;
   env = env_of d;
+  aliases = aliases_of (kinds_of (nodes d)) (nodes d) (get (codes "env") d);
 }
 
 -- the first fault of a document with such a root, of at most so many nodes

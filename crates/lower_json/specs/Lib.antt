@@ -3,6 +3,7 @@ pub mod Reads
 pub mod PathTexts
 pub mod Tables
 pub mod Macros
+pub mod Aliases
 pub mod Environment
 pub mod Documents
 pub mod Faults

@@ -1,25 +1,30 @@
 -- What stands at the nodes of a list.
-use Rattle.std.specs.Prelude.{ℕ, suc, zero, codes, List, [], ◌∷◌, false, Option, None, option_and_then, option_map, unwrap_or}
-use Rattle.serde_json.specs.Data.{Data, null, Items}
-use Rattle.serde_json.specs.Find.{get, get_item}
+use Rattle.std.specs.Prelude.{ℕ, suc, zero, List, [], ◌∷◌, Bool, true, false, Option, Some, None, if◌then◌else◌}
+use Rattle.std.specs.Prelude.{option_and_then, option_map, unwrap_or}
+use Rattle.serde_json.specs.Data.{null, Items}
+use Rattle.serde_json.specs.Find.{get_item}
 use Rattle.hir_base.specs.declared.node.NodeId.{NodeId}
 use Rattle.hir_base.specs.declared.node.TextRange.{TextRange}
+use Rattle.hir_items.specs.declared.ast.TypeAlias.{TypeAlias}
 use Rattle.hir_syntax.specs.declared.macros.Fragment.{Fragment}
 use Rattle.hir_syntax.specs.declared.macros.Fragment.TheVariants as fragment
 use Rattle.hir_syntax.specs.declared.params.ParamList.{ParamList}
 use Rattle.hir_syntax.specs.declared.pats.Pat.{Pat}
 use Rattle.hir_syntax.specs.declared.types.Param.{roll-Param}
 use Rattle.json_faults.specs.Kinds.{kind_at}
+use Rattle.json_items.specs.Items.{function, type_alias}
+use Rattle.json_items.specs.Listed.{Listed}
 use Rattle.json_kinds.specs.declared.kind.ExprNode.{ExprNode}
+use Rattle.json_kinds.specs.declared.kind.ItemNode.TheVariants as item
 use Rattle.json_kinds.specs.declared.kind.Kind.{Kind}
 use Rattle.json_kinds.specs.declared.kind.Kind.TheVariants as kind
 use Rattle.json_kinds.specs.declared.kind.PartNode.{PartNode}
 use Rattle.json_kinds.specs.declared.kind.PathNode.{PathNode}
 use Rattle.json_nodes.specs.Branches.{branching, of_branch}
 use Rattle.json_nodes.specs.Exprs.{flow, plain, operation, member, leaving, partless, of_if, of_literal}
-use Rattle.json_nodes.specs.Fields.{number_or, range_of}
 use Rattle.json_nodes.specs.Macros.{of_macro}
-use Rattle.json_nodes.specs.Others.{of_block, of_stmt, other, function}
+use Rattle.json_nodes.specs.Nodes.{node_at}
+use Rattle.json_nodes.specs.Others.{of_block, of_stmt, other}
 use Rattle.json_nodes.specs.Params.{of_param}
 use Rattle.json_nodes.specs.Pats.{of_pat}
 use Rattle.json_nodes.specs.Paths.{path, of_path}
@@ -63,14 +68,8 @@ of_kind h (kind.Stmt k) = option_map part.Code (of_stmt h k)
 of_kind h (kind.Pat k) = option_map part.Pat (of_pat h k)
 of_kind h (kind.Type_ k) = option_map part.Type_ (of_type h k)
 of_kind h (kind.Path k) = option_map part.Path (of_path_part h k)
+of_kind h (kind.Item k) = None
 of_kind h (kind.Part k) = of_part h k
-
--- a node at an index, by its data, of the parts that stand at others
-abbrev pub node_with : (ℕ → Option AnyPart) → ℕ → Data → ℕ → Here
-node_with parts at d id = record { part = parts; value = d; id = record { 0 = id }; range = range_of id (get (codes "r") d) }
-
-abbrev pub node_at : (ℕ → Option AnyPart) → ℕ → Data → Here
-node_at parts at d = node_with parts at d (number_or at (get (codes "id") d))
 
 -- what stands at a node, by the kinds of all, on so many levels at most
 unfoldable pub part_at : ℕ → List (Option Kind) → Items → ℕ → Option AnyPart
@@ -94,17 +93,34 @@ only_param p = record {
   params = roll-Param (record { id = last_id; range = last_range; pat = p; ty = None; variadic = false }) ∷ [];
 }
 
--- the tree whose root is such a node, of a kind
-abbrev pub tree_of : Root → Option Kind → Here → Tree
-tree_of root.Fn k h = tree.Fn (function h)
-tree_of root.Path k h = tree.Path (path h)
-tree_of root.Type_ k h = tree.Type_ (option_and_then as_type (option_and_then (of_kind h) k))
-tree_of root.Pat k h = tree.Pat (only_param (option_and_then as_pat (option_and_then (of_kind h) k)))
+-- the tree whose root is such a node, of a kind; the lists of an item stand among the others
+abbrev pub tree_of : Root → Option Kind → Here → Listed → Tree
+tree_of root.Fn k h l = tree.Fn (function h l)
+tree_of root.Path k h l = tree.Path (path h)
+tree_of root.Type_ k h l = tree.Type_ (option_and_then as_type (option_and_then (of_kind h) k))
+tree_of root.Pat k h l = tree.Pat (only_param (option_and_then as_pat (option_and_then (of_kind h) k)))
+
+-- what stands in the lists of an item at the root, two levels below it
+abbrev pub in_lists : List (Option Kind) → Items → Listed
+in_lists kinds ns = record { kinds = kinds; nodes = ns; part = part_at 253 kinds ns }
 
 -- the tree at a node, on at most 256 levels; past the end its root says nothing
 unfoldable pub tree_at : Root → List (Option Kind) → Items → ℕ → Tree
 tree_at want kinds ns at =
-    tree_of want (kind_at kinds at) (node_at (part_at 255 kinds ns) at (unwrap_or (get_item at ns) null))
+    tree_of want (kind_at kinds at) (node_at (part_at 255 kinds ns) at (unwrap_or (get_item at ns) null)) (in_lists kinds ns)
+
+abbrev pub kind_of : List (Option Kind) → ℕ → Option Kind
+kind_of kinds at = kind_at kinds at
+
+abbrev pub is_alias : Option Kind → Bool
+is_alias (Some (kind.Item item.TypeAlias)) = true
+is_alias _ = false
+
+-- the alias whose root is at an index, on at most 256 levels
+unfoldable pub alias_at : List (Option Kind) → Items → ℕ → Option TypeAlias
+alias_at kinds ns at = option_and_then
+    (λ d. if is_alias (kind_of kinds at) then Some (type_alias (node_at (part_at 255 kinds ns) at d) (in_lists kinds ns)) else None)
+    (get_item at ns)
 
 -- what stands at a node of a kind, as what a call of a macro is expanded to: a pattern, a type, statements, or else an expression
 abbrev pub fragment_of : Here → Kind → Option Fragment

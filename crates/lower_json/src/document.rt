@@ -1,8 +1,10 @@
 //! What a document says.
 
+use hir_base::Seq;
 use hir_env::place::LoweringMode;
-use hir_store::ids::DefWithBodyId;
-use hir_syntax::ast::{Fn, ParamList, Path, Type_};
+use hir_items::ast::{Fn, TypeAlias};
+use hir_store::ids::{DefWithBodyId, TypeAliasId};
+use hir_syntax::ast::{ParamList, Path, Type_};
 use hir_tables::table::TableEnv;
 
 /// What the root of a document has to be.
@@ -36,6 +38,18 @@ impl Drop for Tree {
     }
 }
 
+/// What a path may stand for: an alias of a type, by its number.
+pub struct Alias {
+    pub id: TypeAliasId,
+    pub item: TypeAlias,
+}
+
+impl Drop for Alias {
+    fn drop(self) {
+        let Alias { id: _, item: _ } = self;
+    }
+}
+
 /// A tree with its owner and its environment. File, module and item have the number 0.
 #[derive(Drop)]
 pub struct Document {
@@ -47,4 +61,7 @@ pub struct Document {
     pub mode: LoweringMode,
     /// The tables of answers, among them whether the body is skipped, and what its owner stands in.
     pub env: TableEnv,
+    /// The aliases that the environment names, in order. Of those with one number the first counts. They are no part of its tables,
+    /// which hold what they are lowered to.
+    pub aliases: Seq<Alias>,
 }

@@ -1,6 +1,7 @@
 //! Documents: trees and tables of answers, written in JSON.
 #![tactic(auto)]
 
+mod aliases;
 pub mod document;
 pub mod fault;
 mod heading;

@@ -8,6 +8,7 @@ ghost use Rattle.json_faults.specs.Kinds.{kinds_of};
 ghost use Rattle.lower_json.specs.Documents.{group_of, is_optional, document_of, first_fault, tree_of, IsDocument};
 ghost use Rattle.lower_json.specs.Faults.{IsErrorOf, IsTextError};
 
+use crate::aliases::aliases;
 use crate::document::{Document, Root, Tree};
 use crate::fault::{Fault, ReadError};
 use crate::heading::{container, mode, owner, skip};
@@ -87,15 +88,17 @@ fn read_document(
     requires { kinds.now ≡ kinds_of (nodes (view document.now)) }
     ensures { IfOk result (λ d. d ≡ document_of want (view document.now)) }
 {
-    // The tree comes last, since each `?` behind it would have to let go of it.
+    // The tree comes last, and the aliases next to it, since each `?` behind them would have to let go of them.
     let mut env = tables(alloc, kinds, document, container(document))?;
     env.set_skip(skip(document));
+    let aliases = aliases(alloc, kinds, document)?;
     Ok(Document {
         tree: tree(alloc, want, kinds, document)?,
         owner: owner(document),
         sources: flag(document, "sources"),
         mode: mode(document),
         env,
+        aliases,
     })
 }
 

@@ -244,7 +244,7 @@ fn number_all(tables: &mut TableEnv, entries: &[Value]) -> Result<(), AllocError
 }
 
 /// The entries of a table, none where it is absent.
-fn entries_of<'a>(env: &'a Value, name: &str) -> &'a [Value]
+pub fn entries_of<'a>(env: &'a Value, name: &str) -> &'a [Value]
     ensures { items_view result.now ≡ rows name.now (view env.entry.now) }
 {
     let Some(table) = env.get(name) else {

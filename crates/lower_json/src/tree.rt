@@ -5,31 +5,34 @@ ghost use Rattle.serde_json.specs.View.{view, items_view};
 ghost use Rattle.hir_syntax.specs.declared.macros.Fragment.TheVariants as fragment;
 ghost use Rattle.json_nodes.specs.Groups.{as_expr, as_macro_stmts, as_pat, as_type};
 ghost use Rattle.json_nodes.specs.Kept.{Kept};
-ghost use Rattle.json_nodes.specs.Nodes.{here};
+ghost use Rattle.json_nodes.specs.Nodes.{here, node_at};
+ghost use Rattle.json_items.specs.Lists.{listed};
 ghost use Rattle.lower_json.specs.Reads.{Reads};
 ghost use Rattle.lower_json.specs.Reading as spec;
-ghost use Rattle.lower_json.specs.Reading.{fragment_of, of_kind, node_at, tree_of, tree_at};
+ghost use Rattle.lower_json.specs.Reading.{fragment_of, of_kind, tree_of, tree_at};
 
 use crate::document::{Root, Tree};
 use hir_base::Boxed;
 use hir_base::node::{NodeId, TextRange};
+use hir_items::ast::TypeAlias;
 use hir_syntax::ast::{Fragment, Param, ParamList, Pat};
 use json_faults::kinds::kind_at;
 use json_faults::value::item_at;
-use json_kinds::kind::{ExprNode, Kind, PartNode, PathNode};
+use json_items::items::{function, type_alias};
+use json_items::listed::ListedNodes;
+use json_kinds::kind::{ExprNode, ItemNode, Kind, PartNode, PathNode};
 use json_nodes::args::of_args;
 use json_nodes::bounds::of_bound;
 use json_nodes::branches::{branching, of_branch};
 use json_nodes::code_parts::{ExprPart, Exprs, MacroStmtLists};
 use json_nodes::exprs::{flow, of_if, of_literal, plain};
-use json_nodes::field::{number_or, range};
 use json_nodes::fields::Fields;
 use json_nodes::leaving::leaving;
 use json_nodes::macros::of_macro;
 use json_nodes::members::member;
-use json_nodes::node::Node;
+use json_nodes::node::{Node, node_at};
 use json_nodes::operations::operation;
-use json_nodes::others::{function, of_block, of_stmt, other};
+use json_nodes::others::{of_block, of_stmt, other};
 use json_nodes::param_parts::Pats;
 use json_nodes::params::of_param;
 use json_nodes::part::{AnyPart, BoxedGroup, Group, ReadParts, in_box, served};
@@ -45,6 +48,9 @@ use std::alloc::{AllocError, Global};
 
 /// The levels below the root.
 const LEVELS_BELOW: u32 = 255;
+
+/// The levels below what stands in a list of an item at the root.
+const LEVELS_BELOW_LISTED: u32 = 253;
 
 const LAST_ID: NodeId = NodeId(u32::MAX);
 
@@ -157,22 +163,8 @@ fn of_kind<F: Fields>(node: &F, refused: &mut bool, kind: Kind) -> Option<AnyPar
         Kind::Pat(kind) => Some(AnyPart::Pat(of_pat(node, refused, kind)?)),
         Kind::Type_(kind) => Some(AnyPart::Type_(of_type(node, refused, kind)?)),
         Kind::Path(kind) => Some(AnyPart::Path(of_path_part(node, refused, kind)?)),
+        Kind::Item(_) => None,
         Kind::Part(kind) => of_part(node, refused, kind),
-    }
-}
-
-/// A node at an index, with what reads its parts.
-fn node_at<'a, P: ReadParts>(alloc: Global, parts: &'a P, value: &'a Value, at: u32) -> Node<'a, P>
-    ensures here { here P.parts result ≡ node_at (P.parts parts.entry.now) at (view value.entry.now) }
-    ensures parts { result.parts.now ≡ parts.entry.now }
-{
-    let id = number_or(value, "id", at);
-    Node {
-        alloc,
-        parts,
-        value,
-        id: NodeId(id),
-        range: range(value, id),
     }
 }
 
@@ -274,15 +266,17 @@ fn only_param<F: Fields>(node: &F, refused: &mut bool, pat: Option<Boxed<Pat>>) 
 
 fn tree_of<P: ReadParts>(
     node: &Node<'_, P>,
+    items: &ListedNodes<'_, '_, '_, P>,
     refused: &mut bool,
     want: Root,
     kind: Option<Kind>,
 ) -> Tree
-    requires { P.can node.now.parts.now }
-    ensures { Kept refused.old refused.new (result ≡ tree_of want kind (here P.parts node.now)) }
+    requires node { P.can node.now.parts.now }
+    requires items { P.can items.now.parts.now }
+    ensures { Kept refused.old refused.new (result ≡ tree_of want kind (here P.parts node.now) (listed P.parts items.now)) }
 {
     match want {
-        Root::Fn => Tree::Fn(function(node, refused)),
+        Root::Fn => Tree::Fn(function(node, items, refused)),
         Root::Path => Tree::Path(path(node, refused)),
         Root::Type_ => Tree::Type_(one_of::<Types, P>(node, refused, kind)),
         Root::Pat => {
@@ -294,18 +288,21 @@ fn tree_of<P: ReadParts>(
 
 /// The tree at a node whose root is wanted, by its value and kind.
 fn whole_tree<P: ReadParts>(
-    alloc: Global,
     parts: &P,
+    items: &ListedNodes<'_, '_, '_, P>,
     want: Root,
     kind: Option<Kind>,
     value: &Value,
     at: u32,
 ) -> Result<Tree, AllocError>
-    requires { P.can parts.now }
-    ensures { IfOk result (λ tree. tree ≡ tree_of want kind (node_at (P.parts parts.now) at (view value.now))) }
+    requires parts { P.can parts.now }
+    requires items { P.can items.now.parts.now }
+    ensures { IfOk result (λ tree.
+        tree ≡ tree_of want kind (node_at (P.parts parts.now) at (view value.now)) (listed P.parts items.now)) }
 {
     let mut refused = false;
-    let tree = tree_of(&node_at(alloc, parts, value, at), &mut refused, want, kind);
+    let node = node_at(items.alloc, parts, value, at);
+    let tree = tree_of(&node, items, &mut refused, want, kind);
     if !refused {
         return Ok(tree);
     }
@@ -330,11 +327,72 @@ pub fn read_tree_at(
         levels: LEVELS_BELOW,
         read: read_part,
     };
+    let in_lists = Level {
+        kinds,
+        nodes,
+        levels: LEVELS_BELOW_LISTED,
+        read: read_part,
+    };
+    let items = ListedNodes {
+        alloc,
+        kinds,
+        nodes,
+        parts: &in_lists,
+    };
     let kind = kind_at(kinds, root as usize);
     match item_at(nodes, root as usize) {
-        Some(value) => whole_tree(alloc, &inside, want, kind, value, root),
-        None => whole_tree(alloc, &inside, want, kind, &Value::Null, root),
+        Some(value) => whole_tree(&inside, &items, want, kind, value, root),
+        None => whole_tree(&inside, &items, want, kind, &Value::Null, root),
     }
+}
+
+/// Whether the node at an index is an alias of a type.
+fn is_alias(kinds: &[Option<Kind>], at: u32) -> bool
+    ensures { result ≡ spec.is_alias (spec.kind_of kinds.now at) }
+{
+    matches!(
+        kind_at(kinds, at as usize),
+        Some(Kind::Item(ItemNode::TypeAlias))
+    )
+}
+
+/// The alias whose root is at an index, if it is there. Its root is on the first level.
+#[tactic(auto, unfolding(crate::specs::Reading::alias_at))]
+pub fn alias_at(
+    alloc: Global,
+    kinds: &[Option<Kind>],
+    nodes: &[Value],
+    refused: &mut bool,
+    root: u32,
+) -> Option<TypeAlias>
+    ensures { Kept refused.old refused.new (result ≡ spec.alias_at kinds.now (items_view nodes.now) root) }
+{
+    let Some(value) = item_at(nodes, root as usize) else {
+        return None;
+    };
+    if !is_alias(kinds, root) {
+        return None;
+    }
+    let inside = Level {
+        kinds,
+        nodes,
+        levels: LEVELS_BELOW,
+        read: read_part,
+    };
+    let in_lists = Level {
+        kinds,
+        nodes,
+        levels: LEVELS_BELOW_LISTED,
+        read: read_part,
+    };
+    let items = ListedNodes {
+        alloc,
+        kinds,
+        nodes,
+        parts: &in_lists,
+    };
+    let node = node_at(alloc, &inside, value, root);
+    Some(type_alias(&node, &items, refused))
 }
 
 /// A pattern as what a call of a macro is expanded to.

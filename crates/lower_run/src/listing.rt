@@ -7,6 +7,7 @@ mod owners;
 mod pats;
 mod printer;
 mod shown;
+mod signatures;
 mod types;
 mod waiting;
 mod words;
@@ -14,6 +15,7 @@ mod writer;
 
 use hir_env::lang::LangItems;
 use hir_lower::Param;
+use hir_store::generics::GenericParams;
 use hir_store::ids::{BindingId, PatId, TypeRefId};
 use hir_store::path::Path;
 use hir_store::source_map::ExpressionStoreSourceMap;
@@ -21,6 +23,7 @@ use hir_store::store::ExpressionStore;
 use hir_syntax::ast;
 use printer::Printer;
 use shown::Shown;
+pub use signatures::Signature;
 use std::alloc::{AllocError, Global};
 
 /// What is listed: a store with its source map, the language's items by whose names those in it are printed, and whether
@@ -31,6 +34,8 @@ pub struct Listed<'a> {
     pub source_map: &'a ExpressionStoreSourceMap,
     pub lang_items: &'a LangItems,
     pub sources: bool,
+    /// The generic parameters of the item whose types are listed, by whose names those in it are printed.
+    pub params: Option<&'a GenericParams>,
 }
 
 fn listing<'a>(alloc: Global, listed: Listed<'a>, shown: Shown<'a>) -> Result<String, AllocError> {
@@ -79,4 +84,15 @@ pub fn type_listing(
     ty: TypeRefId,
 ) -> Result<String, AllocError> {
     listing(alloc, listed, Shown::Type_(ty))
+}
+
+/// The listing of a function's types: a line for each of its generic parameters, lifetimes first, one for each predicate, one that says
+/// that it has a `self`, one for the type of each parameter, one that says that one is variadic, one for what it returns; then as for a
+/// body. Only memory can fail.
+pub fn function_listing<'a>(
+    alloc: Global,
+    listed: Listed<'a>,
+    signature: Signature<'a>,
+) -> Result<String, AllocError> {
+    listing(alloc, listed, Shown::Function(signature))
 }

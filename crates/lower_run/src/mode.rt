@@ -13,6 +13,7 @@ pub enum Mode {
     Type_,
     Pat,
     Body,
+    Fn,
 }
 
 impl Mode {
@@ -24,6 +25,7 @@ impl Mode {
             "type" => Some(Mode::Type_),
             "pat" => Some(Mode::Pat),
             "body" => Some(Mode::Body),
+            "fn" => Some(Mode::Fn),
             _ => None,
         }
     }
@@ -48,7 +50,7 @@ impl Mode {
             Mode::Path => Root::Path,
             Mode::Type_ => Root::Type_,
             Mode::Pat => Root::Pat,
-            Mode::Body => Root::Fn,
+            Mode::Body | Mode::Fn => Root::Fn,
         }
     }
 }

@@ -7,19 +7,28 @@ ghost use Rattle.std.specs.Io.KnownBytes.{Appends};
 
 use crate::failure::Failure;
 use crate::input::read_all;
-use crate::listing::{Listed, body_listing, params_listing, path_listing, type_listing};
+use crate::listing::{
+    Listed, Signature, body_listing, function_listing, params_listing, path_listing, type_listing,
+};
 use crate::mode::Mode;
+use hir_alias::signature::AliasSignature;
 use hir_base::node::{AstPtr, HirFileId, InFile};
 use hir_env::env::LowerEnv;
-use hir_lower::{ErrorImplTrait, ExprCollector, LowerError, lower_body, lower_type_ref};
-use hir_store::ids::{DefWithBodyId, FunctionId, ModuleId};
+use hir_items::ast::Fn;
+use hir_lower::{
+    ErrorImplTrait, ExprCollector, LowerError, lower_body, lower_function, lower_type_alias,
+    lower_type_ref,
+};
+use hir_store::generics::GenericParams;
+use hir_store::ids::{DefWithBodyId, FunctionId, ItemContainerId, ModuleId, TypeRefId};
 use hir_store::path::Path;
 use hir_store::source_map::ExpressionStoreSourceMap;
 use hir_store::store::ExpressionStore;
 use hir_syntax::ast::{self, ParamList};
-use lower_json::document::{Document, Tree};
+use hir_tables::table::TableEnv;
+use lower_json::document::{Alias, Document, Tree};
 use lower_json::read::read_tree;
-use std::alloc::Global;
+use std::alloc::{AllocError, Global};
 use std::convert::AsStr;
 use std::io::{Read, Write};
 
@@ -34,16 +43,21 @@ fn listed_in<'a>(
         source_map,
         lang_items: document.env.lang_items(),
         sources: document.sources,
+        params: None,
     }
 }
 
 /// The listing of a body.
-fn listed_body(alloc: Global, document: &Document, item: &ast::Fn) -> Result<String, Failure>
+fn listed_body(alloc: Global, document: &Document, item: &Fn) -> Result<String, Failure>
     ensures { IfErr result (λ e. (e ≡ Failure.Memory) ⊎ (e ≡ Failure.Full)) }
 {
     let node = AstPtr {
         node: item.id,
         range: item.range,
+    };
+    let body = match &item.body {
+        Some(body) => Some(body.get()),
+        None => None,
     };
     let (body, source_map) = lower_body(
         alloc,
@@ -53,7 +67,7 @@ fn listed_body(alloc: Global, document: &Document, item: &ast::Fn) -> Result<Str
         HirFileId(0),
         ModuleId(0),
         item.params.as_ref(),
-        item.body.as_ref(),
+        body,
         item.async_,
         item.gen_,
     )?;
@@ -146,24 +160,125 @@ fn listed_type(
     text.map_err(|_| Failure::Memory)
 }
 
+/// The listing of a function's types, of what it was lowered to.
+fn signature_listing<'a>(
+    alloc: Global,
+    listed: Listed<'a>,
+    params: &'a GenericParams,
+    args: &'a [TypeRefId],
+    ret: Option<TypeRefId>,
+    has_self: bool,
+    has_variadic: bool,
+) -> Result<String, AllocError> {
+    let signature = Signature {
+        params,
+        args,
+        ret,
+        has_self,
+        has_variadic,
+    };
+    let listed = Listed {
+        params: Some(params),
+        ..listed
+    };
+    function_listing(alloc, listed, signature)
+}
+
+/// The listing of a function's types.
+fn listed_function(alloc: Global, document: &Document, item: &Fn) -> Result<String, Failure>
+    ensures { IfErr result (λ e. (e ≡ Failure.Memory) ⊎ (e ≡ Failure.Full)) }
+{
+    let written = InFile {
+        file_id: HirFileId(0),
+        value: item,
+    };
+    let (store, source_map, params, args, ret, has_self, has_variadic) = lower_function(
+        alloc,
+        &document.env,
+        ModuleId(0),
+        written,
+        FunctionId(0),
+    )?;
+    let listed = listed_in(document, &store, &source_map);
+    let types = args.as_slice();
+    let text = signature_listing(alloc, listed, &params, types, ret, has_self, has_variadic);
+    drop(store);
+    drop(source_map);
+    drop(params);
+    drop(args);
+    text.map_err(|_| Failure::Memory)
+}
+
+/// The listing of a function or of its body.
+fn listed_item(alloc: Global, mode: Mode, document: &Document, item: &Fn) -> Result<String, Failure>
+    ensures { IfErr result (λ e. (e ≡ Failure.Memory) ⊎ (e ≡ Failure.Full)) }
+{
+    match mode {
+        Mode::Fn => listed_function(alloc, document, item),
+        _ => listed_body(alloc, document, item),
+    }
+}
+
+/// What an alias is lowered to, in the module of number 0. What is told of it, and what calls in it were expanded to, isn't kept.
+fn lowered_alias(
+    alloc: Global,
+    env: &TableEnv,
+    alias: &Alias,
+) -> Result<AliasSignature, LowerError> {
+    let container = ItemContainerId::ModuleId(ModuleId(0));
+    let written = InFile {
+        file_id: HirFileId(0),
+        value: &alias.item,
+    };
+    let (store, source_map, params, bounds, ty) = lower_type_alias(
+        alloc, env, container, written, alias.id,
+    )?;
+    drop(source_map);
+    drop(bounds);
+    match AliasSignature::new(alloc, store, params, ty) {
+        Ok(signature) => Ok(signature),
+        Err(fault) => Err(LowerError::from(fault)),
+    }
+}
+
+/// Lowers the aliases, and tells the environment what they are. Of those with one number the first counts. None of them asks about
+/// another.
+fn add_aliases(alloc: Global, env: &mut TableEnv, aliases: &[Alias]) -> Result<(), Failure>
+    ensures { IfErr result (λ e. (e ≡ Failure.Memory) ⊎ (e ≡ Failure.Full)) }
+{
+    for alias in aliases {
+        let signature = lowered_alias(alloc, env, alias)?;
+        env.set_alias(alias.id, signature)?;
+    }
+    Ok(())
+}
+
 /// The listing of a document's tree.
-fn document_listing(alloc: Global, document: &Document) -> Result<String, Failure>
+fn document_listing(alloc: Global, mode: Mode, document: &Document) -> Result<String, Failure>
     ensures { IfErr result (λ e. (e ≡ Failure.Memory) ⊎ (e ≡ Failure.Full)) }
 {
     match &document.tree {
-        Tree::Fn(item) => listed_body(alloc, document, item),
+        Tree::Fn(item) => listed_item(alloc, mode, document, item),
         Tree::Path(path) => listed_path(alloc, document, path),
         Tree::Type_(ty) => listed_type(alloc, document, ty.as_ref()),
         Tree::Pat(params) => listed_pat(alloc, document, params),
     }
 }
 
+/// The listing of a document, of which first the aliases are lowered.
+fn lowered_listing(alloc: Global, mode: Mode, document: &mut Document) -> Result<String, Failure>
+    ensures { IfErr result (λ e. (e ≡ Failure.Memory) ⊎ (e ≡ Failure.Full)) }
+{
+    add_aliases(alloc, &mut document.env, document.aliases.as_slice())?;
+    document_listing(alloc, mode, document)
+}
+
 /// The listing of the document that a text is in a mode.
 fn listing(alloc: Global, mode: Mode, text: &[u8]) -> Result<String, Failure>
     ensures { CameOf mode text.now result }
 {
-    let document = read_tree(alloc, mode.root(), text)?;
-    let listed = document_listing(alloc, &document);
+    let mut document = read_tree(alloc, mode.root(), text)?;
+    let listed = lowered_listing(alloc, mode, &mut document);
     drop(document);
     listed
 }

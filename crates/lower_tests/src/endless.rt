@@ -7,6 +7,7 @@ use crate::calls::counted;
 use crate::documents::with_document;
 use crate::lowered::{asked, lowered_item};
 use crate::ways::{expr_at, node};
+use hir_alias::signature::AliasSignature;
 use hir_base::node::{HirFileId, InFile, NodeId, PredId};
 use hir_env::env::LowerEnv;
 use hir_env::expand::{Expansion, FragmentKind, OuterMacro};
@@ -15,7 +16,7 @@ use hir_env::resolved::{Resolved, Shadow};
 use hir_lower::{Body, BodySourceMap};
 use hir_store::ids::{
     BlockId, CfgId, CrateId, CtxId, DefWithBodyId, ExprId, HygieneId, ItemContainerId, MacroDefId,
-    ModuleId, PatId, TypeRefId,
+    ModuleId, PatId, TypeAliasId, TypeRefId,
 };
 use hir_store::name::Name;
 use hir_store::path::ModPath;
@@ -106,6 +107,10 @@ impl<'a, E: LowerEnv> LowerEnv for Endless<'a, E> {
 
     fn resolve(&self, inside: ModuleId, path: &ModPath, shadow: Shadow) -> Resolved {
         self.behind.resolve(inside, path, shadow)
+    }
+
+    fn alias(&self, id: TypeAliasId) -> Option<&AliasSignature> {
+        self.behind.alias(id)
     }
 
     fn lang_items(&self) -> &LangItems {

@@ -2,6 +2,8 @@
 #![tactic(auto)]
 
 #[cfg(test)]
+mod alias;
+#[cfg(test)]
 mod arenas;
 #[cfg(test)]
 mod bindings;
@@ -22,7 +24,13 @@ mod endless;
 #[cfg(test)]
 mod errors;
 #[cfg(test)]
+mod generics;
+#[cfg(test)]
 mod inner;
+#[cfg(test)]
+mod item_trees;
+#[cfg(test)]
+mod items;
 #[cfg(test)]
 mod limits;
 #[cfg(test)]

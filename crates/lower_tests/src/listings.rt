@@ -3,6 +3,7 @@
 
 use crate::collectors::{collector, of_both, table, with_store};
 use crate::documents::{length_in, with_document};
+use crate::types::listed_in;
 use hir_base::node::{AstPtr, HirFileId, InFile, NodeId, TextRange};
 use hir_base::{Seq, Text};
 use hir_env::lang::LangItems;
@@ -31,17 +32,15 @@ const OTHER_FILE: InFile<AstPtr> = InFile {
 };
 
 /// The listing of a store, with sources.
-fn listed(
+fn listed<'a>(
     alloc: Global,
-    store: &ExpressionStore,
-    source_map: &ExpressionStoreSourceMap,
+    store: &'a ExpressionStore,
+    source_map: &'a ExpressionStoreSourceMap,
 ) -> Result<String, AllocError> {
     let items = LangItems::numbered();
     let listed = Listed {
-        store,
-        source_map,
-        lang_items: &items,
         sources: true,
+        ..listed_in(store, source_map, &items)
     };
     body_listing(alloc, listed, None, &[])
 }

@@ -3,9 +3,9 @@
 use crate::documents::with_document;
 use hir_base::node::{AstPtr, HirFileId};
 use hir_env::env::LowerEnv;
+use hir_items::ast as items;
 use hir_lower::{Body, BodySourceMap, lower_body};
 use hir_store::ids::{DefWithBodyId, ModuleId};
-use hir_syntax::ast;
 use lower_json::document::{Document, Root, Tree};
 use lower_json::fault::ReadError;
 use std::alloc::Global;
@@ -15,8 +15,12 @@ pub fn lowered_item<E: LowerEnv>(
     alloc: Global,
     env: &E,
     owner: DefWithBodyId,
-    item: &ast::Fn,
+    item: &items::Fn,
 ) -> Option<(Body, BodySourceMap)> {
+    let body = match &item.body {
+        Some(body) => Some(body.get()),
+        None => None,
+    };
     let lowered = lower_body(
         alloc,
         env,
@@ -28,7 +32,7 @@ pub fn lowered_item<E: LowerEnv>(
         HirFileId(0),
         ModuleId(0),
         item.params.as_ref(),
-        item.body.as_ref(),
+        body,
         item.async_,
         item.gen_,
     );

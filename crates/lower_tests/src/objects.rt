@@ -1,10 +1,11 @@
 //! What an object answers: the numbers of blocks, which no listing prints in order, what names stand for, and which ranges are meant.
 
 use crate::lowered::with_lowered_by_object;
+use crate::types::listed_in;
 use hir_env::lang::LangItems;
 use hir_lower::{Body, BodySourceMap};
 use hir_store::ids::BlockId;
-use lower_run::listing::{Listed, body_listing};
+use lower_run::listing::body_listing;
 use std::alloc::{AllocError, Global};
 use std::test::Fail;
 
@@ -58,14 +59,13 @@ body r0=(Block - - - [] (RecordLit lang:RangeInclusiveCopy [(start (Path a)) (la
 binding 0 x plain - -
 ";
 
-fn listed(alloc: Global, body: &Body, source_map: &BodySourceMap) -> Result<String, AllocError> {
+fn listed<'a>(
+    alloc: Global,
+    body: &'a Body,
+    source_map: &'a BodySourceMap,
+) -> Result<String, AllocError> {
     let items = LangItems::numbered();
-    let listed = Listed {
-        store: &body.store,
-        source_map: &source_map.store,
-        lang_items: &items,
-        sources: false,
-    };
+    let listed = listed_in(&body.store, &source_map.store, &items);
     body_listing(alloc, listed, None, body.params.as_slice())
 }
 

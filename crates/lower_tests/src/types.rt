@@ -40,7 +40,7 @@ const IMPL_IN_A_PATH: &str = r#"{"nodes": [
 ]}"#;
 
 /// What is listed without sources.
-fn listed_in<'a>(
+pub fn listed_in<'a>(
     store: &'a ExpressionStore,
     source_map: &'a ExpressionStoreSourceMap,
     lang_items: &'a LangItems,
@@ -50,6 +50,7 @@ fn listed_in<'a>(
         source_map,
         lang_items,
         sources: false,
+        params: None,
     }
 }
 

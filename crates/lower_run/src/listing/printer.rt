@@ -23,8 +23,8 @@ use std::alloc::{AllocError, Global};
 /// stored part is looked at once in a printing.
 pub struct Printer<'a> {
     alloc: Global,
-    listed: Listed<'a>,
-    writer: Writer,
+    pub(super) listed: Listed<'a>,
+    pub(super) writer: Writer,
     bindings: Numbering<BindingId>,
     labels: Numbering<LabelId>,
     owners: Owners,
@@ -100,6 +100,7 @@ impl<'a> Printer<'a> {
                 self.writer.word("type ")?;
                 self.line(Piece::Type_(ty))
             }
+            Shown::Function(signature) => self.signature(signature),
         }
     }
 
@@ -125,7 +126,7 @@ impl<'a> Printer<'a> {
     }
 
     /// Prints a piece and ends the line.
-    fn line(&mut self, piece: Piece<'a>) -> Result<(), AllocError> {
+    pub(super) fn line(&mut self, piece: Piece<'a>) -> Result<(), AllocError> {
         self.whole(piece)?;
         self.writer.word("\n")
     }
@@ -174,7 +175,7 @@ impl<'a> Printer<'a> {
     /// Prints a piece with all that it reaches.
     ///
     /// A store is a tree, so the pieces run out; the count of turns is there for the proof that the loop ends.
-    fn whole(&mut self, piece: Piece<'a>) -> Result<(), AllocError> {
+    pub(super) fn whole(&mut self, piece: Piece<'a>) -> Result<(), AllocError> {
         self.waiting.push(piece)?;
         for _ in 0..u64::MAX {
             let Some(piece) = self.waiting.pop() else {
@@ -314,6 +315,7 @@ impl<'a> Printer<'a> {
     fn type_piece(&mut self, piece: Piece<'a>) -> Result<(), AllocError> {
         match piece {
             Piece::Type_(id) => self.open_type(id),
+            Piece::TypeParam(id) => self.type_param(id),
             Piece::Types(before, types) => self.types(before, types),
             Piece::Params(before, types, names) => self.fn_params(before, types, names),
             Piece::Lifetime(id) => self.lifetime(id),

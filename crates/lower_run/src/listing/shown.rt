@@ -1,5 +1,6 @@
 //! What a listing begins with.
 
+use super::signatures::Signature;
 use hir_lower::Param;
 use hir_store::ids::{BindingId, PatId, TypeRefId};
 use hir_store::path::Path;
@@ -15,4 +16,6 @@ pub enum Shown<'a> {
     /// A path, or that it is refused, and the names of the written segments.
     Path(Option<&'a Path>, &'a ast::Path),
     Type_(TypeRefId),
+    /// The types of a function, with its generic parameters.
+    Function(Signature<'a>),
 }

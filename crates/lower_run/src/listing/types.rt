@@ -32,6 +32,7 @@ impl<'a> Waiting<'a> {
             TypeRef::ImplTrait(bounds) => self.push_bounds("impl", bounds.as_slice()),
             TypeRef::DynTrait(bounds) => self.push_bounds("dyn", bounds.as_slice()),
             TypeRef::Fn(pointer) => self.push_function(pointer),
+            TypeRef::TypeParam(id) => self.push(Piece::TypeParam(*id)),
             TypeRef::Pattern(ty, pat) => self.push_all(&[
                 Piece::Type_(*ty),
                 Piece::Word(" is "),

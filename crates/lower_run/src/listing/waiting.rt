@@ -7,7 +7,8 @@ use hir_store::hir::{
     Array, Expr, Literal, MatchArm, RecordFieldPat, RecordLitField, RecordSpread, Statement,
 };
 use hir_store::ids::{
-    BindingId, BlockId, ExprId, HygieneId, LabelId, LangItemId, LifetimeRefId, PatId, TypeRefId,
+    BindingId, BlockId, ExprId, HygieneId, LabelId, LangItemId, LifetimeRefId, PatId, TypeParamId,
+    TypeRefId,
 };
 use hir_store::name::Name;
 use hir_store::path::{AssociatedTypeBinding, GenericArg, GenericArgs, ModPath, Path, PathKind};
@@ -64,6 +65,7 @@ pub enum Piece<'a> {
     TypeBindings(&'static str, &'a [AssociatedTypeBinding]),
     TypeBinding(&'a AssociatedTypeBinding),
     Type_(TypeRefId),
+    TypeParam(TypeParamId),
     Types(&'static str, &'a [TypeRefId]),
     /// The parameters of a closure as a list, and a type for each that has one.
     ClosureParamList(&'a [PatId], &'a [Option<TypeRefId>]),

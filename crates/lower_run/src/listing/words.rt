@@ -296,6 +296,8 @@ pub fn missing_body_word(kind: MissingBodyItemKind) -> &'static str {
         MissingBodyItemKind::Static => "diag MissingBody Static",
         MissingBodyItemKind::Const => "diag MissingBody Const",
         MissingBodyItemKind::AssocConst => "diag MissingBody AssocConst",
+        MissingBodyItemKind::TypeAlias => "diag MissingBody TypeAlias",
+        MissingBodyItemKind::AssocType => "diag MissingBody AssocType",
     }
 }
 

@@ -7,6 +7,7 @@ use Rattle.hir_store.specs.declared.ids.DefWithBodyId.{DefWithBodyId}
 use Rattle.hir_store.specs.declared.ids.ModuleId.{ModuleId}
 use Rattle.hir_env.specs.Answers.{Answers}
 use Rattle.hir_env.specs.declared.place.ImplTrait.TheVariants as becomes
+use Rattle.hir_env.specs.declared.place.LifetimeScope.TheVariants as scope
 use Rattle.hir_env.specs.declared.place.LoweringMode.TheVariants.{Analysis}
 use Rattle.hir_lower_handlers.specs.Spots.{spot_at}
 use Rattle.hir_lower.specs.Formals.{item_formals, self_source}
@@ -23,6 +24,7 @@ same_self : (env : Answers) (item : DefWithBodyId) (file : HirFileId) (inside : 
       await_location = awaits_in;
       impl_trait = becomes.Error;
       in_impl = false;
+      lifetimes = scope.Nowhere;
       left = left;
     })) item params has_body).receiver
     ≡ self_source (item_formals (body_spot env item file inside is_async) item params has_body).receiver
@@ -34,6 +36,7 @@ same_self env item file inside is_async params has_body awaits_in left h k = λ 
       await_location = h i;
       impl_trait = becomes.Error;
       in_impl = false;
+      lifetimes = scope.Nowhere;
       left = k i;
     })) item params has_body).receiver
 

@@ -11,9 +11,6 @@ try_form-requires-clause-block g c = grind (arith, common_steps)
 pub returns-in-Some-Const : goal.returns-in-Some-Const
 returns-in-Some-Const g c = grind (arith, common_steps)
 
-pub lower-requires-clause-role : goal.lower-requires-clause-role
-lower-requires-clause-role g c = grind (arith, common_steps)
-
 pub returns-in-Some-Gen : goal.returns-in-Some-Gen
 returns-in-Some-Gen g c = grind (arith, common_steps)
 

@@ -2,19 +2,22 @@ use Rattle.std.proofs.Common.{arith, ◌≡◌, ◌≤◌, length, subst, sym, S
 use Rattle.std.proofs.lemmas.Grind.{common_steps}
 use Rattle.hir_syntax.specs.declared.ast.Path.{out-Path}
 use Rattle.hir_lower_form.specs.Methods.{ReadsPath}
-use Rattle.hir_lower_path.proofs.Rooted.{more_level, one_level}
+use Rattle.hir_lower_path.proofs.Rooted.{more_level, one_level, reads_level}
 use Rattle.hir_lower_path.proofs.local.called_path.Goals as goal
 
 pub returns-then-is_some : goal.returns-then-is_some
 returns-then-is_some g c =
     let n : 2 ≤ length (out-Path c.args.node.now).segs = grind (arith, common_steps) in
-    subst (λ y. ReadsPath y c.args.walk c.args.state.now c.whole_path.result c.whole_path.new.state)
-    (sym (more_level (g.P.LowerParts.spot c.args.lowerer.now.parts) c.args.node.now c.requires.called n))
-    (rw c.as_slice-all.ensures at c.whole_path.ensures)
+    let spot = g.P.LowerParts.spot c.args.lowerer.now.parts in
+    reads_level spot c.args.node.now c.args.walk c.args.state.now c.whole_path.result c.whole_path.new.state
+    (subst (λ y. ReadsPath y c.args.walk c.args.state.now c.whole_path.result c.whole_path.new.state)
+    (sym (more_level spot c.args.node.now c.requires.called n))
+    (rw c.as_slice-all.ensures at c.whole_path.ensures))
 
 pub returns-in-Some-first : goal.returns-in-Some-first
 returns-in-Some-first g c =
     let e : (out-Path c.args.node.now).segs ≡ Some c.in-Some-first.segment ∷ [] = grind (arith, common_steps) in
-    subst (λ y. ReadsPath y c.args.walk c.args.state.now c.only_segment.result c.only_segment.new.state)
-    (sym (one_level (g.P.LowerParts.spot c.args.lowerer.now.parts) c.args.node.now c.requires.called c.in-Some-first.segment
-    c.requires.alone e)) c.only_segment.ensures
+    let spot = g.P.LowerParts.spot c.args.lowerer.now.parts in
+    reads_level spot c.args.node.now c.args.walk c.args.state.now c.only_segment.result c.only_segment.new.state
+    (subst (λ y. ReadsPath y c.args.walk c.args.state.now c.only_segment.result c.only_segment.new.state)
+    (sym (one_level spot c.args.node.now c.requires.called c.in-Some-first.segment c.requires.alone e)) c.only_segment.ensures)

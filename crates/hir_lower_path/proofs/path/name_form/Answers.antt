@@ -5,9 +5,6 @@ use Rattle.hir_lower_path.proofs.path.name_form.Goals as goal
 pub returns-in_err-args : goal.returns-in_err-args
 returns-in_err-args g c = grind (arith, common_steps)
 
-pub returns-then-not-first : goal.returns-then-not-first
-returns-then-not-first g c = grind (arith, common_steps)
-
 pub returns : goal.returns
 returns g c = grind (arith, common_steps)
 

@@ -1,16 +1,20 @@
 use Rattle.std.proofs.Common.{subst, sym}
 use Rattle.hir_lower_form.specs.Methods.{ReadsPath}
-use Rattle.hir_lower_path.proofs.Rooted.{uncalled_level, used_level}
+use Rattle.hir_lower_path.proofs.Rooted.{reads_level, uncalled_level, used_level}
 use Rattle.hir_lower_path.proofs.path.path_node.Goals as goal
 
 pub returns-else-node : goal.returns-else-node
 returns-else-node g c =
-    subst (λ y. ReadsPath y c.args.walk c.args.state.now c.whole_path.result c.whole_path.new.state)
-    (sym (uncalled_level (g.P.LowerParts.spot c.args.lowerer.now.parts) c.args.node.now c.if-node.false))
-    (rw c.as_slice-all.ensures at c.whole_path.ensures)
+    let spot = g.P.LowerParts.spot c.args.lowerer.now.parts in
+    reads_level spot c.args.node.now c.args.walk c.args.state.now c.whole_path.result c.whole_path.new.state
+    (subst (λ y. ReadsPath y c.args.walk c.args.state.now c.whole_path.result c.whole_path.new.state)
+    (sym (uncalled_level spot c.args.node.now c.if-node.false))
+    (rw c.as_slice-all.ensures at c.whole_path.ensures))
 
 pub returns-in-Some : goal.returns-in-Some
 returns-in-Some g c =
-    subst (λ y. ReadsPath y c.args.walk c.args.state.now c.whole_path-in-Some.result c.whole_path-in-Some.new.state)
-    (sym (used_level (g.P.LowerParts.spot c.args.lowerer.now.parts) c.args.node.now c.in-Some.field-0 c.in-Some.is))
-    (rw c.as_slice-all.ensures at c.whole_path-in-Some.ensures)
+    let spot = g.P.LowerParts.spot c.args.lowerer.now.parts in
+    reads_level spot c.args.node.now c.args.walk c.args.state.now c.whole_path-in-Some.result c.whole_path-in-Some.new.state
+    (subst (λ y. ReadsPath y c.args.walk c.args.state.now c.whole_path-in-Some.result c.whole_path-in-Some.new.state)
+    (sym (used_level spot c.args.node.now c.in-Some.field-0 c.in-Some.is))
+    (rw c.as_slice-all.ensures at c.whole_path-in-Some.ensures))

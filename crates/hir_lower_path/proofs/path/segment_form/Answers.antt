@@ -5,29 +5,11 @@ use Rattle.hir_lower_path.proofs.path.segment_form.Goals as goal
 pub returns-in-Some-Name : goal.returns-in-Some-Name
 returns-in-Some-Name g c = grind (arith, common_steps)
 
-pub returns-in-None : goal.returns-in-None
-returns-in-None g c = grind (arith, common_steps)
-
-pub returns-in-Some-SelfTypeKw : goal.returns-in-Some-SelfTypeKw
-returns-in-Some-SelfTypeKw g c = grind (arith, common_steps)
-
-pub returns-in-Some-CrateKw : goal.returns-in-Some-CrateKw
-returns-in-Some-CrateKw g c = grind (arith, common_steps)
-
-pub returns-in-Some-SelfKw : goal.returns-in-Some-SelfKw
-returns-in-Some-SelfKw g c = grind (arith, common_steps)
-
-pub returns-in-Some-SuperKw : goal.returns-in-Some-SuperKw
-returns-in-Some-SuperKw g c = grind (arith, common_steps)
-
 pub returns-in-Some-Qualified : goal.returns-in-Some-Qualified
 returns-in-Some-Qualified g c = grind (arith, common_steps)
 
 pub name_form-requires-clause-parts : goal.name_form-requires-clause-parts
 name_form-requires-clause-parts g c = grind (arith, common_steps)
-
-pub super_form-requires : goal.super_form-requires
-super_form-requires g c = grind (arith, common_steps)
 
 pub qualified_form-requires-clause-parts : goal.qualified_form-requires-clause-parts
 qualified_form-requires-clause-parts g c = grind (arith, common_steps)

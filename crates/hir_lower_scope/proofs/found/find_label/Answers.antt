@@ -21,16 +21,16 @@ returns-clause-found g c =
     ∙ (c.loop-label.invariant.so_far
     ∙ ap (λ ls. walk contexts c.border-border.result (sought_of c.loop-label.wanted) ls (ahead c.loop-label.macros)) none))))
 
-pub returns-then-eq-2-clause-found : goal.returns-then-eq-2-clause-found
-returns-then-eq-2-clause-found g c =
+pub returns-then-eq-clause-found : goal.returns-then-eq-clause-found
+returns-then-eq-clause-found g c =
     let contexts : Contexts = (g.E.LowerEnv.answers c.args.env.now).contexts in
     let name = c.args.name.now in
     let rs = c.args.stacks.now in
     let s = sought_first c.args.hygiene in
     let l = c.in-Some.label in
     let border = c.border-border.result in
-    let is_it = c.if-eq-2.true in
-    let tested = c.eq-in-Some.ensures in
+    let is_it = c.if-eq.true in
+    let tested = c.eq.ensures in
     let same : l.hygiene.0 ≡ c.climb-wanted.result.hygiene.0 = grind (arith, nat_tests) in
     let here = search_walks contexts name s rs
     ∙ (ap (λ b. walk contexts b s (labels_of name rs) (macros_of rs)) (sym c.border-border.ensures)

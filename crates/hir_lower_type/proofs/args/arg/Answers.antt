@@ -4,5 +4,5 @@ use Rattle.hir_lower_type.proofs.args.arg.Goals as goal
 pub returns : goal.returns
 returns g c = rw (arg_is_level (g.P.LowerParts.spot c.args.lowerer.now.parts) c.args.node.now) c.arg_form.ensures
 
-pub arg_form-requires-clause-parts : goal.arg_form-requires-clause-parts
-arg_form-requires-clause-parts g c = c.requires.parts
+pub arg_form-requires : goal.arg_form-requires
+arg_form-requires g c = c.requires

@@ -14,8 +14,8 @@ bounds-left-0 g c = grind (arith, common_steps)
 pub slice_bounds-rest-start : goal.slice_bounds-rest-start
 slice_bounds-rest-start g c = grind (arith, common_steps)
 
-pub arg-requires-clause-parts : goal.arg-requires-clause-parts
-arg-requires-clause-parts g c = grind (arith, common_steps)
+pub with_arg-requires-clause-parts : goal.with_arg-requires-clause-parts
+with_arg-requires-clause-parts g c = grind (arith, common_steps)
 
 pub returns-in_err-lists : goal.returns-in_err-lists
 returns-in_err-lists g c = grind (arith, common_steps)

@@ -4,5 +4,5 @@ use Rattle.hir_lower_type.proofs.args.assoc_arg.Goals as goal
 pub returns : goal.returns
 returns g c = rw (assoc_arg_is_level (g.P.LowerParts.spot c.args.lowerer.now.parts) c.args.node.now) c.assoc_form.ensures
 
-pub assoc_form-requires-clause-parts : goal.assoc_form-requires-clause-parts
-assoc_form-requires-clause-parts g c = c.requires.parts
+pub assoc_form-requires : goal.assoc_form-requires
+assoc_form-requires g c = c.requires

@@ -32,7 +32,7 @@ returns-clause-exprs c at l k n by_move op un bin m r lo i name items called = (
 )
 
 pub returns-clause-types : goal.returns-clause-types
-returns-clause-types c at l k un m h binder maybe called = (refl, refl, refl, refl, refl, refl, refl, refl, refl, refl)
+returns-clause-types c at l k un m h binder maybe def called = (refl, refl, refl, refl, refl, refl, refl, refl, refl, refl, refl)
 
 pub returns-clause-pats : goal.returns-clause-pats
 returns-clause-pats c at l k n u w form op called = (refl, refl, refl, refl, refl, refl, refl, refl, refl, refl, refl, refl)

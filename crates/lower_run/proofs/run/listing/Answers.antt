@@ -4,4 +4,4 @@ use Rattle.lower_run.proofs.run.listing.Goals as goal
 pub returns : goal.returns
 returns c =
     listed_came _ _ c.in_ok-document.document _ (rw (← c.root.ensures) c.in_ok-document.ensures.document)
-    c.document_listing-listed.ensures
+    c.lowered_listing-listed.ensures

@@ -12,6 +12,7 @@ returns-in-Ok g c =
       counted_out = c.self.inside.counted_out;
       in_root = c.self.inside.in_root;
       yields = c.self.inside.yields;
+      notes = c.self.inside.notes;
     } in
     let env = (g.P.LowerParts.spot c.args.parts.now).answers in
     let is = sym c.find_label.ensures ∙ c.in-Ok.is in
@@ -27,6 +28,7 @@ returns-in-Err g c =
       counted_out = c.self.inside.counted_out;
       in_root = c.self.inside.in_root;
       yields = c.self.inside.yields;
+      notes = c.self.inside.notes;
     } in
     let env = (g.P.LowerParts.spot c.args.parts.now).answers in
     let is = sym c.find_label.ensures ∙ c.in-Err.is in

@@ -14,8 +14,8 @@ bounds-left-0 g c = grind (arith, common_steps)
 pub slice_bounds-rest-start : goal.slice_bounds-rest-start
 slice_bounds-rest-start g c = grind (arith, common_steps)
 
-pub bound-requires : goal.bound-requires
-bound-requires g c = grind (arith, common_steps)
+pub bound_node-requires : goal.bound_node-requires
+bound_node-requires g c = grind (arith, common_steps)
 
 pub returns-in_err-bound : goal.returns-in_err-bound
 returns-in_err-bound g c = grind (arith, common_steps)

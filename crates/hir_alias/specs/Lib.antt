@@ -1,0 +1,4 @@
+pub mod Reaching
+pub mod Alias
+pub mod Placing
+pub mod Noting

@@ -1,0 +1,3 @@
+pub mod Logic
+pub mod Items
+pub mod Laws

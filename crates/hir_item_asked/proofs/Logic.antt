@@ -1,0 +1,287 @@
+-- Steps by what they ask: the logic.
+use Rattle.std.proofs.Common.{◌≡◌, ◌∙◌, refl, sym, ap, subst, ℕ, suc, ◌+◌, arith, length, length-append, nat_lt, Bool, true, false}
+use Rattle.std.proofs.Common.{append-nil, append_assoc, List, [], ◌∷◌, ◌++◌, Some, Ok, Err}
+use Rattle.hir_store.specs.Stored.{Stored}
+use Rattle.hir_store.specs.Storing.{Extends}
+use Rattle.hir_store.specs.declared.generics.LifetimeParamData.{LifetimeParamData}
+use Rattle.hir_store.specs.declared.generics.TypeOrConstParamData.{TypeOrConstParamData}
+use Rattle.hir_store.specs.declared.generics.WherePredicate.{WherePredicate}
+use Rattle.hir_store.specs.declared.generics.WherePredicate.TheVariants as predicate
+use Rattle.hir_store.specs.declared.ids.TypeRefId.{TypeRefId}
+use Rattle.hir_store.specs.declared.type_ref.TypeBound.{TypeBound}
+use Rattle.hir_store.proofs.Extending.{extends_refl, extends_trans}
+use Rattle.hir_data.specs.Data as datum
+use Rattle.hir_data.specs.Data.{BoundData, BoundsData}
+use Rattle.hir_lower_form.specs.Builder.{Builder}
+use Rattle.hir_lower_form.specs.Generics.{predicates_of, with_param}
+use Rattle.hir_lower_form.specs.Lowering.{Checked, go_on, Lowering, ◌>>=◌, pure, add_lifetime_param, add_param, add_predicate, count_out}
+use Rattle.hir_lower_form.specs.Lowering.{lifetime_counted, note_down, param_numbered, with_notes}
+use Rattle.hir_steps.specs.Keeps.{Paired}
+use Rattle.hir_steps.proofs.Formals.{found_stays}
+use Rattle.hir_steps.proofs.Logic.{Correct, correct_in_store}
+use Rattle.hir_read_back.proofs.Layers.{Layer, Reads, within}
+use Rattle.hir_read_back.proofs.Now.{answered}
+use Rattle.hir_sets.specs.Noting.{Impl, Noting}
+use Rattle.hir_noted.specs.Lists.{Fits, Noted, ReadAs, all_entries, unnamed}
+use Rattle.hir_noted.proofs.Logic as parts
+use Rattle.hir_item_asked.specs.Fold.{Asked, Asking, Asks, Reached, asking, each_of, nothing, of_impls, of_lifetime, of_part}
+use Rattle.hir_item_asked.specs.Fold.{of_type, parameter, written, ◌⊟◌, one_param}
+use Rattle.hir_item_asked.specs.Asked.{IsAsked, Stand, StandsFor, TypeIs, count}
+
+-- ---- what stands
+
+pub type_stays : {s t : Stored} → Extends s t → (i : TypeRefId) (x : Asked) → TypeIs s i x → TypeIs t i x
+type_stays e i (parameter def k at) h = (found_stays e.types.entries i.0 _ h.0, found_stays e.types.sources i.0 _ h.1)
+type_stays e i (written d) h = λ final pre. h final (extends_trans e pre)
+
+one_stays : {s t : Stored} → Extends s t → (p : WherePredicate) (a : Asking) → StandsFor s p a → StandsFor t p a
+one_stays e (predicate.TypeBound binder i b) (of_type names x d) h =
+    (h.0, type_stays e i x h.1, λ final pre. h.2 final (extends_trans e pre))
+one_stays e (predicate.Lifetime l m) (of_lifetime x y) h =
+    (λ final pre. h.0 final (extends_trans e pre), λ final pre. h.1 final (extends_trans e pre))
+one_stays e (predicate.TypeBound binder i b) (of_lifetime x y) h = absurd h
+one_stays e (predicate.Lifetime l m) (of_type names x d) h = absurd h
+
+stand_stays : {s t : Stored} → Extends s t → (ps : List WherePredicate) (as' : List Asking) → Stand s ps as' → Stand t ps as'
+stand_stays e [] [] h = tt
+stand_stays e (p ∷ ps) (a ∷ as') h = (one_stays e p a h.0, stand_stays e ps as' h.1)
+stand_stays e [] (a ∷ as') h = absurd h
+stand_stays e (p ∷ ps) [] h = absurd h
+
+stand_append : (s : Stored) (ps qs : List WherePredicate) (as' bs : List Asking) → Stand s ps as' → Stand s qs bs
+    → Stand s (ps ++ qs) (as' ++ bs)
+stand_append s [] qs [] bs g h = h
+stand_append s (p ∷ ps) qs (a ∷ as') bs g h = (g.0, stand_append s ps qs as' bs g.1 h)
+stand_append s [] qs (a ∷ as') bs g h = absurd g
+stand_append s (p ∷ ps) qs [] bs g h = absurd g
+
+-- ---- one after another
+
+asked_both : {x y : Asks} {b c d : Builder} → IsAsked x b c → IsAsked y c d → IsAsked (x ⊟ y) b d
+asked_both {x = x} {y = y} {b = b} {c = c} {d = d} g h = record {
+  stays = extends_trans g.stays h.stays;
+  params = h.params ∙ ap (λ k. (y k).params) g.params;
+  added = g.added ++ h.added;
+  predicates = h.predicates
+      ∙ (ap (λ l. l ++ h.added) g.predicates ∙ append_assoc b.notes.generics.where_predicates g.added h.added);
+  stand = stand_append d.stored g.added h.added (x (count b)).asks (y (x (count b)).params).asks
+      (stand_stays h.stays g.added (x (count b)).asks g.stand)
+      (subst (λ k. Stand d.stored h.added (y k).asks) g.params h.stand);
+}
+
+-- nothing is asked
+pub asked_nothing : {b c : Builder} → Extends b.stored c.stored → c.notes.generics.type_or_consts ≡ b.notes.generics.type_or_consts
+    → c.notes.generics.where_predicates ≡ b.notes.generics.where_predicates → IsAsked nothing b c
+asked_nothing {b = b} e p w = record {
+  stays = e;
+  params = ap (λ l. length l) p;
+  added = [];
+  predicates = w ∙ sym (append-nil b.notes.generics.where_predicates);
+  stand = tt;
+}
+
+-- ---- parts
+
+abbrev first_of : BoundsData → BoundData
+first_of datum.no_bounds = datum.error_bound
+first_of (datum.more_bounds d ds) = d
+
+abbrev rest_of : BoundsData → BoundsData
+rest_of datum.no_bounds = datum.no_bounds
+rest_of (datum.more_bounds d ds) = ds
+
+abbrev AnyBound : BoundsData → Type 0
+AnyBound datum.no_bounds = ⊥
+AnyBound (datum.more_bounds d ds) = Unit {0}
+
+-- what an `impl` became, of each of its bounds
+each_stands : (s : Stored) (i : TypeRefId) (x : Asked) (bs : List TypeBound) (ds : BoundsData) → TypeIs s i x → ReadAs s bs ds
+    → Stand s (predicates_of i bs) (each_of x ds)
+each_stands s i x [] datum.no_bounds t h = tt
+each_stands s i x [] (datum.more_bounds d ds) t h = absurd (subst AnyBound (sym (h s (extends_refl s))) tt)
+each_stands s i x (b ∷ bs) datum.no_bounds t h = absurd (subst AnyBound (h s (extends_refl s)) tt)
+each_stands s i x (b ∷ bs) (datum.more_bounds d ds) t h = (
+  (refl, t, λ final pre. ap first_of (h final pre)),
+  each_stands s i x bs ds t (λ final pre. ap rest_of (h final pre)),
+)
+
+impls_stand : (s : Stored) (is : List Impl) (ps : List WherePredicate) (k : ℕ) → Fits ps k is s → Stand s ps (of_impls is k)
+impls_stand s [] ps k f = subst (λ l. Stand s l []) (sym f) tt
+impls_stand s (i ∷ is) ps k f =
+    let x = parameter i.parent k (Some i.at) in
+    subst (λ l. Stand s l (each_of x i.bounds ++ of_impls is (suc k))) (sym f.are)
+    (stand_append s (predicates_of f.target f.bounds) f.others (each_of x i.bounds) (of_impls is (suc k))
+    (each_stands s f.target x f.bounds i.bounds (f.stands, f.from) f.read)
+    (impls_stand s is f.others (suc k) f.rest_fits))
+
+length_unnamed : (is : List Impl) → length (unnamed is) ≡ length is
+length_unnamed [] = refl
+length_unnamed (i ∷ is) = ap suc (length_unnamed is)
+
+asked_part : {n : Noting} {b c : Builder} → Noted n b c → IsAsked (of_part n) b c
+asked_part {n = n} {b = b} {c = c} g = record {
+  stays = g.stays;
+  params = ap (λ l. length l) g.params
+      ∙ (length-append b.notes.generics.type_or_consts (unnamed n.impls) ∙ ap (λ k. count b + k) (length_unnamed n.impls));
+  added = g.added;
+  predicates = g.predicates;
+  stand = impls_stand c.stored n.impls g.added (count b) g.fits;
+}
+
+-- ---- steps
+
+abbrev pub AskTo : {A : Type 0} → Asks → Builder → Checked A → Builder → Type 0
+AskTo x b (Ok a) c = Paired c.stored × IsAsked x b c
+AskTo x b (Err e) c = Unit {0}
+
+-- from a store in which each entry has its source: where it answers it asks this
+pub record Steps {A : Type 0} (x : Asks) (p : Lowering A) : Type 0 where
+  pub at : (b : Builder) → Paired b.stored → AskTo x b (p b).0 (p b).1
+
+pub ask_to_both : {A : Type 0} {x : Asks} (y : Asks) (b c : Builder) → IsAsked x b c → (o : Checked A) (d : Builder) → AskTo y c o d
+    → AskTo (x ⊟ y) b o d
+ask_to_both y b c g (Ok a) d h = (h.0, asked_both g h.1)
+ask_to_both y b c g (Err e) d h = tt
+
+-- what is asked by the parameters that there are
+pub ask_at : {A : Type 0} (x y : Asks) (b : Builder) → x (count b) ≡ y (count b) → (o : Checked A) (c : Builder) → AskTo x b o c
+    → AskTo y b o c
+ask_at x y b e (Ok a) c h = (
+  h.0,
+  record {
+    stays = h.1.stays;
+    params = h.1.params ∙ ap (λ r. r.params) e;
+    added = h.1.added;
+    predicates = h.1.predicates;
+    stand = subst (λ r. Stand c.stored h.1.added r.asks) e h.1.stand;
+  },
+)
+ask_at x y b e (Err f) c h = tt
+
+-- from this builder on, where what the second asks depends on what the first answers
+pub from_then : {A B : Type 0} (x y : Asks) (p : Lowering A) (f : A → Lowering B) (b : Builder) → AskTo x b (p b).0 (p b).1
+    → ((a : A) (c : Builder) → Paired c.stored → IsAsked x b c → p b ≡ (Ok a, c) → AskTo y c (f a c).0 (f a c).1)
+    → AskTo (x ⊟ y) b ((p >>= f) b).0 ((p >>= f) b).1
+from_then {A = A} x y p f b h k = by (p b).0 (p b).1 refl h
+  where
+    by : (o : Checked A) (c : Builder) → p b ≡ (o, c) → AskTo x b o c → AskTo (x ⊟ y) b (go_on o c f).0 (go_on o c f).1
+    by (Ok a) c is h = ask_to_both y b c h.1 (f a c).0 (f a c).1 (k a c h.0 h.1 is)
+    by (Err e) c is h = tt
+
+pub steps_by : {A B : Type 0} {x : Asks} (y : Asks) {p : Lowering A} (f : A → Lowering B) → Steps x p
+    → ((b : Builder) (a : A) (c : Builder) → Paired b.stored → Paired c.stored → p b ≡ (Ok a, c) → AskTo y c (f a c).0 (f a c).1)
+    → Steps (x ⊟ y) (p >>= f)
+steps_by {x = x} y {p = p} f h k = record { at = λ b d. from_then x y p f b (h.at b d) (λ a c e g is. k b a c d e is) }
+
+pub steps_then : {A B : Type 0} {x y : Asks} {p : Lowering A} {f : A → Lowering B} → Steps x p → ((a : A) → Steps y (f a))
+    → Steps (x ⊟ y) (p >>= f)
+steps_then {y = y} {f = f} h k = steps_by y f h (λ b a c d e is. (k a).at c e)
+
+-- the same, otherwise told
+pub steps_as : {A : Type 0} {x y : Asks} {p : Lowering A} → x ≡ y → Steps x p → Steps y p
+steps_as {p = p} e h = subst (λ x. Steps x p) e h
+
+pub behind_nothing : (x : Asks) → (x ⊟ nothing) ≡ x
+behind_nothing x = λ j k. record { asks = append-nil (x k).asks j; params = (x k).params }
+
+-- nothing is asked in the first, or in the second
+pub steps_begin : {A B : Type 0} {x : Asks} {p : Lowering A} {f : A → Lowering B} → Steps nothing p → ((a : A) → Steps x (f a))
+    → Steps x (p >>= f)
+steps_begin h k = steps_then h k
+
+pub steps_end : {A B : Type 0} {x : Asks} {p : Lowering A} {f : A → Lowering B} → Steps x p → ((a : A) → Steps nothing (f a))
+    → Steps x (p >>= f)
+steps_end {x = x} h k = steps_as (behind_nothing x) (steps_then h k)
+
+pub steps_pure : {A : Type 0} (a : A) → Steps nothing (pure a)
+steps_pure a = record { at = λ b d. (d, asked_nothing (extends_refl b.stored) refl refl) }
+
+part_to : {A : Type 0} (n : Noting) (b : Builder) (o : Checked A) (c : Builder) → parts.NotesTo n b o c → AskTo (of_part n) b o c
+part_to n b (Ok a) c x = (x.0, asked_part x.1)
+part_to n b (Err e) c x = tt
+
+-- of a part of the item
+pub steps_part : {A : Type 0} {n : Noting} {p : Lowering A} → parts.Notes n p → Steps (of_part n) p
+steps_part {n = n} {p = p} h = record { at = λ b d. part_to n b (p b).0 (p b).1 (h.at b d) }
+
+nothing_by_none : (k : ℕ) → k + 0 ≡ k
+nothing_by_none k = omega arith
+
+abbrev of_all : List Impl → ℕ → Reached
+of_all is k = record { asks = of_impls is k; params = k + length is }
+
+abbrev reached : ℕ → Reached
+reached k = record { asks = []; params = k }
+
+none_of : (is : List Impl) (k : ℕ) → is ≡ [] → of_all is k ≡ reached k
+none_of is k e = ap (λ l. of_all l k) e ∙ ap reached (nothing_by_none k)
+
+-- of one without an `impl`
+pub steps_quiet : {A : Type 0} {n : Noting} {p : Lowering A} → parts.Notes n p → n.impls ≡ [] → Steps nothing p
+steps_quiet {n = n} h e = steps_as (λ j k. none_of n.impls k e j) (steps_part h)
+
+-- what it comes to
+pub asked_by_steps : {A : Type 0} {x : Asks} {p : Lowering A} → Steps x p → (b c : Builder) (a : A) → Paired b.stored → p b ≡ (Ok a, c)
+    → IsAsked x b c
+asked_by_steps {x = x} h b c a d is = (subst (λ r. AskTo x b r.0 r.1) is (h.at b d)).1
+
+-- ---- parameters and predicates
+
+asked_param : (x : TypeOrConstParamData) (b : Builder) → IsAsked one_param b (record b { notes = with_param x b.notes })
+asked_param x b = record {
+  stays = extends_refl b.stored;
+  params = let n = length-append b.notes.generics.type_or_consts (x ∷ []) in omega (arith, n);
+  added = [];
+  predicates = sym (append-nil b.notes.generics.where_predicates);
+  stand = tt;
+}
+
+-- a parameter more, and what is done with its number
+pub param_then : {B : Type 0} (y : Asks) (x : TypeOrConstParamData) (f : ℕ → Lowering B) (b : Builder)
+    → (let c = record b { notes = with_param x b.notes } in AskTo y c (f (count b) c).0 (f (count b) c).1)
+    → AskTo (one_param ⊟ y) b ((add_param x >>= f) b).0 ((add_param x >>= f) b).1
+unfolding add_param with_notes note_down count_out
+param_then y x f b h = by (nat_lt (count b) 4294967295)
+  where
+    by : (room : Bool) → let p = param_numbered x (count b) room >>= f in AskTo (one_param ⊟ y) b (p b).0 (p b).1
+    by true =
+        let c = record b { notes = with_param x b.notes } in
+        ask_to_both y b c (asked_param x b) (f (count b) c).0 (f (count b) c).1 h
+    by false = tt
+
+pub steps_param : (x : TypeOrConstParamData) → Steps one_param (add_param x)
+unfolding add_param with_notes note_down count_out
+steps_param x = record { at = λ b d. by b d (nat_lt (count b) 4294967295) }
+  where
+    by : (b : Builder) → Paired b.stored → (room : Bool) → let p = param_numbered x (count b) room in AskTo one_param b (p b).0 (p b).1
+    by b d true = (d, asked_param x b)
+    by b d false = tt
+
+pub steps_lifetime_param : (x : LifetimeParamData) → Steps nothing (add_lifetime_param x)
+unfolding add_lifetime_param with_notes note_down count_out
+steps_lifetime_param x = record { at = λ b d. by b d (nat_lt (length b.notes.generics.lifetimes) 4294967295) }
+  where
+    by : (b : Builder) → Paired b.stored → (room : Bool) → let p = lifetime_counted x room in AskTo nothing b (p b).0 (p b).1
+    by b d true = (d, asked_nothing (extends_refl b.stored) refl refl)
+    by b d false = tt
+
+-- a predicate that stands for what is asked
+pub predicate_to : (p : WherePredicate) (a : Asking) (b : Builder) → Paired b.stored → StandsFor b.stored p a
+    → AskTo (asking (a ∷ [])) b (add_predicate p b).0 (add_predicate p b).1
+unfolding add_predicate note_down
+predicate_to p a b d h = (
+  d,
+  record {
+    stays = extends_refl b.stored;
+    params = refl;
+    added = p ∷ [];
+    predicates = refl;
+    stand = (h, tt);
+  },
+)
+
+-- ---- what is read back
+
+pub read_as : {A D : Type 0} {l : Layer A D} {x : D} {p : Lowering A} → Correct p (Reads l x) → (b c : Builder) (a : A) → Paired b.stored
+    → p b ≡ (Ok a, c) → (final : Stored) → Extends c.stored final → l final (within final (all_entries final)) a ≡ x
+read_as h b c a d is final pre = let row = answered (correct_in_store h) b c a d is final pre in row.rel.is (all_entries final) row.entries

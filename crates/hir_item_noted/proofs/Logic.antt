@@ -1,0 +1,255 @@
+-- Steps by what they note of an item: the logic.
+use Rattle.std.proofs.Common.{arith, ◌≡◌, ◌∙◌, refl, sym, ap, subst, ℕ, ◌+◌, ◌≤◌, nat_lt, Bool, true, false, length, List, [], ◌∷◌}
+use Rattle.std.proofs.Common.{◌++◌, length-append, map}
+use Rattle.std.proofs.Common.{append-nil, append_assoc, Ok, Err}
+use Rattle.std.proofs.lemmas.List.{map-append}
+use Rattle.hir_store.specs.Stored.{Stored}
+use Rattle.hir_store.specs.Storing.{Extends}
+use Rattle.hir_store.specs.declared.generics.TypeOrConstParamData.{TypeOrConstParamData}
+use Rattle.hir_store.specs.declared.generics.WherePredicate.{WherePredicate}
+use Rattle.hir_store.specs.declared.name.Name.{Name}
+use Rattle.hir_lower_form.specs.Builder.{Builder}
+use Rattle.hir_store.proofs.Extending.{extends_refl, extends_trans}
+use Rattle.hir_data.specs.Reading.{stored_option_type}
+use Rattle.hir_lower_form.specs.Generics.{unnamed_param, with_lifetime_param, with_param}
+use Rattle.hir_lower_form.specs.Lowering.{Checked, go_on, Lowering, ◌>>=◌, pure, add_lifetime_param, add_param, add_predicate, count_out}
+use Rattle.hir_lower_form.specs.Lowering.{lifetime_counted, note_down, param_numbered, with_notes}
+use Rattle.hir_steps.specs.Keeps.{Paired}
+use Rattle.hir_sets.specs.Noting.{Impl, Noting}
+use Rattle.hir_noted.specs.Lists.{Noted, unnamed}
+use Rattle.hir_noted.proofs.Logic as parts
+use Rattle.hir_item_noted.specs.Fold.{ItemNoting, Param, impl_param, nothing, of_part, one_lifetime, one_param, ◌⊞◌}
+use Rattle.hir_item_noted.specs.Noted.{ItemNoted, early, read_param}
+
+-- ---- one after another
+
+-- a list that goes on twice
+twice : {A : Type 0} (xs : List A) {ys zs : List A} (a b : List A) → ys ≡ xs ++ a → zs ≡ ys ++ b → zs ≡ xs ++ (a ++ b)
+twice xs a b e f = f ∙ (ap (λ t. t ++ b) e ∙ append_assoc xs a b)
+
+noted_both : {m n : ItemNoting} {b c d : Builder} → ItemNoted m b c → ItemNoted n c d → ItemNoted (m ⊞ n) b d
+noted_both {m = m} {n = n} {b = b} g h = record {
+  stays = extends_trans g.stays h.stays;
+  params = λ final e. twice (map (read_param final) b.notes.generics.type_or_consts) m.params n.params
+      (g.params final (extends_trans h.stays e)) (h.params final e);
+  fits = λ le. h.fits (g.fits le);
+  lifetimes = twice b.notes.generics.lifetimes (map early m.lifetimes) (map early n.lifetimes) g.lifetimes h.lifetimes
+      ∙ ap (λ l. b.notes.generics.lifetimes ++ l) (sym (map-append early m.lifetimes n.lifetimes));
+  bounds = twice b.notes.named.bounds m.bounds n.bounds g.bounds h.bounds;
+  input = twice b.notes.named.input m.input n.input g.input h.input;
+  output = twice b.notes.named.output m.output n.output g.output h.output;
+}
+
+-- of what is noted nothing changes but the predicates
+noted_nothing : {b c : Builder} → Extends b.stored c.stored → c.notes.generics.type_or_consts ≡ b.notes.generics.type_or_consts
+    → c.notes.generics.lifetimes ≡ b.notes.generics.lifetimes → c.notes.named ≡ b.notes.named → ItemNoted nothing b c
+noted_nothing {b = b} e p l n = record {
+  stays = e;
+  params = λ final x. ap (map (read_param final)) p ∙ sym (append-nil (map (read_param final) b.notes.generics.type_or_consts));
+  fits = λ le. subst (λ k. length k ≤ 4294967295) (sym l) le;
+  lifetimes = l ∙ sym (append-nil b.notes.generics.lifetimes);
+  bounds = ap (λ x. x.bounds) n ∙ sym (append-nil b.notes.named.bounds);
+  input = ap (λ x. x.input) n ∙ sym (append-nil b.notes.named.input);
+  output = ap (λ x. x.output) n ∙ sym (append-nil b.notes.named.output);
+}
+
+unnamed_read : (final : Stored) → read_param final unnamed_param ≡ impl_param
+unfolding stored_option_type
+unnamed_read final = refl
+
+all_unnamed : (final : Stored) (is : List Impl) → map (read_param final) (unnamed is) ≡ map (λ i. impl_param) is
+all_unnamed final [] = refl
+all_unnamed final (i ∷ is) = λ j. unnamed_read final j ∷ all_unnamed final is j
+
+noted_part : {n : Noting} {b c : Builder} → Noted n b c → ItemNoted (of_part n) b c
+noted_part {n = n} {b = b} g = record {
+  stays = g.stays;
+  params = λ final e. ap (map (read_param final)) g.params
+      ∙ (map-append (read_param final) b.notes.generics.type_or_consts (unnamed n.impls)
+      ∙ ap (λ l. map (read_param final) b.notes.generics.type_or_consts ++ l) (all_unnamed final n.impls));
+  fits = λ le. subst (λ k. length k ≤ 4294967295) (sym g.lifetimes) le;
+  lifetimes = g.lifetimes ∙ sym (append-nil b.notes.generics.lifetimes);
+  bounds = g.bounds;
+  input = g.input;
+  output = g.output;
+}
+
+behind_nothing : (n : ItemNoting) → (n ⊞ nothing) ≡ n
+behind_nothing n = λ j. record {
+  params = append-nil n.params j;
+  lifetimes = append-nil n.lifetimes j;
+  bounds = append-nil n.bounds j;
+  input = append-nil n.input j;
+  output = append-nil n.output j;
+}
+
+-- ---- steps
+
+abbrev pub StepsTo : {A : Type 0} → ItemNoting → Builder → Checked A → Builder → Type 0
+StepsTo n b (Ok a) c = Paired c.stored × ItemNoted n b c
+StepsTo n b (Err e) c = Unit {0}
+
+-- from a store in which each entry has its source: where it answers it notes this
+pub record Steps {A : Type 0} (n : ItemNoting) (p : Lowering A) : Type 0 where
+  pub at : (b : Builder) → Paired b.stored → StepsTo n b (p b).0 (p b).1
+
+steps_to_both : {A : Type 0} {m : ItemNoting} (n : ItemNoting) (b c : Builder) → ItemNoted m b c → (o : Checked A) (d : Builder)
+    → StepsTo n c o d → StepsTo (m ⊞ n) b o d
+steps_to_both n b c g (Ok a) d h = (h.0, noted_both g h.1)
+steps_to_both n b c g (Err e) d h = tt
+
+-- ---- what steps answer
+
+abbrev pub GivesTo : {A : Type 0} → (A → Type 0) → Checked A → Type 0
+GivesTo P (Ok a) = P a
+GivesTo P (Err e) = Unit {0}
+
+-- wherever it answers
+pub record Gives {A : Type 0} (P : A → Type 0) (p : Lowering A) : Type 0 where
+  pub gives : (b : Builder) → GivesTo P (p b).0
+
+pub gives_pure : {A : Type 0} {P : A → Type 0} (a : A) → P a → Gives P (pure a)
+gives_pure a h = record { gives = λ b. h }
+
+pub gives_then : {A B : Type 0} {P : B → Type 0} (p : Lowering A) {f : A → Lowering B} → ((a : A) → Gives P (f a)) → Gives P (p >>= f)
+gives_then {A = A} {P = P} p {f = f} h = record { gives = λ b. by (p b).0 (p b).1 }
+  where
+    by : (o : Checked A) (c : Builder) → GivesTo P (go_on o c f).0
+    by (Ok a) c = (h a).gives c
+    by (Err e) c = tt
+
+-- of what is so of the answer of the first
+pub steps_given : {A B : Type 0} {m n : ItemNoting} {P : A → Type 0} {p : Lowering A} {f : A → Lowering B} → Steps m p → Gives P p
+    → ((a : A) → P a → Steps n (f a)) → Steps (m ⊞ n) (p >>= f)
+steps_given {A = A} {m = m} {n = n} {P = P} {p = p} {f = f} h g k = record { at = λ b d. by b (p b).0 (p b).1 (h.at b d) (g.gives b) }
+  where
+    by : (b : Builder) (o : Checked A) (c : Builder) → StepsTo m b o c → GivesTo P o
+        → StepsTo (m ⊞ n) b (go_on o c f).0 (go_on o c f).1
+    by b (Ok a) c x y = steps_to_both n b c x.1 (f a c).0 (f a c).1 ((k a y).at c x.0)
+    by b (Err e) c x y = tt
+
+pub steps_then : {A B : Type 0} {m n : ItemNoting} {p : Lowering A} {f : A → Lowering B} → Steps m p → ((a : A) → Steps n (f a))
+    → Steps (m ⊞ n) (p >>= f)
+steps_then {A = A} {m = m} {n = n} {p = p} {f = f} h k = record { at = λ b d. by b (p b).0 (p b).1 (h.at b d) }
+  where
+    by : (b : Builder) (o : Checked A) (c : Builder) → StepsTo m b o c → StepsTo (m ⊞ n) b (go_on o c f).0 (go_on o c f).1
+    by b (Ok a) c x = steps_to_both n b c x.1 (f a c).0 (f a c).1 ((k a).at c x.0)
+    by b (Err e) c x = tt
+
+-- the same from one builder on
+pub then_at : {A B : Type 0} (m n : ItemNoting) (p : Lowering A) (f : A → Lowering B) (b : Builder) → StepsTo m b (p b).0 (p b).1
+    → ((a : A) → Steps n (f a)) → StepsTo (m ⊞ n) b (go_on (p b).0 (p b).1 f).0 (go_on (p b).0 (p b).1 f).1
+then_at {A = A} m n p f b x k = by (p b).0 (p b).1 x
+  where
+    by : (o : Checked A) (c : Builder) → StepsTo m b o c → StepsTo (m ⊞ n) b (go_on o c f).0 (go_on o c f).1
+    by (Ok a) c y = steps_to_both n b c y.1 (f a c).0 (f a c).1 ((k a).at c y.0)
+    by (Err e) c y = tt
+
+pub given_at : {A B : Type 0} (m n : ItemNoting) (P : A → Type 0) (p : Lowering A) (f : A → Lowering B) (b : Builder)
+    → StepsTo m b (p b).0 (p b).1 → GivesTo P (p b).0
+    → ((a : A) (c : Builder) → P a → Extends b.stored c.stored → Paired c.stored → StepsTo n c (f a c).0 (f a c).1)
+    → StepsTo (m ⊞ n) b (go_on (p b).0 (p b).1 f).0 (go_on (p b).0 (p b).1 f).1
+given_at {A = A} m n P p f b x g k = by (p b).0 (p b).1 x g
+  where
+    by : (o : Checked A) (c : Builder) → StepsTo m b o c → GivesTo P o → StepsTo (m ⊞ n) b (go_on o c f).0 (go_on o c f).1
+    by (Ok a) c y z = steps_to_both n b c y.1 (f a c).0 (f a c).1 (k a c z y.1.stays y.0)
+    by (Err e) c y z = tt
+
+-- where what the second notes depends on what the first answers
+pub steps_by : {A B : Type 0} {m : ItemNoting} (n : ItemNoting) {p : Lowering A} (f : A → Lowering B) → Steps m p
+    → ((b : Builder) (a : A) (c : Builder) → Paired b.stored → p b ≡ (Ok a, c) → Extends b.stored c.stored → Paired c.stored
+    → StepsTo n c (f a c).0 (f a c).1)
+    → Steps (m ⊞ n) (p >>= f)
+steps_by {A = A} {m = m} n {p = p} f h k = record { at = λ b d. by b d (p b).0 (p b).1 refl (h.at b d) }
+  where
+    by : (b : Builder) → Paired b.stored → (o : Checked A) (c : Builder) → p b ≡ (o, c) → StepsTo m b o c
+        → StepsTo (m ⊞ n) b (go_on o c f).0 (go_on o c f).1
+    by b d (Ok a) c is x = steps_to_both n b c x.1 (f a c).0 (f a c).1 (k b a c d is x.1.stays x.0)
+    by b d (Err e) c is x = tt
+
+-- the same, otherwise told
+pub steps_as : {A : Type 0} {m n : ItemNoting} {p : Lowering A} → m ≡ n → Steps m p → Steps n p
+steps_as {p = p} e h = subst (λ n. Steps n p) e h
+
+-- nothing is noted in the first, or in the second
+pub steps_begin : {A B : Type 0} {n : ItemNoting} {p : Lowering A} {f : A → Lowering B} → Steps nothing p → ((a : A) → Steps n (f a))
+    → Steps n (p >>= f)
+steps_begin h k = steps_then h k
+
+pub steps_end : {A B : Type 0} {n : ItemNoting} {p : Lowering A} {f : A → Lowering B} → Steps n p → ((a : A) → Steps nothing (f a))
+    → Steps n (p >>= f)
+steps_end {n = n} h k = steps_as (behind_nothing n) (steps_then h k)
+
+pub steps_pure : {A : Type 0} (a : A) → Steps nothing (pure a)
+steps_pure a = record { at = λ b d. (d, noted_nothing (extends_refl b.stored) refl refl refl) }
+
+part_to : {A : Type 0} (n : Noting) (b : Builder) (o : Checked A) (c : Builder) → parts.NotesTo n b o c → StepsTo (of_part n) b o c
+part_to n b (Ok a) c x = (x.0, noted_part x.1)
+part_to n b (Err e) c x = tt
+
+-- of a part of the item
+pub steps_part : {A : Type 0} {n : Noting} {p : Lowering A} → parts.Notes n p → Steps (of_part n) p
+steps_part {n = n} {p = p} h = record { at = λ b d. part_to n b (p b).0 (p b).1 (h.at b d) }
+
+-- what it comes to
+pub noted_by : {A : Type 0} {n : ItemNoting} {p : Lowering A} → Steps n p → (b c : Builder) (a : A) → Paired b.stored → p b ≡ (Ok a, c)
+    → ItemNoted n b c
+noted_by {n = n} h b c a d is = (subst (λ r. StepsTo n b r.0 r.1) is (h.at b d)).1
+
+-- ---- parameters and predicates
+
+-- a parameter that reads back so from here on
+abbrev pub ReadsFrom : Builder → TypeOrConstParamData → Param → Type 0
+ReadsFrom b x y = (final : Stored) → Extends b.stored final → read_param final x ≡ y
+
+noted_param : (x : TypeOrConstParamData) (y : Param) (b : Builder) → ReadsFrom b x y
+    → ItemNoted (one_param y) b (record b { notes = with_param x b.notes })
+noted_param x y b h = record {
+  stays = extends_refl b.stored;
+  params = λ final e. map-append (read_param final) b.notes.generics.type_or_consts (x ∷ [])
+      ∙ ap (λ z. map (read_param final) b.notes.generics.type_or_consts ++ z ∷ []) (h final e);
+  fits = λ le. le;
+  lifetimes = sym (append-nil b.notes.generics.lifetimes);
+  bounds = sym (append-nil b.notes.named.bounds);
+  input = sym (append-nil b.notes.named.input);
+  output = sym (append-nil b.notes.named.output);
+}
+
+pub param_at : (x : TypeOrConstParamData) (y : Param) (b : Builder) → Paired b.stored → ReadsFrom b x y
+    → StepsTo (one_param y) b (add_param x b).0 (add_param x b).1
+unfolding add_param with_notes note_down count_out
+param_at x y b d h = by (nat_lt (length b.notes.generics.type_or_consts) 4294967295)
+  where
+    by : (room : Bool) → let p = param_numbered x (length b.notes.generics.type_or_consts) room in
+        StepsTo (one_param y) b (p b).0 (p b).1
+    by true = (d, noted_param x y b h)
+    by false = tt
+
+one_more_fits : (k : ℕ) → nat_lt k 4294967295 ≡ true → k + 1 ≤ 4294967295
+one_more_fits k h = grind arith
+
+noted_lifetime : (n : Name) (b : Builder) → nat_lt (length b.notes.generics.lifetimes) 4294967295 ≡ true
+    → ItemNoted (one_lifetime n) b (record b { notes = with_lifetime_param (early n) b.notes })
+noted_lifetime n b h = record {
+  stays = extends_refl b.stored;
+  params = λ final e. sym (append-nil (map (read_param final) b.notes.generics.type_or_consts));
+  fits = λ le. subst (λ k. k ≤ 4294967295) (sym (length-append b.notes.generics.lifetimes (early n ∷ [])))
+      (one_more_fits (length b.notes.generics.lifetimes) h);
+  lifetimes = refl;
+  bounds = sym (append-nil b.notes.named.bounds);
+  input = sym (append-nil b.notes.named.input);
+  output = sym (append-nil b.notes.named.output);
+}
+
+pub steps_lifetime_param : (n : Name) → Steps (one_lifetime n) (add_lifetime_param (early n))
+unfolding add_lifetime_param with_notes note_down count_out
+steps_lifetime_param n = record { at = λ b d. by b d (nat_lt (length b.notes.generics.lifetimes) 4294967295) refl }
+  where
+    by : (b : Builder) → Paired b.stored → (room : Bool) → nat_lt (length b.notes.generics.lifetimes) 4294967295 ≡ room
+        → let p = lifetime_counted (early n) room in StepsTo (one_lifetime n) b (p b).0 (p b).1
+    by b d true h = (d, noted_lifetime n b h)
+    by b d false h = tt
+
+pub steps_predicate : (x : WherePredicate) → Steps nothing (add_predicate x)
+unfolding add_predicate note_down
+steps_predicate x = record { at = λ b d. (d, noted_nothing (extends_refl b.stored) refl refl refl) }

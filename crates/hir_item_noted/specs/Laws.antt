@@ -1,0 +1,53 @@
+-- What lowering an item notes is what is read off the item.
+use Rattle.std.specs.Prelude.{◌≡◌, ℕ, List, map, Ok}
+use Rattle.hir_store.specs.Params.{early_among}
+use Rattle.hir_store.specs.Stored.{Stored}
+use Rattle.hir_store.specs.Storing.{Extends}
+use Rattle.hir_store.specs.declared.generics.GenericParams.{GenericParams}
+use Rattle.hir_store.specs.declared.generics.LifetimeParamData.{LifetimeParamData}
+use Rattle.hir_store.specs.declared.ids.GenericDefId.{GenericDefId}
+use Rattle.hir_lower_form.specs.Builder.{Builder, fresh}
+use Rattle.hir_lower_form.specs.Lowering.{Lowering}
+use Rattle.hir_lower_item.specs.declared.function.Signature.{Signature}
+use Rattle.hir_lower_item.specs.Items.{Alias, Function, Generics, Impl, Trait}
+use Rattle.hir_lower_item.specs.Kinds.{finished, of_kinds}
+use Rattle.hir_lower_item.specs.Lower.{lower_alias, lower_function, lower_generics, lower_impl, lower_trait}
+use Rattle.hir_steps.specs.Keeps.{Paired}
+use Rattle.hir_item_noted.specs.Fold.{ItemNoting, noted_in_alias, noted_in_function, noted_in_generics, noted_in_impl}
+use Rattle.hir_item_noted.specs.Fold.{noted_in_trait}
+use Rattle.hir_item_noted.specs.Noted.{ItemNoted, all_early, by_kind, read_param}
+
+-- from any builder on in which each entry has its source
+
+abbrev pub Notes : {A : Type 0} → ItemNoting → Lowering A → Type 0
+Notes {A} n p = (b c : Builder) (a : A) → Paired b.stored → p b ≡ (Ok a, c) → ItemNoted n b c
+
+abbrev pub ItemsNote : Type 0
+ItemsNote = (def : GenericDefId)
+    → ((g : Generics) → Notes (noted_in_generics g) (lower_generics def g))
+    × ((x : Trait) → Notes (noted_in_trait x) (lower_trait def x))
+    × ((x : Impl) → Notes (noted_in_impl x) (lower_impl def x))
+    × ((x : Alias) → Notes (noted_in_alias x) (lower_alias def x))
+    × ((x : Function) → Notes (noted_in_function x) (lower_function def x))
+
+-- ---- from nothing
+
+-- the parameters that are made of what is noted, as they read back in each store that goes on with this one
+pub record Made (n : ItemNoting) (lifetimes : List LifetimeParamData) (s : Stored) (g : GenericParams) : Type 0 where
+  pub params : (final : Stored) → Extends s final → map (read_param final) g.type_or_consts ≡ n.params
+  pub lifetimes_are : g.lifetimes ≡ lifetimes
+  pub counted : g.early_bound_lifetimes_len ≡ early_among g.lifetimes
+
+abbrev pub MakesEarly : {A : Type 0} → ItemNoting → Lowering A → Type 0
+MakesEarly {A} n p = (limit : ℕ) (c : Builder) (a : A) → p (fresh limit) ≡ (Ok a, c)
+    → Made n (all_early n) c.stored (finished c.notes.generics)
+
+-- Each lifetime parameter is early bound, but for those of a function, which are so by the sets of all that names lifetimes in it.
+abbrev pub ItemsMake : Type 0
+ItemsMake = (def : GenericDefId)
+    → ((g : Generics) → MakesEarly (noted_in_generics g) (lower_generics def g))
+    × ((x : Trait) → MakesEarly (noted_in_trait x) (lower_trait def x))
+    × ((x : Impl) → MakesEarly (noted_in_impl x) (lower_impl def x))
+    × ((x : Alias) → MakesEarly (noted_in_alias x) (lower_alias def x))
+    × ((x : Function) (limit : ℕ) (c : Builder) (s : Signature) → lower_function def x (fresh limit) ≡ (Ok s, c)
+    → Made (noted_in_function x) (by_kind (noted_in_function x)) c.stored (finished (of_kinds c.notes)))

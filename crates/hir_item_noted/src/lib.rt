@@ -1,0 +1,17 @@
+//! What lowering an item notes: its parameters, those that `impl`s become among them, its lifetime parameters, and the names of lifetimes;
+//! and from these the kinds of the lifetime parameters. Laws, each the contract of a function.
+#![tactic(auto)]
+
+ghost use Rattle.hir_item_noted.specs.Laws.{ItemsMake, ItemsNote};
+
+/// Lowering an item notes its parameters in the order of their numbers, by name or as those of `impl`s, its lifetime parameters, and the
+/// names of lifetimes by where they count, in the order in which its parts are read.
+pub fn items_note()
+    ensures { ItemsNote }
+{}
+
+/// What is answered has these parameters; its lifetimes are early bound, but for those of a function that no bound names and, where what
+/// is returned names them, an argument constrains.
+pub fn items_make()
+    ensures { ItemsMake }
+{}

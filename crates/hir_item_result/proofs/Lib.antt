@@ -1,0 +1,13 @@
+pub mod Reading
+pub mod Items
+pub mod Steps
+pub mod Roots
+pub mod Told
+pub mod Ways
+pub mod Quiet
+pub mod Took
+pub mod Whole
+pub mod ReadsBack
+pub mod Held
+pub mod Answered
+pub mod Apart

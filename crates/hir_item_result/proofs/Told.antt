@@ -1,0 +1,127 @@
+-- What is told of the parts of an item is claimed of its lowering.
+use Rattle.std.proofs.Common.{◌≡◌, refl, ℕ, [], List, Option, Some, None, is_some, Ok}
+use Rattle.hir_store.specs.Pointers.{Pointer}
+use Rattle.hir_store.specs.declared.generics.LifetimeParamData.{LifetimeParamData}
+use Rattle.hir_store.specs.declared.generics.TypeOrConstParamData.{TypeOrConstParamData}
+use Rattle.hir_store.specs.declared.path.Path.{Path as HirPath}
+use Rattle.hir_env.specs.Answered as tree
+use Rattle.hir_env.specs.Answered.{Bound, Constant, OptionPath, Type_}
+use Rattle.hir_lower_form.specs.Builder.{Builder, fresh}
+use Rattle.hir_lower_form.specs.declared.generics.Notes.{Notes}
+use Rattle.hir_lower_form.specs.Lowering.{Lowering, ◌>>=◌, add_lifetime_param, add_param, note_down}
+use Rattle.hir_lower_form.specs.Lower.{lower_bound, lower_constant, lower_path}
+use Rattle.hir_lower_item.specs.Lower.{stored_trait}
+use Rattle.hir_steps.specs.Keeps.{Paired}
+use Rattle.hir_one_result.proofs.Telling.{Listing, tells_pure}
+use Rattle.hir_one_result.proofs.TreeBlocks.{entered}
+use Rattle.hir_one_result.proofs.PathRooms.{option_seen}
+use Rattle.hir_told.specs.Expanded.{expansions}
+use Rattle.hir_told.specs.Grades.{grade_bound, grade_constant}
+use Rattle.hir_told.specs.Grading.{Grading, if_so}
+use Rattle.hir_told.specs.Laws.{blocks, faults}
+use Rattle.hir_told.proofs.AsExpansions.{expansions_graded}
+use Rattle.hir_told.proofs.AsTelling.{behind, reported, tells_graded}
+use Rattle.hir_told.proofs.Graded.{Graded, map_is, next}
+use Rattle.hir_told.proofs.Tree.{expr_part_graded, path_graded, type_graded}
+use Rattle.hir_told.proofs.TypeForms as forms
+use Rattle.hir_item_result.specs.Parts as part
+use Rattle.hir_item_result.specs.Parts.{Part}
+use Rattle.hir_item_result.specs.Told.{grade_item, grade_item_part}
+use Rattle.hir_item_result.specs.Items.{OfItems}
+use Rattle.hir_item_result.proofs.Items.{items_read}
+use Rattle.hir_item_result.proofs.Reading.{Beside, Reading}
+use Rattle.hir_item_result.proofs.Steps.{correct_lifetime_param, correct_param}
+
+-- how what is told is claimed of parameters that are made
+pub record GradedParams {ℓ} {S : Grading {ℓ}} (L : Graded S) : Type (ℓ ⊔ 1) where
+  pub param_is : (x : TypeOrConstParamData) → L.Claim S.param (add_param x)
+  pub lifetime_param_is : (x : LifetimeParamData) → L.Claim S.none (add_lifetime_param x)
+
+module _ {ℓ} {S : Grading {ℓ}} (L : Graded S) where
+  pub record TellsAll {A : Type 0} (xs : List Part) (p : Lowering A) : Type 0 where
+    pub claim : L.Claim (grade_item S xs) p
+
+  record TellsOne {A : Type 0} (x : Part) (p : Lowering A) : Type 0 where
+    claim : L.Claim (grade_item_part S x) p
+
+  bound_graded : (b : Bound) → L.Claim (grade_bound S b) (lower_bound b)
+  bound_graded tree.error_bound = L.pure_is _
+  bound_graded (tree.path_bound at p maybe binder) = forms.path_bound_graded L at maybe binder (path_graded L p)
+  bound_graded (tree.lifetime_bound l) = map_is L _ (forms.lifetime_graded L l)
+  bound_graded (tree.use_bound us) = map_is L _ (forms.uses_graded L [] us)
+
+  constant_graded : (c : Constant) → L.Claim (grade_constant S c) (lower_constant c)
+  constant_graded (tree.constant e) = L.constant_is e (expr_part_graded L e)
+
+  stored_graded : (at : Pointer) (p : Option HirPath)
+      → L.Claim (if_so S (is_some (option_seen p)) (S.type_at (Some at))) (stored_trait at p)
+  stored_graded at None = L.pure_is None
+  stored_graded at (Some p) = map_is L _ (L.type_is _ _)
+
+  trait_graded : (at : Pointer) (p : OptionPath) → L.Claim (grade_item_part S (part.trait_read at p)) (lower_path p >>= stored_trait at)
+  trait_graded at p = forms.claim_by_path L (λ y. if_so S (is_some y) (S.type_at (Some at))) (path_graded L p) (λ r. stored_graded at r)
+
+  -- in front of others
+  beside : {B : Type 0} {ys : List Part} (f : Notes → Notes) → Beside f → {k : Unit {0} → Lowering B}
+      → ((u : Unit {0}) → TellsAll ys (k u)) → TellsAll ys (note_down f >>= k)
+  unfolding note_down
+  beside f h k = record { claim = L.noted_down_is f h.params (k tt).claim }
+
+  telling : GradedParams L → Reading
+  telling ps = record {
+    Claim = λ xs p. TellsAll xs p;
+    One = λ x p. TellsOne x p;
+    pure_is = λ a. record { claim = L.pure_is a };
+    one_is = λ h k. record { claim = next L h.claim (λ a. (k a).claim) };
+    noted_is = λ f h k. beside f h k;
+    type_is = λ t. record { claim = type_graded L None t };
+    made_is = λ t h. record { claim = L.type_is t None };
+    bound_is = λ b. record { claim = bound_graded b };
+    trait_is = λ at p. record { claim = trait_graded at p };
+    constant_is = λ c. record { claim = constant_graded c };
+    lifetime_is = λ l. record { claim = forms.lifetime_graded L l };
+    made_lifetime_is = λ l. record { claim = L.lifetime_is l None };
+    fault_is = λ d. record { claim = L.fault_is d };
+    param_is = λ x. record { claim = ps.param_is x };
+    lifetime_param_is = λ x. record { claim = ps.lifetime_param_is x };
+  }
+
+  pub items_tell : GradedParams L → OfItems (λ A xs p. TellsAll xs p)
+  unfolding telling
+  items_tell ps def = items_read (telling ps) def
+
+-- ---- lists
+
+lists_params : {X : Type 0} (L : Listing X) → GradedParams (tells_graded L)
+lists_params L = record {
+  param_is = λ x. correct_param x (λ k. tells_pure L k);
+  lifetime_param_is = λ x. correct_lifetime_param x (tells_pure L tt);
+}
+
+expansions_params : GradedParams expansions_graded
+expansions_params = record {
+  param_is = λ x. correct_param x (λ k. expansions_graded.pure_is k);
+  lifetime_param_is = λ x. correct_lifetime_param x (expansions_graded.pure_is tt);
+}
+
+pub items_enter : OfItems (λ A xs p. TellsAll (tells_graded entered) xs p)
+items_enter = items_tell (tells_graded entered) (lists_params entered)
+
+pub items_report : OfItems (λ A xs p. TellsAll (tells_graded reported) xs p)
+items_report = items_tell (tells_graded reported) (lists_params reported)
+
+pub items_expand : OfItems (λ A xs p. TellsAll expansions_graded xs p)
+items_expand = items_tell expansions_graded expansions_params
+
+-- ---- from nothing on
+
+module _ {A : Type 0} {xs : List Part} {p : Lowering A} (limit : ℕ) (new : Builder) (a : A) (paired : Paired (fresh limit).stored)
+    (is : p (fresh limit) ≡ (Ok a, new)) where
+  pub first_faults : TellsAll (tells_graded reported) xs p → new.stored.diagnostics ≡ grade_item faults xs []
+  first_faults h = behind reported (λ xs ys like. like) h.claim (fresh limit) new a paired is [] refl
+
+  pub first_blocks : TellsAll (tells_graded entered) xs p → new.stored.block_scopes ≡ grade_item blocks xs []
+  first_blocks h = behind entered (λ xs ys like. like) h.claim (fresh limit) new a paired is [] refl
+
+  pub first_expansions : TellsAll expansions_graded xs p → new.stored.expansions ≡ grade_item expansions xs
+  first_expansions h = behind _ (λ xs ys like. like) h.claim (fresh limit) new a paired is [] refl

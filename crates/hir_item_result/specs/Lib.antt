@@ -1,0 +1,9 @@
+pub mod Parts
+pub mod Items
+pub mod Sizes
+pub mod Fits
+pub mod Roots
+pub mod Told
+pub mod ItemResult
+pub mod Answers
+pub mod Apart

@@ -1,0 +1,43 @@
+-- What is told of the parts of an item, one after another: their faults, the blocks that are entered in them, and the calls of macros.
+-- What they leave in a store.
+use Rattle.std.specs.Prelude.{List, [], ◌∷◌, Some, None, is_some}
+use Rattle.hir_store.specs.Stored.{Store, SourceMap}
+use Rattle.hir_env.specs.Answered as tree
+use Rattle.hir_one_result.specs.PathRoom.{whole_read}
+use Rattle.hir_one_result.specs.Leads.{Ways, No, ◌&◌}
+use Rattle.hir_one_result.specs.Stands.{BoundWays, Open, TypePartWays, WholeWays}
+use Rattle.hir_one_result.specs.StandsWhole.{ConstantWays}
+use Rattle.hir_told.specs.Grades.{grade_bound, grade_constant, grade_type, grade_whole}
+use Rattle.hir_told.specs.Grading.{Grading, if_so}
+use Rattle.hir_item_result.specs.Parts as part
+use Rattle.hir_item_result.specs.Parts.{Part}
+
+module _ {ℓ} (S : Grading {ℓ}) where
+  abbrev pub grade_item_part : Part → S.G
+  grade_item_part (part.type_read t) = grade_type S t
+  grade_item_part part.type_made = S.type_at None
+  grade_item_part (part.bound_read b) = grade_bound S b
+  grade_item_part (part.trait_read at p) = S.then' (grade_whole S p) (if_so S (is_some (whole_read p)) (S.type_at (Some at)))
+  grade_item_part (part.constant_read c) = grade_constant S c
+  grade_item_part (part.lifetime_read l) = S.lifetime_at (Some l.pointer)
+  grade_item_part part.lifetime_made = S.lifetime_at None
+  grade_item_part (part.fault_told d) = S.fault d
+  grade_item_part part.param_made = S.param
+  grade_item_part part.lifetime_param_made = S.none
+
+  abbrev pub grade_item : List Part → S.G
+  grade_item [] = S.none
+  grade_item (x ∷ xs) = S.then' (grade_item_part x) (grade_item xs)
+
+module _ (store : Store) (source_map : SourceMap) where
+  abbrev pub PartWays : Open → Part → Ways
+  PartWays rs (part.type_read t) = TypePartWays store source_map rs (tree.some_type t)
+  PartWays rs (part.bound_read b) = BoundWays store source_map rs b
+  PartWays rs (part.trait_read at p) = WholeWays store source_map rs p
+  PartWays rs (part.constant_read c) = ConstantWays store source_map rs c
+  PartWays rs x = No
+
+  -- one after another
+  abbrev pub ItemWays : Open → List Part → Ways
+  ItemWays rs [] = No
+  ItemWays rs (x ∷ xs) = PartWays rs x & ItemWays rs xs

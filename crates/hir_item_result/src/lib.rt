@@ -1,0 +1,46 @@
+//! Store and source map of an item that is lowered are one result of its parts, in the order in which they are read. Each law is the
+//! contract of an empty function.
+#![tactic(auto)]
+
+ghost use Rattle.hir_item_result.specs.Answers.{AliasesRead, FunctionsRead, ImplsRead};
+ghost use Rattle.hir_item_result.specs.Apart.{ItemsApart};
+ghost use Rattle.hir_item_result.specs.Fits.{ItemsFit, RefusedItems};
+ghost use Rattle.hir_item_result.specs.ItemResult.{ItemResults};
+ghost use Rattle.hir_item_result.specs.Roots.{FirstItemRoots, ItemRoots};
+
+/// Where no root is being lowered, each constant in an item is recorded as one, in the order in which its parts are read, and does what
+/// the written one does: also what stands in a path that is refused, in arguments that are dropped, or in the bounds of an `impl` that
+/// becomes an error. From nothing on, the store has no other root.
+pub fn item_roots()
+    ensures from_any { ItemRoots }
+    ensures first { FirstItemRoots }
+{}
+
+/// An item, lowered into an empty store, is one result of its parts.
+pub fn item_results()
+    ensures { ItemResults }
+{}
+
+/// Lowering an item stores as much as its parts become, and makes as many parameters; it is refused only where there is no room for as
+/// many patterns, types and lifetimes as are counted in them, or for as many expressions, labels and bindings as are in the bodies inside
+/// them, or where something counts further than is counted, be it names that are made up or parameters, of which lifetimes are counted
+/// apart.
+pub fn refused_items()
+    ensures from_any { ItemsFit }
+    ensures first { RefusedItems }
+{}
+
+/// What lowering an item answers reads back as what is written, and each body inside it does what the written one does: the type and the
+/// trait of an `impl`, the bounds and the type of an alias, and of a function the types of what it is given and of what it returns, `self`
+/// as `Self` or a reference to it where no type is written, and a coroutine as an `impl` of its trait.
+pub fn items_read_back()
+    ensures impls { ImplsRead }
+    ensures aliases { AliasesRead }
+    ensures functions { FunctionsRead }
+{}
+
+/// Where each name that lowering made up is of one binding or label at most, or of two bindings, of which one is a formal parameter, so it
+/// is behind an item.
+pub fn items_made_apart()
+    ensures { ItemsApart }
+{}

@@ -1,0 +1,28 @@
+use Rattle.std.proofs.Common.{◌∙◌, ap}
+use Rattle.hir_store.specs.declared.ids.GenericDefId.TheVariants as definition
+use Rattle.hir_env.specs.declared.place.LoweringMode.TheVariants.{Analysis}
+use Rattle.hir_env.specs.declared.place.Place.{Place}
+use Rattle.hir_lower_handlers.specs.Spots.{spot_at}
+use Rattle.hir_lower_item.specs.Answering.{answered_alias}
+use Rattle.hir_lower_item.specs.Lower.{lower_alias}
+use Rattle.hir_lower.specs.Items.{as_noted}
+use Rattle.hir_lower.specs.Roots.{outside_body}
+use Rattle.hir_lower.proofs.FromNothing.{made_from, refused_from}
+use Rattle.hir_lower.proofs.item_steps.alias_steps.Goals as goal
+
+pub returns-in-Ok-clause-made : goal.returns-in-Ok-clause-made
+returns-in-Ok-clause-made g c =
+    let env = g.E.LowerEnv.answers c.args.db.now in
+    let def = definition.TypeAliasId c.args.id in
+    let steps = λ (p : Place). lower_alias def (answered_alias (spot_at env p) def c.args.container c.args.item.value.now) in
+    let at = c.item_place-place.ensures ∙ ap (λ m. outside_body env c.args.item.file_id m Analysis) c.module_of-inside.ensures in
+    made_from steps as_noted at c.new-state.ensures c.in-Ok.ensures.0 c.into_parts-stored.ensures.stored
+    c.into_parts-stored.ensures.notes c.early_params.ensures c.finish-store.ensures.store c.finish-store.ensures.source_map
+
+pub returns-in-Err-clause-full : goal.returns-in-Err-clause-full
+returns-in-Err-clause-full g c = λ is.
+    let env = g.E.LowerEnv.answers c.args.db.now in
+    let def = definition.TypeAliasId c.args.id in
+    let steps = λ (p : Place). lower_alias def (answered_alias (spot_at env p) def c.args.container c.args.item.value.now) in
+    let at = c.item_place-place.ensures ∙ ap (λ m. outside_body env c.args.item.file_id m Analysis) c.module_of-inside.ensures in
+    refused_from steps c.in-Err.fault c.from.result at c.new-state.ensures c.in-Err.ensures c.from.ensures is

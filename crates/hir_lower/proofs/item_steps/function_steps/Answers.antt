@@ -1,0 +1,23 @@
+use Rattle.hir_store.specs.declared.ids.GenericDefId.TheVariants as definition
+use Rattle.hir_env.specs.declared.place.Place.{Place}
+use Rattle.hir_lower_handlers.specs.Spots.{spot_at}
+use Rattle.hir_lower_item.specs.Answering.{answered_function}
+use Rattle.hir_lower_item.specs.Kinds.{of_kinds}
+use Rattle.hir_lower_item.specs.Lower.{lower_function}
+use Rattle.hir_lower.proofs.FromNothing.{made_from, refused_from}
+use Rattle.hir_lower.proofs.item_steps.function_steps.Goals as goal
+
+pub returns-in_ok-params-in-Ok-clause-made : goal.returns-in_ok-params-in-Ok-clause-made
+returns-in_ok-params-in-Ok-clause-made g c =
+    let env = g.E.LowerEnv.answers c.args.db.now in
+    let def = definition.FunctionId c.args.id in
+    let steps = λ (p : Place). lower_function def (answered_function (spot_at env p) def c.args.item.value.now) in
+    made_from steps of_kinds c.item_place-place.ensures c.new-state.ensures c.in-Ok.ensures.0 c.into_parts-stored.ensures.stored
+    c.into_parts-stored.ensures.notes c.in_ok-params-in-Ok.ensures.made c.finish-store.ensures.store c.finish-store.ensures.source_map
+
+pub returns-in-Err-clause-full : goal.returns-in-Err-clause-full
+returns-in-Err-clause-full g c = λ is.
+    let env = g.E.LowerEnv.answers c.args.db.now in
+    let def = definition.FunctionId c.args.id in
+    let steps = λ (p : Place). lower_function def (answered_function (spot_at env p) def c.args.item.value.now) in
+    refused_from steps c.in-Err.fault c.from.result c.item_place-place.ensures c.new-state.ensures c.in-Err.ensures c.from.ensures is

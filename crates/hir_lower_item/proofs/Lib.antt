@@ -1,0 +1,6 @@
+mod GivenPaths
+mod Here
+mod ItemHere
+mod Last
+mod Sets
+mod Steps

@@ -1,0 +1,6 @@
+use Rattle.hir_lower_item.proofs.GivenPaths.{path_has}
+use Rattle.hir_lower_item.proofs.coroutines.coroutine_form.Goals as goal
+
+pub alloc_type-requires : goal.alloc_type-requires
+alloc_type-requires c =
+    path_has c.args.kind c.or_unit.new.state.stored c.in_ok-given.given c.in_ok-path.path c.in_ok-path.ensures c.in_ok-given.ensures.2

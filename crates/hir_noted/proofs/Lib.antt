@@ -1,0 +1,10 @@
+pub mod Logic
+pub mod Steps
+pub mod Forms
+pub mod TypeForms
+pub mod PathForms
+pub mod PatForms
+pub mod MadeForms
+pub mod CallForms
+pub mod Preludes
+pub mod Tree

@@ -1,0 +1,5 @@
+pub mod Noting
+pub mod Fold
+pub mod Kinds
+pub mod Worked
+pub mod Places

@@ -1,0 +1,11 @@
+use Rattle.json_items.specs.Generics.{where_pred}
+use Rattle.json_items.proofs.generics.where_pred.Goals as goal
+
+pub returns-in-WherePred : goal.returns-in-WherePred
+unfolding where_pred
+returns-in-WherePred g c = λ e.
+    let bounds = c.field-bounds.ensures e in
+    let binder = c.binder-binder.ensures bounds.0 in
+    let lifetime = c.field-lifetime.ensures binder.0 in
+    let ty = c.field-ty.ensures lifetime.0 in
+    (ty.0, rw (c.in-WherePred.is, c.id.ensures, c.range.ensures, ty.1, lifetime.1, binder.1, bounds.1))

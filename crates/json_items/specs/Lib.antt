@@ -1,0 +1,4 @@
+pub mod Listed
+pub mod Lists
+pub mod Generics
+pub mod Items

@@ -1,0 +1,136 @@
+//! The aliases of types that an environment names.
+
+ghost use Rattle.std.specs.Prelude.{◌≡◌, IfOk, Some, codes, option_and_then};
+ghost use Rattle.serde_json.specs.Find.{as_array, get};
+ghost use Rattle.serde_json.specs.View.{view, items_view};
+ghost use Rattle.json_faults.specs.Documents.{nodes};
+ghost use Rattle.json_faults.specs.Values.{small_of};
+ghost use Rattle.json_nodes.specs.Kept.{Kept};
+ghost use Rattle.json_nodes.specs.Parts.{all_read};
+ghost use Rattle.lower_json.specs.Aliases as spec;
+ghost use Rattle.lower_json.specs.Reading as reading;
+
+use crate::document::Alias;
+use crate::tables::entries_of;
+use crate::tree::alias_at;
+use hir_base::Seq;
+use hir_items::ast::TypeAlias;
+use hir_store::ids::TypeAliasId;
+use json_faults::document::nodes;
+use json_faults::value::small;
+use json_kinds::kind::Kind;
+use serde_json::Value;
+use std::alloc::{AllocError, Global};
+
+/// The alias that a value names, by its index.
+fn item(
+    alloc: Global,
+    kinds: &[Option<Kind>],
+    nodes: &[Value],
+    refused: &mut bool,
+    root: &Value,
+) -> Option<TypeAlias>
+    ensures { Kept refused.old refused.new
+        (result ≡ option_and_then (reading.alias_at kinds.now (items_view nodes.now)) (small_of (view root.now))) }
+{
+    match small(root) {
+        Some(root) => alias_at(alloc, kinds, nodes, refused, root),
+        None => None,
+    }
+}
+
+/// What an entry names.
+#[tactic(auto, using(crate::proofs::Tuples::entry_under_two, crate::proofs::Tuples::entry_over_two))]
+fn pair(
+    alloc: Global,
+    kinds: &[Option<Kind>],
+    nodes: &[Value],
+    refused: &mut bool,
+    entry: &[Value],
+) -> Option<Alias>
+    ensures { Kept refused.old refused.new
+        (result ≡ spec.pair_in kinds.now (items_view nodes.now) (Some (items_view entry.now))) }
+{
+    match entry {
+        [number, root] => {
+            let id = TypeAliasId(small(number)?);
+            let item = item(alloc, kinds, nodes, refused, root)?;
+            Some(Alias { id, item })
+        }
+        _ => None,
+    }
+}
+
+fn alias(
+    alloc: Global,
+    kinds: &[Option<Kind>],
+    nodes: &[Value],
+    refused: &mut bool,
+    entry: &Value,
+) -> Option<Alias>
+    ensures { Kept refused.old refused.new (result ≡ spec.alias_in kinds.now (items_view nodes.now) (view entry.now)) }
+{
+    match entry.as_array() {
+        Some(entry) => pair(alloc, kinds, nodes, refused, entry.as_slice()),
+        None => None,
+    }
+}
+
+/// What the entries name.
+fn all(
+    alloc: Global,
+    kinds: &[Option<Kind>],
+    nodes: &[Value],
+    refused: &mut bool,
+    entries: &[Value],
+) -> Seq<Alias>
+    ensures { Kept refused.old refused.new
+        (result ≡ all_read (spec.alias_in kinds.now (items_view nodes.now)) (items_view entries.now)) }
+{
+    let mut aliases = Vec::new(alloc);
+    for entry in entries {
+        match aliases.reserve(1) {
+            Ok(()) => {
+                if let Some(alias) = alias(alloc, kinds, nodes, refused, entry) {
+                    aliases.push_reserved(alias);
+                }
+            }
+            Err(_) => *refused = true,
+        }
+    }
+    Seq::from_vec(aliases)
+}
+
+/// The entries of the table, none where it is absent.
+fn entries(document: &Value) -> &[Value]
+    ensures { items_view result.now ≡ spec.entries_of (get (codes "env") (view document.entry.now)) }
+{
+    match document.get("env") {
+        Some(env) => entries_of(env, "aliases"),
+        None => &[],
+    }
+}
+
+/// The aliases that the environment of a document names, in order.
+pub fn aliases(
+    alloc: Global,
+    kinds: &[Option<Kind>],
+    document: &Value,
+) -> Result<Seq<Alias>, AllocError>
+    ensures { let d = view document.now in
+        IfOk result (λ aliases. aliases ≡ spec.aliases_of kinds.now (nodes d) (get (codes "env") d)) }
+{
+    let mut refused = false;
+    let aliases = all(
+        alloc,
+        kinds,
+        nodes(document),
+        &mut refused,
+        entries(document),
+    );
+    if !refused {
+        return Ok(aliases);
+    }
+    drop(aliases);
+    Err(AllocError)
+}
