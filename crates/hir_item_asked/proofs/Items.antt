@@ -28,17 +28,18 @@ use Rattle.hir_store.specs.Stored.{Stored}
 use Rattle.hir_env.specs.declared.place.LifetimeScope.{LifetimeScope}
 use Rattle.hir_env.specs.declared.place.LifetimeScope.TheVariants as scope
 use Rattle.hir_env.specs.Answered as tree
-use Rattle.hir_env.specs.Answered.{Binder, Bounds as WrittenBounds, Constant, Lifetime, OptionRet}
+use Rattle.hir_env.specs.Answered.{Binder, Bounds as WrittenBounds, Constant, Lifetime, OptionRet, Type_}
 use Rattle.hir_env.specs.TypeLayers.{PathTypeReading}
 use Rattle.hir_data.specs.Data as datum
 use Rattle.hir_data.specs.Data.{BoundData, LifetimeData}
-use Rattle.hir_data.specs.Reading.{bound_layer, stored_lifetime}
+use Rattle.hir_data.specs.Reading.{bound_layer, entries, readers, stored_lifetime, stored_type}
 use Rattle.hir_data.specs.Written.{bound_data, lifetime_data, type_data}
+use Rattle.hir_meaning.specs.Inner.{Bodies, bound_bodies, type_bodies, type_inner_bodies}
 use Rattle.hir_lower_form.specs.Builder.{Builder}
 use Rattle.hir_lower_form.specs.Generics.{naming, with_param}
 use Rattle.hir_lower_form.specs.Lowering.{Lowering, ◌>>◌, ◌>>=◌, add_lifetime_param, add_param, add_predicate, alloc_lifetime}
 use Rattle.hir_lower_form.specs.Lowering.{alloc_type, note_down, param_type, report}
-use Rattle.hir_lower_form.specs.Lower.{lower_bound, push_some}
+use Rattle.hir_lower_form.specs.Lower.{lower_bound, lower_type, push_some}
 use Rattle.hir_lower_form.specs.Types.{lower_lifetime}
 use Rattle.hir_steps.specs.Keeps.{Paired}
 use Rattle.hir_steps.proofs.TypeSteps.{correct_alloc_lifetime, correct_alloc_type}
@@ -46,6 +47,7 @@ use Rattle.hir_read_back.proofs.Layers.{a_bound, a_lifetime as the_lifetime, a_t
 use Rattle.hir_read_back.proofs.Now.{answered}
 use Rattle.hir_read_back.proofs.Tree.{bound_reads, type_reads}
 use Rattle.hir_read_back.proofs.Types.{lifetime_reads}
+use Rattle.hir_same_meaning.proofs.HeldTree.{part_holds}
 use Rattle.hir_sets.specs.Noting.{of_lifetime_option, one_name, one_ref}
 use Rattle.hir_sets.specs.Fold.{noted_in_bound, noted_in_output}
 use Rattle.hir_noted.proofs.Logic as parts
@@ -62,10 +64,13 @@ use Rattle.hir_item_asked.specs.Fold.{asked_in_default, asked_in_each, asked_in_
 use Rattle.hir_item_asked.specs.Fold.{asked_in_params, asked_in_predicate, asked_in_predicates, asked_in_receiver, asked_in_trait}
 use Rattle.hir_item_asked.specs.Fold.{asked_in_trait_path, asked_of_param, asking, nothing, of_part, of_type, of_lifetime as outlives}
 use Rattle.hir_item_asked.specs.Fold.{one_param, parameter, written, ◌⊟◌}
-use Rattle.hir_item_asked.specs.Asked.{BoundIs, Bounds, LifetimeIs, TypeIs, count, whole}
-use Rattle.hir_item_asked.proofs.Logic.{AskTo, Steps, asked_nothing, from_then, param_then, predicate_to, read_as, steps_begin, steps_by}
+use Rattle.hir_item_noted.specs.Noted.{count}
+use Rattle.hir_item_noted.proofs.Held.{held_here}
+use Rattle.hir_item_asked.specs.Asked.{BoundHolds, BoundIs, TypeIs}
+use Rattle.hir_item_asked.proofs.Held.{bound_holds}
+use Rattle.hir_item_asked.proofs.Logic.{AskTo, Later, Steps, asked_nothing, from_then, param_then, predicate_to, read_as, steps_begin, steps_by}
 use Rattle.hir_item_asked.proofs.Logic.{steps_end, steps_lifetime_param, steps_param, steps_part, steps_pure, steps_quiet, steps_then}
-use Rattle.hir_item_asked.proofs.Logic.{ask_at, type_stays}
+use Rattle.hir_item_asked.proofs.Logic.{ask_at, still}
 
 -- ---- steps that ask nothing
 
@@ -101,15 +106,37 @@ lifetime_option_quiet (Some l) = one_ref_quiet l.scope l.lifetime
 
 -- ---- bounds
 
+-- from here on it is that
+abbrev TypeFrom : Stored → TypeRefId → Asked → Type 0
+TypeFrom s t x = Later s (λ store source_map. TypeIs store source_map t x)
+
+abbrev LifetimeFrom : Stored → LifetimeRefId → LifetimeData → Type 0
+LifetimeFrom s l d = Later s (λ store source_map. stored_lifetime store source_map l ≡ d)
+
+abbrev BoundFrom : Stored → TypeBound → BoundData → Type 0
+BoundFrom s b d = Later s (λ store source_map. BoundIs store source_map b d)
+
+abbrev HoldsFrom : Stored → TypeBound → Bodies → Type 0
+HoldsFrom s b bs = Later s (λ store source_map. BoundHolds store source_map b bs)
+
+-- what is bound
+abbrev Bounds : Stored → Bounded → Target → Type 0
+Bounds s (bounded_by.Type_ t) (a_type x) = TypeFrom s t x
+Bounds s (bounded_by.Lifetime text l) (a_lifetime d) = LifetimeFrom s l d
+Bounds s (bounded_by.Type_ t) (a_lifetime d) = ⊥
+Bounds s (bounded_by.Lifetime text l) (a_type x) = ⊥
+
 bounds_stay : {s t : Stored} → Extends s t → (u : Bounded) (x : Target) → Bounds s u x → Bounds t u x
-bounds_stay e (bounded_by.Type_ i) (a_type x) h = type_stays e i x h
-bounds_stay e (bounded_by.Lifetime text l) (a_lifetime d) h = λ final pre. h final (extends_trans e pre)
+bounds_stay e (bounded_by.Type_ i) (a_type x) h = still (λ s m. TypeIs s m i x) e h
+bounds_stay e (bounded_by.Lifetime text l) (a_lifetime d) h = still (λ s m. stored_lifetime s m l ≡ d) e h
 bounds_stay e (bounded_by.Type_ i) (a_lifetime d) h = absurd h
 bounds_stay e (bounded_by.Lifetime text l) (a_type x) h = absurd h
 
 -- as it is read in this store
 abbrev now : Stored → TypeBound → BoundData
-now s y = bound_layer (store_of s) (map_of s) (whole s) y
+now s y =
+    let store = store_of s in
+    let source_map = map_of s in bound_layer store source_map (readers store source_map (entries store source_map)) y
 
 nothing_to : (b : Builder) → Paired b.stored → AskTo {A = Unit {0}} nothing b (Ok tt) b
 nothing_to b d = (d, asked_nothing (extends_refl b.stored) refl refl)
@@ -122,8 +149,8 @@ lifetime_in (datum.lifetime_bound l) = l
 lifetime_in (datum.use_bound us) = record { lifetime = lifetime.Error; from = None }
 
 -- a lifetime, which is named once more
-outlived : (text : LifetimeRef) (l m : LifetimeRefId) (x : LifetimeData) (b : Builder) → Paired b.stored → LifetimeIs b.stored l x
-    → BoundIs b.stored (bound.Lifetime m) (now b.stored (bound.Lifetime m))
+outlived : (text : LifetimeRef) (l m : LifetimeRefId) (x : LifetimeData) (b : Builder) → Paired b.stored → LifetimeFrom b.stored l x
+    → BoundFrom b.stored (bound.Lifetime m) (now b.stored (bound.Lifetime m))
     → let p = note_down (naming scope.Bound text) >> add_predicate (predicate.Lifetime l m) in
     AskTo (asking (outlives x (stored_lifetime (store_of b.stored) (map_of b.stored) m) ∷ [])) b (p b).0 (p b).1
 outlived text l m x b d g h =
@@ -131,59 +158,66 @@ outlived text l m x b d g h =
     from_then nothing (asking (a ∷ [])) (note_down (naming scope.Bound text)) (λ u. add_predicate (predicate.Lifetime l m)) b
     ((steps_quiet (notes_naming scope.Bound text) (one_ref_quiet scope.Bound text)).at b d)
     (λ u c e k is. predicate_to (predicate.Lifetime l m) a c e
-    (λ final pre. g final (extends_trans k.stays pre), λ final pre. ap lifetime_in (h final (extends_trans k.stays pre))))
+    (λ final pre. (g final (extends_trans k.stays pre), ap lifetime_in (h final (extends_trans k.stays pre)))))
 
-type_asked : (binder : Option Binder) (x : Asked) (t : TypeRefId) (y : TypeBound) (b : Builder) → Paired b.stored → TypeIs b.stored t x
-    → BoundIs b.stored y (now b.stored y) → let p = steps.ask binder (bounded_by.Type_ t) y in
-    AskTo (asking (asked_by binder (a_type x) (now b.stored y))) b (p b).0 (p b).1
-type_asked binder x t bound.Error b d g h = nothing_to b d
-type_asked binder x t (bound.Use us) b d g h = nothing_to b d
-type_asked binder x t (bound.Path p m) b d g h =
-    predicate_to (predicate.TypeBound binder t (bound.Path p m)) (of_type binder x (now b.stored (bound.Path p m))) b d (refl, g, h)
-type_asked binder x t (bound.ForLifetime ns p) b d g h =
-    predicate_to (predicate.TypeBound binder t (bound.ForLifetime ns p)) (of_type binder x (now b.stored (bound.ForLifetime ns p))) b d
-    (refl, g, h)
-type_asked binder x t (bound.Lifetime l) b d g h =
-    predicate_to (predicate.TypeBound binder t (bound.Lifetime l)) (of_type binder x (now b.stored (bound.Lifetime l))) b d (refl, g, h)
+-- a bound of a type, with the bodies inside it
+bound_asked : (binder : Option Binder) (x : Asked) (t : TypeRefId) (y : TypeBound) (bs : Bodies) (b : Builder) → Paired b.stored
+    → TypeFrom b.stored t x → BoundFrom b.stored y (now b.stored y) → HoldsFrom b.stored y bs
+    → let p = add_predicate (predicate.TypeBound binder t y) in
+    AskTo (asking (of_type binder x (now b.stored y) bs ∷ [])) b (p b).0 (p b).1
+bound_asked binder x t y bs b d g h k =
+    predicate_to (predicate.TypeBound binder t y) (of_type binder x (now b.stored y) bs) b d
+    (λ final pre. (refl, g final pre, h final pre, k final pre))
 
-lifetime_asked : (binder : Option Binder) (x : LifetimeData) (text : LifetimeRef) (l : LifetimeRefId) (y : TypeBound) (b : Builder)
-    → Paired b.stored → LifetimeIs b.stored l x → BoundIs b.stored y (now b.stored y)
+type_asked : (binder : Option Binder) (x : Asked) (t : TypeRefId) (y : TypeBound) (bs : Bodies) (b : Builder) → Paired b.stored
+    → TypeFrom b.stored t x → BoundFrom b.stored y (now b.stored y) → HoldsFrom b.stored y bs
+    → let p = steps.ask binder (bounded_by.Type_ t) y in
+    AskTo (asking (asked_by binder (a_type x) (now b.stored y) bs)) b (p b).0 (p b).1
+type_asked binder x t bound.Error bs b d g h k = nothing_to b d
+type_asked binder x t (bound.Use us) bs b d g h k = nothing_to b d
+type_asked binder x t (bound.Path p m) bs b d g h k = bound_asked binder x t (bound.Path p m) bs b d g h k
+type_asked binder x t (bound.ForLifetime ns p) bs b d g h k = bound_asked binder x t (bound.ForLifetime ns p) bs b d g h k
+type_asked binder x t (bound.Lifetime l) bs b d g h k = bound_asked binder x t (bound.Lifetime l) bs b d g h k
+
+lifetime_asked : (binder : Option Binder) (x : LifetimeData) (text : LifetimeRef) (l : LifetimeRefId) (y : TypeBound) (bs : Bodies)
+    (b : Builder) → Paired b.stored → LifetimeFrom b.stored l x → BoundFrom b.stored y (now b.stored y)
     → let p = steps.ask binder (bounded_by.Lifetime text l) y in
-    AskTo (asking (asked_by binder (a_lifetime x) (now b.stored y))) b (p b).0 (p b).1
-lifetime_asked binder x text l bound.Error b d g h = nothing_to b d
-lifetime_asked binder x text l (bound.Use us) b d g h = nothing_to b d
-lifetime_asked binder x text l (bound.Path p m) b d g h = nothing_to b d
-lifetime_asked binder x text l (bound.ForLifetime ns p) b d g h = nothing_to b d
-lifetime_asked binder x text l (bound.Lifetime m) b d g h = outlived text l m x b d g h
+    AskTo (asking (asked_by binder (a_lifetime x) (now b.stored y) bs)) b (p b).0 (p b).1
+lifetime_asked binder x text l bound.Error bs b d g h = nothing_to b d
+lifetime_asked binder x text l (bound.Use us) bs b d g h = nothing_to b d
+lifetime_asked binder x text l (bound.Path p m) bs b d g h = nothing_to b d
+lifetime_asked binder x text l (bound.ForLifetime ns p) bs b d g h = nothing_to b d
+lifetime_asked binder x text l (bound.Lifetime m) bs b d g h = outlived text l m x b d g h
 
-asked_now : (binder : Option Binder) (x : Target) (t : Bounded) (y : TypeBound) (b : Builder) → Paired b.stored → Bounds b.stored t x
-    → BoundIs b.stored y (now b.stored y)
-    → AskTo (asking (asked_by binder x (now b.stored y))) b (steps.ask binder t y b).0 (steps.ask binder t y b).1
-asked_now binder (a_type x) (bounded_by.Type_ t) y b d g h = type_asked binder x t y b d g h
-asked_now binder (a_lifetime x) (bounded_by.Lifetime text l) y b d g h = lifetime_asked binder x text l y b d g h
-asked_now binder (a_type x) (bounded_by.Lifetime text l) y b d g h = absurd g
-asked_now binder (a_lifetime x) (bounded_by.Type_ t) y b d g h = absurd g
+asked_now : (binder : Option Binder) (x : Target) (t : Bounded) (y : TypeBound) (bs : Bodies) (b : Builder) → Paired b.stored
+    → Bounds b.stored t x → BoundFrom b.stored y (now b.stored y) → HoldsFrom b.stored y bs
+    → AskTo (asking (asked_by binder x (now b.stored y) bs)) b (steps.ask binder t y b).0 (steps.ask binder t y b).1
+asked_now binder (a_type x) (bounded_by.Type_ t) y bs b d g h k = type_asked binder x t y bs b d g h k
+asked_now binder (a_lifetime x) (bounded_by.Lifetime text l) y bs b d g h k = lifetime_asked binder x text l y bs b d g h
+asked_now binder (a_type x) (bounded_by.Lifetime text l) y bs b d g h k = absurd g
+asked_now binder (a_lifetime x) (bounded_by.Type_ t) y bs b d g h k = absurd g
 
-asked_one : (binder : Option Binder) (x : Target) (t : Bounded) (y : TypeBound) (e : BoundData) (b : Builder) → Paired b.stored
-    → Bounds b.stored t x → BoundIs b.stored y e
-    → AskTo (asking (asked_by binder x e)) b (steps.ask binder t y b).0 (steps.ask binder t y b).1
-asked_one binder x t y e b d g h =
+asked_one : (binder : Option Binder) (x : Target) (t : Bounded) (y : TypeBound) (e : BoundData) (bs : Bodies) (b : Builder)
+    → Paired b.stored → Bounds b.stored t x → BoundFrom b.stored y e → HoldsFrom b.stored y bs
+    → AskTo (asking (asked_by binder x e bs)) b (steps.ask binder t y b).0 (steps.ask binder t y b).1
+asked_one binder x t y e bs b d g h k =
     let is = h b.stored (extends_refl b.stored) in
-    subst (λ e. AskTo (asking (asked_by binder x e)) b (steps.ask binder t y b).0 (steps.ask binder t y b).1) is
-    (asked_now binder x t y b d g (λ final pre. h final pre ∙ sym is))
+    subst (λ e. AskTo (asking (asked_by binder x e bs)) b (steps.ask binder t y b).0 (steps.ask binder t y b).1) is
+    (asked_now binder x t y bs b d g (λ final pre. h final pre ∙ sym is) k)
 
 -- of what is bound, from a builder on in which it is that
 each_to : (binder : Option Binder) (x : Target) (t : Bounded) (bs : WrittenBounds) (b : Builder) → Paired b.stored → Bounds b.stored t x
     → AskTo (asked_in_each binder x bs) b (steps.ask_each binder t bs b).0 (steps.ask_each binder t bs b).1
 each_to binder x t tree.no_bounds b d h = nothing_to b d
 each_to binder x t (tree.more_bounds y ys) b d h =
-    from_then (of_part (noted_in_bound y)) (asking (asked_by binder x (bound_data y)) ⊟ asked_in_each binder x ys) (lower_bound y)
+    let asks = asking (asked_by binder x (bound_data y) (bound_bodies y)) in
+    from_then (of_part (noted_in_bound y)) (asks ⊟ asked_in_each binder x ys) (lower_bound y)
     (λ r. steps.ask binder t r >> steps.ask_each binder t ys) b ((steps_part (bound_noted y)).at b d)
-    (λ r c e g is. let still = bounds_stay g.stays t x h in
-    from_then (asking (asked_by binder x (bound_data y))) (asked_in_each binder x ys) (steps.ask binder t r)
-    (λ u. steps.ask_each binder t ys) c
-    (asked_one binder x t r (bound_data y) c e still (read_as {l = a_bound} (bound_reads y) b c r d is))
-    (λ u o f k as'. each_to binder x t ys o f (bounds_stay k.stays t x still)))
+    (λ r c e g is. let there = bounds_stay g.stays t x h in
+    from_then asks (asked_in_each binder x ys) (steps.ask binder t r) (λ u. steps.ask_each binder t ys) c
+    (asked_one binder x t r (bound_data y) (bound_bodies y) c e there (read_as {l = a_bound} (bound_reads y) b c r d is)
+    (held_here (bound_holds y) b c r d is))
+    (λ u o f k as'. each_to binder x t ys o f (bounds_stay k.stays t x there)))
 
 -- ---- parameters
 
@@ -196,11 +230,11 @@ typed_to def k bs b d =
     from_then nothing (asked_in_each None x bs) (alloc_type (param_type def k) None) (λ id. steps.ask_each None (bounded_by.Type_ id) bs) b
     ((type_stored (param_type def k) None).at b d)
     (λ id c e g is.
-    let row = answered (correct_alloc_type (param_type def k) None) b c id d is c.stored (extends_refl c.stored) in
-    each_to None x (bounded_by.Type_ id) bs c e (
-      ap (λ i. slice_get c.stored.types.entries i) row.number ∙ row.here,
-      ap (λ i. slice_get c.stored.types.sources i) row.number ∙ row.from,
-    ))
+    each_to None x (bounded_by.Type_ id) bs c e (λ final pre.
+    let row = answered (correct_alloc_type (param_type def k) None) b c id d is final pre in (
+      ap (λ i. slice_get final.types.entries i) row.number ∙ row.here,
+      ap (λ i. slice_get final.types.sources i) row.number ∙ row.from,
+    )))
 
 type_param_asks : (def : GenericDefId) (n : Name) (default : Option TypeRefId) (from : TypeParamProvenance) (bs : WrittenBounds)
     → Steps (asked_of_param def bs) (steps.type_param_form def n default from bs)
@@ -243,11 +277,20 @@ all_ask : (def : GenericDefId) (xs : List Param) → Steps (asked_in_params def 
 all_ask def [] = steps_pure tt
 all_ask def (x ∷ xs) = steps_then (one_asks def x) (λ u. all_ask def xs)
 
+-- a written type, with the bodies inside it
+type_from : (t : Type_) (b c : Builder) (i : TypeRefId) → Paired b.stored → lower_type None t b ≡ (Ok i, c)
+    → TypeFrom c.stored i (written (type_data None t) (type_bodies t))
+unfolding stored_type type_inner_bodies
+type_from t b c i d is = λ final pre. (
+  read_as {l = the_type} (type_reads None t) b c i d is final pre,
+  held_here (part_holds None (tree.some_type t)) b c i d is final pre,
+)
+
 predicate_asks : (x : Predicate) → Steps (asked_in_predicate x) (steps.lower_predicate x)
 predicate_asks (item.of_type t binder bs) =
-    let x = a_type (written (type_data None t)) in
+    let x = a_type (written (type_data None t) (type_bodies t)) in
     steps_by (asked_in_each binder x bs) (λ id. steps.ask_each binder (bounded_by.Type_ id) bs) (steps_part (one_type_noted None t))
-    (λ b id c d e is. each_to binder x (bounded_by.Type_ id) bs c e (read_as {l = the_type} (type_reads None t) b c id d is))
+    (λ b id c d e is. each_to binder x (bounded_by.Type_ id) bs c e (type_from t b c id d is))
 predicate_asks (item.of_lifetime l bs) =
     let x = a_lifetime (lifetime_data l) in
     steps_by (asked_in_each None x bs) (λ id. steps.ask_each None (bounded_by.Lifetime l.lifetime id) bs) (lifetime_asks l)

@@ -1,17 +1,17 @@
 -- Steps by what they ask: the logic.
 use Rattle.std.proofs.Common.{◌≡◌, ◌∙◌, refl, sym, ap, subst, ℕ, suc, ◌+◌, arith, length, length-append, nat_lt, Bool, true, false}
 use Rattle.std.proofs.Common.{append-nil, append_assoc, List, [], ◌∷◌, ◌++◌, Some, Ok, Err}
-use Rattle.hir_store.specs.Stored.{Stored}
+use Rattle.hir_store.specs.Stored.{Store, SourceMap, Stored, map_of, store_of}
 use Rattle.hir_store.specs.Storing.{Extends}
 use Rattle.hir_store.specs.declared.generics.LifetimeParamData.{LifetimeParamData}
 use Rattle.hir_store.specs.declared.generics.TypeOrConstParamData.{TypeOrConstParamData}
 use Rattle.hir_store.specs.declared.generics.WherePredicate.{WherePredicate}
-use Rattle.hir_store.specs.declared.generics.WherePredicate.TheVariants as predicate
 use Rattle.hir_store.specs.declared.ids.TypeRefId.{TypeRefId}
 use Rattle.hir_store.specs.declared.type_ref.TypeBound.{TypeBound}
 use Rattle.hir_store.proofs.Extending.{extends_refl, extends_trans}
 use Rattle.hir_data.specs.Data as datum
 use Rattle.hir_data.specs.Data.{BoundData, BoundsData}
+use Rattle.hir_data.specs.Reading.{bounds_layer, entries, readers}
 use Rattle.hir_lower_form.specs.Builder.{Builder}
 use Rattle.hir_lower_form.specs.Generics.{predicates_of, with_param}
 use Rattle.hir_lower_form.specs.Lowering.{Checked, go_on, Lowering, ◌>>=◌, pure, add_lifetime_param, add_param, add_predicate, count_out}
@@ -22,51 +22,40 @@ use Rattle.hir_steps.proofs.Logic.{Correct, correct_in_store}
 use Rattle.hir_read_back.proofs.Layers.{Layer, Reads, within}
 use Rattle.hir_read_back.proofs.Now.{answered}
 use Rattle.hir_sets.specs.Noting.{Impl, Noting}
-use Rattle.hir_noted.specs.Lists.{Fits, Noted, ReadAs, all_entries, unnamed}
+use Rattle.hir_noted.specs.Lists.{Fits, Noted, all_entries, unnamed}
 use Rattle.hir_noted.proofs.Logic as parts
-use Rattle.hir_item_asked.specs.Fold.{Asked, Asking, Asks, Reached, asking, each_of, nothing, of_impls, of_lifetime, of_part}
-use Rattle.hir_item_asked.specs.Fold.{of_type, parameter, written, ◌⊟◌, one_param}
-use Rattle.hir_item_asked.specs.Asked.{IsAsked, Stand, StandsFor, TypeIs, count}
+use Rattle.hir_item_noted.specs.Noted.{count}
+use Rattle.hir_item_asked.specs.Fold.{Asking, Asks, Reached, asking, each_of, nothing, of_impls, of_part, parameter, ◌⊟◌, one_param}
+use Rattle.hir_item_asked.specs.Asked.{IsAsked, Stand, StandsFor, TypeIs}
 
 -- ---- what stands
 
-pub type_stays : {s t : Stored} → Extends s t → (i : TypeRefId) (x : Asked) → TypeIs s i x → TypeIs t i x
-type_stays e i (parameter def k at) h = (found_stays e.types.entries i.0 _ h.0, found_stays e.types.sources i.0 _ h.1)
-type_stays e i (written d) h = λ final pre. h final (extends_trans e pre)
+-- what is so in each store that goes on with this one
+abbrev pub Later : Stored → (Store → SourceMap → Type 0) → Type 0
+Later s P = (final : Stored) → Extends s final → P (store_of final) (map_of final)
 
-one_stays : {s t : Stored} → Extends s t → (p : WherePredicate) (a : Asking) → StandsFor s p a → StandsFor t p a
-one_stays e (predicate.TypeBound binder i b) (of_type names x d) h =
-    (h.0, type_stays e i x h.1, λ final pre. h.2 final (extends_trans e pre))
-one_stays e (predicate.Lifetime l m) (of_lifetime x y) h =
-    (λ final pre. h.0 final (extends_trans e pre), λ final pre. h.1 final (extends_trans e pre))
-one_stays e (predicate.TypeBound binder i b) (of_lifetime x y) h = absurd h
-one_stays e (predicate.Lifetime l m) (of_type names x d) h = absurd h
+pub still : {s t : Stored} (P : Store → SourceMap → Type 0) → Extends s t → Later s P → Later t P
+still P e h = λ final pre. h final (extends_trans e pre)
 
-stand_stays : {s t : Stored} → Extends s t → (ps : List WherePredicate) (as' : List Asking) → Stand s ps as' → Stand t ps as'
-stand_stays e [] [] h = tt
-stand_stays e (p ∷ ps) (a ∷ as') h = (one_stays e p a h.0, stand_stays e ps as' h.1)
-stand_stays e [] (a ∷ as') h = absurd h
-stand_stays e (p ∷ ps) [] h = absurd h
-
-stand_append : (s : Stored) (ps qs : List WherePredicate) (as' bs : List Asking) → Stand s ps as' → Stand s qs bs
-    → Stand s (ps ++ qs) (as' ++ bs)
-stand_append s [] qs [] bs g h = h
-stand_append s (p ∷ ps) qs (a ∷ as') bs g h = (g.0, stand_append s ps qs as' bs g.1 h)
-stand_append s [] qs (a ∷ as') bs g h = absurd g
-stand_append s (p ∷ ps) qs [] bs g h = absurd g
+stand_append : (store : Store) (source_map : SourceMap) (ps qs : List WherePredicate) (as' bs : List Asking)
+    → Stand store source_map ps as' → Stand store source_map qs bs → Stand store source_map (ps ++ qs) (as' ++ bs)
+stand_append store source_map [] qs [] bs g h = h
+stand_append store source_map (p ∷ ps) qs (a ∷ as') bs g h = (g.0, stand_append store source_map ps qs as' bs g.1 h)
+stand_append store source_map [] qs (a ∷ as') bs g h = absurd g
+stand_append store source_map (p ∷ ps) qs [] bs g h = absurd g
 
 -- ---- one after another
 
 asked_both : {x y : Asks} {b c d : Builder} → IsAsked x b c → IsAsked y c d → IsAsked (x ⊟ y) b d
-asked_both {x = x} {y = y} {b = b} {c = c} {d = d} g h = record {
+asked_both {x = x} {y = y} {b = b} g h = record {
   stays = extends_trans g.stays h.stays;
   params = h.params ∙ ap (λ k. (y k).params) g.params;
   added = g.added ++ h.added;
   predicates = h.predicates
       ∙ (ap (λ l. l ++ h.added) g.predicates ∙ append_assoc b.notes.generics.where_predicates g.added h.added);
-  stand = stand_append d.stored g.added h.added (x (count b)).asks (y (x (count b)).params).asks
-      (stand_stays h.stays g.added (x (count b)).asks g.stand)
-      (subst (λ k. Stand d.stored h.added (y k).asks) g.params h.stand);
+  stand = λ final pre. let s = store_of final in let m = map_of final in
+      stand_append s m g.added h.added (x (count b)).asks (y (x (count b)).params).asks (g.stand final (extends_trans h.stays pre))
+      (subst (λ k. Stand s m h.added (y k).asks) g.params (h.stand final pre));
 }
 
 -- nothing is asked
@@ -77,7 +66,7 @@ asked_nothing {b = b} e p w = record {
   params = ap (λ l. length l) p;
   added = [];
   predicates = w ∙ sym (append-nil b.notes.generics.where_predicates);
-  stand = tt;
+  stand = λ final pre. tt;
 }
 
 -- ---- parts
@@ -94,25 +83,30 @@ abbrev AnyBound : BoundsData → Type 0
 AnyBound datum.no_bounds = ⊥
 AnyBound (datum.more_bounds d ds) = Unit {0}
 
--- what an `impl` became, of each of its bounds
-each_stands : (s : Stored) (i : TypeRefId) (x : Asked) (bs : List TypeBound) (ds : BoundsData) → TypeIs s i x → ReadAs s bs ds
-    → Stand s (predicates_of i bs) (each_of x ds)
-each_stands s i x [] datum.no_bounds t h = tt
-each_stands s i x [] (datum.more_bounds d ds) t h = absurd (subst AnyBound (sym (h s (extends_refl s))) tt)
-each_stands s i x (b ∷ bs) datum.no_bounds t h = absurd (subst AnyBound (h s (extends_refl s)) tt)
-each_stands s i x (b ∷ bs) (datum.more_bounds d ds) t h = (
-  (refl, t, λ final pre. ap first_of (h final pre)),
-  each_stands s i x bs ds t (λ final pre. ap rest_of (h final pre)),
-)
+module _ (store : Store) (source_map : SourceMap) where
+  -- as all of them are read
+  abbrev bounds_are : List TypeBound → BoundsData
+  bounds_are bs = bounds_layer store source_map (readers store source_map (entries store source_map)) bs
 
-impls_stand : (s : Stored) (is : List Impl) (ps : List WherePredicate) (k : ℕ) → Fits ps k is s → Stand s ps (of_impls is k)
-impls_stand s [] ps k f = subst (λ l. Stand s l []) (sym f) tt
-impls_stand s (i ∷ is) ps k f =
-    let x = parameter i.parent k (Some i.at) in
-    subst (λ l. Stand s l (each_of x i.bounds ++ of_impls is (suc k))) (sym f.are)
-    (stand_append s (predicates_of f.target f.bounds) f.others (each_of x i.bounds) (of_impls is (suc k))
-    (each_stands s f.target x f.bounds i.bounds (f.stands, f.from) f.read)
-    (impls_stand s is f.others (suc k) f.rest_fits))
+  -- what an `impl` became, of each of its bounds
+  each_stands : (t : TypeRefId) (i : Impl) (k : ℕ) (bs : List TypeBound) (ds : BoundsData)
+      → TypeIs store source_map t (parameter i.parent k (Some i.at)) → bounds_are bs ≡ ds
+      → Stand store source_map (predicates_of t bs) (each_of i k ds)
+  each_stands t i k [] datum.no_bounds h e = tt
+  each_stands t i k [] (datum.more_bounds d ds) h e = absurd (subst AnyBound (sym e) tt)
+  each_stands t i k (b ∷ bs) datum.no_bounds h e = absurd (subst AnyBound e tt)
+  each_stands t i k (b ∷ bs) (datum.more_bounds d ds) h e = ((refl, h, ap first_of e), each_stands t i k bs ds h (ap rest_of e))
+
+impls_stand : (s final : Stored) → Extends s final → (is : List Impl) (ps : List WherePredicate) (k : ℕ) → Fits ps k is s
+    → Stand (store_of final) (map_of final) ps (of_impls is k)
+impls_stand s final pre [] ps k f = subst (λ l. Stand (store_of final) (map_of final) l []) (sym f) tt
+impls_stand s final pre (i ∷ is) ps k f =
+    let stands = found_stays pre.types.entries f.target.0 _ f.stands in
+    let from = found_stays pre.types.sources f.target.0 _ f.from in
+    subst (λ l. Stand (store_of final) (map_of final) l (each_of i k i.bounds ++ of_impls is (suc k))) (sym f.are)
+    (stand_append (store_of final) (map_of final) (predicates_of f.target f.bounds) f.others (each_of i k i.bounds) (of_impls is (suc k))
+    (each_stands (store_of final) (map_of final) f.target i k f.bounds i.bounds (stands, from) (f.read final pre))
+    (impls_stand s final pre is f.others (suc k) f.rest_fits))
 
 length_unnamed : (is : List Impl) → length (unnamed is) ≡ length is
 length_unnamed [] = refl
@@ -125,7 +119,7 @@ asked_part {n = n} {b = b} {c = c} g = record {
       ∙ (length-append b.notes.generics.type_or_consts (unnamed n.impls) ∙ ap (λ k. count b + k) (length_unnamed n.impls));
   added = g.added;
   predicates = g.predicates;
-  stand = impls_stand c.stored n.impls g.added (count b) g.fits;
+  stand = λ final pre. impls_stand c.stored final pre n.impls g.added (count b) g.fits;
 }
 
 -- ---- steps
@@ -153,7 +147,7 @@ ask_at x y b e (Ok a) c h = (
     params = h.1.params ∙ ap (λ r. r.params) e;
     added = h.1.added;
     predicates = h.1.predicates;
-    stand = subst (λ r. Stand c.stored h.1.added r.asks) e h.1.stand;
+    stand = λ final pre. subst (λ r. Stand (store_of final) (map_of final) h.1.added r.asks) e (h.1.stand final pre);
   },
 )
 ask_at x y b e (Err f) c h = tt
@@ -233,7 +227,7 @@ asked_param x b = record {
   params = let n = length-append b.notes.generics.type_or_consts (x ∷ []) in omega (arith, n);
   added = [];
   predicates = sym (append-nil b.notes.generics.where_predicates);
-  stand = tt;
+  stand = λ final pre. tt;
 }
 
 -- a parameter more, and what is done with its number
@@ -266,7 +260,7 @@ steps_lifetime_param x = record { at = λ b d. by b d (nat_lt (length b.notes.ge
     by b d false = tt
 
 -- a predicate that stands for what is asked
-pub predicate_to : (p : WherePredicate) (a : Asking) (b : Builder) → Paired b.stored → StandsFor b.stored p a
+pub predicate_to : (p : WherePredicate) (a : Asking) (b : Builder) → Paired b.stored → Later b.stored (λ s m. StandsFor s m p a)
     → AskTo (asking (a ∷ [])) b (add_predicate p b).0 (add_predicate p b).1
 unfolding add_predicate note_down
 predicate_to p a b d h = (
@@ -276,7 +270,7 @@ predicate_to p a b d h = (
     params = refl;
     added = p ∷ [];
     predicates = refl;
-    stand = (h, tt);
+    stand = λ final pre. (h final pre, tt);
   },
 )
 

@@ -1,65 +1,53 @@
 -- What stands for what is asked.
-use Rattle.std.specs.Prelude.{◌≡◌, ℕ, List, [], ◌∷◌, ◌++◌, length, slice_get, Some}
-use Rattle.hir_store.specs.Stored.{Stored, map_of, store_of}
+use Rattle.std.specs.Prelude.{◌≡◌, List, [], ◌∷◌, ◌++◌, slice_get, Some, None}
+use Rattle.hir_store.specs.Stored.{Store, SourceMap, Stored, map_of, store_of}
 use Rattle.hir_store.specs.Storing.{Extends}
 use Rattle.hir_store.specs.declared.generics.WherePredicate.{WherePredicate}
 use Rattle.hir_store.specs.declared.generics.WherePredicate.TheVariants as predicate
-use Rattle.hir_store.specs.declared.ids.LifetimeRefId.{LifetimeRefId}
 use Rattle.hir_store.specs.declared.ids.TypeRefId.{TypeRefId}
 use Rattle.hir_store.specs.declared.type_ref.TypeBound.{TypeBound}
-use Rattle.hir_data.specs.Data.{BoundData, LifetimeData}
-use Rattle.hir_data.specs.Reading.{Readers, bound_layer, readers, stored_lifetime}
+use Rattle.hir_data.specs.Data.{BoundData}
+use Rattle.hir_data.specs.Reading.{bound_layer, entries, readers, stored_lifetime, stored_type}
+use Rattle.hir_meaning.specs.Inner.{Bodies, all_inners, of_bound, type_inner_bodies}
+use Rattle.hir_meaning.specs.Same.{SameBodies}
 use Rattle.hir_lower_form.specs.Builder.{Builder}
 use Rattle.hir_lower_form.specs.Lowering.{param_type}
-use Rattle.hir_noted.specs.Lists.{all_entries}
-use Rattle.hir_lower_item.specs.declared.predicates.Bounded.{Bounded}
-use Rattle.hir_lower_item.specs.declared.predicates.Bounded.TheVariants as bounded_by
-use Rattle.hir_item_asked.specs.Fold.{Asked, Asking, Asks, Target, a_lifetime, a_type, of_lifetime, of_type, parameter, written}
+use Rattle.hir_item_noted.specs.Noted.{count}
+use Rattle.hir_item_asked.specs.Fold.{Asked, Asking, Asks, of_impl, of_lifetime, of_type, parameter, written}
 
--- all that is in a store
-abbrev pub whole : Stored → Readers
-whole s = readers (store_of s) (map_of s) (all_entries s)
+module _ (store : Store) (source_map : SourceMap) where
+  -- a parameter is one, from that node; what is written is read back, and the bodies inside it do what the written ones do
+  abbrev pub TypeIs : TypeRefId → Asked → Type 0
+  TypeIs t (parameter def k at) =
+      (slice_get store.types t.0 ≡ Some (param_type def k)) × (slice_get source_map.type_sources t.0 ≡ Some at)
+  TypeIs t (written d bs) = (stored_type store source_map t ≡ d) × SameBodies store source_map (type_inner_bodies store t) bs
 
--- in each store that goes on it reads back so
-abbrev pub BoundIs : Stored → TypeBound → BoundData → Type 0
-BoundIs s b d = (final : Stored) → Extends s final → bound_layer (store_of final) (map_of final) (whole final) b ≡ d
+  abbrev pub BoundIs : TypeBound → BoundData → Type 0
+  BoundIs b d = bound_layer store source_map (readers store source_map (entries store source_map)) b ≡ d
 
-abbrev pub LifetimeIs : Stored → LifetimeRefId → LifetimeData → Type 0
-LifetimeIs s l d = (final : Stored) → Extends s final → stored_lifetime (store_of final) (map_of final) l ≡ d
+  abbrev pub BoundHolds : TypeBound → Bodies → Type 0
+  BoundHolds b bs = SameBodies store source_map (of_bound (all_inners store) b) bs
 
--- a parameter is one, from that node, and what is written is read back
-abbrev pub TypeIs : Stored → TypeRefId → Asked → Type 0
-TypeIs s t (parameter def k at) =
-    (slice_get s.types.entries t.0 ≡ Some (param_type def k)) × (slice_get s.types.sources t.0 ≡ Some at)
-TypeIs s t (written d) = (final : Stored) → Extends s final → (whole final).type t ≡ d
+  abbrev pub StandsFor : WherePredicate → Asking → Type 0
+  StandsFor (predicate.TypeBound binder t b) (of_type names x d bs) = (binder ≡ names) × TypeIs t x × BoundIs b d × BoundHolds b bs
+  StandsFor (predicate.TypeBound binder t b) (of_impl def k at d) = (binder ≡ None) × TypeIs t (parameter def k (Some at)) × BoundIs b d
+  StandsFor (predicate.TypeBound binder t b) (of_lifetime d e) = ⊥
+  StandsFor (predicate.Lifetime l m) (of_lifetime d e) =
+      (stored_lifetime store source_map l ≡ d) × (stored_lifetime store source_map m ≡ e)
+  StandsFor (predicate.Lifetime l m) (of_type names x d bs) = ⊥
+  StandsFor (predicate.Lifetime l m) (of_impl def k at d) = ⊥
 
-abbrev pub Bounds : Stored → Bounded → Target → Type 0
-Bounds s (bounded_by.Type_ t) (a_type x) = TypeIs s t x
-Bounds s (bounded_by.Lifetime text l) (a_lifetime d) = LifetimeIs s l d
-Bounds s (bounded_by.Type_ t) (a_lifetime d) = ⊥
-Bounds s (bounded_by.Lifetime text l) (a_type x) = ⊥
+  -- one for each, in their order
+  abbrev pub Stand : List WherePredicate → List Asking → Type 0
+  Stand [] [] = Unit {0}
+  Stand (p ∷ ps) (a ∷ as') = StandsFor p a × Stand ps as'
+  Stand [] (a ∷ as') = ⊥
+  Stand (p ∷ ps) [] = ⊥
 
-abbrev pub StandsFor : Stored → WherePredicate → Asking → Type 0
-StandsFor s (predicate.TypeBound binder t b) (of_type names x d) = (binder ≡ names) × TypeIs s t x × BoundIs s b d
-StandsFor s (predicate.Lifetime l m) (of_lifetime d e) = LifetimeIs s l d × LifetimeIs s m e
-StandsFor s (predicate.TypeBound binder t b) (of_lifetime d e) = ⊥
-StandsFor s (predicate.Lifetime l m) (of_type names x d) = ⊥
-
--- one for each, in their order
-abbrev pub Stand : Stored → List WherePredicate → List Asking → Type 0
-Stand s [] [] = Unit {0}
-Stand s (p ∷ ps) (a ∷ as') = StandsFor s p a × Stand s ps as'
-Stand s [] (a ∷ as') = ⊥
-Stand s (p ∷ ps) [] = ⊥
-
--- how many parameters are noted
-abbrev pub count : Builder → ℕ
-count b = length b.notes.generics.type_or_consts
-
--- What is stored goes on, and to the predicates come those that stand for what is asked.
+-- What is stored goes on, and to the predicates come those that stand for what is asked, in each later store.
 pub record IsAsked (x : Asks) (b c : Builder) : Type 0 where
   pub stays : Extends b.stored c.stored
   pub params : count c ≡ (x (count b)).params
   pub added : List WherePredicate
   pub predicates : c.notes.generics.where_predicates ≡ b.notes.generics.where_predicates ++ added
-  pub stand : Stand c.stored added (x (count b)).asks
+  pub stand : (final : Stored) → Extends c.stored final → Stand (store_of final) (map_of final) added (x (count b)).asks

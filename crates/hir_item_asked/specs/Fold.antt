@@ -9,6 +9,7 @@ use Rattle.hir_env.specs.TypeLayers.{PathTypeReading}
 use Rattle.hir_data.specs.Data as datum
 use Rattle.hir_data.specs.Data.{BoundData, BoundsData, LifetimeData, TypeData}
 use Rattle.hir_data.specs.Written.{bound_data, lifetime_data, type_data}
+use Rattle.hir_meaning.specs.Inner.{Bodies, bound_bodies, type_bodies}
 use Rattle.hir_sets.specs.Noting.{Impl, Noting}
 use Rattle.hir_sets.specs.Fold.{noted_in_bound, noted_in_bounds, noted_in_constant, noted_in_output, noted_in_present_type}
 use Rattle.hir_sets.specs.Fold.{noted_in_type, noted_in_type_part, noted_in_whole}
@@ -19,7 +20,8 @@ use Rattle.hir_lower_item.specs.Items.{Alias, Argument, Function, Generics, Impl
 pub data Asked : Type 0 where
   -- the parameter of this owner with this number, stored from the node
   parameter : GenericDefId → ℕ → Option Pointer → Asked
-  written : TypeData → Asked
+  -- with the bodies inside it
+  written : TypeData → Bodies → Asked
 
 -- what is bound
 pub data Target : Type 0 where
@@ -27,8 +29,10 @@ pub data Target : Type 0 where
   a_lifetime : LifetimeData → Target
 
 pub data Asking : Type 0 where
-  -- a bound of a type, with the names of the `for<..>` in front of it
-  of_type : Option Binder → Asked → BoundData → Asking
+  -- a bound of a type, with the names of the `for<..>` in front of it, and the bodies inside the bound
+  of_type : Option Binder → Asked → BoundData → Bodies → Asking
+  -- a bound of the parameter of this definition with this number, which the `impl` at the node became
+  of_impl : GenericDefId → ℕ → Pointer → BoundData → Asking
   -- the first outlives the second
   of_lifetime : LifetimeData → LifetimeData → Asking
 
@@ -59,13 +63,13 @@ one_param = λ k. record { asks = []; params = suc k }
 -- ---- `impl`s
 
 -- of a parameter that an `impl` became each of its bounds is asked, whatever it is
-abbrev pub each_of : Asked → BoundsData → List Asking
-each_of x datum.no_bounds = []
-each_of x (datum.more_bounds d ds) = of_type None x d ∷ each_of x ds
+abbrev pub each_of : Impl → ℕ → BoundsData → List Asking
+each_of i k datum.no_bounds = []
+each_of i k (datum.more_bounds d ds) = of_impl i.parent k i.at d ∷ each_of i k ds
 
 abbrev pub of_impls : List Impl → ℕ → List Asking
 of_impls [] k = []
-of_impls (i ∷ is) k = each_of (parameter i.parent k (Some i.at)) i.bounds ++ of_impls is (suc k)
+of_impls (i ∷ is) k = each_of i k i.bounds ++ of_impls is (suc k)
 
 abbrev pub of_part : Noting → Asks
 of_part n = λ k. record { asks = of_impls n.impls k; params = k + length n.impls }
@@ -73,21 +77,21 @@ of_part n = λ k. record { asks = of_impls n.impls k; params = k + length n.impl
 -- ---- bounds
 
 -- an error and a `use<..>` ask nothing, nor does a trait of a lifetime
-abbrev pub asked_by : Option Binder → Target → BoundData → List Asking
-asked_by binder x datum.error_bound = []
-asked_by binder x (datum.use_bound us) = []
-asked_by binder (a_type t) (datum.path_bound u m) = of_type binder t (datum.path_bound u m) ∷ []
-asked_by binder (a_type t) (datum.for_bound ns u) = of_type binder t (datum.for_bound ns u) ∷ []
-asked_by binder (a_type t) (datum.lifetime_bound l) = of_type binder t (datum.lifetime_bound l) ∷ []
-asked_by binder (a_lifetime l) (datum.path_bound u m) = []
-asked_by binder (a_lifetime l) (datum.for_bound ns u) = []
-asked_by binder (a_lifetime l) (datum.lifetime_bound m) = of_lifetime l m ∷ []
+abbrev pub asked_by : Option Binder → Target → BoundData → Bodies → List Asking
+asked_by binder x datum.error_bound bs = []
+asked_by binder x (datum.use_bound us) bs = []
+asked_by binder (a_type t) (datum.path_bound u m) bs = of_type binder t (datum.path_bound u m) bs ∷ []
+asked_by binder (a_type t) (datum.for_bound ns u) bs = of_type binder t (datum.for_bound ns u) bs ∷ []
+asked_by binder (a_type t) (datum.lifetime_bound l) bs = of_type binder t (datum.lifetime_bound l) bs ∷ []
+asked_by binder (a_lifetime l) (datum.path_bound u m) bs = []
+asked_by binder (a_lifetime l) (datum.for_bound ns u) bs = []
+asked_by binder (a_lifetime l) (datum.lifetime_bound m) bs = of_lifetime l m ∷ []
 
 -- each one behind what the `impl`s in it ask
 abbrev pub asked_in_each : Option Binder → Target → Bounds → Asks
 asked_in_each binder x tree.no_bounds = nothing
 asked_in_each binder x (tree.more_bounds b bs) =
-    of_part (noted_in_bound b) ⊟ (asking (asked_by binder x (bound_data b)) ⊟ asked_in_each binder x bs)
+    of_part (noted_in_bound b) ⊟ (asking (asked_by binder x (bound_data b) (bound_bodies b)) ⊟ asked_in_each binder x bs)
 
 -- ---- generic parameters
 
@@ -112,7 +116,7 @@ asked_in_params def (x ∷ xs) = asked_in_param def x ⊟ asked_in_params def xs
 
 abbrev pub asked_in_predicate : Predicate → Asks
 asked_in_predicate (item.of_type t binder bs) =
-    of_part (noted_in_type t) ⊟ asked_in_each binder (a_type (written (type_data None t))) bs
+    of_part (noted_in_type t) ⊟ asked_in_each binder (a_type (written (type_data None t) (type_bodies t))) bs
 asked_in_predicate (item.of_lifetime l bs) = asked_in_each None (a_lifetime (lifetime_data l)) bs
 asked_in_predicate item.of_nothing = nothing
 

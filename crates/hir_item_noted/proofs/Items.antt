@@ -1,6 +1,5 @@
 -- What the parts of an item note, and the items.
-use Rattle.std.proofs.Common.{◌≡◌, refl, ap, ℕ, Bool, List, [], ◌∷◌, Option, Some, None}
-use Rattle.std.specs.Prelude.{is_some}
+use Rattle.std.proofs.Common.{◌≡◌, refl, ℕ, Bool, List, [], ◌∷◌, Option, Some, None, Ok}
 use Rattle.hir_store.specs.Pointers.{Pointer}
 use Rattle.hir_store.specs.Stored.{Stored, map_of, store_of}
 use Rattle.hir_store.specs.Storing as storing
@@ -31,14 +30,17 @@ use Rattle.hir_env.specs.Answered.{Binder, Bounds, Constant, Lifetime, OptionRet
 use Rattle.hir_env.specs.TypeLayers.{PathTypeReading}
 use Rattle.hir_lower_form.specs.Builder.{Builder}
 use Rattle.hir_lower_form.specs.Lowering.{Lowering, ◌>>=◌, ◌>>◌, add_param, alloc_lifetime, alloc_type, param_type, pure, report}
-use Rattle.hir_lower_form.specs.Lower.{lower_constant, lower_path, push_some}
+use Rattle.hir_lower_form.specs.Lower.{lower_path, present_type, push_some, type_part}
 use Rattle.hir_lower_form.specs.Types.{path_bound_form, path_bound_of, stored_path_bound}
 use Rattle.hir_data.specs.Data.{no_type}
 use Rattle.hir_data.specs.Reading.{stored_option_type, stored_type}
-use Rattle.hir_data.specs.Written.{written_option_type, written_type}
+use Rattle.hir_meaning.specs.Inner.{part_bodies, type_inner_bodies}
+use Rattle.hir_data.specs.Written.{written_type}
 use Rattle.hir_steps.specs.Keeps.{Paired}
 use Rattle.hir_steps.proofs.TypeSteps.{correct_alloc_lifetime}
 use Rattle.hir_read_back.proofs.Now.{answered, option_type_now, type_now}
+use Rattle.hir_same_meaning.proofs.HeldTree.{part_holds}
+use Rattle.hir_same_meaning.proofs.Holding.{SameIn}
 use Rattle.hir_sets.specs.Noting.{of_lifetime_option}
 use Rattle.hir_sets.specs.Fold.{noted_in_output}
 use Rattle.hir_noted.proofs.Logic as parts
@@ -50,12 +52,13 @@ use Rattle.hir_lower_item.specs.Items as item
 use Rattle.hir_lower_item.specs.Items.{Alias, Argument, Function, Generics, Impl, Param, Predicate, Receiver, Trait}
 use Rattle.hir_lower_item.specs.Lower as steps
 use Rattle.hir_item_noted.specs.Fold as fold
-use Rattle.hir_item_noted.specs.Fold.{bounded, const_param, noted_in_alias, noted_in_argument, noted_in_arguments}
+use Rattle.hir_item_noted.specs.Fold.{bounded, constant, noted_in_alias, noted_in_argument, noted_in_arguments}
 use Rattle.hir_item_noted.specs.Fold.{noted_in_bounds_of, noted_in_each, noted_in_function, noted_in_generics, noted_in_impl}
 use Rattle.hir_item_noted.specs.Fold.{noted_in_param}
 use Rattle.hir_item_noted.specs.Fold.{noted_in_params, noted_in_predicate, noted_in_predicates, noted_in_receiver, noted_in_trait}
-use Rattle.hir_item_noted.specs.Fold.{nothing, of_part, one_param, self_param, type_param, ◌⊞◌, noted_in_default, noted_in_trait_path}
-use Rattle.hir_item_noted.proofs.Logic.{Gives, ReadsFrom, Steps, StepsTo, gives_pure, gives_then, given_at, param_at, steps_begin}
+use Rattle.hir_item_noted.specs.Fold.{nothing, of_part, one_param, self_param, typed, ◌⊞◌, noted_in_default, noted_in_trait_path}
+use Rattle.hir_item_noted.proofs.Held.{default_holds, default_read, held_here, present_holds}
+use Rattle.hir_item_noted.proofs.Logic.{Gives, IsFrom, Steps, StepsTo, by_at, gives_pure, gives_then, param_at, steps_begin}
 use Rattle.hir_item_noted.proofs.Logic.{steps_by, steps_end, steps_given, steps_lifetime_param, steps_part, steps_predicate, steps_pure}
 use Rattle.hir_item_noted.proofs.Logic.{steps_then, then_at}
 
@@ -163,7 +166,7 @@ abbrev type_of : Name → Option TypeRefId → TypeParamProvenance → TypeOrCon
 type_of n default from = param.TypeParamData (record { name = Some n; default = default; provenance = from })
 
 type_param_at : (def : GenericDefId) (n : Name) (default : Option TypeRefId) (from : TypeParamProvenance) (bs : Bounds) (y : fold.Param)
-    (b : Builder) → Paired b.stored → ReadsFrom b (type_of n default from) y
+    (b : Builder) → Paired b.stored → IsFrom b (type_of n default from) y
     → let p = steps.type_param_form def n default from bs in StepsTo (one_param y ⊞ noted_in_each bs) b (p b).0 (p b).1
 type_param_at def n default from bs y b d h = then_at (one_param y) (noted_in_each bs) (add_param (type_of n default from))
     (behind_param def bs) b
@@ -176,16 +179,12 @@ absent_read final = refl
 self_noted : (def : GenericDefId) (bs : Bounds) → Steps (one_param self_param ⊞ noted_in_each bs) (steps.self_param def bs)
 self_noted def bs = record {
   at = λ b d. type_param_at def steps.self_text None provenance.TraitSelf bs self_param b d
-      (λ final e. ap (type_param (Some steps.self_text) provenance.TraitSelf) (absent_read final));
+      (λ final e k. (refl, refl, absent_read final, tt));
 }
 
 default_noted : (c : Option Constant) → Steps (noted_in_default c) (steps.present_constant c)
 default_noted None = steps_pure None
 default_noted (Some c) = steps_end (steps_part (constant_noted c)) (λ i. steps_pure (Some i))
-
-gives_default : (c : Option Constant) → Gives (λ i. is_some i ≡ is_some c) (steps.present_constant c)
-gives_default None = gives_pure None refl
-gives_default (Some c) = gives_then (lower_constant c) (λ i. gives_pure (Some i) refl)
 
 placeholder_noted : (l : Option Lifetime) → Steps (of_part (of_lifetime_option l)) (steps.lifetime_or_placeholder l)
 placeholder_noted None = lifetime_stored lifetime.Placeholder None
@@ -195,33 +194,54 @@ placeholder_noted (Some l) = steps_part (lifetime_notes l)
 abbrev behind_default : Name → TypeRefId → Option ConstRef → Lowering (Unit {0})
 behind_default n i d = add_param (const_of n i d) >> pure tt
 
--- behind its type, which reads back from here on
+-- a type that was lowered, with the bodies inside it
+abbrev TypeIs : OptionType → TypeRefId → Stored → Type 0
+TypeIs t i final = (stored_type (store_of final) (map_of final) i ≡ written_type t)
+    × SameIn final (type_inner_bodies (store_of final) i) (part_bodies t)
+
+-- behind its type, which is that from here on
 const_at : (n : Name) (t : OptionType) (default : Option Constant) (i : TypeRefId) (b : Builder) → Paired b.stored
-    → ((final : Stored) → Extends b.stored final → stored_type (store_of final) (map_of final) i ≡ written_type t)
-    → let p = steps.present_constant default >>= behind_default n i in
-    StepsTo (noted_in_default default ⊞ one_param (const_param n (written_type t) (is_some default))) b (p b).0 (p b).1
+    → ((final : Stored) → Extends b.stored final → TypeIs t i final) → let p = steps.present_constant default >>= behind_default n i in
+    StepsTo (noted_in_default default ⊞ one_param (constant n t default)) b (p b).0 (p b).1
 const_at n t default i b d h =
-    let y = const_param n (written_type t) (is_some default) in
-    given_at (noted_in_default default) (one_param y) (λ x. is_some x ≡ is_some default) (steps.present_constant default)
-    (behind_default n i) b
-    ((default_noted default).at b d) ((gives_default default).gives b) (λ x c is e paired.
-    then_at (one_param y) nothing (add_param (const_of n i x)) (λ k. pure tt) c
-    (param_at (const_of n i x) y c paired (λ final z. λ j. const_param n (h final (extends_trans e z) j) (is j)))
+    let y = constant n t default in
+    by_at (noted_in_default default) (one_param y) (steps.present_constant default) (behind_default n i) b ((default_noted default).at b d)
+    (λ x c is e paired. then_at (one_param y) nothing (add_param (const_of n i x)) (λ k. pure tt) c
+    (param_at (const_of n i x) y c paired (λ final z k. let type = h final (extends_trans e z) in (
+      refl,
+      type.0,
+      type.1,
+      default_read default b c x d is final z,
+      held_here (default_holds default) b c x d is final z,
+    )))
     (λ k. steps_pure tt))
+
+-- what is answered for a type that may stay absent
+typed_from : (n : Name) (default : OptionType) (b c : Builder) (i : Option TypeRefId) → Paired b.stored
+    → present_type default b ≡ (Ok i, c) → IsFrom c (type_of n i provenance.TypeParamList) (typed n default)
+unfolding type_inner_bodies
+typed_from n default b c i d is = λ final x k. (
+  refl,
+  refl,
+  (answered (option_type_now default) b c i d is final x).is,
+  held_here (present_holds default) b c i d is final x,
+)
+
+type_from : (t : OptionType) (b c : Builder) (i : TypeRefId) → Paired b.stored → type_part None t b ≡ (Ok i, c) → (final : Stored)
+    → Extends c.stored final → TypeIs t i final
+unfolding type_inner_bodies
+type_from t b c i d is final x = ((answered (type_now t) b c i d is final x).is, held_here (part_holds None t) b c i d is final x)
 
 one_noted : (def : GenericDefId) (x : Param) → Steps (noted_in_param x) (steps.lower_param def x)
 one_noted def (item.disabled_param at by) = reported _
 one_noted def (item.type_param n default bs) =
-    let y = type_param (Some n) provenance.TypeParamList (written_option_type default) in
+    let y = typed n default in
     steps_by (one_param y ⊞ noted_in_each bs) (λ i. steps.type_param_form def n i provenance.TypeParamList bs)
     (steps_part (present_type_noted default)) (λ b i c d is e paired.
-    type_param_at def n i provenance.TypeParamList bs y c paired (λ final x.
-    ap (type_param (Some n) provenance.TypeParamList) (answered (option_type_now default) b c i d is final x).is))
+    type_param_at def n i provenance.TypeParamList bs y c paired (typed_from n default b c i d is))
 one_noted def (item.const_param n t default) =
-    let y = const_param n (written_type t) (is_some default) in
-    steps_by (noted_in_default default ⊞ one_param y) (λ i. steps.present_constant default >>= behind_default n i)
-    (steps_part (type_noted None t)) (λ b i c d is e paired.
-    const_at n t default i c paired (λ final x. (answered (type_now t) b c i d is final x).is))
+    steps_by (noted_in_default default ⊞ one_param (constant n t default)) (λ i. steps.present_constant default >>= behind_default n i)
+    (steps_part (type_noted None t)) (λ b i c d is e paired. const_at n t default i c paired (type_from t b c i d is))
 one_noted def (item.lifetime_param n l bs) = steps_then (steps_part (lifetime_notes l)) (λ id.
     steps_then (steps_lifetime_param n) (λ u. bounds_asked None l.lifetime id bs))
 one_noted def (item.nameless_param l) = steps_end (placeholder_noted l) (λ i. steps_pure tt)

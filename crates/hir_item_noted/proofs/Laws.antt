@@ -2,6 +2,8 @@
 use Rattle.std.proofs.Common.{arith, ◌≡◌, ◌∙◌, ◌≤◌, refl, sym, ap, subst, ℕ, suc, min, length, List, [], ◌∷◌, map, Ok}
 use Rattle.std.proofs.lemmas.List.{length-map}
 use Rattle.hir_store.specs.Params.{early_among, one_early}
+use Rattle.hir_store.specs.Stored.{Stored, map_of, store_of}
+use Rattle.hir_store.specs.Storing.{Extends}
 use Rattle.hir_store.specs.declared.generics.LifetimeBoundType.{LifetimeBoundType}
 use Rattle.hir_store.specs.declared.generics.LifetimeBoundType.TheVariants as kind
 use Rattle.hir_store.specs.declared.generics.LifetimeParamData.{LifetimeParamData}
@@ -18,7 +20,7 @@ use Rattle.hir_lower_item.specs.Kinds.{finished, named_sets, of_kind, of_kinds}
 use Rattle.hir_lower_item.specs.Lower.{lower_function}
 use Rattle.hir_item_noted.specs.Fold.{ItemNoting, noted_in_function, sets_of_item}
 use Rattle.hir_item_noted.specs.Laws.{ItemsMake, ItemsNote, Made, MakesEarly}
-use Rattle.hir_item_noted.specs.Noted.{by_kind, early}
+use Rattle.hir_item_noted.specs.Noted.{ItemNoted, ParamsFrom, by_kind, early}
 use Rattle.hir_item_noted.proofs.Items.{alias_noted, function_noted, generics_noted, impl_noted, trait_noted}
 use Rattle.hir_item_noted.proofs.Logic.{Steps, noted_by}
 
@@ -53,11 +55,17 @@ all_counted ls le = below_end (early_among ls) (length ls) (among_all ls) le
 none_fit : 0 ≤ 4294967295
 none_fit = omega (arith)
 
+-- all of the parameters, where there were none
+params_from_nothing : {n : ItemNoting} (limit : ℕ) (c : Builder) → ItemNoted n (fresh limit) c → (final : Stored) → Extends c.stored final
+    → ParamsFrom (store_of final) (map_of final) 0 c.notes.generics.type_or_consts n.params
+params_from_nothing {n = n} limit c g final e =
+    subst (λ xs. ParamsFrom (store_of final) (map_of final) 0 xs n.params) (sym g.adds) (g.params final e)
+
 makes_early : {A : Type 0} {n : ItemNoting} {p : Lowering A} → Steps n p → MakesEarly n p
 makes_early h limit c a is =
     let g = noted_by h (fresh limit) c a (nothing_stored limit) is in
     record {
-      params = g.params;
+      params = params_from_nothing limit c g;
       lifetimes_are = g.lifetimes;
       counted = all_counted c.notes.generics.lifetimes (g.fits none_fit);
     }
@@ -78,7 +86,7 @@ function_makes def x limit c s is =
     let g = noted_by (function_noted def x) (fresh limit) c s (nothing_stored limit) is in
     let sets : named_sets c.notes.named ≡ sets_of_item n = λ j. record { bounds = g.bounds j; input = g.input j; output = g.output j } in
     record {
-      params = g.params;
+      params = params_from_nothing limit c g;
       lifetimes_are = ap (map (of_kind c.notes.named)) g.lifetimes
           ∙ (kinds_are c.notes.named n.lifetimes ∙ ap (λ t. map (given t) n.lifetimes) sets);
       counted = all_counted (map (of_kind c.notes.named) c.notes.generics.lifetimes)

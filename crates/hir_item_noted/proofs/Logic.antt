@@ -1,25 +1,25 @@
 -- Steps by what they note of an item: the logic.
 use Rattle.std.proofs.Common.{arith, ◌≡◌, ◌∙◌, refl, sym, ap, subst, ℕ, ◌+◌, ◌≤◌, nat_lt, Bool, true, false, length, List, [], ◌∷◌}
-use Rattle.std.proofs.Common.{◌++◌, length-append, map}
+use Rattle.std.proofs.Common.{◌++◌, length-append, map, suc}
 use Rattle.std.proofs.Common.{append-nil, append_assoc, Ok, Err}
 use Rattle.std.proofs.lemmas.List.{map-append}
-use Rattle.hir_store.specs.Stored.{Stored}
+use Rattle.hir_store.specs.Stored.{Store, SourceMap, Stored, map_of, store_of}
 use Rattle.hir_store.specs.Storing.{Extends}
 use Rattle.hir_store.specs.declared.generics.TypeOrConstParamData.{TypeOrConstParamData}
 use Rattle.hir_store.specs.declared.generics.WherePredicate.{WherePredicate}
 use Rattle.hir_store.specs.declared.name.Name.{Name}
 use Rattle.hir_lower_form.specs.Builder.{Builder}
 use Rattle.hir_store.proofs.Extending.{extends_refl, extends_trans}
-use Rattle.hir_data.specs.Reading.{stored_option_type}
-use Rattle.hir_lower_form.specs.Generics.{unnamed_param, with_lifetime_param, with_param}
+use Rattle.hir_lower_form.specs.Generics.{with_lifetime_param, with_param}
 use Rattle.hir_lower_form.specs.Lowering.{Checked, go_on, Lowering, ◌>>=◌, pure, add_lifetime_param, add_param, add_predicate, count_out}
 use Rattle.hir_lower_form.specs.Lowering.{lifetime_counted, note_down, param_numbered, with_notes}
 use Rattle.hir_steps.specs.Keeps.{Paired}
+use Rattle.hir_steps.proofs.Formals.{found_stays}
 use Rattle.hir_sets.specs.Noting.{Impl, Noting}
-use Rattle.hir_noted.specs.Lists.{Noted, unnamed}
+use Rattle.hir_noted.specs.Lists.{Fits, Noted, unnamed}
 use Rattle.hir_noted.proofs.Logic as parts
 use Rattle.hir_item_noted.specs.Fold.{ItemNoting, Param, impl_param, nothing, of_part, one_lifetime, one_param, ◌⊞◌}
-use Rattle.hir_item_noted.specs.Noted.{ItemNoted, early, read_param}
+use Rattle.hir_item_noted.specs.Noted.{ItemNoted, ParamIs, ParamsFrom, count, early}
 
 -- ---- one after another
 
@@ -27,10 +27,24 @@ use Rattle.hir_item_noted.specs.Noted.{ItemNoted, early, read_param}
 twice : {A : Type 0} (xs : List A) {ys zs : List A} (a b : List A) → ys ≡ xs ++ a → zs ≡ ys ++ b → zs ≡ xs ++ (a ++ b)
 twice xs a b e f = f ∙ (ap (λ t. t ++ b) e ∙ append_assoc xs a b)
 
+params_append : (store : Store) (source_map : SourceMap) (k l : ℕ) (xs ys : List TypeOrConstParamData) (as' bs : List Param)
+    → l ≡ k + length xs → ParamsFrom store source_map k xs as' → ParamsFrom store source_map l ys bs
+    → ParamsFrom store source_map k (xs ++ ys) (as' ++ bs)
+params_append store source_map k l [] ys [] bs e g h =
+    let at : l ≡ k = omega (arith, e) in
+    subst (λ i. ParamsFrom store source_map i ys bs) at h
+params_append store source_map k l (x ∷ xs) ys (a ∷ as') bs e g h =
+    (g.0, params_append store source_map (suc k) l xs ys as' bs (omega (arith, e)) g.1 h)
+params_append store source_map k l [] ys (a ∷ as') bs e g h = absurd g
+params_append store source_map k l (x ∷ xs) ys [] bs e g h = absurd g
+
 noted_both : {m n : ItemNoting} {b c d : Builder} → ItemNoted m b c → ItemNoted n c d → ItemNoted (m ⊞ n) b d
-noted_both {m = m} {n = n} {b = b} g h = record {
+noted_both {m = m} {n = n} {b = b} {c = c} g h = record {
   stays = extends_trans g.stays h.stays;
-  params = λ final e. twice (map (read_param final) b.notes.generics.type_or_consts) m.params n.params
+  added = g.added ++ h.added;
+  adds = twice b.notes.generics.type_or_consts g.added h.added g.adds h.adds;
+  params = λ final e. params_append (store_of final) (map_of final) (count b) (count c) g.added h.added m.params n.params
+      (ap length g.adds ∙ length-append b.notes.generics.type_or_consts g.added)
       (g.params final (extends_trans h.stays e)) (h.params final e);
   fits = λ le. h.fits (g.fits le);
   lifetimes = twice b.notes.generics.lifetimes (map early m.lifetimes) (map early n.lifetimes) g.lifetimes h.lifetimes
@@ -45,7 +59,9 @@ noted_nothing : {b c : Builder} → Extends b.stored c.stored → c.notes.generi
     → c.notes.generics.lifetimes ≡ b.notes.generics.lifetimes → c.notes.named ≡ b.notes.named → ItemNoted nothing b c
 noted_nothing {b = b} e p l n = record {
   stays = e;
-  params = λ final x. ap (map (read_param final)) p ∙ sym (append-nil (map (read_param final) b.notes.generics.type_or_consts));
+  added = [];
+  adds = p ∙ sym (append-nil b.notes.generics.type_or_consts);
+  params = λ final x. tt;
   fits = λ le. subst (λ k. length k ≤ 4294967295) (sym l) le;
   lifetimes = l ∙ sym (append-nil b.notes.generics.lifetimes);
   bounds = ap (λ x. x.bounds) n ∙ sym (append-nil b.notes.named.bounds);
@@ -53,20 +69,30 @@ noted_nothing {b = b} e p l n = record {
   output = ap (λ x. x.output) n ∙ sym (append-nil b.notes.named.output);
 }
 
-unnamed_read : (final : Stored) → read_param final unnamed_param ≡ impl_param
-unfolding stored_option_type
-unnamed_read final = refl
-
-all_unnamed : (final : Stored) (is : List Impl) → map (read_param final) (unnamed is) ≡ map (λ i. impl_param) is
-all_unnamed final [] = refl
-all_unnamed final (i ∷ is) = λ j. unnamed_read final j ∷ all_unnamed final is j
+-- what `impl`s became, in each store that goes on with this one
+impls_are : (s final : Stored) → Extends s final → (is : List Impl) (ps : List WherePredicate) (k : ℕ) → Fits ps k is s
+    → ParamsFrom (store_of final) (map_of final) k (unnamed is) (map (λ i. impl_param i.parent i.at) is)
+impls_are s final e [] ps k f = tt
+impls_are s final e (i ∷ is) ps k f = (
+  (
+    refl,
+    refl,
+    refl,
+    record {
+      id = f.target;
+      stands = found_stays e.types.entries f.target.0 _ f.stands;
+      from = found_stays e.types.sources f.target.0 _ f.from;
+    },
+  ),
+  impls_are s final e is f.others (suc k) f.rest_fits,
+)
 
 noted_part : {n : Noting} {b c : Builder} → Noted n b c → ItemNoted (of_part n) b c
-noted_part {n = n} {b = b} g = record {
+noted_part {n = n} {b = b} {c = c} g = record {
   stays = g.stays;
-  params = λ final e. ap (map (read_param final)) g.params
-      ∙ (map-append (read_param final) b.notes.generics.type_or_consts (unnamed n.impls)
-      ∙ ap (λ l. map (read_param final) b.notes.generics.type_or_consts ++ l) (all_unnamed final n.impls));
+  added = unnamed n.impls;
+  adds = g.params;
+  params = λ final e. impls_are c.stored final e n.impls g.added (count b) g.fits;
   fits = λ le. subst (λ k. length k ≤ 4294967295) (sym g.lifetimes) le;
   lifetimes = g.lifetimes ∙ sym (append-nil b.notes.generics.lifetimes);
   bounds = g.bounds;
@@ -145,27 +171,21 @@ then_at {A = A} m n p f b x k = by (p b).0 (p b).1 x
     by (Ok a) c y = steps_to_both n b c y.1 (f a c).0 (f a c).1 ((k a).at c y.0)
     by (Err e) c y = tt
 
-pub given_at : {A B : Type 0} (m n : ItemNoting) (P : A → Type 0) (p : Lowering A) (f : A → Lowering B) (b : Builder)
-    → StepsTo m b (p b).0 (p b).1 → GivesTo P (p b).0
-    → ((a : A) (c : Builder) → P a → Extends b.stored c.stored → Paired c.stored → StepsTo n c (f a c).0 (f a c).1)
-    → StepsTo (m ⊞ n) b (go_on (p b).0 (p b).1 f).0 (go_on (p b).0 (p b).1 f).1
-given_at {A = A} m n P p f b x g k = by (p b).0 (p b).1 x g
-  where
-    by : (o : Checked A) (c : Builder) → StepsTo m b o c → GivesTo P o → StepsTo (m ⊞ n) b (go_on o c f).0 (go_on o c f).1
-    by (Ok a) c y z = steps_to_both n b c y.1 (f a c).0 (f a c).1 (k a c z y.1.stays y.0)
-    by (Err e) c y z = tt
-
 -- where what the second notes depends on what the first answers
+pub by_at : {A B : Type 0} (m n : ItemNoting) (p : Lowering A) (f : A → Lowering B) (b : Builder) → StepsTo m b (p b).0 (p b).1
+    → ((a : A) (c : Builder) → p b ≡ (Ok a, c) → Extends b.stored c.stored → Paired c.stored → StepsTo n c (f a c).0 (f a c).1)
+    → StepsTo (m ⊞ n) b (go_on (p b).0 (p b).1 f).0 (go_on (p b).0 (p b).1 f).1
+by_at {A = A} m n p f b x k = by (p b).0 (p b).1 refl x
+  where
+    by : (o : Checked A) (c : Builder) → p b ≡ (o, c) → StepsTo m b o c → StepsTo (m ⊞ n) b (go_on o c f).0 (go_on o c f).1
+    by (Ok a) c is y = steps_to_both n b c y.1 (f a c).0 (f a c).1 (k a c is y.1.stays y.0)
+    by (Err e) c is y = tt
+
 pub steps_by : {A B : Type 0} {m : ItemNoting} (n : ItemNoting) {p : Lowering A} (f : A → Lowering B) → Steps m p
     → ((b : Builder) (a : A) (c : Builder) → Paired b.stored → p b ≡ (Ok a, c) → Extends b.stored c.stored → Paired c.stored
     → StepsTo n c (f a c).0 (f a c).1)
     → Steps (m ⊞ n) (p >>= f)
-steps_by {A = A} {m = m} n {p = p} f h k = record { at = λ b d. by b d (p b).0 (p b).1 refl (h.at b d) }
-  where
-    by : (b : Builder) → Paired b.stored → (o : Checked A) (c : Builder) → p b ≡ (o, c) → StepsTo m b o c
-        → StepsTo (m ⊞ n) b (go_on o c f).0 (go_on o c f).1
-    by b d (Ok a) c is x = steps_to_both n b c x.1 (f a c).0 (f a c).1 (k b a c d is x.1.stays x.0)
-    by b d (Err e) c is x = tt
+steps_by {m = m} n {p = p} f h k = record { at = λ b d. by_at m n p f b (h.at b d) (λ a c is e paired. k b a c d is e paired) }
 
 -- the same, otherwise told
 pub steps_as : {A : Type 0} {m n : ItemNoting} {p : Lowering A} → m ≡ n → Steps m p → Steps n p
@@ -198,16 +218,17 @@ noted_by {n = n} h b c a d is = (subst (λ r. StepsTo n b r.0 r.1) is (h.at b d)
 
 -- ---- parameters and predicates
 
--- a parameter that reads back so from here on
-abbrev pub ReadsFrom : Builder → TypeOrConstParamData → Param → Type 0
-ReadsFrom b x y = (final : Stored) → Extends b.stored final → read_param final x ≡ y
+-- a parameter that is this one from here on, whatever its number
+abbrev pub IsFrom : Builder → TypeOrConstParamData → Param → Type 0
+IsFrom b x y = (final : Stored) → Extends b.stored final → (k : ℕ) → ParamIs (store_of final) (map_of final) k x y
 
-noted_param : (x : TypeOrConstParamData) (y : Param) (b : Builder) → ReadsFrom b x y
+noted_param : (x : TypeOrConstParamData) (y : Param) (b : Builder) → IsFrom b x y
     → ItemNoted (one_param y) b (record b { notes = with_param x b.notes })
 noted_param x y b h = record {
   stays = extends_refl b.stored;
-  params = λ final e. map-append (read_param final) b.notes.generics.type_or_consts (x ∷ [])
-      ∙ ap (λ z. map (read_param final) b.notes.generics.type_or_consts ++ z ∷ []) (h final e);
+  added = x ∷ [];
+  adds = refl;
+  params = λ final e. (h final e (count b), tt);
   fits = λ le. le;
   lifetimes = sym (append-nil b.notes.generics.lifetimes);
   bounds = sym (append-nil b.notes.named.bounds);
@@ -215,7 +236,7 @@ noted_param x y b h = record {
   output = sym (append-nil b.notes.named.output);
 }
 
-pub param_at : (x : TypeOrConstParamData) (y : Param) (b : Builder) → Paired b.stored → ReadsFrom b x y
+pub param_at : (x : TypeOrConstParamData) (y : Param) (b : Builder) → Paired b.stored → IsFrom b x y
     → StepsTo (one_param y) b (add_param x b).0 (add_param x b).1
 unfolding add_param with_notes note_down count_out
 param_at x y b d h = by (nat_lt (length b.notes.generics.type_or_consts) 4294967295)
@@ -232,7 +253,9 @@ noted_lifetime : (n : Name) (b : Builder) → nat_lt (length b.notes.generics.li
     → ItemNoted (one_lifetime n) b (record b { notes = with_lifetime_param (early n) b.notes })
 noted_lifetime n b h = record {
   stays = extends_refl b.stored;
-  params = λ final e. sym (append-nil (map (read_param final) b.notes.generics.type_or_consts));
+  added = [];
+  adds = sym (append-nil b.notes.generics.type_or_consts);
+  params = λ final e. tt;
   fits = λ le. subst (λ k. k ≤ 4294967295) (sym (length-append b.notes.generics.lifetimes (early n ∷ [])))
       (one_more_fits (length b.notes.generics.lifetimes) h);
   lifetimes = refl;

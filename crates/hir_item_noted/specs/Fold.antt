@@ -1,15 +1,19 @@
 -- What lowering an item notes, in the order in which it reads the item's parts. What is in a disabled node isn't read.
-use Rattle.std.specs.Prelude.{Bool, List, [], ◌∷◌, ◌++◌, map, Option, Some, None, is_some}
+use Rattle.std.specs.Prelude.{List, [], ◌∷◌, ◌++◌, map, Option, Some, None, option_map}
+use Rattle.hir_store.specs.Pointers.{Pointer}
 use Rattle.hir_store.specs.declared.generics.TypeParamProvenance.{TypeParamProvenance}
 use Rattle.hir_store.specs.declared.generics.TypeParamProvenance.TheVariants as provenance
+use Rattle.hir_store.specs.declared.ids.GenericDefId.{GenericDefId}
 use Rattle.hir_store.specs.declared.name.Name.{Name}
 use Rattle.hir_store.specs.declared.type_ref.LifetimeRef.{LifetimeRef}
 use Rattle.hir_env.specs.declared.place.LifetimeScope.TheVariants as scope
 use Rattle.hir_env.specs.Answered as tree
-use Rattle.hir_env.specs.Answered.{Bound, Bounds, Constant}
+use Rattle.hir_env.specs.Answered.{Bound, Bounds, Constant, OptionType}
+use Rattle.hir_env.specs.NodeMap.{Site}
 use Rattle.hir_env.specs.TypeLayers.{PathTypeReading}
 use Rattle.hir_data.specs.Data.{OptionTypeData, TypeData, no_type}
-use Rattle.hir_data.specs.Written.{written_option_type, written_type}
+use Rattle.hir_data.specs.Written.{constant_site, written_option_type, written_type}
+use Rattle.hir_meaning.specs.Inner.{Bodies, constant_bodies, part_bodies}
 use Rattle.hir_sets.specs.Noting.{Noting, of_lifetime, of_lifetime_option, one_ref}
 use Rattle.hir_sets.specs.Kinds.{LifetimeSets}
 use Rattle.hir_sets.specs.Fold.{noted_in_bound, noted_in_bounds, noted_in_constant, noted_in_output, noted_in_present_type}
@@ -20,14 +24,12 @@ use Rattle.hir_lower_item.specs.Lower.{self_text}
 
 -- a parameter that is a type or a constant
 pub data Param : Type 0 where
-  -- its name, what it is, and its default
-  type_param : Option Name → TypeParamProvenance → OptionTypeData → Param
-  -- its name, its type, and whether it has a default
-  const_param : Name → TypeData → Bool → Param
-
--- one that an `impl` became
-abbrev pub impl_param : Param
-impl_param = type_param None provenance.ArgumentImplTrait no_type
+  -- its name, what it is, and its default, with the bodies inside that
+  type_param : Name → TypeParamProvenance → OptionTypeData → Bodies → Param
+  -- its name, its type, with the bodies inside that, and its default: the node that it came from, and the bodies that it is
+  const_param : Name → TypeData → Bodies → Option (Option Site) → Bodies → Param
+  -- one that an `impl` became: of which definition, and at which node
+  impl_param : GenericDefId → Pointer → Param
 
 -- The parameters in the order of their numbers, the lifetime parameters, and the names in bounds, in arguments and in what is returned,
 -- in the order in which they are read.
@@ -54,7 +56,7 @@ a ⊞ b = record {
 
 -- of a part of the item
 abbrev pub of_part : Noting → ItemNoting
-of_part n = record { params = map (λ i. impl_param) n.impls; lifetimes = []; bounds = n.bounds; input = n.input; output = n.output }
+of_part n = record { params = map (λ i. impl_param i.parent i.at) n.impls; lifetimes = []; bounds = n.bounds; input = n.input; output = n.output }
 
 abbrev pub one_param : Param → ItemNoting
 one_param x = record nothing { params = x ∷ [] }
@@ -88,13 +90,26 @@ abbrev pub noted_in_default : Option Constant → ItemNoting
 noted_in_default None = nothing
 noted_in_default (Some c) = of_part (noted_in_constant c)
 
+-- the node of one, and what it is: the constant itself, and what is inside it
+abbrev pub default_site : Option Constant → Option (Option Site)
+default_site c = option_map constant_site c
+
+abbrev pub default_bodies : Option Constant → Bodies
+default_bodies None = []
+default_bodies (Some c) = constant_bodies c
+
+abbrev pub typed : Name → OptionType → Param
+typed n default = type_param n provenance.TypeParamList (written_option_type default) (part_bodies default)
+
+abbrev pub constant : Name → OptionType → Option Constant → Param
+constant n t default = const_param n (written_type t) (part_bodies t) (default_site default) (default_bodies default)
+
 abbrev pub noted_in_param : item.Param → ItemNoting
 noted_in_param (item.disabled_param at by) = nothing
 noted_in_param (item.type_param n default bs) =
-    of_part (noted_in_present_type default)
-    ⊞ (one_param (type_param (Some n) provenance.TypeParamList (written_option_type default)) ⊞ noted_in_each bs)
+    of_part (noted_in_present_type default) ⊞ (one_param (typed n default) ⊞ noted_in_each bs)
 noted_in_param (item.const_param n t default) =
-    of_part (noted_in_type_part t) ⊞ (noted_in_default default ⊞ one_param (const_param n (written_type t) (is_some default)))
+    of_part (noted_in_type_part t) ⊞ (noted_in_default default ⊞ one_param (constant n t default))
 noted_in_param (item.lifetime_param n l bs) = of_part (of_lifetime l) ⊞ (one_lifetime n ⊞ noted_in_bounds_of l.lifetime bs)
 noted_in_param (item.nameless_param l) = of_part (of_lifetime_option l)
 
@@ -118,7 +133,7 @@ noted_in_generics g = noted_in_params g.params ⊞ noted_in_predicates g.predica
 -- ---- items
 
 abbrev pub self_param : Param
-self_param = type_param (Some self_text) provenance.TraitSelf no_type
+self_param = type_param self_text provenance.TraitSelf no_type []
 
 -- `Self` is the first parameter of a trait
 abbrev pub noted_in_trait : Trait → ItemNoting

@@ -1,7 +1,7 @@
 -- What lowering an item notes is what is read off the item.
-use Rattle.std.specs.Prelude.{◌≡◌, ℕ, List, map, Ok}
+use Rattle.std.specs.Prelude.{◌≡◌, ℕ, List, Ok}
 use Rattle.hir_store.specs.Params.{early_among}
-use Rattle.hir_store.specs.Stored.{Stored}
+use Rattle.hir_store.specs.Stored.{Stored, map_of, store_of}
 use Rattle.hir_store.specs.Storing.{Extends}
 use Rattle.hir_store.specs.declared.generics.GenericParams.{GenericParams}
 use Rattle.hir_store.specs.declared.generics.LifetimeParamData.{LifetimeParamData}
@@ -15,7 +15,7 @@ use Rattle.hir_lower_item.specs.Lower.{lower_alias, lower_function, lower_generi
 use Rattle.hir_steps.specs.Keeps.{Paired}
 use Rattle.hir_item_noted.specs.Fold.{ItemNoting, noted_in_alias, noted_in_function, noted_in_generics, noted_in_impl}
 use Rattle.hir_item_noted.specs.Fold.{noted_in_trait}
-use Rattle.hir_item_noted.specs.Noted.{ItemNoted, all_early, by_kind, read_param}
+use Rattle.hir_item_noted.specs.Noted.{ItemNoted, ParamsFrom, all_early, by_kind}
 
 -- from any builder on in which each entry has its source
 
@@ -32,9 +32,9 @@ ItemsNote = (def : GenericDefId)
 
 -- ---- from nothing
 
--- the parameters that are made of what is noted, as they read back in each store that goes on with this one
+-- the parameters that are made of what is noted, in each store that goes on with this one
 pub record Made (n : ItemNoting) (lifetimes : List LifetimeParamData) (s : Stored) (g : GenericParams) : Type 0 where
-  pub params : (final : Stored) → Extends s final → map (read_param final) g.type_or_consts ≡ n.params
+  pub params : (final : Stored) → Extends s final → ParamsFrom (store_of final) (map_of final) 0 g.type_or_consts n.params
   pub lifetimes_are : g.lifetimes ≡ lifetimes
   pub counted : g.early_bound_lifetimes_len ≡ early_among g.lifetimes
 

@@ -1,30 +1,68 @@
 -- What becomes of the parameters where an item notes this, and the kinds of its lifetime parameters.
-use Rattle.std.specs.Prelude.{◌≡◌, ◌≤◌, List, ◌++◌, length, map, is_some}
-use Rattle.hir_store.specs.Stored.{Stored, map_of, store_of}
+use Rattle.std.specs.Prelude.{◌≡◌, ◌≤◌, ℕ, suc, List, [], ◌∷◌, ◌++◌, length, map, slice_get, Some, None, option_map}
+use Rattle.hir_store.specs.Pointers.{Pointer}
+use Rattle.hir_store.specs.Stored.{Store, SourceMap, Stored, map_of, store_of}
 use Rattle.hir_store.specs.Storing.{Extends}
 use Rattle.hir_store.specs.declared.generics.LifetimeBoundType.TheVariants.{EarlyBound}
 use Rattle.hir_store.specs.declared.generics.LifetimeParamData.{LifetimeParamData}
 use Rattle.hir_store.specs.declared.generics.TypeOrConstParamData.{TypeOrConstParamData}
 use Rattle.hir_store.specs.declared.generics.TypeOrConstParamData.TheVariants as param
+use Rattle.hir_store.specs.declared.generics.TypeParamProvenance.TheVariants.{ArgumentImplTrait}
+use Rattle.hir_store.specs.declared.ids.GenericDefId.{GenericDefId}
+use Rattle.hir_store.specs.declared.ids.TypeRefId.{TypeRefId}
 use Rattle.hir_store.specs.declared.name.Name.{Name}
-use Rattle.hir_data.specs.Reading.{stored_option_type, stored_type}
+use Rattle.hir_data.specs.Reading.{stored_constant, stored_option_type, stored_type}
+use Rattle.hir_meaning.specs.Inner.{all_inners, of_constant, of_present, type_inner_bodies}
+use Rattle.hir_meaning.specs.Same.{SameBodies}
 use Rattle.hir_sets.specs.Kinds.{bound_kind}
 use Rattle.hir_lower_form.specs.Builder.{Builder}
-use Rattle.hir_item_noted.specs.Fold.{ItemNoting, Param, const_param, sets_of_item, type_param}
+use Rattle.hir_lower_form.specs.Lowering.{param_type}
+use Rattle.hir_item_noted.specs.Fold.{ItemNoting, Param, const_param, impl_param, sets_of_item, type_param}
 
--- a parameter, its types read back in this store
-abbrev pub read_param : Stored → TypeOrConstParamData → Param
-read_param s (param.TypeParamData x) = type_param x.name x.provenance (stored_option_type (store_of s) (map_of s) x.default)
-read_param s (param.ConstParamData x) = const_param x.name (stored_type (store_of s) (map_of s) x.ty) (is_some x.default)
+module _ (store : Store) (source_map : SourceMap) where
+  -- the type that the parameter of this definition with this number is, which is stored from the node
+  pub record ItsType (def : GenericDefId) (k : ℕ) (at : Pointer) : Type 0 where
+    pub id : TypeRefId
+    pub stands : slice_get store.types id.0 ≡ Some (param_type def k)
+    pub from : slice_get source_map.type_sources id.0 ≡ Some (Some at)
+
+  -- The parameter with this number is this one: its types read back, a default that is a constant came from the node of the written one, and
+  -- the bodies inside them do what the written ones do.
+  abbrev pub ParamIs : ℕ → TypeOrConstParamData → Param → Type 0
+  ParamIs k (param.TypeParamData x) (type_param n from t bs) = (x.name ≡ Some n) × (x.provenance ≡ from)
+      × (stored_option_type store source_map x.default ≡ t)
+      × SameBodies store source_map (of_present (type_inner_bodies store) x.default) bs
+  ParamIs k (param.TypeParamData x) (impl_param def at) = (x.name ≡ None) × (x.provenance ≡ ArgumentImplTrait) × (x.default ≡ None)
+      × ItsType def k at
+  ParamIs k (param.TypeParamData x) (const_param n t bs c cs) = ⊥
+  ParamIs k (param.ConstParamData x) (const_param n t bs c cs) = (x.name ≡ n) × (stored_type store source_map x.ty ≡ t)
+      × SameBodies store source_map (type_inner_bodies store x.ty) bs
+      × (option_map (stored_constant store source_map) x.default ≡ c)
+      × SameBodies store source_map (of_present (of_constant (all_inners store)) x.default) cs
+  ParamIs k (param.ConstParamData x) (type_param n from t bs) = ⊥
+  ParamIs k (param.ConstParamData x) (impl_param def at) = ⊥
+
+  -- one for each, by their numbers, from this one on
+  abbrev pub ParamsFrom : ℕ → List TypeOrConstParamData → List Param → Type 0
+  ParamsFrom k [] [] = Unit {0}
+  ParamsFrom k (x ∷ xs) (y ∷ ys) = ParamIs k x y × ParamsFrom (suc k) xs ys
+  ParamsFrom k [] (y ∷ ys) = ⊥
+  ParamsFrom k (x ∷ xs) [] = ⊥
 
 abbrev pub early : Name → LifetimeParamData
 early n = record { name = n; bound_type = EarlyBound }
 
--- What is stored goes on, and what was noted with this, as it reads back in each later store. There is an end of lifetime parameters.
+-- how many parameters are noted
+abbrev pub count : Builder → ℕ
+count b = length b.notes.generics.type_or_consts
+
+-- What is stored goes on, and to the parameters come those that were noted with this, in each later store. There is an end of lifetime
+-- parameters.
 pub record ItemNoted (n : ItemNoting) (b c : Builder) : Type 0 where
   pub stays : Extends b.stored c.stored
-  pub params : (final : Stored) → Extends c.stored final
-      → map (read_param final) c.notes.generics.type_or_consts ≡ map (read_param final) b.notes.generics.type_or_consts ++ n.params
+  pub added : List TypeOrConstParamData
+  pub adds : c.notes.generics.type_or_consts ≡ b.notes.generics.type_or_consts ++ added
+  pub params : (final : Stored) → Extends c.stored final → ParamsFrom (store_of final) (map_of final) (count b) added n.params
   pub fits : length b.notes.generics.lifetimes ≤ 4294967295 → length c.notes.generics.lifetimes ≤ 4294967295
   pub lifetimes : c.notes.generics.lifetimes ≡ b.notes.generics.lifetimes ++ map early n.lifetimes
   pub bounds : c.notes.named.bounds ≡ b.notes.named.bounds ++ n.bounds
