@@ -68,9 +68,9 @@ use Rattle.hir_item_noted.specs.Noted.{count}
 use Rattle.hir_item_noted.proofs.Held.{held_here}
 use Rattle.hir_item_asked.specs.Asked.{BoundHolds, BoundIs, TypeIs}
 use Rattle.hir_item_asked.proofs.Held.{bound_holds}
-use Rattle.hir_item_asked.proofs.Logic.{AskTo, Later, Steps, asked_nothing, from_then, param_then, predicate_to, read_as, steps_begin, steps_by}
+use Rattle.hir_item_asked.proofs.Logic.{AskTo, Later, Steps, asked_nothing, from_then, param_then, predicate_to, read_as, steps_begin}
 use Rattle.hir_item_asked.proofs.Logic.{steps_end, steps_lifetime_param, steps_param, steps_part, steps_pure, steps_quiet, steps_then}
-use Rattle.hir_item_asked.proofs.Logic.{ask_at, still}
+use Rattle.hir_item_asked.proofs.Logic.{ask_at, steps_by, still}
 
 -- ---- steps that ask nothing
 

@@ -56,7 +56,13 @@ a ⊞ b = record {
 
 -- of a part of the item
 abbrev pub of_part : Noting → ItemNoting
-of_part n = record { params = map (λ i. impl_param i.parent i.at) n.impls; lifetimes = []; bounds = n.bounds; input = n.input; output = n.output }
+of_part n = record {
+  params = map (λ i. impl_param i.parent i.at) n.impls;
+  lifetimes = [];
+  bounds = n.bounds;
+  input = n.input;
+  output = n.output;
+}
 
 abbrev pub one_param : Param → ItemNoting
 one_param x = record nothing { params = x ∷ [] }

@@ -26,8 +26,8 @@ module _ (store : Store) (source_map : SourceMap) where
     pub stands : slice_get store.types id.0 ≡ Some (param_type def k)
     pub from : slice_get source_map.type_sources id.0 ≡ Some (Some at)
 
-  -- The parameter with this number is this one: its types read back, a default that is a constant came from the node of the written one, and
-  -- the bodies inside them do what the written ones do.
+  -- The parameter with this number is this one: its types read back, a default that is a constant came from the node of the written
+  -- one, and the bodies inside them do what the written ones do.
   abbrev pub ParamIs : ℕ → TypeOrConstParamData → Param → Type 0
   ParamIs k (param.TypeParamData x) (type_param n from t bs) = (x.name ≡ Some n) × (x.provenance ≡ from)
       × (stored_option_type store source_map x.default ≡ t)
