@@ -1,0 +1,6 @@
+mod Levels
+mod Small
+mod ParamRows
+mod ItemRows
+mod FunctionRows
+mod LifetimeRows
