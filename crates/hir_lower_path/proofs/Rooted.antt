@@ -35,7 +35,7 @@ use Rattle.hir_env.proofs.PathLevels.{path_type_is_level, segment_is_level}
 use Rattle.hir_env.specs.TypeLayers.{PathTypeReading}
 use Rattle.hir_lower_form.specs.Builder.{Builder}
 use Rattle.hir_lower_form.specs.Lowering.{Checked, Lowering, Lowers, go_on, pure}
-use Rattle.hir_lower_form.specs.Lower.{lower_path, read_path, read_segment}
+use Rattle.hir_lower_form.specs.Lower.{lower_path, read_option, read_path, read_segment}
 use Rattle.hir_lower_form.specs.Methods.{HasReading, LowersPath, LowersType, ReadsPath, ReadsSegment, at_place}
 use Rattle.hir_lower_form.specs.Paths.{proceed, whole, with_trait}
 use Rattle.hir_lower_form.specs.Walks.{at_first, missing_name, named, names_in}
@@ -307,6 +307,14 @@ same_lowers : (p q : Lowering Reading) (old : Builder) (r : Checked Reading) (ne
     → Lowers HasReading q old r new → Lowers HasReading p old r new
 same_lowers p q old (Ok r) new e h = (e ∙ h.0, h.1, h.2)
 same_lowers p q old (Err f) new e h = λ n. (e ∙ (h n).0, (h n).1)
+
+-- a path around which no use tree stands
+pub alone_lowers : (at : Spot) (u : Option AstPath) (steps : Lowering Reading) (old : Builder) (r : Checked Reading) (new : Builder)
+    → u ≡ None → Lowers HasReading steps old r new → Lowers HasReading (whole steps (read_option (path_part at u))) old r new
+unfolding whole
+alone_lowers at u steps old r new none h =
+    subst (λ o. Lowers HasReading (whole steps (read_option (path_part at o))) old r new) (sym none)
+    (same_lowers (whole steps (read_option tree.no_path)) steps old r new (let o = steps old in sym (open_stays o.0 o.1)) h)
 
 -- a qualified type whose type is read
 trait_lowers : (t : Type_) (read : PathTypeReading) (w : PathWalk) (root : Option CrateId) (bare : Bool) (old mid new : Builder)

@@ -20,7 +20,7 @@ ghost use Rattle.hir_lower_form.specs.Walks.{at_first, names_in};
 ghost use Rattle.hir_lower_path.specs.Rooted.{bare_segment, bare_trait, rooted};
 ghost use Rattle.hir_lower_path.specs.Rooted as rule;
 
-use crate::path::{projected_form, segment_form, trait_path, whole_path};
+use crate::path::{own_segments, projected_form, segment_form, trait_path};
 use crate::places::inside_projection;
 use hir_base::node::InFile;
 use hir_env::place::Place;
@@ -85,6 +85,7 @@ fn if_read(
 
 /// `<T as Trait>`, which stands for the names of the trait.
 #[tactic(auto, using(crate::proofs::Rooted::root_has, crate::proofs::Rooted::as_bare), unfolding(hir_lower_form::specs::Paths::with_trait))]
+#[inline(never)]
 fn local_trait<P: LowerParts>(
     lowerer: &Lowerer<P>,
     state: &mut BodyBuilder,
@@ -110,6 +111,7 @@ fn local_trait<P: LowerParts>(
 }
 
 /// A qualified type with a trait.
+#[inline(never)]
 fn local_qualified<P: LowerParts>(
     lowerer: &Lowerer<P>,
     state: &mut BodyBuilder,
@@ -157,6 +159,7 @@ fn is_bare_segment(leading: bool, seg: Option<SegmentKind>) -> bool
 }
 
 /// The segment, which begins at this root where it is one name that begins nowhere.
+#[inline(never)]
 fn local_segment<P: LowerParts>(
     lowerer: &Lowerer<P>,
     state: &mut BodyBuilder,
@@ -190,6 +193,7 @@ fn local_segment<P: LowerParts>(
 
 /// The segment of a path of one, in a call.
 #[tactic(auto, using(crate::proofs::Rooted::local_reads))]
+#[inline(never)]
 fn only_segment<P: LowerParts>(
     lowerer: &Lowerer<P>,
     state: &mut BodyBuilder,
@@ -215,6 +219,7 @@ fn only_segment<P: LowerParts>(
 }
 
 /// A path without any segment that is there, in a call.
+#[inline(never)]
 fn absent_path(
     state: &mut BodyBuilder,
     walk: PathWalk,
@@ -250,7 +255,7 @@ pub(crate) fn called_path<P: LowerParts>(
         return absent_path(state, walk, node.leading);
     };
     if rest.split_first().is_some() {
-        return whole_path(lowerer, state, walk, node.leading, all, &node.use_);
+        return own_segments(lowerer, state, walk, node.leading, all);
     }
     match first {
         None => absent_path(state, walk, node.leading),

@@ -1,23 +1,22 @@
 //! A path is read from its last segment to its first, then the path of the use tree around it.
 
-ghost use Rattle.std.specs.Prelude.{◌≡◌, IfOk, None, Some, false, if◌then◌else◌, true};
+ghost use Rattle.std.specs.Prelude.{◌≡◌, None, Ok, Some, false, if◌then◌else◌, true};
 ghost use Rattle.hir_syntax.specs.declared.ast.Path.{out-Path};
 ghost use Rattle.hir_syntax.specs.declared.ast.PathSegment.{out-PathSegment};
-ghost use Rattle.hir_store.specs.Past.{join, past_generic, past_present};
-ghost use Rattle.hir_store.specs.Range.{HasPath, HasType};
+ghost use Rattle.hir_store.specs.Range.{HasArgsOption, HasPath, HasType};
 ghost use Rattle.hir_store.specs.declared.name.Name.TheVariants as name;
 ghost use Rattle.hir_env.specs.Answered as tree;
 ghost use Rattle.hir_env.specs.Paths.{crate_root_at, kinded_segment, named_segment, qualified_segment};
 ghost use Rattle.hir_env.specs.Paths as of;
 ghost use Rattle.hir_env.specs.Whole.{first_part, path_level, path_part, path_type_level, path_type_part, rest_part};
 ghost use Rattle.hir_env.specs.Whole.{segment_args_level, segment_level, segment_part, segments_part, type_part};
-ghost use Rattle.hir_lower_form.specs.Lowering.{Lowers};
+ghost use Rattle.hir_lower_form.specs.Lowering.{Lowers, pure};
 ghost use Rattle.hir_lower_form.specs.Methods.{HasReading, HasWalk, LowersPath, ReadsPath, ReadsSegment, at_place};
 ghost use Rattle.hir_lower_form.specs.Nests.{IfPresent, KidsName, KidsPath, KidsPresent, KidsQualified, KidsSegment};
 ghost use Rattle.hir_lower_form.specs.Nests.{KidsSegments, KidsTrait};
 ghost use Rattle.hir_lower_form.specs.Lower as spec;
 ghost use Rattle.hir_lower_form.specs.Paths as forms;
-ghost use Rattle.hir_lower_form.specs.Walks.{past_reading, past_walk, super_read};
+ghost use Rattle.hir_lower_form.specs.Walks.{past_walk, super_read};
 ghost use Rattle.hir_lower_form.specs.Walks as walks;
 ghost use Rattle.hir_lower_form.specs.declared.walk.Reading.TheVariants.{Refused};
 
@@ -36,27 +35,38 @@ use hir_store::path::{GenericArgs, Path, PathKind};
 use hir_store::type_ref::TypeRef;
 use hir_syntax::ast::SegmentKind;
 use hir_syntax::{Boxed, Text, ast};
-use std::alloc::{AllocError, Global};
+use std::alloc::Global;
 
 /// A path that is refused: what is read of it goes.
 #[inline(never)]
-pub(crate) fn refused(_walk: PathWalk) -> Reading
-    ensures { result ≡ Refused }
+fn refused(_walk: PathWalk) -> Result<Reading, StoreFault>
+    ensures { result ≡ Ok Refused }
 {
-    Reading::Refused
+    Ok(Reading::Refused)
+}
+
+/// A name that isn't there.
+#[inline(never)]
+fn missing_name(state: &mut BodyBuilder, walk: PathWalk) -> Result<Reading, StoreFault>
+    requires { HasWalk state.old.stored walk }
+    ensures { ReadsSegment true tree.absent_segment walk state.old result state.new }
+{
+    Ok(walk.named(Name::Missing, None)?)
 }
 
 /// A written name, with what stands beside it.
 #[inline(never)]
 fn written_name(
+    state: &mut BodyBuilder,
     walk: PathWalk,
     written: &ast::Name,
     args: Option<GenericArgs>,
-) -> Result<Reading, AllocError>
-    ensures value { IfOk result (λ r. r ≡ walks.named (name.Text written.now.t) args walk) }
-    ensures past { IfOk result (λ r. past_reading r ≡ join (past_walk walk) (past_present past_generic args)) }
+) -> Result<Reading, StoreFault>
+    requires walk { HasWalk state.old.stored walk }
+    requires args { HasArgsOption state.old.stored args }
+    ensures { Lowers HasReading (pure (walks.named (name.Text written.now.t) args walk)) state.old result state.new }
 {
-    walk.named(Name::Text(written.t.clone()?), args)
+    Ok(walk.named(Name::Text(written.t.clone()?), args)?)
 }
 
 /// `$crate`, which may only be the first.
@@ -66,9 +76,10 @@ fn dollar_crate<P: LowerParts>(
     walk: PathWalk,
     first: bool,
     name: &ast::Name,
-) -> Reading
+) -> Result<Reading, StoreFault>
     ensures { let spot = P.spot lowerer.now.parts in
-        result ≡ (if first then walks.ended (walks.crate_kind (crate_root_at spot.answers spot.place name.now.id)) walk else Refused) }
+        let root = walks.crate_kind (crate_root_at spot.answers spot.place name.now.id) in
+        result ≡ Ok (if first then walks.ended root walk else Refused) }
 {
     if !first {
         return refused(walk);
@@ -77,7 +88,7 @@ fn dollar_crate<P: LowerParts>(
         file_id: lowerer.parts.place().file_id,
         value: name.id,
     };
-    walk.ended(crate_kind(lowerer.parts.crate_root(at)))
+    Ok(walk.ended(crate_kind(lowerer.parts.crate_root(at))))
 }
 
 /// A name with what stands behind it, or `$crate`, which may only be the first.
@@ -97,13 +108,15 @@ fn name_form<P: LowerParts>(
         ReadsSegment first level walk state.old result state.new }
 {
     let Some(name) = &node.name else {
-        return Ok(refused(walk));
+        return refused(walk);
     };
     if name.t.as_str() == "$crate" {
-        return Ok(dollar_crate(lowerer, walk, first, name));
+        return dollar_crate(lowerer, walk, first, name);
     }
-    let args = segment_args(lowerer, state, node)?;
-    Ok(written_name(walk, name, args)?)
+    match segment_args(lowerer, state, node) {
+        Ok(args) => written_name(state, walk, name, args),
+        Err(fault) => Err(fault),
+    }
 }
 
 pub(crate) fn trait_path<P: LowerParts>(
@@ -158,7 +171,7 @@ fn trait_form<P: LowerParts>(
         Lowers HasReading (forms.with_trait (spec.lower_path level.path) ty level.pointer walk) state.old result state.new }
 {
     match trait_path(lowerer, state, place, node)? {
-        None => Ok(refused(walk)),
+        None => refused(walk),
         Some(path) => projected_form(lowerer, state, place, walk, ty, node, path),
     }
 }
@@ -181,7 +194,7 @@ fn qualified_form<P: LowerParts>(
         ReadsSegment first (qualified_segment (type_part inner ty.now) (path_type_part inner trait_.now)) walk state.old result state.new }
 {
     let (Some(ty), true) = (ty, first) else {
-        return Ok(refused(walk));
+        return refused(walk);
     };
     let place = inside_projection(lowerer.parts.place());
     let id = lowerer.parts.lower_type(state, place, &None, ty.get())?;
@@ -227,7 +240,7 @@ fn crate_form(state: &mut BodyBuilder, walk: PathWalk, first: bool) -> Result<Re
     if first {
         Ok(walk.ended(PathKind::Crate))
     } else {
-        Ok(refused(walk))
+        refused(walk)
     }
 }
 
@@ -241,7 +254,7 @@ fn self_form(state: &mut BodyBuilder, walk: PathWalk, first: bool) -> Result<Rea
     if first {
         Ok(walk.self_read())
     } else {
-        Ok(refused(walk))
+        refused(walk)
     }
 }
 
@@ -265,7 +278,7 @@ fn word_form<P: LowerParts>(
         Some(SegmentKind::CrateKw) => crate_form(state, walk, first),
         Some(SegmentKind::SelfKw) => self_form(state, walk, first),
         Some(SegmentKind::SuperKw) => super_form(state, walk),
-        None | Some(SegmentKind::Name) | Some(SegmentKind::Qualified) => Ok(refused(walk)),
+        None | Some(SegmentKind::Name) | Some(SegmentKind::Qualified) => refused(walk),
     }
 }
 
@@ -305,7 +318,7 @@ fn segment<P: LowerParts>(
     ensures { ReadsSegment first (segment_part (P.spot lowerer.now.parts) node.now) walk state.old result state.new }
 {
     match node {
-        None => Ok(walk.named(Name::Missing, None)?),
+        None => missing_name(state, walk),
         Some(node) => segment_form(lowerer, state, walk, first, node),
     }
 }
@@ -333,8 +346,32 @@ fn segments<P: LowerParts>(
     Ok(Reading::Open(walk))
 }
 
+/// The walk at a first segment, which may bear a `::`.
+fn begin(walk: &mut PathWalk, leading: bool)
+    ensures value { walk.new ≡ walks.at_first leading walk.old }
+    ensures past { past_walk walk.new ≡ past_walk walk.old }
+{
+    if leading {
+        walk.kind = PathKind::Abs;
+    }
+}
+
+/// A path without any segment.
+#[inline(never)]
+fn missing_first(
+    state: &mut BodyBuilder,
+    walk: PathWalk,
+    leading: bool,
+) -> Result<Reading, StoreFault>
+    requires { HasWalk state.old.stored walk }
+    ensures { ReadsSegment true tree.absent_segment (walks.at_first leading walk) state.old result state.new }
+{
+    Ok(walk.at_first(leading).named(Name::Missing, None)?)
+}
+
 /// The segments of a path, without those of the use tree around it.
-fn own_segments<P: LowerParts>(
+#[inline(never)]
+pub(crate) fn own_segments<P: LowerParts>(
     lowerer: &Lowerer<P>,
     state: &mut BodyBuilder,
     walk: PathWalk,
@@ -348,11 +385,14 @@ fn own_segments<P: LowerParts>(
         Lowers HasReading (own walk) state.old result state.new }
 {
     let Some((first, rest)) = all.split_first() else {
-        return Ok(walk.at_first(leading).named(Name::Missing, None)?);
+        return missing_first(state, walk, leading);
     };
-    match segments(lowerer, state, walk, rest)? {
-        Reading::Open(walk) => segment(lowerer, state, walk.at_first(leading), true, first),
-        other => Ok(other),
+    match segments(lowerer, state, walk, rest) {
+        Ok(Reading::Open(mut walk)) => {
+            begin(&mut walk, leading);
+            segment(lowerer, state, walk, true, first)
+        }
+        other => other,
     }
 }
 
@@ -377,8 +417,10 @@ fn outer_segments<P: LowerParts>(
     }
 }
 
+/// The segments of a path, and those of the use tree around it.
 #[tactic(auto, unfolding(hir_lower_form::specs::Paths::whole))]
-pub(crate) fn whole_path<P: LowerParts>(
+#[inline(never)]
+fn whole_path<P: LowerParts>(
     lowerer: &Lowerer<P>,
     state: &mut BodyBuilder,
     walk: PathWalk,
@@ -393,9 +435,9 @@ pub(crate) fn whole_path<P: LowerParts>(
         let own = spec.read_own leading (first_part spot all.now) (rest_part spot all.now) in
         Lowers HasReading (forms.whole (own walk) (spec.read_option (path_part spot outer.now))) state.old result state.new }
 {
-    match own_segments(lowerer, state, walk, leading, all)? {
-        Reading::Open(walk) => outer_segments(lowerer, state, walk, outer),
-        other => Ok(other),
+    match own_segments(lowerer, state, walk, leading, all) {
+        Ok(Reading::Open(walk)) => outer_segments(lowerer, state, walk, outer),
+        other => other,
     }
 }
 
@@ -416,7 +458,7 @@ pub fn path_node<P: LowerParts>(
             if node.in_macro {
                 called_path(lowerer, state, walk, node)
             } else {
-                whole_path(lowerer, state, walk, node.leading, all, &node.use_)
+                own_segments(lowerer, state, walk, node.leading, all)
             }
         }
         Some(_) => whole_path(lowerer, state, walk, node.leading, all, &node.use_),

@@ -2,12 +2,6 @@ use Rattle.std.proofs.Common.{arith}
 use Rattle.std.proofs.lemmas.Grind.{common_steps}
 use Rattle.hir_lower_path.proofs.path.name_form.Goals as goal
 
-pub returns-in_err-args : goal.returns-in_err-args
-returns-in_err-args g c = grind (arith, common_steps)
-
-pub returns : goal.returns
-returns g c = grind (arith, common_steps)
-
 pub returns-in_default : goal.returns-in_default
 returns-in_default g c = grind (arith, common_steps)
 

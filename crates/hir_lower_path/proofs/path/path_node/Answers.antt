@@ -1,20 +1,26 @@
 use Rattle.std.proofs.Common.{subst, sym}
+use Rattle.hir_syntax.specs.declared.ast.Path.{out-Path}
+use Rattle.hir_env.specs.Whole.{first_part, rest_part}
+use Rattle.hir_lower_form.specs.Lower.{read_own}
 use Rattle.hir_lower_form.specs.Methods.{ReadsPath}
-use Rattle.hir_lower_path.proofs.Rooted.{reads_level, uncalled_level, used_level}
+use Rattle.hir_lower_path.proofs.Rooted.{alone_lowers, reads_level, uncalled_level, used_level}
 use Rattle.hir_lower_path.proofs.path.path_node.Goals as goal
 
 pub returns-else-node : goal.returns-else-node
 returns-else-node g c =
     let spot = g.P.LowerParts.spot c.args.lowerer.now.parts in
-    reads_level spot c.args.node.now c.args.walk c.args.state.now c.whole_path.result c.whole_path.new.state
-    (subst (λ y. ReadsPath y c.args.walk c.args.state.now c.whole_path.result c.whole_path.new.state)
+    let o = out-Path c.args.node.now in
+    let own = read_own o.leading (first_part spot o.segs) (rest_part spot o.segs) c.args.walk in
+    reads_level spot c.args.node.now c.args.walk c.args.state.now c.own_segments.result c.own_segments.new.state
+    (subst (λ y. ReadsPath y c.args.walk c.args.state.now c.own_segments.result c.own_segments.new.state)
     (sym (uncalled_level spot c.args.node.now c.if-node.false))
-    (rw c.as_slice-all.ensures at c.whole_path.ensures))
+    (alone_lowers spot o.use_ own c.args.state.now c.own_segments.result c.own_segments.new.state c.in-None.is
+    (rw c.as_slice-all.ensures at c.own_segments.ensures)))
 
 pub returns-in-Some : goal.returns-in-Some
 returns-in-Some g c =
     let spot = g.P.LowerParts.spot c.args.lowerer.now.parts in
-    reads_level spot c.args.node.now c.args.walk c.args.state.now c.whole_path-in-Some.result c.whole_path-in-Some.new.state
-    (subst (λ y. ReadsPath y c.args.walk c.args.state.now c.whole_path-in-Some.result c.whole_path-in-Some.new.state)
+    reads_level spot c.args.node.now c.args.walk c.args.state.now c.whole_path.result c.whole_path.new.state
+    (subst (λ y. ReadsPath y c.args.walk c.args.state.now c.whole_path.result c.whole_path.new.state)
     (sym (used_level spot c.args.node.now c.in-Some.field-0 c.in-Some.is))
-    (rw c.as_slice-all.ensures at c.whole_path-in-Some.ensures))
+    (rw c.as_slice-all.ensures at c.whole_path.ensures))

@@ -6,8 +6,5 @@ use Rattle.hir_lower_path.proofs.path.segment.Goals as goal
 pub segment_form-requires-clause-parts : goal.segment_form-requires-clause-parts
 segment_form-requires-clause-parts g c = grind (arith, common_steps, segment_is_level)
 
-pub returns-in_ok-named-in-None : goal.returns-in_ok-named-in-None
-returns-in_ok-named-in-None g c = grind (arith, common_steps, segment_is_level)
-
 pub returns-in-Some : goal.returns-in-Some
 returns-in-Some g c = grind (arith, common_steps, segment_is_level)
