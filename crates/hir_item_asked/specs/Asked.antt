@@ -11,15 +11,14 @@ use Rattle.hir_data.specs.Reading.{bound_layer, entries, readers, stored_lifetim
 use Rattle.hir_meaning.specs.Inner.{Bodies, all_inners, of_bound, type_inner_bodies}
 use Rattle.hir_meaning.specs.Same.{SameBodies}
 use Rattle.hir_lower_form.specs.Builder.{Builder}
-use Rattle.hir_lower_form.specs.Lowering.{param_type}
-use Rattle.hir_item_noted.specs.Noted.{count}
+use Rattle.hir_item_noted.specs.Noted.{count, parameter_type}
 use Rattle.hir_item_asked.specs.Fold.{Asked, Asking, Asks, of_impl, of_lifetime, of_type, parameter, written}
 
 module _ (store : Store) (source_map : SourceMap) where
   -- a parameter is one, from that node; what is written is read back, and the bodies inside it do what the written ones do
   abbrev pub TypeIs : TypeRefId → Asked → Type 0
   TypeIs t (parameter def k at) =
-      (slice_get store.types t.0 ≡ Some (param_type def k)) × (slice_get source_map.type_sources t.0 ≡ Some at)
+      (slice_get store.types t.0 ≡ Some (parameter_type def k)) × (slice_get source_map.type_sources t.0 ≡ Some at)
   TypeIs t (written d bs) = (stored_type store source_map t ≡ d) × SameBodies store source_map (type_inner_bodies store t) bs
 
   abbrev pub BoundIs : TypeBound → BoundData → Type 0

@@ -1,10 +1,11 @@
 -- What lowering an item notes, in the order in which it reads the item's parts. What is in a disabled node isn't read.
-use Rattle.std.specs.Prelude.{List, [], ◌∷◌, ◌++◌, map, Option, Some, None, option_map}
+use Rattle.std.specs.Prelude.{codes, List, [], ◌∷◌, ◌++◌, map, Option, Some, None, option_map}
 use Rattle.hir_store.specs.Pointers.{Pointer}
 use Rattle.hir_store.specs.declared.generics.TypeParamProvenance.{TypeParamProvenance}
 use Rattle.hir_store.specs.declared.generics.TypeParamProvenance.TheVariants as provenance
 use Rattle.hir_store.specs.declared.ids.GenericDefId.{GenericDefId}
 use Rattle.hir_store.specs.declared.name.Name.{Name}
+use Rattle.hir_store.specs.declared.name.Name.TheVariants as name
 use Rattle.hir_store.specs.declared.type_ref.LifetimeRef.{LifetimeRef}
 use Rattle.hir_env.specs.declared.place.LifetimeScope.TheVariants as scope
 use Rattle.hir_env.specs.Answered as tree
@@ -20,7 +21,6 @@ use Rattle.hir_sets.specs.Fold.{noted_in_bound, noted_in_bounds, noted_in_consta
 use Rattle.hir_sets.specs.Fold.{noted_in_type, noted_in_type_part, noted_in_whole}
 use Rattle.hir_lower_item.specs.Items as item
 use Rattle.hir_lower_item.specs.Items.{Alias, Argument, Function, Generics, Impl, Predicate, Receiver, Trait}
-use Rattle.hir_lower_item.specs.Lower.{self_text}
 
 -- a parameter that is a type or a constant
 pub data Param : Type 0 where
@@ -138,8 +138,11 @@ noted_in_generics g = noted_in_params g.params ⊞ noted_in_predicates g.predica
 
 -- ---- items
 
+abbrev pub self_name : Name
+self_name = name.Text (codes "Self")
+
 abbrev pub self_param : Param
-self_param = type_param self_text provenance.TraitSelf no_type []
+self_param = type_param self_name provenance.TraitSelf no_type []
 
 -- `Self` is the first parameter of a trait
 abbrev pub noted_in_trait : Trait → ItemNoting

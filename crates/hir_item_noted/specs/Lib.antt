@@ -1,3 +1,4 @@
 pub mod Fold
 pub mod Noted
 pub mod Laws
+pub mod Words

@@ -11,19 +11,24 @@ use Rattle.hir_store.specs.declared.generics.TypeParamProvenance.TheVariants.{Ar
 use Rattle.hir_store.specs.declared.ids.GenericDefId.{GenericDefId}
 use Rattle.hir_store.specs.declared.ids.TypeRefId.{TypeRefId}
 use Rattle.hir_store.specs.declared.name.Name.{Name}
+use Rattle.hir_store.specs.declared.type_ref.TypeRef.{TypeRef}
+use Rattle.hir_store.specs.declared.type_ref.TypeRef.TheVariants as type
 use Rattle.hir_data.specs.Reading.{stored_constant, stored_option_type, stored_type}
 use Rattle.hir_meaning.specs.Inner.{all_inners, of_constant, of_present, type_inner_bodies}
 use Rattle.hir_meaning.specs.Same.{SameBodies}
 use Rattle.hir_sets.specs.Kinds.{bound_kind}
 use Rattle.hir_lower_form.specs.Builder.{Builder}
-use Rattle.hir_lower_form.specs.Lowering.{param_type}
 use Rattle.hir_item_noted.specs.Fold.{ItemNoting, Param, const_param, impl_param, sets_of_item, type_param}
 
+-- the type that the parameter of this definition with this number is
+abbrev pub parameter_type : GenericDefId → ℕ → TypeRef
+parameter_type def k = type.TypeParam (record { parent = def; local_id = record { 0 = k } })
+
 module _ (store : Store) (source_map : SourceMap) where
-  -- the type that the parameter of this definition with this number is, which is stored from the node
+  -- that type, which is stored from the node
   pub record ItsType (def : GenericDefId) (k : ℕ) (at : Pointer) : Type 0 where
     pub id : TypeRefId
-    pub stands : slice_get store.types id.0 ≡ Some (param_type def k)
+    pub stands : slice_get store.types id.0 ≡ Some (parameter_type def k)
     pub from : slice_get source_map.type_sources id.0 ≡ Some (Some at)
 
   -- The parameter with this number is this one: its types read back, a default that is a constant came from the node of the written

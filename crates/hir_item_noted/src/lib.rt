@@ -3,6 +3,7 @@
 #![tactic(auto)]
 
 ghost use Rattle.hir_item_noted.specs.Laws.{ItemsMake, ItemsNote};
+ghost use Rattle.hir_item_noted.specs.Words.{SameWords};
 
 /// Lowering an item notes its parameters in the order of their numbers, by name or as those of `impl`s, its lifetime parameters, and the
 /// names of lifetimes by where they count, in the order in which its parts are read.
@@ -14,4 +15,9 @@ pub fn items_note()
 /// is returned names them, an argument constrains.
 pub fn items_make()
     ensures { ItemsMake }
+{}
+
+/// The name of a trait's `Self`, and the type that a parameter is, are those of the steps.
+pub fn same_words()
+    ensures { SameWords }
 {}
