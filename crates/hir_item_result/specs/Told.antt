@@ -3,6 +3,7 @@
 use Rattle.std.specs.Prelude.{List, [], ◌∷◌, Some, None, is_some}
 use Rattle.hir_store.specs.Stored.{Store, SourceMap}
 use Rattle.hir_env.specs.Answered as tree
+use Rattle.hir_data.specs.Written.{lifetime_data}
 use Rattle.hir_one_result.specs.PathRoom.{whole_read}
 use Rattle.hir_one_result.specs.Leads.{Ways, No, ◌&◌}
 use Rattle.hir_one_result.specs.Stands.{BoundWays, Open, TypePartWays, WholeWays}
@@ -19,7 +20,7 @@ module _ {ℓ} (S : Grading {ℓ}) where
   grade_item_part (part.bound_read b) = grade_bound S b
   grade_item_part (part.trait_read at p) = S.then' (grade_whole S p) (if_so S (is_some (whole_read p)) (S.type_at (Some at)))
   grade_item_part (part.constant_read c) = grade_constant S c
-  grade_item_part (part.lifetime_read l) = S.lifetime_at (Some l.pointer)
+  grade_item_part (part.lifetime_read l) = S.lifetime_as (lifetime_data l)
   grade_item_part part.lifetime_made = S.lifetime_at None
   grade_item_part (part.fault_told d) = S.fault d
   grade_item_part part.param_made = S.param

@@ -1,9 +1,12 @@
 -- Made names stay apart: an instance.
-use Rattle.std.proofs.Common.{refl, Some}
+use Rattle.std.proofs.Common.{refl, Some, List}
+use Rattle.hir_store.specs.Pointers.{Pointer}
+use Rattle.hir_store.specs.declared.type_ref.TypeBound.{TypeBound}
+use Rattle.hir_env.specs.declared.place.ImplTrait.{ImplTrait}
 use Rattle.hir_env.specs.Answered.{OptionExpr}
 use Rattle.hir_env.specs.Answered as tree
 use Rattle.hir_lower_form.specs.Lower.{lower_part}
-use Rattle.hir_lower_form.specs.Lowering.{Lowering, ◌>>=◌, pure}
+use Rattle.hir_lower_form.specs.Lowering.{Lowering, ◌>>=◌, becoming, pure}
 use Rattle.hir_lower_form.specs.Pats.{new_binding}
 use Rattle.hir_lower_form.specs.Walks.{super_read}
 use Rattle.hir_steps.proofs.CallForms.{gone_apart, note_apart, told_apart}
@@ -34,6 +37,9 @@ pub apart_where : {A B : Type 0} {P : A → Type 0} {p : Lowering A} {f : A → 
     → ((a : A) → P a → Correct (f a) Apart) → Correct (p >>= f) Apart
 apart_where h t k = correct_as (correct_where h t k) (λ final ps m m' b g row. apart_trans row.first row.second)
 
+pub impl_apart : (at : Pointer) (mode : ImplTrait) (bounds : List TypeBound) → Correct (becoming at mode bounds) Apart
+impl_apart at mode bounds = correct_becoming at mode bounds (λ t e. stored_type_apart t (Some at))
+
 abbrev pub apart_graded : Graded silent
 apart_graded = record {
   Claim = λ g p. Correct p Apart;
@@ -52,11 +58,19 @@ apart_graded = record {
   beside_end_is = λ table h k. then_apart h k;
   new_name_is = λ u is t with_it e. then_apart (binding_apart (new_binding u) is) (λ b. pure_apart (b, with_it b));
   top_is = λ h. then_apart h (λ r. then_apart (settle_apart r.1) (λ u. pure_apart r.0));
-  type_is = λ t at. stored_type_apart t at;
+  Where = λ C g p. Correct p Apart;
+  where_is = λ is h. h;
+  where_any = λ h. h;
+  where_less = λ is h. h;
+  where_next = λ h k. then_apart h k;
+  where_known = λ h t is k. apart_where h t k;
+  where_first = λ h k. then_apart h k;
+  where_end = λ h k. then_apart h k;
+  type_is = λ t at shape. stored_type_apart t at;
   lifetime_is = λ l at. stored_lifetime_apart l at;
   noted_down_is = λ f k h. correct_noted f h;
   aliased_is = λ alias h. correct_aliased alias h;
-  impl_is = λ at mode bounds. correct_becoming at mode bounds (λ t e. stored_type_apart t (Some at));
+  impl_is = λ at mode bounds shape. impl_apart at mode bounds;
   pat_is = λ p at. stored_pat_apart p at;
   made_pat_is = λ p at. made_pat_apart p at;
   expr_is = λ e at. expr_apart e at;

@@ -11,12 +11,14 @@ use Rattle.hir_lower_form.specs.Lowering.{becoming}
 use Rattle.hir_told.specs.Grading.{grade_impl}
 use Rattle.hir_lower_form.specs.Builder.{Builder}
 use Rattle.hir_lower_form.specs.Lowering.{Lowering}
+use Rattle.hir_data.specs.Data as datum
+use Rattle.hir_data.specs.Data.{Shape}
 use Rattle.hir_steps.specs.Calls.{Expansions}
 use Rattle.hir_steps.specs.Keeps.{Paired}
 use Rattle.hir_steps.proofs.Steps.{Correct, with_block}
 use Rattle.hir_one_result.proofs.Around.{scopes_around}
 use Rattle.hir_one_result.proofs.CoroutineTelling.{coroutine_body_tells}
-use Rattle.hir_one_result.proofs.Telling.{Listing, Tells}
+use Rattle.hir_one_result.proofs.Telling.{Listing, Tells, tells_bind}
 use Rattle.hir_told.specs.Expanded.{bodies_expanded, expansions}
 use Rattle.hir_told.specs.Laws.{BodiesExpand, ExprsExpand, PathsExpand, TypesExpand}
 use Rattle.hir_told.proofs.AsTelling.{behind, tells_graded}
@@ -50,11 +52,11 @@ expanded = record {
   both = λ xs ys us vs e f. λ i. e i ++ f i;
 }
 
-pub impls : (at : Pointer) (mode : ImplTrait) (bounds : List TypeBound)
-    → Correct (becoming at mode bounds) (Tells expanded (λ ss. grade_impl expansions mode at))
-impls at becomes.Error bounds = (tells_graded expanded).impl_is at becomes.Error bounds
-impls at becomes.Opaque bounds = (tells_graded expanded).impl_is at becomes.Opaque bounds
-impls at (becomes.Argument def) bounds = (tells_graded expanded).impl_is at (becomes.Argument def) bounds
+pub impls : (at : Pointer) (mode : ImplTrait) (bounds : List TypeBound) (shape : Shape)
+    → Correct (becoming at mode bounds) (Tells expanded (λ ss. grade_impl expansions mode (datum.typed (Some at) shape)))
+impls at becomes.Error bounds shape = (tells_graded expanded).impl_is at becomes.Error bounds shape
+impls at becomes.Opaque bounds shape = (tells_graded expanded).impl_is at becomes.Opaque bounds shape
+impls at (becomes.Argument def) bounds shape = (tells_graded expanded).impl_is at (becomes.Argument def) bounds shape
 
 abbrev pub expansions_graded : Graded expansions
 expansions_graded = let all = tells_graded expanded in record {
@@ -74,11 +76,19 @@ expansions_graded = let all = tells_graded expanded in record {
   beside_end_is = λ table h k. all.beside_end_is table h k;
   new_name_is = λ u is t with_it e. all.new_name_is u is t with_it e;
   top_is = λ h. all.top_is h;
-  type_is = λ t at. all.type_is t at;
+  Where = λ C es p. Correct p (Tells expanded (λ ss. es));
+  where_is = λ is h. h;
+  where_any = λ h. h;
+  where_less = λ is h. h;
+  where_next = λ h k. tells_bind expanded h k;
+  where_known = λ h t is k. all.bind_is h t k;
+  where_first = λ h k. tells_bind expanded h k;
+  where_end = λ h k. all.end_is h k;
+  type_is = λ t at shape. all.type_is t at shape;
   lifetime_is = λ l at. all.lifetime_is l at;
   noted_down_is = λ f k h. all.noted_down_is f k h;
   aliased_is = λ alias h. all.aliased_is alias h;
-  impl_is = λ at mode bounds. impls at mode bounds;
+  impl_is = λ at mode bounds shape. impls at mode bounds shape;
   pat_is = λ p at. all.pat_is p at;
   made_pat_is = λ p at. all.made_pat_is p at;
   expr_is = λ e at. all.expr_is e at;

@@ -12,6 +12,8 @@ use Rattle.hir_store.specs.declared.ids.PatId.{PatId}
 use Rattle.hir_store.specs.declared.hir.CoroutineKind.{CoroutineKind}
 use Rattle.hir_env.specs.Answered as tree
 use Rattle.hir_env.specs.Answered.{Formals, Label, OptionExpr, SelfFormal}
+use Rattle.hir_data.specs.Data as datum
+use Rattle.hir_data.specs.Data.{Shape}
 use Rattle.hir_data.specs.Patterns.{moved_by}
 use Rattle.hir_lower_form.specs.Lower.{lower_part}
 use Rattle.hir_lower_form.specs.Builder.{Builder}
@@ -71,10 +73,11 @@ given {A = A} {P = P} {n = n} {p = p} h t = record { tells = λ b d. by b (p b).
 
 -- ---- what an `impl` becomes
 
-pub impls : (at : Pointer) (mode : ImplTrait) (bounds : List TypeBound) → Takes (grade_impl sizes mode at) (becoming at mode bounds)
-impls at becomes.Error bounds = becoming_takes at becomes.Error bounds
-impls at becomes.Opaque bounds = becoming_takes at becomes.Opaque bounds
-impls at (becomes.Argument def) bounds = becoming_takes at (becomes.Argument def) bounds
+pub impls : (at : Pointer) (mode : ImplTrait) (bounds : List TypeBound) (shape : Shape)
+    → Takes (grade_impl sizes mode (datum.typed (Some at) shape)) (becoming at mode bounds)
+impls at becomes.Error bounds shape = becoming_takes at becomes.Error bounds
+impls at becomes.Opaque bounds shape = becoming_takes at becomes.Opaque bounds
+impls at (becomes.Argument def) bounds shape = becoming_takes at (becomes.Argument def) bounds
 
 -- ---- two dots
 
@@ -203,11 +206,19 @@ rooms_graded = record {
   beside_end_is = λ table h k. takes_end h k;
   new_name_is = λ u is t with_it e. takes_end (takes_binding (new_binding u)) (λ b. takes_pure (b, with_it b));
   top_is = λ h. takes_end h (λ r. takes_end (settle_takes r.1) (λ u. takes_pure r.0));
-  type_is = λ t at. takes_type t at;
+  Where = λ C n p. Takes n p;
+  where_is = λ is h. h;
+  where_any = λ h. h;
+  where_less = λ is h. h;
+  where_next = λ h k. takes_then h k;
+  where_known = λ h t is k. takes_of (tells_then (given h t) (λ a x. tells_any (k a x)));
+  where_first = λ h k. takes_then h k;
+  where_end = λ h k. takes_end h k;
+  type_is = λ t at shape. takes_type t at;
   lifetime_is = λ l at. takes_lifetime l at;
   noted_down_is = λ f k h. takes_noted f k h;
   aliased_is = λ alias h. aliased_takes alias h;
-  impl_is = λ at mode bounds. impls at mode bounds;
+  impl_is = λ at mode bounds shape. impls at mode bounds shape;
   pat_is = λ p at. takes_pat p at;
   made_pat_is = λ p at. takes_made_pat p at;
   expr_is = λ e at. (takes_alloc e at, last_alloc e at);

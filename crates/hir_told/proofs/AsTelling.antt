@@ -8,6 +8,7 @@ use Rattle.hir_store.specs.declared.diagnostics.ExpressionStoreDiagnostics.{Expr
 use Rattle.hir_store.specs.declared.hir.Expr.{Expr as HirExpr}
 use Rattle.hir_store.specs.declared.ids.LabelId.{LabelId}
 use Rattle.hir_store.specs.declared.ids.PatId.{PatId}
+use Rattle.hir_data.specs.Data.{TypeData}
 use Rattle.hir_scope.specs.Scopes.{Scope, block_scope, loop_scope, try_scope}
 use Rattle.hir_lower_form.specs.Builder.{Builder}
 use Rattle.hir_lower_form.specs.Forms.{ExprSteps, StoredContents}
@@ -90,11 +91,11 @@ module _ {X : Type 0} (L : Listing X) where
 
   -- ---- what an `impl` becomes
 
-  pub impls_tell : (at : Pointer) (mode : ImplTrait) (bounds : List TypeBound)
-      → Correct (becoming at mode bounds) (Tells L (grade_impl (listed L.of_faults L.of_block L.of_told) mode at))
-  impls_tell at becomes.Error bounds = tells_aside L (aside_type _ (Some at))
-  impls_tell at becomes.Opaque bounds = tells_aside L (aside_type _ (Some at))
-  impls_tell at (becomes.Argument def) bounds =
+  pub impls_tell : (at : Pointer) (mode : ImplTrait) (bounds : List TypeBound) (t : TypeData)
+      → Correct (becoming at mode bounds) (Tells L (grade_impl (listed L.of_faults L.of_block L.of_told) mode t))
+  impls_tell at becomes.Error bounds t = tells_aside L (aside_type _ (Some at))
+  impls_tell at becomes.Opaque bounds t = tells_aside L (aside_type _ (Some at))
+  impls_tell at (becomes.Argument def) bounds t =
       correct_becoming at (becomes.Argument def) bounds (λ t e. tells_aside L (aside_type t (Some at)))
 
   -- ---- a `try`
@@ -138,11 +139,19 @@ module _ {X : Type 0} (L : Listing X) where
     beside_end_is = λ table h k. tells_end L h k;
     new_name_is = λ u is t with_it e. tells_end L (tells_binding L (new_binding u)) (λ b. tells_pure L (b, with_it b));
     top_is = λ h. tells_end L h (λ r. tells_end L (settle_tells L r.1) (λ u. tells_pure L r.0));
-    type_is = λ t at. tells_aside L (aside_type t at);
+    Where = λ C D p. Correct p (Tells L D);
+    where_is = λ is h. h;
+    where_any = λ h. h;
+    where_less = λ is h. h;
+    where_next = λ h k. tells_bind L h k;
+    where_known = λ h t is k. tells_where h t k;
+    where_first = λ h k. tells_bind L h k;
+    where_end = λ h k. tells_end L h k;
+    type_is = λ t at shape. tells_aside L (aside_type t at);
     lifetime_is = λ l at. tells_aside L (aside_lifetime l at);
     noted_down_is = λ f k h. correct_noted f h;
     aliased_is = λ alias h. correct_aliased alias h;
-    impl_is = λ at mode bounds. impls_tell at mode bounds;
+    impl_is = λ at mode bounds shape. impls_tell at mode bounds _;
     pat_is = λ p at. tells_pat L p at;
     made_pat_is = λ p at. tells_made_pat L p at;
     expr_is = λ e at. tells_alloc L e at;

@@ -20,7 +20,7 @@ use Rattle.hir_steps.specs.Keeps.{Paired}
 use Rattle.hir_steps.proofs.Calls.{only_gone, only_note, only_told, point_pat_apart, point_target_apart, point_type_apart, still_only}
 use Rattle.hir_steps.proofs.Calls.{still_point_pat, still_point_target}
 use Rattle.hir_steps.proofs.Calls.{still_point_type}
-use Rattle.hir_steps.proofs.Apart.{Apart, binding_apart, point_apart, try_target_apart}
+use Rattle.hir_steps.proofs.Apart.{Apart, binding_apart, point_apart, stored_type_apart, then_apart, try_target_apart}
 use Rattle.hir_steps.proofs.ApartPats.{settle_apart}
 use Rattle.hir_steps.proofs.Barriers.{raises_yield, still_closure, still_constant, still_coroutine, still_inner}
 use Rattle.hir_steps.proofs.CoroutineClosures.{still_coroutine_closure}
@@ -40,7 +40,8 @@ use Rattle.hir_steps.proofs.Yields.{still_report, still_try_target, still_type}
 use Rattle.hir_told.specs.Laws.{ExprsNote, PatsNote, TargetsNote, TypesNote}
 use Rattle.hir_told.specs.Yields.{yields}
 use Rattle.hir_told.proofs.Answering.{Answering, AnsweredTo}
-use Rattle.hir_told.proofs.AsApart.{apart_graded, apart_where}
+use Rattle.hir_data.specs.Data.{TypeData}
+use Rattle.hir_told.proofs.AsApart.{apart_graded, apart_where, impl_apart}
 use Rattle.hir_told.proofs.Graded.{Graded}
 use Rattle.hir_told.proofs.Tree.{expr_part_graded, part_graded, target_graded, top_graded}
 
@@ -85,11 +86,12 @@ try_raises at typed k of b {f = f} hs hp t more = raises_begin (raises_open_try 
     raises_where hp t (λ r is. raises_begin raises_close (λ v. subst (λ x. Raises (k x) (f n r)) is (more n r)))))
 
 -- nor in what an `impl` becomes
-pub impls : (at : Pointer) (mode : ImplTrait) (bounds : List TypeBound) → Notes (grade_impl yields mode at) (becoming at mode bounds)
-impls at becomes.Error bounds = off (apart_graded.impl_is at becomes.Error bounds) (still_becoming at becomes.Error bounds)
-impls at becomes.Opaque bounds = off (apart_graded.impl_is at becomes.Opaque bounds) (still_becoming at becomes.Opaque bounds)
-impls at (becomes.Argument def) bounds =
-    off (apart_graded.impl_is at (becomes.Argument def) bounds) (still_becoming at (becomes.Argument def) bounds)
+pub impls : (at : Pointer) (mode : ImplTrait) (bounds : List TypeBound) (t : TypeData)
+    → Notes (grade_impl yields mode t) (becoming at mode bounds)
+impls at becomes.Error bounds t = off (impl_apart at becomes.Error bounds) (still_becoming at becomes.Error bounds)
+impls at becomes.Opaque bounds t = off (impl_apart at becomes.Opaque bounds) (still_becoming at becomes.Opaque bounds)
+impls at (becomes.Argument def) bounds t =
+    off (impl_apart at (becomes.Argument def) bounds) (still_becoming at (becomes.Argument def) bounds)
 
 abbrev pub yields_graded : Graded yields
 yields_graded = let apart = apart_graded in record {
@@ -115,11 +117,19 @@ yields_graded = let apart = apart_graded in record {
     apart.top_is h.0,
     raises_end h.1 (λ r. raises_end (raises_still (settle_apart r.1) (settle_still r.1)) (λ u. raises_pure r.0)),
   );
-  type_is = λ t at. off (apart.type_is t at) (still_type t at);
+  Where = λ C y p. Notes y p;
+  where_is = λ is h. h;
+  where_any = λ h. h;
+  where_less = λ is h. h;
+  where_next = λ h k. (then_apart h.0 (λ a. (k a).0), raises_then h.1 (λ a. (k a).1));
+  where_known = λ h t is k. (apart_where h.0 t (λ a x. (k a x).0), raises_where h.1 t (λ a x. (k a x).1));
+  where_first = λ h k. (then_apart h.0 (λ a. (k a).0), raises_then h.1 (λ a. (k a).1));
+  where_end = λ h k. (apart.end_is h.0 (λ a. (k a).0), raises_end h.1 (λ a. (k a).1));
+  type_is = λ t at shape. off (stored_type_apart t at) (still_type t at);
   lifetime_is = λ l at. off (apart.lifetime_is l at) (still_lifetime l at);
   noted_down_is = λ f k h. (apart.noted_down_is f k h.0, raises_noted_down f h.1);
   aliased_is = λ alias h. (apart.aliased_is alias h.0, raises_aliased alias h.1);
-  impl_is = λ at mode bounds. impls at mode bounds;
+  impl_is = λ at mode bounds shape. impls at mode bounds _;
   pat_is = λ p at. off (apart.pat_is p at) (still_pat p at);
   made_pat_is = λ p at. off (apart.made_pat_is p at) (still_made_pat p at);
   expr_is = λ e at. off (apart.expr_is e at) (still_expr e at);

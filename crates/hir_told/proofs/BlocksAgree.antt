@@ -10,13 +10,14 @@ use Rattle.hir_store.specs.declared.name.Name.TheVariants as name
 use Rattle.hir_env.specs.declared.place.ImplTrait.{ImplTrait}
 use Rattle.hir_env.specs.declared.place.ImplTrait.TheVariants as becomes
 use Rattle.hir_env.specs.Answered as tree
-use Rattle.hir_env.specs.Answered.{Called}
+use Rattle.hir_env.specs.Answered.{Binder, Called}
 use Rattle.hir_env.specs.Answered.{Type_, OptionType, Parts, Path, OptionPath, Segments, Segment, SegmentArgs, OptionParens, OptionRet}
 use Rattle.hir_env.specs.Answered.{OptionArgs, Args, Arg, Bounds, Bound, Constant, Expr, OptionExpr, Exprs, Fields, Field, Spread, Block}
 use Rattle.hir_env.specs.Answered.{OptionBlock, Stmts, Stmt, Arms, Arm, Guard, Pat, OptionPat, Pats, PatFields, PatField, Side, TypePat}
 use Rattle.hir_env.specs.Answered.{OptionTypePat, TypePats, Limit, Param, Params}
 use Rattle.hir_env.specs.Answered.{Target, Targets, TargetFields, TargetField, Label, Lifetime}
 use Rattle.hir_env.specs.Answered.{Listing, RangeForm, UseRead}
+use Rattle.hir_data.specs.Data.{TypeData}
 use Rattle.hir_data.specs.Patterns.{is_dots}
 use Rattle.hir_data.specs.Uses.{FirstUses}
 use Rattle.hir_data.specs.Written.{written_path}
@@ -70,10 +71,10 @@ lifetime_none : (l : Option Lifetime) (ss : List Scope) → p.grade_lifetime blo
 lifetime_none None ss = refl
 lifetime_none (Some l) ss = refl
 
-impl_none : (mode : ImplTrait) (at : Pointer) (ss : List Scope) → p.grade_impl blocks mode at ss ≡ []
-impl_none becomes.Error at ss = refl
-impl_none becomes.Opaque at ss = refl
-impl_none (becomes.Argument def) at ss = refl
+impl_none : (mode : ImplTrait) (t : TypeData) (ss : List Scope) → p.grade_impl blocks mode t ss ≡ []
+impl_none becomes.Error t ss = refl
+impl_none becomes.Opaque t ss = refl
+impl_none (becomes.Argument def) t ss = refl
 
 uses_none : (us : List UseRead) (ss : List Scope) → p.grade_uses blocks us ss ≡ []
 uses_none [] ss = refl
@@ -189,42 +190,46 @@ try_is typed number st e ss h =
 mutual
   -- ---- types, paths, arguments and bounds
 
-  type_is : (t : Type_) (ss : List Scope) → g.grade_type blocks t ss ≡ now.blocks_of_type t
-  type_is (tree.paren_type t) ss = part_is t ss
-  type_is (tree.macro_type at c tree.no_type) ss = uncalled_type_is at c ss
-  type_is (tree.macro_type at c (tree.some_type t)) ss = behind (type_is t ss)
-  type_is (tree.for_type names t) ss = part_is t ss
-  type_is (tree.leaf_type at form) ss = refl
-  type_is (tree.over_type at form t) ss = behind (part_is t ss)
-  type_is (tree.array_type at c t) ss = both (constant_is c ss) (behind (part_is t ss))
-  type_is (tree.tuple_type at ts) ss = behind (parts_is ts ss)
-  type_is (tree.path_type at q) ss = behind (whole_is q ss)
-  type_is (tree.ref_type at l mutability t) ss = first (part_is t ss) (behind (lifetime_none l ss))
-  type_is (tree.fn_type at head ts r) ss = both (part_is r ss) (behind (parts_is ts ss))
-  type_is (tree.impl_type at mode bs) ss = first (bounds_are bs ss) (impl_none mode at ss)
-  type_is (tree.nested_impl at) ss = refl
-  type_is (tree.dyn_type at bs) ss = behind (bounds_are bs ss)
-  type_is (tree.pattern_type at t own q) ss = both (part_is t ss) (behind (type_pat_part_is q ss))
+  type_is : (b : Option Binder) (t : Type_) (ss : List Scope) → g.grade_type_in blocks b t ss ≡ now.blocks_of_type t
+  type_is b (tree.paren_type t) ss = part_is b t ss
+  type_is b (tree.macro_type at c tree.no_type) ss = uncalled_type_is at c ss
+  type_is b (tree.macro_type at c (tree.some_type t)) ss = behind (type_is b t ss)
+  type_is b (tree.for_type names t) ss = part_is (Some names) t ss
+  type_is b (tree.leaf_type at form) ss = refl
+  type_is b (tree.over_type at form t) ss = behind (part_is None t ss)
+  type_is b (tree.array_type at c t) ss = both (constant_is c ss) (behind (part_is None t ss))
+  type_is b (tree.tuple_type at ts) ss = behind (parts_is ts ss)
+  type_is b (tree.path_type at q) ss = behind (whole_is q ss)
+  type_is b (tree.ref_type at l mutability t) ss = first (part_is None t ss) (behind (lifetime_none l ss))
+  type_is b (tree.fn_type at head ts r) ss = both (ret_is r ss) (behind (parts_is ts ss))
+  type_is b (tree.impl_type at mode bs) ss = first (bounds_are bs ss) (impl_none mode _ ss)
+  type_is b (tree.nested_impl at) ss = refl
+  type_is b (tree.dyn_type at bs) ss = behind (bounds_are bs ss)
+  type_is b (tree.pattern_type at t own q) ss = both (part_is None t ss) (behind (type_pat_part_is q ss))
 
-  part_is : (t : OptionType) (ss : List Scope) → g.grade_part blocks t ss ≡ now.blocks_of_type_part t
-  part_is tree.no_type ss = refl
-  part_is (tree.some_type t) ss = type_is t ss
+  part_is : (b : Option Binder) (t : OptionType) (ss : List Scope) → g.grade_part_in blocks b t ss ≡ now.blocks_of_type_part t
+  part_is b tree.no_type ss = refl
+  part_is b (tree.some_type t) ss = type_is b t ss
+
+  ret_is : (t : OptionType) (ss : List Scope) → g.grade_ret blocks t ss ≡ now.blocks_of_type_part t
+  ret_is tree.no_type ss = refl
+  ret_is (tree.some_type t) ss = type_is None t ss
 
   present_is : (t : OptionType) (ss : List Scope) → g.grade_present blocks t ss ≡ now.blocks_of_present_type t
   present_is tree.no_type ss = refl
-  present_is (tree.some_type t) ss = type_is t ss
+  present_is (tree.some_type t) ss = type_is None t ss
 
   parts_is : (ts : Parts) (ss : List Scope) → g.grade_parts blocks ts ss ≡ now.blocks_of_parts ts
   parts_is tree.no_parts ss = refl
-  parts_is (tree.more_parts t ts) ss = both (part_is t ss) (parts_is ts ss)
+  parts_is (tree.more_parts t ts) ss = both (part_is None t ss) (parts_is ts ss)
 
   segment_is : (first' : Bool) (s : Segment) (x : Seen) (ss : List Scope)
       → g.grade_segment blocks first' s x ss ≡ now.blocks_of_segment first' s x
   segment_is f (tree.name_segment n _ as') x ss = beside_is as' ss
   segment_is f tree.super_segment x ss = refl
-  segment_is true (tree.type_segment t) x ss = type_is t ss
+  segment_is true (tree.type_segment t) x ss = type_is None t ss
   segment_is true (tree.trait_segment t at q) x ss =
-      both (type_is t ss) (first (whole_is q ss) (none_if (is_some (whole_read q)) ss))
+      both (type_is None t ss) (first (whole_is q ss) (none_if (is_some (whole_read q)) ss))
   segment_is true tree.absent_segment x ss = refl
   segment_is true tree.broken_segment x ss = refl
   segment_is true tree.self_type_segment x ss = refl
@@ -268,7 +273,7 @@ mutual
 
   output_is : (r : OptionRet) (ss : List Scope) → g.grade_output blocks r ss ≡ now.blocks_of_output r
   output_is tree.no_ret ss = refl
-  output_is (tree.some_ret t) ss = part_is t ss
+  output_is (tree.some_ret t) ss = part_is None t ss
 
   args_are : (as' : OptionArgs) (ss : List Scope) → g.grade_args blocks as' ss ≡ now.blocks_of_args as'
   args_are tree.no_arg_list ss = refl
@@ -280,7 +285,7 @@ mutual
 
   arg_is : (a : Arg) (ss : List Scope) → g.grade_arg blocks a ss ≡ now.blocks_of_arg a
   arg_is tree.skipped_arg ss = refl
-  arg_is (tree.type_arg t) ss = part_is t ss
+  arg_is (tree.type_arg t) ss = part_is None t ss
   arg_is (tree.lifetime_arg l) ss = refl
   arg_is (tree.const_arg c) ss = constant_is c ss
   arg_is (tree.assoc_arg n as' dots t bs) ss = both (args_are as' ss) (both (present_is t ss) (bounds_are bs ss))
@@ -446,7 +451,7 @@ mutual
   expr_is (tree.try_expr at item tree.no_type number st e) ss =
       try_is false number st e ss (λ inside. stmts_are st e (λ at. kept_part_is e at) inside) ∙ sym (append-nil _)
   expr_is (tree.try_expr at item (tree.some_type t) number st e) ss =
-      both (try_is true number st e ss (λ inside. stmts_are st e (λ at. kept_part_is e at) inside)) (behind (type_is t ss))
+      both (try_is true number st e ss (λ inside. stmts_are st e (λ at. kept_part_is e at) inside)) (behind (type_is None t ss))
   expr_is (tree.coroutine_expr at kind moves number st e) ss = both refl (stmts_are st e (λ at. kept_part_is e at) (barrier ∷ ss))
   expr_is (tree.call_expr at f has_list es) ss = both (expr_part_is f ss) (behind (exprs_are es ss))
   expr_is (tree.path_expr at q h) ss = behind (whole_is q ss)
@@ -468,10 +473,10 @@ mutual
       both (params_are xs (barrier ∷ ss)) (both (present_is t (barrier ∷ ss)) (expr_part_is e (barrier ∷ ss)))
   expr_is (tree.method_call_expr at e n es generics) ss =
       both (expr_part_is e ss) (both (exprs_are es ss) (behind (args_are generics ss)))
-  expr_is (tree.cast_expr at e t) ss = both (expr_part_is e ss) (behind (part_is t ss))
+  expr_is (tree.cast_expr at e t) ss = both (expr_part_is e ss) (behind (part_is None t ss))
   expr_is (tree.record_expr at q head fs s) ss =
       both (whole_is q ss) (record_is q _ ss (both (fields_are fs ss) (expr_spread_is s ss)))
-  expr_is (tree.offset_of_expr at t names) ss = behind (part_is t ss)
+  expr_is (tree.offset_of_expr at t names) ss = behind (part_is None t ss)
   expr_is (tree.leaving_expr at form e) ss = behind (expr_present_is e ss)
   expr_is (tree.become_expr at e) ss = behind (expr_part_is e ss)
   expr_is (tree.yield_expr at e) ss = behind (expr_present_is e ss)

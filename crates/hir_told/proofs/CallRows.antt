@@ -7,6 +7,7 @@ use Rattle.hir_env.specs.Answered as tree
 use Rattle.hir_told.specs.Expanded.{expansions}
 use Rattle.hir_told.specs.Grades.{grade_stmts}
 use Rattle.hir_told.specs.Worked.{SmallCalls}
+use Rattle.hir_told.specs.WorkedData.{AllSmallData}
 use Rattle.hir_told.specs.WorkedOrders.{AllSmallOrders, call_alone, expr_call, recorded}
 use Rattle.hir_told.specs.WorkedTargets.{AllSmallTargets}
 
@@ -38,6 +39,9 @@ small_orders a b f g = record {
   coroutines = λ kind. refl;
   skipped = refl;
 }
+
+pub small_data : AllSmallData
+small_data at a n k is also l = record { bounds = refl; lifetimes = refl; arguments = refl }
 
 pub small_targets : AllSmallTargets
 small_targets is_found at a b c p q f g = record {

@@ -1,7 +1,7 @@
 -- The faults that are told of a tree are those that `Diagnostics` lists, in another order at most.
 use Rattle.std.proofs.Common.{◌≡◌, ◌∙◌, refl, sym, Bool, true, false, true≢false, not, ◌||◌, List, [], ◌∷◌, ◌++◌, append-nil, append_assoc}
-use Rattle.std.proofs.lemmas.List.Sorted.{IsPermutation-refl, IsPermutation-trans, IsPermutation-append, IsPermutation-append_comm}
-use Rattle.std.proofs.Common.{IsPermutation, subst, Option, Some, None, is_some}
+use Rattle.std.proofs.lemmas.List.Sorted.{IsPermutation-append_comm, IsPermutation-trans}
+use Rattle.std.proofs.Common.{Option, Some, None, is_some}
 use Rattle.hir_store.specs.Pointers.{Pointer}
 use Rattle.hir_store.specs.declared.diagnostics.AwaitLocation.{AwaitLocation}
 use Rattle.hir_store.specs.declared.ids.BlockId.{BlockId}
@@ -14,7 +14,8 @@ use Rattle.hir_env.specs.Answered.{Type_, OptionType, Parts, Path, OptionPath, S
 use Rattle.hir_env.specs.Answered.{OptionArgs, Args, Arg, Bounds, Bound, Constant, Expr, OptionExpr, Exprs, Fields, Field, Spread, Block}
 use Rattle.hir_env.specs.Answered.{OptionBlock, Stmts, Stmt, Arms, Arm, Guard, Pat, OptionPat, Pats, PatFields, PatField, Side, TypePat}
 use Rattle.hir_env.specs.Answered.{OptionTypePat, TypePats, Limit, Param, Params, Called}
-use Rattle.hir_env.specs.Answered.{Target, Targets, TargetFields, TargetField, Label, Lifetime, Listing, RangeForm, UseRead}
+use Rattle.hir_env.specs.Answered.{Binder, Target, Targets, TargetFields, TargetField, Label, Lifetime, Listing, RangeForm, UseRead}
+use Rattle.hir_data.specs.Data.{TypeData}
 use Rattle.hir_data.specs.Patterns.{is_dots}
 use Rattle.hir_data.specs.Uses.{FirstUses}
 use Rattle.hir_data.specs.Written.{written_path}
@@ -32,6 +33,7 @@ use Rattle.hir_told.specs.Grades as g
 use Rattle.hir_told.specs.Grading as p
 use Rattle.hir_told.specs.Laws.{faults}
 use Rattle.hir_told.proofs.AsTelling.{exprs_report}
+use Rattle.hir_told.proofs.FaultLists.{Like, as_is, behind, behind_none, both, first, same, then_none, turned}
 use Rattle.hir_told.proofs.PathsAgree.{read_alike}
 
 -- ---- small parts
@@ -41,37 +43,6 @@ Told = List Scope → Faults
 
 abbrev none : Told
 none ss = []
-
--- what is told, and what is listed
-abbrev Like : Faults → Faults → Type 0
-Like xs ys = IsPermutation ys xs
-
-same : (xs : Faults) → Like xs xs
-same xs = IsPermutation-refl xs
-
-as_is : {xs ys : Faults} → xs ≡ ys → Like xs ys
-as_is {xs = xs} {ys = ys} e = subst (λ zs. Like xs zs) e (same xs)
-
-behind : {xs ys : Faults} → Like xs ys → Like (xs ++ []) ys
-behind {xs = xs} {ys = ys} e = subst (λ zs. Like zs ys) (sym (append-nil xs)) e
-
-then_none : {xs ys : Faults} → Like xs ys → Like xs (ys ++ [])
-then_none {xs = xs} {ys = ys} e = subst (λ zs. Like xs zs) (sym (append-nil ys)) e
-
-behind_none : {xs : Faults} → xs ≡ [] → xs ++ [] ≡ []
-behind_none {xs = xs} e = append-nil xs ∙ e
-
-both : {as' bs cs ds : Faults} → Like as' bs → Like cs ds → Like (as' ++ cs) (bs ++ ds)
-both {as' = as'} {bs = bs} {cs = cs} {ds = ds} e f = IsPermutation-append bs as' ds cs e f
-
--- where nothing is told behind it
-first : {xs ys zs : Faults} → Like xs ys → zs ≡ [] → Like (xs ++ zs) ys
-first {xs = xs} {ys = ys} e f = subst (λ zs. Like (xs ++ zs) ys) (sym f) (behind e)
-
--- what is told last is listed first
-turned : (c t e : Faults) {xs : Faults} → Like xs (t ++ (e ++ c)) → Like xs (c ++ (t ++ e))
-turned c t e {xs = xs} h = IsPermutation-trans (c ++ (t ++ e)) (t ++ (e ++ c)) xs
-    (subst (IsPermutation (c ++ (t ++ e))) (append_assoc t e c) (IsPermutation-append_comm c (t ++ e))) h
 
 turned_two : (c b : Faults) {xs : Faults} → Like xs (b ++ c) → Like xs (c ++ b)
 turned_two c b {xs = xs} h = IsPermutation-trans (c ++ b) (b ++ c) xs (IsPermutation-append_comm c b) h
@@ -94,10 +65,10 @@ lifetime_none : (l : Option Lifetime) (ss : List Scope) → p.grade_lifetime fau
 lifetime_none None ss = refl
 lifetime_none (Some l) ss = refl
 
-impl_none : (mode : ImplTrait) (at : Pointer) (ss : List Scope) → p.grade_impl faults mode at ss ≡ []
-impl_none becomes.Error at ss = refl
-impl_none becomes.Opaque at ss = refl
-impl_none (becomes.Argument def) at ss = refl
+impl_none : (mode : ImplTrait) (t : TypeData) (ss : List Scope) → p.grade_impl faults mode t ss ≡ []
+impl_none becomes.Error t ss = refl
+impl_none becomes.Opaque t ss = refl
+impl_none (becomes.Argument def) t ss = refl
 
 uses_none : (us : List UseRead) (ss : List Scope) → p.grade_uses faults us ss ≡ []
 uses_none [] ss = refl
@@ -214,42 +185,46 @@ try_is typed number st e D ss h = first h (behind_none (wrapped_none (is_left e 
 mutual
   -- ---- types, paths, arguments and bounds
 
-  type_is : (t : Type_) (ss : List Scope) → Like (g.grade_type faults t ss) (now.type_faults ss t)
-  type_is (tree.paren_type t) ss = part_is t ss
-  type_is (tree.macro_type at c tree.no_type) ss = uncalled_type_is at c ss
-  type_is (tree.macro_type at c (tree.some_type t)) ss = both (same _) (behind (type_is t ss))
-  type_is (tree.for_type names t) ss = part_is t ss
-  type_is (tree.leaf_type at form) ss = same _
-  type_is (tree.over_type at form t) ss = behind (part_is t ss)
-  type_is (tree.array_type at c t) ss = both (constant_is c ss) (behind (part_is t ss))
-  type_is (tree.tuple_type at ts) ss = behind (parts_is ts ss)
-  type_is (tree.path_type at q) ss = behind (whole_is q ss)
-  type_is (tree.ref_type at l mutability t) ss = first (part_is t ss) (behind_none (lifetime_none l ss))
-  type_is (tree.fn_type at head ts r) ss = both (part_is r ss) (behind (parts_is ts ss))
-  type_is (tree.impl_type at mode bs) ss = first (bounds_are bs ss) (impl_none mode at ss)
-  type_is (tree.nested_impl at) ss = same _
-  type_is (tree.dyn_type at bs) ss = behind (bounds_are bs ss)
-  type_is (tree.pattern_type at t own q) ss = both (part_is t ss) (behind (type_pat_part_is q ss))
+  type_is : (b : Option Binder) (t : Type_) (ss : List Scope) → Like (g.grade_type_in faults b t ss) (now.type_faults ss t)
+  type_is b (tree.paren_type t) ss = part_is b t ss
+  type_is b (tree.macro_type at c tree.no_type) ss = uncalled_type_is at c ss
+  type_is b (tree.macro_type at c (tree.some_type t)) ss = both (same _) (behind (type_is b t ss))
+  type_is b (tree.for_type names t) ss = part_is (Some names) t ss
+  type_is b (tree.leaf_type at form) ss = same _
+  type_is b (tree.over_type at form t) ss = behind (part_is None t ss)
+  type_is b (tree.array_type at c t) ss = both (constant_is c ss) (behind (part_is None t ss))
+  type_is b (tree.tuple_type at ts) ss = behind (parts_is ts ss)
+  type_is b (tree.path_type at q) ss = behind (whole_is q ss)
+  type_is b (tree.ref_type at l mutability t) ss = first (part_is None t ss) (behind_none (lifetime_none l ss))
+  type_is b (tree.fn_type at head ts r) ss = both (ret_is r ss) (behind (parts_is ts ss))
+  type_is b (tree.impl_type at mode bs) ss = first (bounds_are bs ss) (impl_none mode _ ss)
+  type_is b (tree.nested_impl at) ss = same _
+  type_is b (tree.dyn_type at bs) ss = behind (bounds_are bs ss)
+  type_is b (tree.pattern_type at t own q) ss = both (part_is None t ss) (behind (type_pat_part_is q ss))
 
-  part_is : (t : OptionType) (ss : List Scope) → Like (g.grade_part faults t ss) (now.type_part_faults ss t)
-  part_is tree.no_type ss = same _
-  part_is (tree.some_type t) ss = type_is t ss
+  part_is : (b : Option Binder) (t : OptionType) (ss : List Scope) → Like (g.grade_part_in faults b t ss) (now.type_part_faults ss t)
+  part_is b tree.no_type ss = same _
+  part_is b (tree.some_type t) ss = type_is b t ss
+
+  ret_is : (t : OptionType) (ss : List Scope) → Like (g.grade_ret faults t ss) (now.type_part_faults ss t)
+  ret_is tree.no_type ss = same _
+  ret_is (tree.some_type t) ss = type_is None t ss
 
   present_is : (t : OptionType) (ss : List Scope) → Like (g.grade_present faults t ss) (now.present_type_faults ss t)
   present_is tree.no_type ss = same _
-  present_is (tree.some_type t) ss = type_is t ss
+  present_is (tree.some_type t) ss = type_is None t ss
 
   parts_is : (ts : Parts) (ss : List Scope) → Like (g.grade_parts faults ts ss) (now.parts_faults ss ts)
   parts_is tree.no_parts ss = same _
-  parts_is (tree.more_parts t ts) ss = both (part_is t ss) (parts_is ts ss)
+  parts_is (tree.more_parts t ts) ss = both (part_is None t ss) (parts_is ts ss)
 
   segment_is : (first' : Bool) (s : Segment) (x : Seen) (ss : List Scope)
       → Like (g.grade_segment faults first' s x ss) (now.segment_faults ss first' s x)
   segment_is f (tree.name_segment n _ as') x ss = beside_is as' ss
   segment_is f tree.super_segment x ss = same _
-  segment_is true (tree.type_segment t) x ss = type_is t ss
+  segment_is true (tree.type_segment t) x ss = type_is None t ss
   segment_is true (tree.trait_segment t at q) x ss =
-      both (type_is t ss) (first (whole_is q ss) (none_if (is_some (whole_read q)) ss))
+      both (type_is None t ss) (first (whole_is q ss) (none_if (is_some (whole_read q)) ss))
   segment_is true tree.absent_segment x ss = same _
   segment_is true tree.broken_segment x ss = same _
   segment_is true tree.self_type_segment x ss = same _
@@ -293,7 +268,7 @@ mutual
 
   output_is : (r : OptionRet) (ss : List Scope) → Like (g.grade_output faults r ss) (now.output_faults ss r)
   output_is tree.no_ret ss = same _
-  output_is (tree.some_ret t) ss = part_is t ss
+  output_is (tree.some_ret t) ss = part_is None t ss
 
   args_are : (as' : OptionArgs) (ss : List Scope) → Like (g.grade_args faults as' ss) (now.args_faults ss as')
   args_are tree.no_arg_list ss = same _
@@ -305,7 +280,7 @@ mutual
 
   arg_is : (a : Arg) (ss : List Scope) → Like (g.grade_arg faults a ss) (now.arg_faults ss a)
   arg_is tree.skipped_arg ss = same _
-  arg_is (tree.type_arg t) ss = part_is t ss
+  arg_is (tree.type_arg t) ss = part_is None t ss
   arg_is (tree.lifetime_arg l) ss = same _
   arg_is (tree.const_arg c) ss = constant_is c ss
   arg_is (tree.assoc_arg n as' dots t bs) ss = both (args_are as' ss) (both (present_is t ss) (bounds_are bs ss))
@@ -477,7 +452,7 @@ mutual
       (stmts_are st e (λ at. kept_part_is e at) (try_scope false ∷ ss)))
   expr_is (tree.try_expr at item (tree.some_type t) number st e) ss =
       both (try_is true number st e (g.grade_stmts faults st (g.grade_kept faults e)) ss
-      (stmts_are st e (λ at. kept_part_is e at) (try_scope true ∷ ss))) (behind (type_is t ss))
+      (stmts_are st e (λ at. kept_part_is e at) (try_scope true ∷ ss))) (behind (type_is None t ss))
   expr_is (tree.coroutine_expr at kind moves number st e) ss = stmts_are st e (λ at. kept_part_is e at) (barrier ∷ ss)
   expr_is (tree.call_expr at f has_list es) ss = both (expr_part_is f ss) (behind (exprs_are es ss))
   expr_is (tree.path_expr at q h) ss = behind (whole_is q ss)
@@ -499,10 +474,10 @@ mutual
       both (params_are xs (barrier ∷ ss)) (both (present_is t (barrier ∷ ss)) (expr_part_is e (barrier ∷ ss)))
   expr_is (tree.method_call_expr at e n es generics) ss =
       both (expr_part_is e ss) (both (exprs_are es ss) (behind (args_are generics ss)))
-  expr_is (tree.cast_expr at e t) ss = both (expr_part_is e ss) (behind (part_is t ss))
+  expr_is (tree.cast_expr at e t) ss = both (expr_part_is e ss) (behind (part_is None t ss))
   expr_is (tree.record_expr at q head fs s) ss =
       both (whole_is q ss) (record_is q _ ss (both (fields_are fs ss) (expr_spread_is s ss)))
-  expr_is (tree.offset_of_expr at t names) ss = behind (part_is t ss)
+  expr_is (tree.offset_of_expr at t names) ss = behind (part_is None t ss)
   expr_is (tree.leaving_expr at form e) ss = behind (expr_present_is e ss)
   expr_is (tree.become_expr at e) ss = behind (expr_part_is e ss)
   expr_is (tree.yield_expr at e) ss = behind (expr_present_is e ss)

@@ -3,6 +3,7 @@ use Rattle.std.proofs.Common.{◌≡◌, refl, ℕ, Bool, List, [], ◌∷◌, �
 use Rattle.hir_binding.specs.declared.binding.BindingAnnotation.{BindingAnnotation}
 use Rattle.hir_store.specs.Names.{IsWritten}
 use Rattle.hir_store.specs.Pointers.{Pointer}
+use Rattle.hir_store.specs.Stored.{Stored, store_of, map_of}
 use Rattle.hir_store.specs.declared.diagnostics.ExpressionStoreDiagnostics.{ExpressionStoreDiagnostics}
 use Rattle.hir_store.specs.declared.hir.CoroutineKind.{CoroutineKind}
 use Rattle.hir_store.specs.declared.hir.Expr.{Expr as HirExpr}
@@ -21,7 +22,10 @@ use Rattle.hir_store.specs.declared.type_ref.TypeBound.{TypeBound}
 use Rattle.hir_store.specs.declared.type_ref.TypeRef.{TypeRef}
 use Rattle.hir_env.specs.declared.place.ImplTrait.{ImplTrait}
 use Rattle.hir_env.specs.Answered.{Called, Entered, Gone, Jump, Label, Limit, OptionExpr, OptionType, Params, Use}
+use Rattle.hir_data.specs.Data as datum
+use Rattle.hir_data.specs.Data.{Shape, TypeData}
 use Rattle.hir_data.specs.Patterns.{moved_by}
+use Rattle.hir_data.specs.Reading.{stored_type}
 use Rattle.hir_scope.specs.Ribs.{Try}
 use Rattle.hir_lower_form.specs.declared.closures.ClosureParams.{ClosureParams}
 use Rattle.hir_lower_form.specs.declared.generics.Notes.{Notes}
@@ -41,10 +45,15 @@ use Rattle.hir_lower_form.specs.Preludes.{coroutine_closure_form}
 use Rattle.hir_lower_form.specs.Ranges.{inner_form}
 use Rattle.hir_lower_form.specs.Types.{TypeSteps}
 use Rattle.hir_lower_form.specs.Walks.{super_read, supers}
+use Rattle.hir_steps.proofs.Steps.{Mark, Correct}
 use Rattle.hir_one_result.proofs.LastStored.{LastPat, LastType}
 use Rattle.hir_one_result.proofs.NoteRooms.{KeepsParams}
 use Rattle.hir_told.specs.Grading.{Grading, grade_impl, made_bind}
 use Rattle.hir_told.proofs.Answering.{Answering, anything, answering_aliased, answering_any, answering_pure, answering_then, answering_less}
+
+-- a type that reads back so
+abbrev pub TypeIs : TypeData → Stored → Mark → TypeRefId → Type 0
+TypeIs t final m i = stored_type (store_of final) (map_of final) i ≡ t
 
 -- how what is told is claimed of steps
 pub record Graded {ℓ} (S : Grading {ℓ}) : Type (ℓ ⊔ 1) where
@@ -60,6 +69,27 @@ pub record Graded {ℓ} (S : Grading {ℓ}) : Type (ℓ ⊔ 1) where
       → ((a : A) → P a → Made h (f a)) → Made (S.then' g h) (p >>= f)
   pub end_is : {A B : Type 0} {g : S.G} {p : Lowering A} {f : A → Lowering B} → Claim g p → ((a : A) → Claim S.none (f a))
       → Claim g (p >>= f)
+  -- ---- steps of which something is told where it is so, in a final store, of how far it had come before them and of their answer
+  pub Where : {A : Type 0} → (Stored → Mark → A → Type 0) → S.G → Lowering A → Type 0
+  -- where it is so
+  pub where_is : {A : Type 0} {C : Stored → Mark → A → Type 0} {g : S.G} {p : Lowering A} → Correct p (λ final ps m m' a. C final m a)
+      → Where C g p → Claim g p
+  -- told in any case
+  pub where_any : {A : Type 0} {C : Stored → Mark → A → Type 0} {g : S.G} {p : Lowering A} → Claim g p → Where C g p
+  -- where it follows from something else
+  pub where_less : {A : Type 0} {C D : Stored → Mark → A → Type 0} {g : S.G} {p : Lowering A}
+      → Correct p (λ final ps m m' a. D final m a → C final m a) → Where C g p → Where D g p
+  -- behind steps, and behind those that bring it about
+  pub where_next : {A B : Type 0} {C : Stored → B → Type 0} {g h : S.G} {p : Lowering A} {f : A → Lowering B} → Claim g p
+      → ((a : A) → Where (λ final m b. C final b) h (f a)) → Where (λ final m b. C final b) (S.then' g h) (p >>= f)
+  pub where_known : {A B : Type 0} {K : A → Stored → Mark → Type 0} {P : A → Type 0} {g h : S.G} {p : Lowering A} {f : A → Lowering B}
+      → Claim g p → Answering P p → Correct p (λ final ps m m' a. K a final m')
+      → ((a : A) → P a → Where (λ final m b. K a final m) h (f a)) → Claim (S.then' g h) (p >>= f)
+  -- in front of steps, and where nothing is told of these
+  pub where_first : {A B : Type 0} {K : Stored → Mark → Type 0} {g h : S.G} {p : Lowering A} {f : A → Lowering B}
+      → Where (λ final m a. K final m) g p → ((a : A) → Claim h (f a)) → Where (λ final m b. K final m) (S.then' g h) (p >>= f)
+  pub where_end : {A B : Type 0} {K : Stored → Mark → Type 0} {g : S.G} {p : Lowering A} {f : A → Lowering B}
+      → Where (λ final m a. K final m) g p → ((a : A) → Claim S.none (f a)) → Where (λ final m b. K final m) g (p >>= f)
   -- ---- steps that hand on the names of a top pattern, of which this table knew some, and others were bound since; behind such steps,
   -- and beside steps that hand none on
   pub Hands : {A : Type 0} → Table → S.G → Lowering (A × Table) → Type 0
@@ -81,8 +111,10 @@ pub record Graded {ℓ} (S : Grading {ℓ}) : Type (ℓ ⊔ 1) where
   -- of a whole pattern, whose names get their problems in the end
   pub top_is : {g : S.G} {p : Lowering (PatId × Table)} → Hands no_names g p → Claim g (p >>= (λ r. settle r.1 >>= (λ _. pure r.0)))
   -- ---- what is stored
-  pub type_is : (t : TypeRef) (at : Option Pointer) → Claim (S.type_at at) (alloc_type t at)
-  pub lifetime_is : (l : LifetimeRef) (at : Option Pointer) → Claim (S.lifetime_at at) (alloc_lifetime l at)
+  pub type_is : (t : TypeRef) (at : Option Pointer) (shape : Shape)
+      → Where (TypeIs (datum.typed at shape)) (S.type_as (datum.typed at shape)) (alloc_type t at)
+  pub lifetime_is : (l : LifetimeRef) (at : Option Pointer)
+      → Claim (S.lifetime_as (record { lifetime = l; from = at })) (alloc_lifetime l at)
   pub pat_is : (p : HirPat) (at : Option Pointer) → Claim (S.pat_at at) (alloc_pat p at)
   pub made_pat_is : (p : HirPat) (at : Option Pointer) → Claim (S.made_pat_at at) (alloc_made_pat p at)
   pub expr_is : (e : HirExpr) (at : Option Pointer) → Made S.expr (alloc_expr e at)
@@ -99,7 +131,8 @@ pub record Graded {ℓ} (S : Grading {ℓ}) : Type (ℓ ⊔ 1) where
   pub noted_down_is : (f : Notes → Notes) → KeepsParams f → {A : Type 0} {g : S.G} {p : Lowering A} → Claim g p
       → Claim g (note_down f >> p)
   pub aliased_is : (alias : Option (List Bool)) {g : S.G} {p : Lowering (Option HirPath)} → Claim g p → Claim g (aliased alias p)
-  pub impl_is : (at : Pointer) (mode : ImplTrait) (bounds : List TypeBound) → Claim (grade_impl S mode at) (becoming at mode bounds)
+  pub impl_is : (at : Pointer) (mode : ImplTrait) (bounds : List TypeBound) (shape : Shape)
+      → Where (TypeIs (datum.typed (Some at) shape)) (grade_impl S mode (datum.typed (Some at) shape)) (becoming at mode bounds)
   -- ---- what is reported, counted, entered and asked
   pub fault_is : (d : ExpressionStoreDiagnostics) → Claim (S.fault d) (report d)
   -- of calls of macros; the node of one leads to the last pattern, or to the last type
@@ -183,6 +216,11 @@ module _ {ℓ} {S : Grading {ℓ}} (L : Graded S) where
 
   pub map_is : {A B : Type 0} {g : S.G} {p : Lowering A} (f : A → B) → L.Claim g p → L.Claim g (p >>= (λ a. pure (f a)))
   map_is f h = L.end_is h (λ a. L.pure_is (f a))
+
+  -- behind steps, where the type that is stored in the end reads back so
+  pub type_next : {A : Type 0} {t : TypeData} {g h : S.G} {p : Lowering A} {f : A → TypeSteps} → L.Claim g p
+      → ((a : A) → L.Where (TypeIs t) h (f a)) → L.Where (TypeIs t) (S.then' g h) (p >>= f)
+  type_next {t = t} h k = L.where_next {C = λ final i. stored_type (store_of final) (map_of final) i ≡ t} h k
 
   pub told_any : {A : Type 0} {g : S.G} {p : Lowering A} → L.Claim g p → Told L g anything p
   told_any {p = p} h = record { claim = h; known = answering_any p }

@@ -1,5 +1,6 @@
 pub mod Answering
 pub mod Graded
+pub mod ReadingBack
 pub mod Knowing
 pub mod TypeForms
 pub mod PatForms
@@ -11,6 +12,7 @@ pub mod Tree
 pub mod Bodies
 pub mod PathsAgree
 pub mod BlocksAgree
+pub mod FaultLists
 pub mod FaultsAgree
 pub mod CorrectWhere
 pub mod AsApart
@@ -19,3 +21,6 @@ pub mod AsTelling
 pub mod AsExpansions
 pub mod CallRows
 pub mod AsRooms
+pub mod Storing
+pub mod StoringPreludes
+pub mod AsStoredData

@@ -19,9 +19,11 @@ use Rattle.hir_env.specs.Answered.{Pat, OptionPat, Pats, PatFields, PatField, Ta
 use Rattle.hir_env.specs.Answered.{OptionExpr, Exprs, Fields, Field, Spread, Block, OptionBlock, Stmts, Stmt, Arms, Arm, Guard}
 use Rattle.hir_env.specs.Answered.{Param, Params}
 use Rattle.hir_env.specs.Targets.{head_pointer}
+use Rattle.hir_data.specs.Data.{no_types}
 use Rattle.hir_data.specs.Patterns.{dots_among}
 use Rattle.hir_data.specs.Targets.{target_dots}
 use Rattle.hir_data.specs.Uses.{FirstUses}
+use Rattle.hir_data.specs.Written.{parts_data, path_of}
 use Rattle.hir_lower_form.specs.declared.args.ArgLists.{ArgLists}
 use Rattle.hir_lower_form.specs.declared.closures.ClosureParams.{ClosureParams}
 use Rattle.hir_lower_form.specs.declared.walk.PathWalk.{PathWalk}
@@ -42,6 +44,7 @@ use Rattle.hir_lower_form.specs.Lower.{lower_stmts, lower_stmt, no_closure_param
 use Rattle.hir_lower_form.specs.Lowering.{Lowering}
 use Rattle.hir_lower_form.specs.Paths.{alias_of}
 use Rattle.hir_meaning.specs.Left.{is_left, gives_value}
+use Rattle.hir_read_back.proofs.Tree.{path_reads}
 use Rattle.hir_read_back.proofs.PatParts.{dots_behind, no_dots, dots_here, one_further}
 use Rattle.hir_one_result.specs.PathRoom.{at_first, found, segment_read, segments_read, path_read, outer_read, whole_read}
 use Rattle.hir_one_result.specs.PathRoom.{any_arg, yields}
@@ -55,6 +58,7 @@ use Rattle.hir_told.specs.Grading.{Grading, grade_try}
 use Rattle.hir_told.specs.Grades as g
 use Rattle.hir_told.proofs.Graded.{Graded, Told, next, made_next, map_is, told_any, told_less, told_map, told_pure, told_then, told_last}
 use Rattle.hir_told.proofs.Graded.{told_aliased, hand_pure, hand_as, hand_less, hand_then, hand_map, hand_last}
+use Rattle.hir_told.proofs.ReadingBack.{parts_read, type_in}
 use Rattle.hir_told.proofs.TypeForms as forms
 use Rattle.hir_told.proofs.PatForms as pats
 use Rattle.hir_told.proofs.PatForms.{PatTold, PartsTold, LaterTold}
@@ -112,25 +116,32 @@ module _ {ℓ} {S : Grading {ℓ}} (L : Graded S) where
   mutual
     -- ---- types, paths, arguments and bounds
 
-    pub type_graded : (b : Option Binder) (t : Type_) → L.Claim (g.grade_type S t) (lower_type b t)
+    pub type_graded : (b : Option Binder) (t : Type_) → L.Claim (g.grade_type_in S b t) (lower_type b t)
     type_graded b (tree.paren_type t) = part_graded b t
     type_graded b (tree.macro_type at c tree.no_type) = calls.uncalled_type_graded L at c
     type_graded b (tree.macro_type at c (tree.some_type t)) = calls.called_type_graded L at c (type_last b t) (type_graded b t)
     type_graded b (tree.for_type names t) = part_graded (Some names) t
-    type_graded b (tree.leaf_type at form) = L.type_is _ _
-    type_graded b (tree.over_type at form t) = forms.over_graded L at form (part_graded None t)
-    type_graded b (tree.array_type at c t) = forms.array_graded L at (constant_graded c) (part_graded None t)
-    type_graded b (tree.tuple_type at ts) = forms.tuple_graded L at (parts_graded [] ts)
-    type_graded b (tree.path_type at p) = forms.path_type_graded L at (path_graded p).claim
-    type_graded b (tree.ref_type at l mutability t) =
-        forms.ref_graded L at mutability (part_graded None t) (forms.lifetime_option_graded L l)
-    type_graded b (tree.fn_type at head ts r) = forms.fn_graded L at b head (or_unit_graded r) (parts_graded [] ts)
-    type_graded b (tree.impl_type at mode bs) = forms.impl_graded L at mode (bounds_graded [] bs)
-    type_graded b (tree.nested_impl at) = L.type_is _ _
-    type_graded b (tree.dyn_type at bs) = forms.dyn_graded L at (bounds_graded [] bs)
-    type_graded b (tree.pattern_type at t own p) = forms.pattern_type_graded L at (part_graded None t) (type_pat_part_graded p)
+    type_graded b (tree.leaf_type at form) = L.where_is (type_in b (tree.leaf_type at form)) (L.type_is _ _ _)
+    type_graded b (tree.over_type at form t) =
+        L.where_is (type_in b (tree.over_type at form t)) (forms.over_graded L at _ form (part_graded None t))
+    type_graded b (tree.array_type at c t) =
+        L.where_is (type_in b (tree.array_type at c t)) (forms.array_graded L at _ (constant_graded c) (part_graded None t))
+    type_graded b (tree.tuple_type at ts) =
+        L.where_is (type_in b (tree.tuple_type at ts)) (forms.tuple_graded L at _ (parts_graded [] ts))
+    type_graded b (tree.path_type at p) =
+        L.where_is (type_in b (tree.path_type at p)) (forms.path_type_graded L at _ (path_graded p).claim)
+    type_graded b (tree.ref_type at l mutability t) = L.where_is (type_in b (tree.ref_type at l mutability t))
+        (forms.ref_graded L at _ mutability (part_graded None t) (forms.lifetime_option_graded L l))
+    type_graded b (tree.fn_type at head ts r) = L.where_is (type_in b (tree.fn_type at head ts r))
+        (forms.fn_graded L at _ b head (or_unit_graded r) (parts_graded [] ts))
+    type_graded b (tree.impl_type at mode bs) =
+        L.where_is (type_in b (tree.impl_type at mode bs)) (forms.impl_graded L at _ mode (bounds_graded [] bs))
+    type_graded b (tree.nested_impl at) = L.where_is (type_in b (tree.nested_impl at)) (L.type_is _ _ _)
+    type_graded b (tree.dyn_type at bs) = L.where_is (type_in b (tree.dyn_type at bs)) (forms.dyn_graded L at _ (bounds_graded [] bs))
+    type_graded b (tree.pattern_type at t own p) = L.where_is (type_in b (tree.pattern_type at t own p))
+        (forms.pattern_type_graded L at _ (part_graded None t) (type_pat_part_graded p))
 
-    pub part_graded : (b : Option Binder) (t : OptionType) → L.Claim (g.grade_part S t) (type_part b t)
+    pub part_graded : (b : Option Binder) (t : OptionType) → L.Claim (g.grade_part_in S b t) (type_part b t)
     part_graded b tree.no_type = forms.error_graded L
     part_graded b (tree.some_type t) = type_graded b t
 
@@ -138,7 +149,7 @@ module _ {ℓ} {S : Grading {ℓ}} (L : Graded S) where
     present_graded tree.no_type = L.pure_is None
     present_graded (tree.some_type t) = map_is L _ (type_graded None t)
 
-    or_unit_graded : (t : OptionType) → L.Claim (g.grade_part S t) (type_or_unit t)
+    or_unit_graded : (t : OptionType) → L.Claim (g.grade_ret S t) (type_or_unit t)
     or_unit_graded tree.no_type = forms.unit_graded L
     or_unit_graded (tree.some_type t) = type_graded None t
 
@@ -164,7 +175,8 @@ module _ {ℓ} {S : Grading {ℓ}} (L : Graded S) where
     segment_graded true (tree.type_segment t) w = told_last L _ (type_graded None t) (λ i. refl)
     segment_graded false (tree.trait_segment t at p) w = told_pure L _ refl
     segment_graded true (tree.trait_segment t at p) w =
-        told_then L (told_any L (type_graded None t)) (λ i u. forms.trait_graded L (path_graded p) i at w)
+        told_then L (told_any L (type_graded None t))
+        (λ i u. forms.trait_graded L (path_of p) i at w (path_graded p) (path_reads p))
 
     segments_graded : (ss : Segments) (w : PathWalk)
         → Told L (g.grade_segments S ss (seen w)) (Gives (segments_read ss (seen w))) (read_each ss w)
@@ -197,7 +209,8 @@ module _ {ℓ} {S : Grading {ℓ}} (L : Graded S) where
 
     parens_graded : (ps : OptionParens) → L.Claim (g.grade_parens S ps) (parens_part ps)
     parens_graded tree.no_parens = L.pure_is None
-    parens_graded (tree.some_parens ts r) = forms.parens_graded L (parts_graded [] ts) (output_graded r)
+    parens_graded (tree.some_parens ts r) =
+        forms.parens_graded L (parts_data ts no_types) (parts_graded [] ts) (parts_read ts) (output_graded r)
 
     output_graded : (r : OptionRet) → L.Claim (g.grade_output S r) (output_part r)
     output_graded tree.no_ret = forms.unit_graded L
@@ -225,9 +238,10 @@ module _ {ℓ} {S : Grading {ℓ}} (L : Graded S) where
     bounds_graded done tree.no_bounds = L.pure_is done
     bounds_graded done (tree.more_bounds b bs) = next L (bound_graded b) (λ x. bounds_graded _ bs)
 
-    bound_graded : (b : Bound) → L.Claim (g.grade_bound S b) (lower_bound b)
+    pub bound_graded : (b : Bound) → L.Claim (g.grade_bound S b) (lower_bound b)
     bound_graded tree.error_bound = L.pure_is _
-    bound_graded (tree.path_bound at p maybe binder) = forms.path_bound_graded L at maybe binder (path_graded p)
+    bound_graded (tree.path_bound at p maybe binder) =
+        forms.path_bound_graded L (path_of p) at maybe binder (path_graded p) (path_reads p)
     bound_graded (tree.lifetime_bound l) = map_is L _ (forms.lifetime_graded L l)
     bound_graded (tree.use_bound us) = map_is L _ (forms.uses_graded L [] us)
 

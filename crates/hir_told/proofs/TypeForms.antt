@@ -11,6 +11,7 @@ use Rattle.hir_store.specs.declared.path.GenericArgs.{GenericArgs}
 use Rattle.hir_store.specs.declared.type_ref.ConstRef.{ConstRef}
 use Rattle.hir_store.specs.declared.type_ref.TypeBound.{TypeBound}
 use Rattle.hir_store.specs.declared.type_ref.UseArgRef.{UseArgRef}
+use Rattle.hir_store.specs.declared.type_ref.TypeRef.TheVariants as ty
 use Rattle.hir_env.specs.declared.place.ImplTrait.{ImplTrait}
 use Rattle.hir_env.specs.Answered as tree
 use Rattle.hir_env.specs.Answered.{Binder, FnHead, Lifetime, TypeUnary, UseRead}
@@ -18,7 +19,7 @@ use Rattle.hir_lower_form.specs.declared.walk.PathWalk.{PathWalk}
 use Rattle.hir_lower_form.specs.declared.walk.Reading.{Reading}
 use Rattle.hir_lower_form.specs.declared.walk.Reading.TheVariants.{Refused, Ended, Open}
 use Rattle.hir_lower_form.specs.Forms.{ExprSteps}
-use Rattle.hir_lower_form.specs.Lowering.{Lowering, ◌>>=◌}
+use Rattle.hir_lower_form.specs.Lowering.{Lowering, ◌>>=◌, alloc_type}
 use Rattle.hir_lower_form.specs.Walks.{supers, super_read}
 use Rattle.hir_lower_form.specs.Pats.{Table}
 use Rattle.hir_lower_form.specs.Paths as steps
@@ -26,12 +27,21 @@ use Rattle.hir_lower_form.specs.Paths.{proceed, whole, counted, with_trait, pare
 use Rattle.hir_lower_form.specs.Types.{TypeSteps, error_type, unit_type, lower_lifetime, lower_lifetime_option, lower_use, lower_uses}
 use Rattle.hir_lower_form.specs.Types.{over_form, array_type_form, tuple_type_form, path_type_form, ref_type_form, fn_type_form}
 use Rattle.hir_lower_form.specs.Types.{impl_type_form, dyn_type_form, pattern_type_form, binding_form, path_bound_of, path_bound_form}
+use Rattle.hir_data.specs.Data as datum
+use Rattle.hir_data.specs.Data.{Shape, TypesData, typed}
+use Rattle.hir_data.specs.Rule.{PathRead}
+use Rattle.hir_data.specs.Written.{absent_data, lifetime_data, shape_of_path, unit_data}
+use Rattle.hir_steps.proofs.Steps.{Correct, correct_as}
+use Rattle.hir_read_back.proofs.Going.{PathIs}
+use Rattle.hir_read_back.proofs.Layers.{Reads, types_before}
+use Rattle.hir_read_back.proofs.Types.{error_type_reads, unit_type_reads}
 use Rattle.hir_one_result.specs.PathRoom.{Seen, Read, goes_on, after, one_more, projected}
 use Rattle.hir_one_result.proofs.PathRooms.{seen, seen_of, option_seen, Gives, GivesPath, Yields}
 use Rattle.hir_one_result.proofs.NoteRooms.{naming_keeps}
 use Rattle.hir_told.specs.Grading.{Grading, if_so, before, grade_impl, grade_lifetime, grade_use, grade_uses}
-use Rattle.hir_told.proofs.Answering.{anything}
-use Rattle.hir_told.proofs.Graded.{HandsTold, hand_beside, Graded, Told, next, map_is, told_any, told_pure, told_then, told_last}
+use Rattle.hir_told.proofs.Answering.{Answering, answering_any, answering_pure, answering_then, anything}
+use Rattle.hir_told.proofs.Graded.{Graded, HandsTold, Told, TypeIs, hand_beside, map_is, next, told_any, told_pure, told_then, type_next}
+use Rattle.hir_told.proofs.ReadingBack.{PartsAre, PathFound, path_in, tuple_in, type_in_store}
 use Rattle.hir_told.proofs.Knowing.{counted_gives, projected_is}
 
 module _ {ℓ} {S : Grading {ℓ}} (L : Graded S) where
@@ -53,21 +63,36 @@ module _ {ℓ} {S : Grading {ℓ}} (L : Graded S) where
       → HandsTold L t (S.then' g (k x)) (P x) (p >>= f)
   hand_by_path {t = t} {f = f} k P h more = hand_beside L h (λ o e. subst (λ y. HandsTold L t (k y) (P y) (f o)) e (more o))
 
+  -- where it is known what the path reads back as, too
+  pub claim_of_path : {A : Type 0} {g : S.G} {x : Option Seen} {p : Lowering (Option HirPath)} {f : Option HirPath → Lowering A}
+      (y : Option PathRead) (k : Option Seen → S.G) → Told L g (GivesPath x) p → Correct p (PathIs y)
+      → ((o : Option HirPath) → L.Where (λ final m a. PathFound y o final m) (k (option_seen o)) (f o))
+      → L.Claim (S.then' g (k x)) (p >>= f)
+  claim_of_path {f = f} y k h reads more = L.where_known {K = λ o final m. PathFound y o final m} h.claim h.known
+      (correct_as reads (λ final ps m m' o g row. row.is))
+      (λ o e. subst (λ z. L.Where (λ final m a. PathFound y o final m) (k z) (f o)) e (more o))
+
+  -- a type of that path
+  pub type_of_path : (y : Option PathRead) (at : Pointer) (p : HirPath)
+      → L.Where (λ final m i. PathFound y (Some p) final m) (S.type_as (typed (Some at) (shape_of_path y)))
+      (alloc_type (ty.Path p) (Some at))
+  type_of_path y at p = L.where_less (path_in y at p) (L.type_is _ _ _)
+
   pub made_by_path : {g : S.G} {x : Option Seen} {p : Lowering (Option HirPath)} {f : Option HirPath → ExprSteps} (k : Option Seen → S.G)
       → Told L g (GivesPath x) p → ((o : Option HirPath) → L.Made (k (option_seen o)) (f o)) → L.Made (S.then' g (k x)) (p >>= f)
   made_by_path {f = f} k h more = L.makes_is h.claim h.known (λ o e. subst (λ y. L.Made (k y) (f o)) e (more o))
 
   -- ---- types
 
-  pub error_graded : L.Claim (S.type_at None) error_type
+  pub error_graded : L.Claim (S.type_as absent_data) error_type
   unfolding error_type
-  error_graded = L.type_is _ None
+  error_graded = L.where_is (type_in_store error_type_reads) (L.type_is _ None _)
 
-  pub unit_graded : L.Claim (S.type_at None) unit_type
+  pub unit_graded : L.Claim (S.type_as unit_data) unit_type
   unfolding unit_type
-  unit_graded = L.type_is _ None
+  unit_graded = L.where_is (type_in_store unit_type_reads) (L.type_is _ None _)
 
-  pub lifetime_graded : (l : Lifetime) → L.Claim (S.lifetime_at (Some l.pointer)) (lower_lifetime l)
+  pub lifetime_graded : (l : Lifetime) → L.Claim (S.lifetime_as (lifetime_data l)) (lower_lifetime l)
   unfolding lower_lifetime
   lifetime_graded l = L.noted_down_is _ (naming_keeps l.scope l.lifetime) (L.lifetime_is _ _)
 
@@ -83,63 +108,70 @@ module _ {ℓ} {S : Grading {ℓ}} (L : Graded S) where
   uses_graded done [] = L.pure_is done
   uses_graded done (u ∷ us) = next L (use_graded u) (λ x. uses_graded _ us)
 
-  module _ (at : Pointer) where
-    pub over_graded : (form : TypeUnary) {g : S.G} {t : TypeSteps} → L.Claim g t
-        → L.Claim (S.then' g (S.type_at (Some at))) (over_form at form t)
+  -- of a type with these parts, from this node, that reads back in this shape
+  module _ (at : Pointer) (shape : Shape) where
+    abbrev It : S.G
+    It = S.type_as (typed (Some at) shape)
+
+    abbrev TypeGraded : S.G → TypeSteps → Type 0
+    TypeGraded g t = L.Where (TypeIs (typed (Some at) shape)) g t
+
+    pub over_graded : (form : TypeUnary) {g : S.G} {t : TypeSteps} → L.Claim g t → TypeGraded (S.then' g It) (over_form at form t)
     unfolding over_form
-    over_graded form h = next L h (λ t. L.type_is _ _)
+    over_graded form h = type_next L h (λ t. L.type_is _ _ _)
 
     pub array_graded : {g k : S.G} {n : Lowering ConstRef} {t : TypeSteps} → L.Claim g n → L.Claim k t
-        → L.Claim (S.then' g (S.then' k (S.type_at (Some at)))) (array_type_form at n t)
+        → TypeGraded (S.then' g (S.then' k It)) (array_type_form at n t)
     unfolding array_type_form
-    array_graded h k = next L h (λ n. next L k (λ t. L.type_is _ _))
+    array_graded h k = type_next L h (λ n. type_next L k (λ t. L.type_is _ _ _))
 
-    pub tuple_graded : {g : S.G} {ts : Lowering (List TypeRefId)} → L.Claim g ts
-        → L.Claim (S.then' g (S.type_at (Some at))) (tuple_type_form at ts)
+    pub tuple_graded : {g : S.G} {ts : Lowering (List TypeRefId)} → L.Claim g ts → TypeGraded (S.then' g It) (tuple_type_form at ts)
     unfolding tuple_type_form
-    tuple_graded h = next L h (λ ts. L.type_is _ _)
+    tuple_graded h = type_next L h (λ ts. L.type_is _ _ _)
 
-    pub path_type_graded : {g : S.G} {p : Lowering (Option HirPath)} → L.Claim g p
-        → L.Claim (S.then' g (S.type_at (Some at))) (path_type_form at p)
+    pub path_type_graded : {g : S.G} {p : Lowering (Option HirPath)} → L.Claim g p → TypeGraded (S.then' g It) (path_type_form at p)
     unfolding path_type_form
-    path_type_graded h = next L h (λ p. L.type_is _ _)
+    path_type_graded h = type_next L h (λ p. L.type_is _ _ _)
 
     pub ref_graded : (mutability : Mutability) {g k : S.G} {t : TypeSteps} {l : Lowering (Option LifetimeRefId)} → L.Claim g t
-        → L.Claim k l → L.Claim (S.then' g (S.then' k (S.type_at (Some at)))) (ref_type_form at mutability t l)
+        → L.Claim k l → TypeGraded (S.then' g (S.then' k It)) (ref_type_form at mutability t l)
     unfolding ref_type_form
-    ref_graded mutability h k = next L h (λ t. next L k (λ l. L.type_is _ _))
+    ref_graded mutability h k = type_next L h (λ t. type_next L k (λ l. L.type_is _ _ _))
 
     pub fn_graded : (binder : Option Binder) (head : FnHead) {g k : S.G} {ts : Lowering (List TypeRefId)} {r : TypeSteps} → L.Claim g r
-        → L.Claim k ts → L.Claim (S.then' g (S.then' k (S.type_at (Some at)))) (fn_type_form at binder head ts r)
+        → L.Claim k ts → TypeGraded (S.then' g (S.then' k It)) (fn_type_form at binder head ts r)
     unfolding fn_type_form
-    fn_graded binder head h k = next L h (λ r. next L k (λ ts. L.type_is _ _))
+    fn_graded binder head h k = type_next L h (λ r. type_next L k (λ ts. L.type_is _ _ _))
 
     pub impl_graded : (mode : ImplTrait) {g : S.G} {bs : Lowering (List TypeBound)} → L.Claim g bs
-        → L.Claim (S.then' g (grade_impl S mode at)) (impl_type_form at mode bs)
+        → TypeGraded (S.then' g (grade_impl S mode (typed (Some at) shape))) (impl_type_form at mode bs)
     unfolding impl_type_form
-    impl_graded mode h = next L h (λ bs. L.impl_is at mode bs)
+    impl_graded mode h = type_next L h (λ bs. L.impl_is at mode bs shape)
 
-    pub dyn_graded : {g : S.G} {bs : Lowering (List TypeBound)} → L.Claim g bs
-        → L.Claim (S.then' g (S.type_at (Some at))) (dyn_type_form at bs)
+    pub dyn_graded : {g : S.G} {bs : Lowering (List TypeBound)} → L.Claim g bs → TypeGraded (S.then' g It) (dyn_type_form at bs)
     unfolding dyn_type_form
-    dyn_graded h = next L h (λ bs. L.type_is _ _)
+    dyn_graded h = type_next L h (λ bs. L.type_is _ _ _)
 
     pub pattern_type_graded : {g k : S.G} {t : TypeSteps} {p : Lowering PatId} → L.Claim g t → L.Claim k p
-        → L.Claim (S.then' g (S.then' k (S.type_at (Some at)))) (pattern_type_form at t p)
+        → TypeGraded (S.then' g (S.then' k It)) (pattern_type_form at t p)
     unfolding pattern_type_form
-    pattern_type_graded h k = next L h (λ t. next L k (λ p. L.type_is _ _))
+    pattern_type_graded h k = type_next L h (λ t. type_next L k (λ p. L.type_is _ _ _))
 
+  -- ---- bounds, and the trait of a path, which are types of paths
+
+  module _ (y : Option PathRead) (at : Pointer) where
     bound_of_graded : (maybe : Bool) (binder : Binder) (p : Option HirPath)
-        → L.Claim (if_so S (is_some (option_seen p)) (S.type_at (Some at))) (path_bound_of at maybe binder p)
-    bound_of_graded maybe binder None = L.pure_is _
-    bound_of_graded maybe binder (Some p) = map_is L _ (L.type_is _ _)
+        → L.Where (λ final m b. PathFound y p final m) (if_so S (is_some (option_seen p)) (S.type_as (typed (Some at) (shape_of_path y))))
+        (path_bound_of at maybe binder p)
+    bound_of_graded maybe binder None = L.where_any (L.pure_is _)
+    bound_of_graded maybe binder (Some p) = L.where_end (type_of_path y at p) (λ i. L.pure_is _)
 
     pub path_bound_graded : (maybe : Bool) (binder : Binder) {g : S.G} {x : Option Seen} {p : Lowering (Option HirPath)}
-        → Told L g (GivesPath x) p
-        → L.Claim (S.then' g (if_so S (is_some x) (S.type_at (Some at)))) (path_bound_form at maybe binder p)
+        → Told L g (GivesPath x) p → Correct p (PathIs y)
+        → L.Claim (S.then' g (if_so S (is_some x) (S.type_as (typed (Some at) (shape_of_path y))))) (path_bound_form at maybe binder p)
     unfolding path_bound_form
-    path_bound_graded maybe binder h =
-        claim_by_path (λ y. if_so S (is_some y) (S.type_at (Some at))) h (λ p. bound_of_graded maybe binder p)
+    path_bound_graded maybe binder h reads = claim_of_path y (λ z. if_so S (is_some z) (S.type_as (typed (Some at) (shape_of_path y))))
+        h reads (λ p. bound_of_graded maybe binder p)
 
   -- ---- paths
 
@@ -161,24 +193,35 @@ module _ {ℓ} {S : Grading {ℓ}} (L : Graded S) where
   pub counted_graded : (w : PathWalk) → Told L (S.super (supers w.kind)) (Gives (goes_on (one_more (seen w)))) (counted (super_read w))
   counted_graded w = record { claim = L.super_is w; known = counted_gives w }
 
-  pub trait_graded : {g : S.G} {x : Option Seen} {p : Lowering (Option HirPath)} → Told L g (GivesPath x) p → (t : TypeRefId)
-      (at : Pointer) (w : PathWalk)
-      → Told L (S.then' g (if_so S (is_some x) (S.type_at (Some at)))) (Gives (projected x)) (with_trait p t at w)
-  unfolding with_trait
-  trait_graded h t at w =
-      told_by_path (λ y. if_so S (is_some y) (S.type_at (Some at))) (λ y. Gives (projected y)) h (λ p. of_path p)
-    where
-      of_path : (p : Option HirPath)
-          → Told L (if_so S (is_some (option_seen p)) (S.type_at (Some at))) (Gives (projected (option_seen p))) (steps.read_trait t at w p)
-      of_path None = told_pure L Refused refl
-      of_path (Some p) = told_last L _ (L.type_is _ _) (λ i. projected_is t p w)
+  module _ (y : Option PathRead) (t : TypeRefId) (at : Pointer) (w : PathWalk) where
+    read_graded : (p : Option HirPath) → L.Where (λ final m r. PathFound y p final m)
+        (if_so S (is_some (option_seen p)) (S.type_as (typed (Some at) (shape_of_path y)))) (steps.read_trait t at w p)
+    read_graded None = L.where_any (L.pure_is _)
+    read_graded (Some p) = L.where_end (type_of_path y at p) (λ i. L.pure_is _)
+
+    gives_projected : (p : Option HirPath) → Answering (Gives (projected (option_seen p))) (steps.read_trait t at w p)
+    gives_projected None = answering_pure Refused refl
+    gives_projected (Some p) = answering_then (answering_any _) (λ i u. answering_pure _ (projected_is t p w))
+
+    pub trait_graded : {g : S.G} {x : Option Seen} {p : Lowering (Option HirPath)} → Told L g (GivesPath x) p → Correct p (PathIs y)
+        → Told L (S.then' g (if_so S (is_some x) (S.type_as (typed (Some at) (shape_of_path y))))) (Gives (projected x))
+        (with_trait p t at w)
+    unfolding with_trait
+    trait_graded h reads = record {
+      claim = claim_of_path y (λ z. if_so S (is_some z) (S.type_as (typed (Some at) (shape_of_path y)))) h reads (λ p. read_graded p);
+      known = answering_then h.known
+          (λ p e. subst (λ z. Answering (Gives (projected z)) (steps.read_trait t at w p)) e (gives_projected p));
+    }
 
   -- ---- arguments
 
-  pub parens_graded : {g k : S.G} {ts : Lowering (List TypeRefId)} {r : TypeSteps} → L.Claim g ts → L.Claim k r
-      → L.Claim (S.then' g (S.then' (S.type_at None) k)) (parens_form ts r)
+  pub parens_graded : (x : TypesData) {g k : S.G} {ts : Lowering (List TypeRefId)} {r : TypeSteps} → L.Claim g ts
+      → Correct ts (Reads (types_before datum.no_types) x) → L.Claim k r
+      → L.Claim (S.then' g (S.then' (S.type_as (typed None (datum.tuple_shape x))) k)) (parens_form ts r)
   unfolding parens_form
-  parens_graded h k = next L h (λ ts. next L (L.type_is _ None) (λ t. map_is L _ k))
+  parens_graded x h reads k = L.where_known {K = λ is final m. PartsAre x is final m} h (answering_any _)
+      (correct_as reads (λ final ps m m' is g row. row.is))
+      (λ is u. L.where_first (L.where_less (tuple_in x is) (L.type_is _ None _)) (λ t. map_is L _ k))
 
   or_else_graded : (a : Option GenericArgs) {k : S.G} {more : Lowering (Option GenericArgs)} → L.Claim k more
       → L.Claim (if_so S (not (is_some a)) k) (or_else a more)

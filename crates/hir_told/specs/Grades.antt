@@ -1,16 +1,18 @@
 -- What is told of a tree, by its parts in the order of lowering.
-use Rattle.std.specs.Prelude.{Bool, true, false, not, [], Some, None, is_some}
+use Rattle.std.specs.Prelude.{Bool, true, false, not, [], Option, Some, None, is_some}
 use Rattle.hir_store.specs.Pointers.{Pointer}
 use Rattle.hir_store.specs.declared.diagnostics.ExpressionStoreDiagnostics.TheVariants.{InactiveCode, PatternArgInExternFn}
 use Rattle.hir_env.specs.Answered as tree
-use Rattle.hir_env.specs.Answered.{Type_, OptionType, Parts, Path, OptionPath, Segments, Segment, SegmentArgs, OptionParens, OptionRet}
-use Rattle.hir_env.specs.Answered.{OptionArgs, Args, Arg, Bounds, Bound, Side, TypePat, OptionTypePat, TypePats, Limit}
+use Rattle.hir_env.specs.Answered.{Binder, Type_, OptionType, Parts, Path, OptionPath, Segments, Segment, SegmentArgs, OptionParens}
+use Rattle.hir_env.specs.Answered.{OptionRet, OptionArgs, Args, Arg, Bounds, Bound, Side, TypePat, OptionTypePat, TypePats, Limit}
 use Rattle.hir_env.specs.Answered.{Pat, OptionPat, Pats, PatFields, PatField, Target, Targets, TargetFields, TargetField, Constant, Expr}
 use Rattle.hir_env.specs.Answered.{OptionExpr, Exprs, Fields, Field, Spread, Block, OptionBlock, Stmts, Stmt, Arms, Arm, Guard}
 use Rattle.hir_env.specs.Answered.{Param, Params}
+use Rattle.hir_data.specs.Data.{no_types, tuple_shape, typed}
 use Rattle.hir_data.specs.Patterns.{is_dots, ellipsis_of}
 use Rattle.hir_data.specs.Targets.{target_dots}
 use Rattle.hir_data.specs.Uses.{FirstUses}
+use Rattle.hir_data.specs.Written.{absent_data, lifetime_data, parts_data, type_data, unit_data}
 use Rattle.hir_one_result.specs.PathRoom.{Seen, nothing_seen, at_first, segments_read, own_read, yields, whole_read}
 use Rattle.hir_one_result.specs.PatRoom.{names_after, names_after_part, names_after_each, names_after_field}
 use Rattle.hir_told.specs.Grading.{Grading, if_so, before, grade_lifetime, grade_uses, or_missing, grade_name, behind_comma, grade_or}
@@ -22,45 +24,58 @@ module _ {ℓ} (S : Grading {ℓ}) where
   abbrev mutual
     -- ---- types, paths, arguments and bounds
 
-    pub grade_type : Type_ → S.G
-    grade_type (tree.paren_type t) = grade_part t
-    grade_type (tree.macro_type at called tree.no_type) = grade_uncalled_type S at called
-    grade_type (tree.macro_type at called (tree.some_type t)) = S.then' (S.told called) (S.then' (grade_type t) (S.type_call at))
-    grade_type (tree.for_type names t) = grade_part t
-    grade_type (tree.leaf_type at form) = S.type_at (Some at)
-    grade_type (tree.over_type at form t) = S.then' (grade_part t) (S.type_at (Some at))
+    -- behind the lifetimes of a `for`
+    pub grade_type_in : Option Binder → Type_ → S.G
+    grade_type_in b (tree.paren_type t) = grade_part_in b t
+    grade_type_in b (tree.macro_type at called tree.no_type) = grade_uncalled_type S at called
+    grade_type_in b (tree.macro_type at called (tree.some_type t)) =
+        S.then' (S.told called) (S.then' (grade_type_in b t) (S.type_call at))
+    grade_type_in b (tree.for_type names t) = grade_part_in (Some names) t
+    grade_type_in b (tree.leaf_type at form) = S.type_as (type_data b (tree.leaf_type at form))
+    grade_type_in b (tree.over_type at form t) = S.then' (grade_part_in None t) (S.type_as (type_data b (tree.over_type at form t)))
     -- its length first
-    grade_type (tree.array_type at c t) = S.then' (grade_constant c) (S.then' (grade_part t) (S.type_at (Some at)))
-    grade_type (tree.tuple_type at ts) = S.then' (grade_parts ts) (S.type_at (Some at))
-    grade_type (tree.path_type at p) = S.then' (grade_whole p) (S.type_at (Some at))
-    grade_type (tree.ref_type at l mutability t) = S.then' (grade_part t) (S.then' (grade_lifetime S l) (S.type_at (Some at)))
+    grade_type_in b (tree.array_type at c t) =
+        S.then' (grade_constant c) (S.then' (grade_part_in None t) (S.type_as (type_data b (tree.array_type at c t))))
+    grade_type_in b (tree.tuple_type at ts) = S.then' (grade_parts ts) (S.type_as (type_data b (tree.tuple_type at ts)))
+    grade_type_in b (tree.path_type at p) = S.then' (grade_whole p) (S.type_as (type_data b (tree.path_type at p)))
+    grade_type_in b (tree.ref_type at l mutability t) = S.then' (grade_part_in None t)
+        (S.then' (grade_lifetime S l) (S.type_as (type_data b (tree.ref_type at l mutability t))))
     -- what it answers before its parameters
-    grade_type (tree.fn_type at head ts r) = S.then' (grade_part r) (S.then' (grade_parts ts) (S.type_at (Some at)))
-    grade_type (tree.impl_type at mode bs) = S.then' (grade_bounds bs) (grade_impl S mode at)
-    grade_type (tree.nested_impl at) = S.type_at (Some at)
-    grade_type (tree.dyn_type at bs) = S.then' (grade_bounds bs) (S.type_at (Some at))
-    grade_type (tree.pattern_type at t own p) = S.then' (grade_part t) (S.then' (grade_type_pat_part p) (S.type_at (Some at)))
+    grade_type_in b (tree.fn_type at head ts r) =
+        S.then' (grade_ret r) (S.then' (grade_parts ts) (S.type_as (type_data b (tree.fn_type at head ts r))))
+    grade_type_in b (tree.impl_type at mode bs) =
+        S.then' (grade_bounds bs) (grade_impl S mode (type_data b (tree.impl_type at mode bs)))
+    grade_type_in b (tree.nested_impl at) = S.type_as (type_data b (tree.nested_impl at))
+    grade_type_in b (tree.dyn_type at bs) = S.then' (grade_bounds bs) (S.type_as (type_data b (tree.dyn_type at bs)))
+    grade_type_in b (tree.pattern_type at t own p) = S.then' (grade_part_in None t)
+        (S.then' (grade_type_pat_part p) (S.type_as (type_data b (tree.pattern_type at t own p))))
 
-    -- an error, or `()`, where it is absent
-    pub grade_part : OptionType → S.G
-    grade_part tree.no_type = S.type_at None
-    grade_part (tree.some_type t) = grade_type t
+    -- an error where it is absent
+    pub grade_part_in : Option Binder → OptionType → S.G
+    grade_part_in b tree.no_type = S.type_as absent_data
+    grade_part_in b (tree.some_type t) = grade_type_in b t
+
+    -- or `()`
+    pub grade_ret : OptionType → S.G
+    grade_ret tree.no_type = S.type_as unit_data
+    grade_ret (tree.some_type t) = grade_type_in None t
 
     pub grade_present : OptionType → S.G
     grade_present tree.no_type = S.none
-    grade_present (tree.some_type t) = grade_type t
+    grade_present (tree.some_type t) = grade_type_in None t
 
     pub grade_parts : Parts → S.G
     grade_parts tree.no_parts = S.none
-    grade_parts (tree.more_parts t ts) = S.then' (grade_part t) (grade_parts ts)
+    grade_parts (tree.more_parts t ts) = S.then' (grade_part_in None t) (grade_parts ts)
 
     pub grade_segment : Bool → Segment → Seen → S.G
     grade_segment first (tree.name_segment n _ as') x = grade_beside as'
     grade_segment first tree.super_segment x = S.super x.supers
-    grade_segment true (tree.type_segment t) x = grade_type t
+    grade_segment true (tree.type_segment t) x = grade_type_in None t
     -- the trait is stored as a type too, where its path isn't refused
     grade_segment true (tree.trait_segment t at p) x =
-        S.then' (grade_type t) (S.then' (grade_whole p) (if_so S (is_some (whole_read p)) (S.type_at (Some at))))
+        S.then' (grade_type_in None t)
+        (S.then' (grade_whole p) (if_so S (is_some (whole_read p)) (S.type_as (type_data None (tree.path_type at p)))))
     grade_segment first s x = S.none
 
     -- from the last
@@ -91,11 +106,12 @@ module _ {ℓ} (S : Grading {ℓ}) where
     -- the types make a tuple
     pub grade_parens : OptionParens → S.G
     grade_parens tree.no_parens = S.none
-    grade_parens (tree.some_parens ts r) = S.then' (grade_parts ts) (S.then' (S.type_at None) (grade_output r))
+    grade_parens (tree.some_parens ts r) =
+        S.then' (grade_parts ts) (S.then' (S.type_as (typed None (tuple_shape (parts_data ts no_types)))) (grade_output r))
 
     pub grade_output : OptionRet → S.G
-    grade_output tree.no_ret = S.type_at None
-    grade_output (tree.some_ret t) = grade_part t
+    grade_output tree.no_ret = S.type_as unit_data
+    grade_output (tree.some_ret t) = grade_part_in None t
 
     pub grade_args : OptionArgs → S.G
     grade_args tree.no_arg_list = S.none
@@ -107,8 +123,8 @@ module _ {ℓ} (S : Grading {ℓ}) where
 
     pub grade_arg : Arg → S.G
     grade_arg tree.skipped_arg = S.none
-    grade_arg (tree.type_arg t) = grade_part t
-    grade_arg (tree.lifetime_arg l) = S.lifetime_at (Some l.pointer)
+    grade_arg (tree.type_arg t) = grade_part_in None t
+    grade_arg (tree.lifetime_arg l) = S.lifetime_as (lifetime_data l)
     grade_arg (tree.const_arg c) = grade_constant c
     grade_arg (tree.assoc_arg n as' dots t bs) = S.then' (grade_args as') (S.then' (grade_present t) (grade_bounds bs))
 
@@ -119,8 +135,9 @@ module _ {ℓ} (S : Grading {ℓ}) where
     -- a path is a type, where it isn't refused
     pub grade_bound : Bound → S.G
     grade_bound tree.error_bound = S.none
-    grade_bound (tree.path_bound at p maybe binder) = S.then' (grade_whole p) (if_so S (is_some (whole_read p)) (S.type_at (Some at)))
-    grade_bound (tree.lifetime_bound l) = S.lifetime_at (Some l.pointer)
+    grade_bound (tree.path_bound at p maybe binder) =
+        S.then' (grade_whole p) (if_so S (is_some (whole_read p)) (S.type_as (type_data None (tree.path_type at p))))
+    grade_bound (tree.lifetime_bound l) = S.lifetime_as (lifetime_data l)
     grade_bound (tree.use_bound us) = grade_uses S us
 
     -- ---- patterns of types
@@ -301,7 +318,7 @@ module _ {ℓ} (S : Grading {ℓ}) where
     -- and then a `let` of that type in a block
     grade_expr (tree.try_expr at item (tree.some_type t) number ss e) =
         S.then' (grade_try S true number ss e (grade_stmts ss (grade_kept e)))
-        (S.then' S.made_name (S.then' (grade_type t) (S.then' (made_bind S) (S.then' S.expr S.expr))))
+        (S.then' S.made_name (S.then' (grade_type_in None t) (S.then' (made_bind S) (S.then' S.expr S.expr))))
     grade_expr (tree.coroutine_expr at kind moves number ss e) = S.coroutine number (grade_stmts ss (grade_kept e))
     grade_expr (tree.call_expr at f has_list es) = S.then' (grade_expr_part f) (S.then' (grade_exprs es) S.expr)
     grade_expr (tree.path_expr at p h) = S.then' (grade_whole p) S.expr
@@ -322,11 +339,11 @@ module _ {ℓ} (S : Grading {ℓ}) where
         S.coroutine_closure xs (grade_params xs) (grade_present t) (grade_expr_part e)
     grade_expr (tree.method_call_expr at e name es generics) =
         S.then' (grade_expr_part e) (S.then' (grade_exprs es) (S.then' (grade_args generics) S.expr))
-    grade_expr (tree.cast_expr at e t) = S.then' (grade_expr_part e) (S.then' (grade_part t) S.expr)
+    grade_expr (tree.cast_expr at e t) = S.then' (grade_expr_part e) (S.then' (grade_part_in None t) S.expr)
     -- where the path is absent or refused nothing else is read
     grade_expr (tree.record_expr at p head fs s) =
         S.then' (grade_whole p) (record_of S (is_some (whole_read p)) (S.then' (grade_fields fs) (grade_expr_spread s)))
-    grade_expr (tree.offset_of_expr at t names) = S.then' (grade_part t) S.expr
+    grade_expr (tree.offset_of_expr at t names) = S.then' (grade_part_in None t) S.expr
     grade_expr (tree.leaving_expr at form e) = S.then' (grade_expr_present e) S.expr
     grade_expr (tree.become_expr at e) = S.then' (grade_expr_part e) S.expr
     grade_expr (tree.yield_expr at e) = S.yielding (S.then' (grade_expr_present e) S.expr)
@@ -416,3 +433,10 @@ module _ {ℓ} (S : Grading {ℓ}) where
     grade_stmt (tree.macro_stmt k d) = S.def k
     grade_stmt (tree.let_stmt p t e b) =
         S.then' (grade_top p) (S.then' (grade_present t) (S.then' (grade_expr_present e) (grade_block_present b)))
+
+  -- behind no `for`
+  abbrev pub grade_type : Type_ → S.G
+  grade_type t = grade_type_in None t
+
+  abbrev pub grade_part : OptionType → S.G
+  grade_part t = grade_part_in None t

@@ -15,7 +15,10 @@ use Rattle.hir_env.specs.Answered as tree
 use Rattle.hir_env.specs.Answered.{Called, Entered, Expr, Gone, Jump, Label, Lifetime, Limit, Listing, OptionExpr, Params, Pats, RangeForm}
 use Rattle.hir_env.specs.Answered.{Origin, Stmt, Stmts, Use, UseRead}
 use Rattle.hir_env.specs.Targets.{origin, source_of}
+use Rattle.hir_data.specs.Data as datum
+use Rattle.hir_data.specs.Data.{LifetimeData, TypeData}
 use Rattle.hir_data.specs.Uses.{FirstUses}
+use Rattle.hir_data.specs.Written.{absent_data, lifetime_data}
 use Rattle.hir_meaning.specs.Left.{is_left, gives_value}
 use Rattle.hir_one_result.specs.PathRoom.{Seen, Read, goes_on}
 use Rattle.hir_one_result.specs.PatRoom.{is_known}
@@ -26,9 +29,13 @@ pub record Grading {ℓ} : Type (ℓ + 1) where
   pub none : G
   -- the one, and then the other
   pub then' : G → G → G
-  -- ---- what is stored: of a node, where it came from one
+  -- ---- what is stored: a type and a lifetime that read back so
+  pub type_as : TypeData → G
+  pub lifetime_as : LifetimeData → G
+  -- one that an item has and no tree, of which no more is told than its node
   pub type_at : Option Pointer → G
   pub lifetime_at : Option Pointer → G
+  -- of a node, where it came from one
   pub pat_at : Option Pointer → G
   -- a pattern to which no written node leads, and a node that is assigned to and leads to the last one
   pub made_pat_at : Option Pointer → G
@@ -86,11 +93,11 @@ module _ {ℓ} (S : Grading {ℓ}) where
 
   abbrev pub grade_lifetime : Option Lifetime → S.G
   grade_lifetime None = S.none
-  grade_lifetime (Some l) = S.lifetime_at (Some l.pointer)
+  grade_lifetime (Some l) = S.lifetime_as (lifetime_data l)
 
   abbrev pub grade_use : UseRead → S.G
   grade_use (tree.used_name n) = S.none
-  grade_use (tree.used_lifetime l) = S.lifetime_at (Some l.pointer)
+  grade_use (tree.used_lifetime l) = S.lifetime_as (lifetime_data l)
 
   abbrev pub grade_uses : List UseRead → S.G
   grade_uses [] = S.none
@@ -99,10 +106,10 @@ module _ {ℓ} (S : Grading {ℓ}) where
   -- ---- types
 
   -- what an `impl` becomes, without its bounds
-  abbrev pub grade_impl : ImplTrait → Pointer → S.G
-  grade_impl becomes.Error at = S.type_at (Some at)
-  grade_impl becomes.Opaque at = S.type_at (Some at)
-  grade_impl (becomes.Argument def) at = S.then' S.param (S.type_at (Some at))
+  abbrev pub grade_impl : ImplTrait → TypeData → S.G
+  grade_impl becomes.Error t = S.type_as t
+  grade_impl becomes.Opaque t = S.type_as t
+  grade_impl (becomes.Argument def) t = S.then' S.param (S.type_as t)
 
   -- ---- patterns
 
@@ -140,8 +147,8 @@ module _ {ℓ} (S : Grading {ℓ}) where
 
   -- or an error, from its node
   abbrev pub grade_uncalled_type : Pointer → Called → S.G
-  grade_uncalled_type at tree.callless = S.type_at (Some at)
-  grade_uncalled_type at called = S.then' (S.told called) (S.then' (S.type_at None) (S.type_call at))
+  grade_uncalled_type at tree.callless = S.type_as (datum.typed (Some at) datum.error_shape)
+  grade_uncalled_type at called = S.then' (S.told called) (S.then' (S.type_as absent_data) (S.type_call at))
 
   -- ---- what is assigned to
 

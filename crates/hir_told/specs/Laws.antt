@@ -17,7 +17,7 @@ use Rattle.hir_one_result.specs.Formals.{Given, lower_body}
 use Rattle.hir_one_result.specs.Laws.{GrownUnless, WhereLowered}
 use Rattle.hir_told.specs.Bodies.{grade_body}
 use Rattle.hir_told.specs.Expanded.{bodies_expanded, expansions}
-use Rattle.hir_told.specs.Grades.{grade_expr_part, grade_part, grade_target, grade_top, grade_whole}
+use Rattle.hir_told.specs.Grades.{grade_expr_part, grade_part, grade_part_in, grade_target, grade_top, grade_whole}
 use Rattle.hir_told.specs.Grading.{Grading}
 use Rattle.hir_told.specs.Lists.{bodies_listed, listed}
 use Rattle.hir_told.specs.Sizes.{bodies_sized, sizes}
@@ -63,7 +63,7 @@ ExprsExpand = WhereLowered (λ e old id new. new.stored.expansions ≡ old.store
 
 abbrev pub TypesExpand : Type 0
 TypesExpand = (binder : Option Binder) (t : OptionType) (old new : Builder) (i : TypeRefId) → Paired old.stored
-    → type_part binder t old ≡ (Ok i, new) → new.stored.expansions ≡ old.stored.expansions ++ grade_part expansions t
+    → type_part binder t old ≡ (Ok i, new) → new.stored.expansions ≡ old.stored.expansions ++ grade_part_in expansions binder t
 
 abbrev pub PathsExpand : Type 0
 PathsExpand = (p : OptionPath) (old new : Builder) (r : Option HirPath) → Paired old.stored → lower_path p old ≡ (Ok r, new)

@@ -6,7 +6,10 @@ pub mod Yields
 pub mod Lists
 pub mod Expanded
 pub mod Sizes
+pub mod StoredData
 pub mod Laws
+pub mod StoredLaws
 pub mod Worked
 pub mod WorkedOrders
 pub mod WorkedTargets
+pub mod WorkedData

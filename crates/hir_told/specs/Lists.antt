@@ -19,6 +19,8 @@ module _ {X : Type 0} (of_faults : List ExpressionStoreDiagnostics → List X) (
     G = List Scope → List X;
     none = nothing;
     then' = λ D E. λ ss. D ss ++ E ss;
+    type_as = λ t. nothing;
+    lifetime_as = λ l. nothing;
     type_at = λ at. nothing;
     lifetime_at = λ at. nothing;
     pat_at = λ at. nothing;

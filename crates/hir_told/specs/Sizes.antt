@@ -1,5 +1,8 @@
 -- How much a tree becomes.
-use Rattle.std.specs.Prelude.{map}
+use Rattle.std.specs.Prelude.{map, Option}
+use Rattle.hir_store.specs.Pointers.{Pointer}
+use Rattle.hir_data.specs.Data as datum
+use Rattle.hir_data.specs.Data.{TypeData}
 use Rattle.hir_data.specs.Patterns.{written_pat}
 use Rattle.hir_data.specs.Tops.{params_tops}
 use Rattle.hir_meaning.specs.InnerWritten.{constant_body, limit_body}
@@ -12,11 +15,17 @@ use Rattle.hir_one_result.specs.Size.{an_expr, dots_behind, nothing, ◌∪◌}
 use Rattle.hir_told.specs.Bodies.{GradingBodies}
 use Rattle.hir_told.specs.Grading.{Grading}
 
+-- the node that a type came from, where it came from one
+abbrev pub type_node : TypeData → Option Pointer
+type_node (datum.typed from shape) = from
+
 abbrev pub sizes : Grading {1}
 sizes = record {
   G = Size;
   none = nothing;
   then' = λ n k. n ∪ k;
+  type_as = λ t. a_type (type_node t);
+  lifetime_as = λ l. a_lifetime l.from;
   type_at = λ at. a_type at;
   lifetime_at = λ at. a_lifetime at;
   pat_at = λ at. a_pat at;

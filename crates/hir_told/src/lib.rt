@@ -5,7 +5,9 @@ ghost use Rattle.hir_one_result.specs.Laws.{BlocksAre, DiagnosticsAre};
 ghost use Rattle.hir_told.specs.Laws.{BodiesEnter, BodiesExpand, BodiesFit, BodiesReport};
 ghost use Rattle.hir_told.specs.Laws.{ExprsEnter, ExprsExpand, ExprsFit, ExprsNote, ExprsReport};
 ghost use Rattle.hir_told.specs.Laws.{PathsExpand, PatsNote, TargetsNote, TypesExpand, TypesNote};
+ghost use Rattle.hir_told.specs.StoredLaws.{BodiesStore, ExprsStore, PathsStore, PatsStore, TypesStore, WholeBodiesStore, WholeTypesStore};
 ghost use Rattle.hir_told.specs.Worked.{SmallCalls};
+ghost use Rattle.hir_told.specs.WorkedData.{AllSmallData};
 ghost use Rattle.hir_told.specs.WorkedOrders.{AllSmallOrders};
 ghost use Rattle.hir_told.specs.WorkedTargets.{AllSmallTargets};
 
@@ -77,6 +79,26 @@ pub fn bodies_fit()
     ensures { BodiesFit }
 {}
 
+/// Each type and each lifetime that is stored where an expression is lowered reads back as is told of it, in each later store, in the order
+/// in which they are stored: also those that nothing reaches.
+pub fn exprs_store()
+    ensures { ExprsStore }
+{}
+
+/// Of a type likewise, of a path, also of one that is refused, and of a whole pattern.
+pub fn types_store()
+    ensures types { TypesStore }
+    ensures paths { PathsStore }
+    ensures pats { PatsStore }
+    ensures whole { WholeTypesStore }
+{}
+
+/// Of a body behind its parameters likewise.
+pub fn bodies_store()
+    ensures bodies { BodiesStore }
+    ensures whole { WholeBodiesStore }
+{}
+
 /// What is claimed of the numbers of blocks by `hir_one_result` follows from what is told.
 pub fn blocks_follow()
     ensures { BlocksAre }
@@ -105,4 +127,10 @@ pub fn small_orders()
 /// node leads, and a call that is the whole target leads to what it stands for.
 pub fn small_targets()
     ensures { AllSmallTargets }
+{}
+
+/// Small types of which something is stored and not reached: the bounds of an `impl` that isn't allowed, a lifetime among them, and the
+/// argument behind what refuses a path.
+pub fn small_data()
+    ensures { AllSmallData }
 {}

@@ -1,0 +1,173 @@
+-- What is stored of types and lifetimes reads back as is told, in each later store: an instance.
+use Rattle.std.proofs.Common.{◌≡◌, refl, ap, Bool, Option, Some, None, Ok, List}
+use Rattle.hir_store.specs.Pointers.{Pointer}
+use Rattle.hir_store.specs.Stored.{Stored, store_of}
+use Rattle.hir_store.specs.Storing.{Extends, record_root, root_at}
+use Rattle.hir_store.proofs.Extending.{extends_refl, extends_root}
+use Rattle.hir_store.specs.declared.type_ref.TypeBound.{TypeBound}
+use Rattle.hir_env.specs.declared.place.ImplTrait.{ImplTrait}
+use Rattle.hir_env.specs.declared.place.ImplTrait.TheVariants as becomes
+use Rattle.hir_lower_form.specs.Builder.{Builder, fresh}
+use Rattle.hir_lower_form.specs.Lowering.{Lowering, becoming}
+use Rattle.hir_lower_form.specs.Pats.{new_binding}
+use Rattle.hir_lower_form.specs.Walks.{super_read}
+use Rattle.hir_data.specs.Data as datum
+use Rattle.hir_data.specs.Data.{Shape}
+use Rattle.hir_steps.specs.Keeps.{Paired}
+use Rattle.hir_steps.proofs.Barriers.{correct_yield}
+use Rattle.hir_steps.proofs.Calls.{correct_only, correct_point_pat, correct_point_target, correct_point_type}
+use Rattle.hir_steps.proofs.Calls.{only_gone, only_note, only_told}
+use Rattle.hir_steps.proofs.Definitions as definitions
+use Rattle.hir_steps.proofs.Frames.{block_at, loop_at}
+use Rattle.hir_steps.proofs.MadeSteps.{correct_alloc_made, correct_try_target}
+use Rattle.hir_steps.proofs.Noted.{correct_aliased, correct_becoming, correct_noted}
+use Rattle.hir_steps.proofs.PatSteps.{correct_alloc_made_pat, correct_point_pat_field}
+use Rattle.hir_steps.proofs.Steps.{Correct, correct_as, correct_bind, correct_both, correct_point, correct_point_field, correct_report}
+use Rattle.hir_one_result.specs.OneResult.{fresh_owing, in_root_of, with_root}
+use Rattle.hir_one_result.proofs.AfterLowering.{after_lowering}
+use Rattle.hir_told.specs.Grading.{grade_impl}
+use Rattle.hir_told.specs.StoredData.{DataAdded, StoredData, bodies_stored, no_data, stored_data}
+use Rattle.hir_told.specs.StoredLaws.{BodiesStore, ExprsStore, PathsStore, PatsStore, TypesStore, WholeBodiesStore, WholeTypesStore}
+use Rattle.hir_told.proofs.Bodies.{GradedBodies, body_graded}
+use Rattle.hir_told.proofs.CorrectWhere.{correct_where}
+use Rattle.hir_told.proofs.Graded.{Graded, TypeIs}
+use Rattle.hir_told.proofs.Storing.{More, Stores, binding_stores, block_stores, closure_stores, coroutine_stores, data_of, define_stores}
+use Rattle.hir_told.proofs.Storing.{dots_stored, expr_stores, inner_stores, jump_stores, lifetime_stores, made_bind_stores, more_last}
+use Rattle.hir_told.proofs.Storing.{more_then, opened_stores, owning_stores, pat_stores, pure_stores, rooted_stores, settle_stores, still}
+use Rattle.hir_told.proofs.Storing.{stores_begin, stores_end, stores_opened, stores_then, stores_where, super_stored, try_stores}
+use Rattle.hir_told.proofs.Storing.{type_stores}
+use Rattle.hir_told.proofs.StoringPreludes.{coroutine_body_stores, coroutine_closure_stores, number_stores}
+use Rattle.hir_told.proofs.Tree.{expr_part_graded, part_graded, path_graded, top_graded}
+
+pub impls : (at : Pointer) (mode : ImplTrait) (bounds : List TypeBound) (shape : Shape) → let t = datum.typed (Some at) shape in
+    Correct (becoming at mode bounds) (λ final ps m m' i.
+    TypeIs t final m i → More (grade_impl stored_data mode t) final m.stored m'.stored)
+impls at becomes.Error bounds shape = type_stores _ (Some at) shape
+impls at becomes.Opaque bounds shape = type_stores _ (Some at) shape
+impls at (becomes.Argument def) bounds shape =
+    correct_becoming at (becomes.Argument def) bounds (λ t e. type_stores t (Some at) shape)
+
+abbrev pub data_graded : Graded stored_data
+data_graded = record {
+  Claim = λ d p. Correct p (Stores d);
+  Made = λ d p. Correct p (Stores d);
+  Hands = λ t d p. Correct p (Stores d);
+  Where = λ C d p. Correct p (λ final ps m m' a. C final m a → More d final m.stored m'.stored);
+  made_is = λ h. h;
+  pure_is = λ a. pure_stores a;
+  bind_is = λ h t k. stores_where h t k;
+  makes_is = λ h t k. stores_where h t k;
+  end_is = λ h k. stores_end h k;
+  where_is = λ is h. correct_as (correct_both is h) (λ final ps m m' a g row. row.other row.one);
+  where_any = λ h. correct_as h (λ final ps m m' a g row. λ c. row);
+  where_less = λ is h. correct_as (correct_both is h) (λ final ps m m' a g row. λ d. row.other (row.one d));
+  where_next = λ h k. correct_as (correct_bind h k) (λ final ps m m' b g row. λ c. more_then row.first (row.second c));
+  where_known = λ h t is k. correct_as (correct_where (correct_both is h) t k)
+      (λ final ps m m' b g row. more_then row.first.other (row.second row.first.one));
+  where_first = λ h k. correct_as (correct_bind h k) (λ final ps m m' b g row. λ c. more_then (row.first c) row.second);
+  where_end = λ h k. correct_as (correct_bind h k) (λ final ps m m' b g row. λ c. more_last (row.first c) row.second);
+  hands_pure_is = λ a t u e. pure_stores (a, u);
+  hands_as_is = λ t u e h. h;
+  hands_bind_is = λ table h t k. stores_where h t k;
+  beside_is = λ table h t k. stores_where h t k;
+  hands_end_is = λ table h k. stores_end h k;
+  beside_end_is = λ table h k. stores_end h k;
+  new_name_is = λ u is t with_it e. stores_end (binding_stores (new_binding u)) (λ b. pure_stores (b, with_it b));
+  top_is = λ h. stores_end h (λ r. stores_end (settle_stores r.1) (λ u. pure_stores r.0));
+  type_is = λ t at shape. type_stores t at shape;
+  lifetime_is = λ l at. lifetime_stores l at;
+  noted_down_is = λ f k h. correct_noted f h;
+  aliased_is = λ alias h. correct_aliased alias h;
+  impl_is = λ at mode bounds shape. impls at mode bounds shape;
+  pat_is = λ p at. pat_stores p at;
+  made_pat_is = λ p at. still (correct_alloc_made_pat p at) (λ final ps m m' i row. ap data_of row.stored);
+  expr_is = λ e at. expr_stores e at;
+  made_expr_is = λ e at. still (correct_alloc_made e at) (λ final ps m m' i row. ap data_of row.stored);
+  point_is = λ at h. stores_end h (λ i.
+      stores_end (still (correct_point at i) (λ final ps m m' u row. ap data_of row.stored)) (λ u. pure_stores i));
+  point_field_is = λ i at. still (correct_point_field i at) (λ final ps m m' u row. ap data_of row.stored);
+  binding_is = λ u is. binding_stores (new_binding u);
+  define_is = λ b p. define_stores b p;
+  field_is = λ p at. still (correct_point_pat_field p at) (λ final ps m m' u row. ap data_of row.stored);
+  fault_is = λ d. still (correct_report d) (λ final ps m m' u row. ap data_of row.stored);
+  noted_is = λ c. still (correct_only (only_note c)) (λ final ps m m' u row. ap data_of row.stored);
+  told_is = λ c. still (correct_only (only_told c)) (λ final ps m m' u row. ap data_of row.stored);
+  gone_is = λ why. still (correct_only (only_gone why)) (λ final ps m m' u row. ap data_of row.stored);
+  type_call_is = λ at l h. stores_then h (λ i.
+      stores_end (still (correct_point_type at i) (λ final ps m m' u row. ap data_of row.stored)) (λ u. pure_stores i));
+  pat_call_is = λ at l h. stores_then h (λ i.
+      stores_end (still (correct_point_pat at i) (λ final ps m m' u row. ap data_of row.stored)) (λ u. pure_stores i));
+  target_way_is = λ at l h. stores_then h (λ i.
+      stores_end (still (correct_point_target at i) (λ final ps m m' u row. ap data_of row.stored)) (λ u. pure_stores i));
+  hands_call_is = λ at t l h. stores_then h (λ r.
+      stores_end (still (correct_point_pat at r.0) (λ final ps m m' u row. ap data_of row.stored)) (λ u. pure_stores r));
+  super_is = λ w. super_stored (super_read w);
+  dots_is = λ comma place. dots_stored comma place;
+  def_is = λ k d. still (definitions.correct_define k d) (λ final ps m m' o row. ap (λ x. data_of x.stored) row.still);
+  block_is = λ n. block_stores n;
+  jump_is = λ j. jump_stores j;
+  yield_is = λ at e h. correct_yield at e h;
+  asked_is = λ k. stores_begin (still correct_try_target (λ final ps m m' t row. ap (λ x. data_of x.stored) row.still)) k;
+  named_is = λ mode k. stores_then number_stores (λ n. stores_then (made_bind_stores mode n) (λ q. k n q));
+  made_named_is = λ mode k. stores_then number_stores (λ n. stores_then (made_bind_stores mode n) (λ q. k n q));
+  named_past_is = λ mode h k. stores_then number_stores (λ n. stores_then h (λ a. stores_then (made_bind_stores mode n) (k n a)));
+  bare_is = λ h k. stores_end h k;
+  loop_is = λ l is p h k. stores_opened (opened_stores loop_at l (λ n ps. refl) (λ n. h) k);
+  labelled_is = λ l is k. stores_opened (opened_stores block_at l (λ n ps. refl) k (λ n i. pure_stores i));
+  defined_is = λ d h. correct_as (definitions.correct_inside_macro d h) (λ final ps m m' x g row. row);
+  try_is = λ at typed k of b hs hp t more. try_stores at typed k of b hs hp t more;
+  inner_is = λ l h. inner_stores h;
+  constant_is = λ e h. owning_stores (λ c. c.expr) (rooted_stores h);
+  rooted_is = λ e h. rooted_stores h;
+  closure_is = λ at moves is_static hp ht he. closure_stores at moves is_static hp ht he;
+  coroutine_closure_is = λ at kind moves xs t e hp ht he. coroutine_closure_stores kind at moves hp ht he;
+  coroutine_is = λ at kind moves number h. coroutine_stores at kind moves number h;
+  owning_is = λ h. owning_stores (λ i. i) h;
+}
+
+abbrev pub data_bodies : GradedBodies data_graded bodies_stored
+data_bodies = record {
+  coroutine_body_is = λ kind skipped f e hs hf he. coroutine_body_stores kind skipped f e hs hf he;
+}
+
+-- ---- laws
+
+-- where the steps answer
+pub added : {A : Type 0} {d : StoredData} {p : Lowering A} → Correct p (Stores d) → (old new : Builder) (a : A) → Paired old.stored
+    → p old ≡ (Ok a, new) → DataAdded d old.stored new.stored
+added h old new a paired is = record {
+  types = λ later more. (after_lowering h old a new paired is later more).types;
+  lifetimes = λ later more. (after_lowering h old a new paired is later more).lifetimes;
+}
+
+pub exprs_store : ExprsStore
+exprs_store e old id new paired is = added (expr_part_graded data_graded e) old new id paired is
+
+pub types_store : TypesStore
+types_store binder t old new i paired is = added (part_graded data_graded binder t) old new i paired is
+
+pub paths_store : PathsStore
+paths_store p old new r paired is = added (path_graded data_graded p).claim old new r paired is
+
+pub pats_store : PatsStore
+pats_store p old new i paired is = added (top_graded data_graded p) old new i paired is
+
+pub bodies_store : BodiesStore
+bodies_store kind skipped f e old new r paired is =
+    added (body_graded data_graded data_bodies kind skipped f e) old new r paired is
+
+pub whole_types_store : WholeTypesStore
+whole_types_store limit t i new is =
+    let none : Paired (fresh limit).stored = record { exprs = refl; labels = refl; pats = refl; types = refl; lifetimes = refl } in
+    let d = types_store None t (fresh limit) new i none is in
+    let same = extends_refl new.stored in record { types = d.types new.stored same; lifetimes = d.lifetimes new.stored same }
+
+pub whole_bodies_store : WholeBodiesStore
+unfolding record_root
+whole_bodies_store limit owed kind skipped f e given id new is =
+    let old = in_root_of (fresh_owing limit owed) in
+    let none : Paired old.stored = record { exprs = refl; labels = refl; pats = refl; types = refl; lifetimes = refl } in
+    let d = bodies_store kind skipped f e old new (given, id) none is in
+    let final = with_root id new.stored in
+    let stays = extends_root new.stored (root_at (store_of new.stored) id) in
+    record { types = d.types final stays; lifetimes = d.lifetimes final stays }
