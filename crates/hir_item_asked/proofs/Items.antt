@@ -50,6 +50,7 @@ use Rattle.hir_read_back.proofs.Types.{lifetime_reads}
 use Rattle.hir_same_meaning.proofs.HeldTree.{part_holds}
 use Rattle.hir_sets.specs.Noting.{of_lifetime_option, one_name, one_ref}
 use Rattle.hir_sets.specs.Fold.{noted_in_bound, noted_in_output}
+use Rattle.hir_noted.proofs.Held.{bound_holds, held_here}
 use Rattle.hir_noted.proofs.Logic as parts
 use Rattle.hir_noted.proofs.Steps.{notes_report, notes_type}
 use Rattle.hir_noted.proofs.TypeForms.{lifetime_notes, lifetime_option_notes, notes_naming, unit_notes}
@@ -65,9 +66,7 @@ use Rattle.hir_item_asked.specs.Fold.{asked_in_params, asked_in_predicate, asked
 use Rattle.hir_item_asked.specs.Fold.{asked_in_trait_path, asked_of_param, asking, nothing, of_part, of_type, of_lifetime as outlives}
 use Rattle.hir_item_asked.specs.Fold.{one_param, parameter, written, ◌⊟◌}
 use Rattle.hir_item_noted.specs.Noted.{count}
-use Rattle.hir_item_noted.proofs.Held.{held_here}
 use Rattle.hir_item_asked.specs.Asked.{BoundHolds, BoundIs, TypeIs}
-use Rattle.hir_item_asked.proofs.Held.{bound_holds}
 use Rattle.hir_item_asked.proofs.Logic.{AskTo, Later, Steps, asked_nothing, from_then, param_then, predicate_to, read_as, steps_begin}
 use Rattle.hir_item_asked.proofs.Logic.{steps_end, steps_lifetime_param, steps_param, steps_part, steps_pure, steps_quiet, steps_then}
 use Rattle.hir_item_asked.proofs.Logic.{ask_at, steps_by, still}

@@ -1,4 +1,3 @@
-pub mod Held
 pub mod Logic
 pub mod Items
 pub mod Laws

@@ -12,6 +12,10 @@ use Rattle.hir_store.proofs.Extending.{extends_refl, extends_trans}
 use Rattle.hir_data.specs.Data as datum
 use Rattle.hir_data.specs.Data.{BoundData, BoundsData}
 use Rattle.hir_data.specs.Reading.{bounds_layer, entries, readers}
+use Rattle.hir_data.specs.Written.{bounds_data}
+use Rattle.hir_env.specs.Answered as tree
+use Rattle.hir_env.specs.Answered.{Bounds}
+use Rattle.hir_meaning.specs.Inner.{all_inners}
 use Rattle.hir_lower_form.specs.Builder.{Builder}
 use Rattle.hir_lower_form.specs.Generics.{predicates_of, with_param}
 use Rattle.hir_lower_form.specs.Lowering.{Checked, go_on, Lowering, ◌>>=◌, pure, add_lifetime_param, add_param, add_predicate, count_out}
@@ -22,10 +26,10 @@ use Rattle.hir_steps.proofs.Logic.{Correct, correct_in_store}
 use Rattle.hir_read_back.proofs.Layers.{Layer, Reads, within}
 use Rattle.hir_read_back.proofs.Now.{answered}
 use Rattle.hir_sets.specs.Noting.{Impl, Noting}
-use Rattle.hir_noted.specs.Lists.{Fits, Noted, all_entries, unnamed}
+use Rattle.hir_noted.specs.Lists.{BoundsHold, Fits, Noted, all_entries, unnamed}
 use Rattle.hir_noted.proofs.Logic as parts
 use Rattle.hir_item_noted.specs.Noted.{count}
-use Rattle.hir_item_asked.specs.Fold.{Asking, Asks, Reached, asking, each_of, nothing, of_impls, of_part, parameter, ◌⊟◌, one_param}
+use Rattle.hir_item_asked.specs.Fold.{Asked, Asking, Asks, Reached, asking, each_of, nothing, of_impls, of_part, parameter, ◌⊟◌, one_param}
 use Rattle.hir_item_asked.specs.Asked.{IsAsked, Stand, StandsFor, TypeIs}
 
 -- ---- what stands
@@ -79,23 +83,18 @@ abbrev rest_of : BoundsData → BoundsData
 rest_of datum.no_bounds = datum.no_bounds
 rest_of (datum.more_bounds d ds) = ds
 
-abbrev AnyBound : BoundsData → Type 0
-AnyBound datum.no_bounds = ⊥
-AnyBound (datum.more_bounds d ds) = Unit {0}
-
 module _ (store : Store) (source_map : SourceMap) where
   -- as all of them are read
   abbrev bounds_are : List TypeBound → BoundsData
   bounds_are bs = bounds_layer store source_map (readers store source_map (entries store source_map)) bs
 
   -- what an `impl` became, of each of its bounds
-  each_stands : (t : TypeRefId) (i : Impl) (k : ℕ) (bs : List TypeBound) (ds : BoundsData)
-      → TypeIs store source_map t (parameter i.parent k (Some i.at)) → bounds_are bs ≡ ds
-      → Stand store source_map (predicates_of t bs) (each_of i k ds)
-  each_stands t i k [] datum.no_bounds h e = tt
-  each_stands t i k [] (datum.more_bounds d ds) h e = absurd (subst AnyBound (sym e) tt)
-  each_stands t i k (b ∷ bs) datum.no_bounds h e = absurd (subst AnyBound e tt)
-  each_stands t i k (b ∷ bs) (datum.more_bounds d ds) h e = ((refl, h, ap first_of e), each_stands t i k bs ds h (ap rest_of e))
+  each_stands : (t : TypeRefId) (x : Asked) (ys : List TypeBound) (bs : Bounds) → TypeIs store source_map t x → bounds_are ys ≡ bounds_data bs
+      → BoundsHold store source_map (all_inners store) ys bs → Stand store source_map (predicates_of t ys) (each_of x bs)
+  each_stands t x [] tree.no_bounds h e g = tt
+  each_stands t x [] (tree.more_bounds b bs) h e g = absurd g
+  each_stands t x (y ∷ ys) tree.no_bounds h e g = absurd g
+  each_stands t x (y ∷ ys) (tree.more_bounds b bs) h e g = ((refl, h, ap first_of e, g.0), each_stands t x ys bs h (ap rest_of e) g.1)
 
 impls_stand : (s final : Stored) → Extends s final → (is : List Impl) (ps : List WherePredicate) (k : ℕ) → Fits ps k is s
     → Stand (store_of final) (map_of final) ps (of_impls is k)
@@ -103,9 +102,11 @@ impls_stand s final pre [] ps k f = subst (λ l. Stand (store_of final) (map_of 
 impls_stand s final pre (i ∷ is) ps k f =
     let stands = found_stays pre.types.entries f.target.0 _ f.stands in
     let from = found_stays pre.types.sources f.target.0 _ f.from in
-    subst (λ l. Stand (store_of final) (map_of final) l (each_of i k i.bounds ++ of_impls is (suc k))) (sym f.are)
-    (stand_append (store_of final) (map_of final) (predicates_of f.target f.bounds) f.others (each_of i k i.bounds) (of_impls is (suc k))
-    (each_stands (store_of final) (map_of final) f.target i k f.bounds i.bounds (stands, from) (f.read final pre))
+    let x = parameter i.parent k (Some i.at) in
+    let read = f.read final pre in
+    subst (λ l. Stand (store_of final) (map_of final) l (each_of x i.bounds ++ of_impls is (suc k))) (sym f.are)
+    (stand_append (store_of final) (map_of final) (predicates_of f.target f.bounds) f.others (each_of x i.bounds) (of_impls is (suc k))
+    (each_stands (store_of final) (map_of final) f.target x f.bounds i.bounds (stands, from) read.0 read.1)
     (impls_stand s final pre is f.others (suc k) f.rest_fits))
 
 length_unnamed : (is : List Impl) → length (unnamed is) ≡ length is

@@ -1,5 +1,5 @@
 -- What stands for what is asked.
-use Rattle.std.specs.Prelude.{◌≡◌, List, [], ◌∷◌, ◌++◌, slice_get, Some, None}
+use Rattle.std.specs.Prelude.{◌≡◌, List, [], ◌∷◌, ◌++◌, slice_get, Some}
 use Rattle.hir_store.specs.Stored.{Store, SourceMap, Stored, map_of, store_of}
 use Rattle.hir_store.specs.Storing.{Extends}
 use Rattle.hir_store.specs.declared.generics.WherePredicate.{WherePredicate}
@@ -12,7 +12,7 @@ use Rattle.hir_meaning.specs.Inner.{Bodies, all_inners, of_bound, type_inner_bod
 use Rattle.hir_meaning.specs.Same.{SameBodies}
 use Rattle.hir_lower_form.specs.Builder.{Builder}
 use Rattle.hir_item_noted.specs.Noted.{count, parameter_type}
-use Rattle.hir_item_asked.specs.Fold.{Asked, Asking, Asks, of_impl, of_lifetime, of_type, parameter, written}
+use Rattle.hir_item_asked.specs.Fold.{Asked, Asking, Asks, of_lifetime, of_type, parameter, written}
 
 module _ (store : Store) (source_map : SourceMap) where
   -- a parameter is one, from that node; what is written is read back, and the bodies inside it do what the written ones do
@@ -29,12 +29,10 @@ module _ (store : Store) (source_map : SourceMap) where
 
   abbrev pub StandsFor : WherePredicate → Asking → Type 0
   StandsFor (predicate.TypeBound binder t b) (of_type names x d bs) = (binder ≡ names) × TypeIs t x × BoundIs b d × BoundHolds b bs
-  StandsFor (predicate.TypeBound binder t b) (of_impl def k at d) = (binder ≡ None) × TypeIs t (parameter def k (Some at)) × BoundIs b d
   StandsFor (predicate.TypeBound binder t b) (of_lifetime d e) = ⊥
   StandsFor (predicate.Lifetime l m) (of_lifetime d e) =
       (stored_lifetime store source_map l ≡ d) × (stored_lifetime store source_map m ≡ e)
   StandsFor (predicate.Lifetime l m) (of_type names x d bs) = ⊥
-  StandsFor (predicate.Lifetime l m) (of_impl def k at d) = ⊥
 
   -- one for each, in their order
   abbrev pub Stand : List WherePredicate → List Asking → Type 0

@@ -7,7 +7,7 @@ use Rattle.hir_env.specs.Answered as tree
 use Rattle.hir_env.specs.Answered.{Binder, Bounds, Constant}
 use Rattle.hir_env.specs.TypeLayers.{PathTypeReading}
 use Rattle.hir_data.specs.Data as datum
-use Rattle.hir_data.specs.Data.{BoundData, BoundsData, LifetimeData, TypeData}
+use Rattle.hir_data.specs.Data.{BoundData, LifetimeData, TypeData}
 use Rattle.hir_data.specs.Written.{bound_data, lifetime_data, type_data}
 use Rattle.hir_meaning.specs.Inner.{Bodies, bound_bodies, type_bodies}
 use Rattle.hir_sets.specs.Noting.{Impl, Noting}
@@ -31,8 +31,6 @@ pub data Target : Type 0 where
 pub data Asking : Type 0 where
   -- a bound of a type, with the names of the `for<..>` in front of it, and the bodies inside the bound
   of_type : Option Binder → Asked → BoundData → Bodies → Asking
-  -- a bound of the parameter of this definition with this number, which the `impl` at the node became
-  of_impl : GenericDefId → ℕ → Pointer → BoundData → Asking
   -- the first outlives the second
   of_lifetime : LifetimeData → LifetimeData → Asking
 
@@ -63,13 +61,13 @@ one_param = λ k. record { asks = []; params = suc k }
 -- ---- `impl`s
 
 -- of a parameter that an `impl` became each of its bounds is asked, whatever it is
-abbrev pub each_of : Impl → ℕ → BoundsData → List Asking
-each_of i k datum.no_bounds = []
-each_of i k (datum.more_bounds d ds) = of_impl i.parent k i.at d ∷ each_of i k ds
+abbrev pub each_of : Asked → Bounds → List Asking
+each_of x tree.no_bounds = []
+each_of x (tree.more_bounds b bs) = of_type None x (bound_data b) (bound_bodies b) ∷ each_of x bs
 
 abbrev pub of_impls : List Impl → ℕ → List Asking
 of_impls [] k = []
-of_impls (i ∷ is) k = each_of i k i.bounds ++ of_impls is (suc k)
+of_impls (i ∷ is) k = each_of (parameter i.parent k (Some i.at)) i.bounds ++ of_impls is (suc k)
 
 abbrev pub of_part : Noting → Asks
 of_part n = λ k. record { asks = of_impls n.impls k; params = k + length n.impls }

@@ -1,5 +1,5 @@
--- What the defaults of parameters hold and where they come from, and how it is told in the whole store.
-use Rattle.std.proofs.Common.{◌≡◌, ◌∙◌, refl, sym, ap, subst, ◌+◌, length, [], ◌∷◌, Option, Some, None, false, arith, Ok, Err}
+-- What the defaults of parameters hold, and where they come from.
+use Rattle.std.proofs.Common.{◌≡◌, ◌∙◌, refl, sym, ap, subst, ◌+◌, length, [], ◌∷◌, Option, Some, None, false, Ok, Err}
 use Rattle.std.specs.Prelude.{option_map}
 use Rattle.hir_store.specs.Generics.{of_args}
 use Rattle.hir_store.specs.Stored.{Stored, map_of, store_of}
@@ -15,9 +15,9 @@ use Rattle.hir_data.specs.Data as datum
 use Rattle.hir_data.specs.Data.{ArgsData, ArgumentsData, OptionArgsData}
 use Rattle.hir_data.specs.Reading.{stored_constant}
 use Rattle.hir_data.specs.Written.{constant_site}
-use Rattle.hir_meaning.specs.Inner.{Bodies, all_inners, part_bodies}
+use Rattle.hir_meaning.specs.Inner.{part_bodies}
 use Rattle.hir_lower_form.specs.Builder.{Builder}
-use Rattle.hir_lower_form.specs.Lowering.{Checked, Lowering, go_on, pure}
+use Rattle.hir_lower_form.specs.Lowering.{Checked, go_on, pure}
 use Rattle.hir_lower_form.specs.Lower.{lower_constant, present_type}
 use Rattle.hir_lower_form.specs.Types.{add_arg, no_lists, yielded}
 use Rattle.hir_lower_item.specs.Lower.{present_constant}
@@ -29,17 +29,8 @@ use Rattle.hir_read_back.proofs.Now.{answered}
 use Rattle.hir_read_back.proofs.Tree.{list_reads}
 use Rattle.hir_same_meaning.proofs.HeldTree.{constant_holds, part_holds}
 use Rattle.hir_same_meaning.proofs.HeldTypes.{a_constant}
-use Rattle.hir_same_meaning.proofs.Holding.{Holds, Ids, SameIn, a_type, holds_none, holds_one, maybe}
+use Rattle.hir_same_meaning.proofs.Holding.{Holds, a_type, holds_none, holds_one, maybe}
 use Rattle.hir_item_noted.specs.Fold.{default_bodies, default_site}
-
--- looked into past all that there is
-pub held_here : {A : Type 0} {ids : Ids A} {es : Bodies} {p : Lowering A} → Correct p (Holds ids es) → (b c : Builder) (a : A)
-    → Paired b.stored → p b ≡ (Ok a, c) → (final : Stored) → Extends c.stored final → SameIn final (ids (all_inners (store_of final)) a) es
-held_here h b c a paired is final pre =
-    let row = answered (correct_in_store h) b c a paired is final pre in
-    let n = row.nodes in
-    let t = row.entries in
-    row.rel.same (length final.exprs.entries + (length final.types.entries + length final.pats.entries)) (omega (arith, n, t))
 
 pub present_holds : (t : OptionType) → Correct (present_type t) (Holds (maybe a_type) (part_bodies t))
 present_holds tree.no_type = holds_none None (λ r. refl)

@@ -43,6 +43,7 @@ use Rattle.hir_same_meaning.proofs.HeldTree.{part_holds}
 use Rattle.hir_same_meaning.proofs.Holding.{SameIn}
 use Rattle.hir_sets.specs.Noting.{of_lifetime_option}
 use Rattle.hir_sets.specs.Fold.{noted_in_output}
+use Rattle.hir_noted.proofs.Held.{held_here}
 use Rattle.hir_noted.proofs.Logic as parts
 use Rattle.hir_noted.proofs.Steps.{notes_report, notes_type}
 use Rattle.hir_noted.proofs.TypeForms.{lifetime_notes, lifetime_option_notes, notes_naming, unit_notes}
@@ -57,7 +58,7 @@ use Rattle.hir_item_noted.specs.Fold.{noted_in_bounds_of, noted_in_each, noted_i
 use Rattle.hir_item_noted.specs.Fold.{noted_in_param}
 use Rattle.hir_item_noted.specs.Fold.{noted_in_params, noted_in_predicate, noted_in_predicates, noted_in_receiver, noted_in_trait}
 use Rattle.hir_item_noted.specs.Fold.{nothing, of_part, one_param, self_param, typed, ◌⊞◌, noted_in_default, noted_in_trait_path}
-use Rattle.hir_item_noted.proofs.Held.{default_holds, default_read, held_here, present_holds}
+use Rattle.hir_item_noted.proofs.Held.{default_holds, default_read, present_holds}
 use Rattle.hir_item_noted.proofs.Logic.{Gives, IsFrom, Steps, StepsTo, by_at, gives_pure, gives_then, param_at, steps_begin}
 use Rattle.hir_item_noted.proofs.Logic.{steps_by, steps_end, steps_given, steps_lifetime_param, steps_part, steps_predicate, steps_pure}
 use Rattle.hir_item_noted.proofs.Logic.{steps_then, then_at}

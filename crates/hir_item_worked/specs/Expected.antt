@@ -111,7 +111,7 @@ abbrev pub of_parameter : GenericDefId → ℕ → BoundData → Asking
 of_parameter def k b = asked.of_type None (asked.parameter def k None) b []
 
 abbrev pub of_impl : GenericDefId → ℕ → Pointer → BoundData → Asking
-of_impl def k at b = asked.of_impl def k at b
+of_impl def k at b = asked.of_type None (asked.parameter def k (Some at)) b []
 
 -- of a written type, behind a `for` with these names
 abbrev pub of_bound_type : Option Binder → TypeData → BoundData → Asking

@@ -42,7 +42,7 @@ use std::alloc::Global;
 /// calls of macros are recorded as the parts say. The parameters are those that are written, and those that `impl`s become, in the order
 /// of their numbers: types and defaults read back, and the bodies inside them run so. The type that an `impl` becomes names the parameter
 /// of its number. Of each bound there is one predicate, in their order: it reads back with what it is of, and the bodies inside them run
-/// so, but for those in a bound of such an `impl` (clause `params`).
+/// so (clause `params`).
 ///
 /// `Memory` where a growth was refused; `Full` only where the item becomes more types, lifetimes, expressions, labels, patterns, bindings
 /// or parameters than there is room for, or something in it counts further than 32 bits do; never `Failed`. What was stored until then

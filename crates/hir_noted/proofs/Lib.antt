@@ -1,3 +1,4 @@
+pub mod Held
 pub mod Logic
 pub mod Steps
 pub mod Forms

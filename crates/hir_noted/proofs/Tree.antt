@@ -39,7 +39,7 @@ use Rattle.std.proofs.Common.{◌+◌, suc, arith, length, length-append}
 use Rattle.hir_env.specs.Paths.{alias_of}
 use Rattle.hir_lower_form.specs.Walks.{at_first}
 use Rattle.hir_data.specs.Rule.{Item}
-use Rattle.hir_data.specs.Written.{bounds_data, items, list_data, path_of, segments}
+use Rattle.hir_data.specs.Written.{items, list_data, path_of, segments}
 use Rattle.hir_read_back.proofs.Going.{path_is}
 use Rattle.hir_read_back.proofs.Layers.{pushed_all}
 use Rattle.hir_read_back.proofs.Tree.{bounds_read, each_goes, list_reads, own_goes, path_goes}
@@ -65,6 +65,7 @@ use Rattle.hir_noted.proofs.Forms.{paren_notes, path_notes, record_notes, repeat
 use Rattle.hir_noted.proofs.PathForms.{Behind, aliased_notes, at_start, behind_any, beside_notes, counted_notes, read_then}
 use Rattle.hir_noted.proofs.PathForms.{whole_notes}
 use Rattle.hir_noted.proofs.TypeForms.{array_notes, binding_notes, dyn_notes, error_notes}
+use Rattle.hir_noted.proofs.Held.{each_holds}
 use Rattle.hir_noted.proofs.TypeForms.{fn_notes, impl_notes, lifetime_notes}
 use Rattle.hir_noted.proofs.TypeForms.{over_notes, parens_notes, path_bound_notes, path_type_notes, ref_notes, tuple_notes, unit_notes}
 use Rattle.hir_noted.proofs.TypeForms.{uses_note, with_trait_notes}
@@ -103,7 +104,8 @@ mutual
   one_type_noted b (tree.path_type at p) = path_type_notes at (whole_noted p)
   one_type_noted b (tree.ref_type at l mutability t) = ref_notes at l mutability (type_noted None t)
   one_type_noted b (tree.fn_type at head ts r) = fn_notes at b head (or_unit_noted r) (parts_noted [] ts)
-  one_type_noted b (tree.impl_type at mode bs) = impl_notes at mode (bounds_data bs) (bounds_noted [] bs) (pushed_all (bounds_read bs []))
+  one_type_noted b (tree.impl_type at mode bs) =
+      impl_notes at mode bs (bounds_noted [] bs) (pushed_all (bounds_read bs [])) (pushed_all (each_holds bs []))
   one_type_noted b (tree.nested_impl at) = notes_type _ _
   one_type_noted b (tree.dyn_type at bs) = dyn_notes at (bounds_noted [] bs)
   one_type_noted b (tree.pattern_type at t own p) = pattern_type_notes at (type_noted None t) (type_pat_part_noted p)

@@ -30,7 +30,7 @@ use Rattle.hir_env.specs.declared.place.ImplTrait.TheVariants as becomes
 use Rattle.hir_env.specs.declared.place.LifetimeScope.{LifetimeScope}
 use Rattle.hir_env.specs.declared.place.LifetimeScope.TheVariants as scope
 use Rattle.hir_env.specs.Answered as tree
-use Rattle.hir_env.specs.Answered.{UseRead}
+use Rattle.hir_env.specs.Answered.{Bounds, UseRead}
 use Rattle.hir_lower_form.specs.Builder.{Builder}
 use Rattle.hir_lower_form.specs.Generics.{naming, predicates_of, unnamed_param, with_bounds, with_param}
 use Rattle.hir_lower_form.specs.Lowering as lowering
@@ -44,12 +44,13 @@ use Rattle.hir_steps.proofs.Logic.{Holds}
 use Rattle.hir_steps.proofs.TypeSteps.{AllocatedType, correct_alloc_lifetime, correct_alloc_type}
 use Rattle.hir_sets.specs.Fold.{becoming, of_use, of_uses}
 use Rattle.hir_sets.specs.Noting.{Impl, Noting, none, ◌⊕◌, of_lifetime, of_lifetime_option, one_name, one_ref}
-use Rattle.hir_data.specs.Data.{BoundsData}
+use Rattle.hir_data.specs.Written.{bounds_data}
 use Rattle.hir_read_back.proofs.Layers.{Reads, many_bounds}
 use Rattle.hir_read_back.proofs.Now.{answered}
 use Rattle.hir_store.proofs.Extending.{extends_trans}
 use Rattle.hir_steps.proofs.Logic.{Correct, correct_in_store}
 use Rattle.hir_noted.specs.Lists.{ReadAs, all_entries, Noted}
+use Rattle.hir_noted.proofs.Held.{EachHolds, all_here}
 use Rattle.hir_noted.proofs.Logic.{LeavesTo, Notes, NotesTo, noted_none, notes_begin, notes_by, notes_end, notes_pure, notes_stored}
 use Rattle.hir_noted.proofs.Logic.{notes_then}
 use Rattle.hir_noted.proofs.Steps.{notes_type, quiet_type}
@@ -141,7 +142,7 @@ uses_note done (u ∷ us) = notes_then (use_notes u) (λ x. uses_note _ us)
 abbrev with_unnamed : Builder → Builder
 with_unnamed b = record b { notes = with_param unnamed_param b.notes }
 
-module _ (def : GenericDefId) (at : Pointer) (x : BoundsData) (bs : List TypeBound) where
+module _ (def : GenericDefId) (at : Pointer) (x : Bounds) (bs : List TypeBound) where
   -- the number of the parameter
   abbrev place : Builder → ℕ
   place b = length b.notes.generics.type_or_consts
@@ -204,22 +205,24 @@ module _ (def : GenericDefId) (at : Pointer) (x : BoundsData) (bs : List TypeBou
   argument_to b d read = numbered_to b d read (nat_lt (place b) 4294967295)
 
 -- where its bounds read back so
-becoming_to : (mode : ImplTrait) (at : Pointer) (x : BoundsData) (bs : List TypeBound) (b : Builder) → Paired b.stored → ReadAs b.stored bs x
+becoming_to : (mode : ImplTrait) (at : Pointer) (x : Bounds) (bs : List TypeBound) (b : Builder) → Paired b.stored → ReadAs b.stored bs x
     → NotesTo (becoming mode at x) b (lowering.becoming at mode bs b).0 (lowering.becoming at mode bs b).1
 becoming_to becomes.Error at x bs b d read = (notes_type _ _).at b d
 becoming_to becomes.Opaque at x bs b d read = (notes_type _ _).at b d
 becoming_to (becomes.Argument def) at x bs b d read = argument_to def at x bs b d read
 
-pub bounds_read_as : {x : BoundsData} {p : Lowering (List TypeBound)} → Correct p (Reads many_bounds x) → (b c : Builder) (bs : List TypeBound)
-    → Paired b.stored → p b ≡ (Ok bs, c) → ReadAs c.stored bs x
-bounds_read_as h b c bs d is = λ final pre.
-    let row = answered (correct_in_store h) b c bs d is final pre in row.rel.is (all_entries final) row.entries
+bounds_read_as : (x : Bounds) {p : Lowering (List TypeBound)} → Correct p (Reads many_bounds (bounds_data x)) → Correct p (EachHolds x)
+    → (b c : Builder) (bs : List TypeBound) → Paired b.stored → p b ≡ (Ok bs, c) → ReadAs c.stored bs x
+bounds_read_as x h k b c bs d is = λ final pre.
+    let row = answered (correct_in_store h) b c bs d is final pre in
+    (row.rel.is (all_entries final) row.entries, all_here k b c bs d is final pre)
 
-pub impl_notes : (at : Pointer) (mode : ImplTrait) (x : BoundsData) {D : Noting} {bs : Lowering (List TypeBound)} → Notes D bs
-    → Correct bs (Reads many_bounds x) → Notes (D ⊕ becoming mode at x) (impl_type_form at mode bs)
+pub impl_notes : (at : Pointer) (mode : ImplTrait) (x : Bounds) {D : Noting} {bs : Lowering (List TypeBound)} → Notes D bs
+    → Correct bs (Reads many_bounds (bounds_data x)) → Correct bs (EachHolds x)
+    → Notes (D ⊕ becoming mode at x) (impl_type_form at mode bs)
 unfolding impl_type_form
-impl_notes at mode x h read = notes_by (becoming mode at x) (λ r. lowering.becoming at mode r) h
-    (λ b r c d e is. becoming_to mode at x r c e (bounds_read_as read b c r d is))
+impl_notes at mode x h read held = notes_by (becoming mode at x) (λ r. lowering.becoming at mode r) h
+    (λ b r c d e is. becoming_to mode at x r c e (bounds_read_as x read held b c r d is))
 
 -- types
 

@@ -1,6 +1,6 @@
 -- What becomes of parameters, of predicates and of the names of lifetimes where this is noted.
 use Rattle.std.specs.Prelude.{◌≡◌, ◌+◌, ℕ, suc, List, [], ◌∷◌, ◌++◌, map, length, slice_get, Some}
-use Rattle.hir_store.specs.Stored.{Stored, map_of, store_of}
+use Rattle.hir_store.specs.Stored.{Store, SourceMap, Stored, map_of, store_of}
 use Rattle.hir_store.specs.Storing.{Extends}
 use Rattle.hir_store.specs.declared.generics.TypeOrConstParamData.{TypeOrConstParamData}
 use Rattle.hir_store.specs.declared.generics.WherePredicate.{WherePredicate}
@@ -10,8 +10,12 @@ use Rattle.hir_lower_form.specs.Builder.{Builder}
 use Rattle.hir_lower_form.specs.Generics.{predicates_of, unnamed_param}
 use Rattle.hir_lower_form.specs.Lowering.{param_type}
 use Rattle.hir_steps.specs.Keeps.{Paired}
-use Rattle.hir_data.specs.Data.{BoundsData}
+use Rattle.hir_env.specs.Answered as tree
+use Rattle.hir_env.specs.Answered.{Bounds}
 use Rattle.hir_data.specs.Reading.{bounds_layer, readers}
+use Rattle.hir_data.specs.Written.{bounds_data}
+use Rattle.hir_meaning.specs.Inner.{Inners, all_inners, bound_bodies, of_bound}
+use Rattle.hir_meaning.specs.Same.{SameBodies}
 use Rattle.hir_sets.specs.Noting.{Impl, Noting}
 
 abbrev pub unnamed : List Impl → List TypeOrConstParamData
@@ -21,10 +25,19 @@ unnamed is = map (λ i. unnamed_param) is
 abbrev pub all_entries : Stored → ℕ
 all_entries s = length s.types.entries + length s.pats.entries
 
--- in each store that goes on these bounds read back so
-abbrev pub ReadAs : Stored → List TypeBound → BoundsData → Type 0
+-- the bodies inside each bound, looked into so deep, do what the written ones do
+abbrev pub BoundsHold : Store → SourceMap → Inners → List TypeBound → Bounds → Type 0
+BoundsHold store source_map r [] tree.no_bounds = Unit {0}
+BoundsHold store source_map r (y ∷ ys) (tree.more_bounds b bs) =
+    SameBodies store source_map (of_bound r y) (bound_bodies b) × BoundsHold store source_map r ys bs
+BoundsHold store source_map r [] (tree.more_bounds b bs) = ⊥
+BoundsHold store source_map r (y ∷ ys) tree.no_bounds = ⊥
+
+-- in each store that goes on these bounds read back as they are written, and so do the bodies inside them run
+abbrev pub ReadAs : Stored → List TypeBound → Bounds → Type 0
 ReadAs s bs x = (final : Stored) → Extends s final
-    → bounds_layer (store_of final) (map_of final) (readers (store_of final) (map_of final) (all_entries final)) bs ≡ x
+    → (bounds_layer (store_of final) (map_of final) (readers (store_of final) (map_of final) (all_entries final)) bs ≡ bounds_data x)
+    × BoundsHold (store_of final) (map_of final) (all_inners (store_of final)) bs x
 
 -- The predicates of one parameter: one for each of its bounds, in their order, of the type that it is, which is stored from its node; and
 -- those of the parameters behind it.

@@ -5,8 +5,8 @@
 ghost use Rattle.hir_noted.specs.Laws.{BoundsNoted, ConstantsNoted, ExprsNoted, PathsNoted, TypesNoted};
 
 /// Lowering a type, a path or a bound adds a parameter for each `impl` that becomes one, those inside of its bounds in front of it, with
-/// a predicate for each of its bounds, in their order, which read back as they are written; and the names of lifetimes, by where they
-/// stand. Of an alias in an argument only those at the places count that its type names.
+/// a predicate for each of its bounds, in their order, which read back as they are written, and the bodies inside them run so; and the
+/// names of lifetimes, by where they stand. Of an alias in an argument only those at the places count that its type names.
 pub fn noted()
     ensures types { TypesNoted }
     ensures paths { PathsNoted }

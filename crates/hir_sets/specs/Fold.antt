@@ -13,9 +13,9 @@ use Rattle.hir_env.specs.Answered.{OptionBlock, Stmts, Stmt, Arms, Arm, Guard, P
 use Rattle.hir_env.specs.Answered.{OptionTypePat, TypePats, Limit, Param, Params, Target, Targets, TargetFields, TargetField, UseRead}
 use Rattle.hir_env.specs.Paths.{alias_of}
 use Rattle.hir_data.specs.Data as datum
-use Rattle.hir_data.specs.Data.{BoundsData, OptionArgsData, no_args, some_args, ArgsData, args_data, ArgumentsData}
+use Rattle.hir_data.specs.Data.{OptionArgsData, no_args, some_args, ArgsData, args_data, ArgumentsData}
 use Rattle.hir_data.specs.Rule.{Item, Named, PathRead, ended, refused}
-use Rattle.hir_data.specs.Written.{bounds_data, items, list_data, path_of, what}
+use Rattle.hir_data.specs.Written.{items, list_data, path_of, what}
 use Rattle.hir_sets.specs.Noting.{Noting, none, ◌⊕◌, cut, of_lifetime, of_lifetime_option}
 
 -- what stands beside a path that is absent or refused isn't read
@@ -69,7 +69,7 @@ names_of_args (Some p) = names_last p.names
 -- ---- `impl`s
 
 -- one that is an argument becomes a parameter, behind those inside of its bounds
-abbrev pub becoming : ImplTrait → Pointer → BoundsData → Noting
+abbrev pub becoming : ImplTrait → Pointer → Bounds → Noting
 becoming becomes.Error at bs = none
 becoming becomes.Opaque at bs = none
 becoming (becomes.Argument def) at bs = record none { impls = record { parent = def; at = at; bounds = bs } ∷ [] }
@@ -97,7 +97,7 @@ abbrev mutual
   noted_in_type (tree.path_type at p) = noted_in_whole p
   noted_in_type (tree.ref_type at l mutability t) = noted_in_type_part t ⊕ of_lifetime_option l
   noted_in_type (tree.fn_type at head ts r) = noted_in_type_part r ⊕ noted_in_parts ts
-  noted_in_type (tree.impl_type at mode bs) = noted_in_bounds bs ⊕ becoming mode at (bounds_data bs)
+  noted_in_type (tree.impl_type at mode bs) = noted_in_bounds bs ⊕ becoming mode at bs
   noted_in_type (tree.nested_impl at) = none
   noted_in_type (tree.dyn_type at bs) = noted_in_bounds bs
   noted_in_type (tree.pattern_type at t own p) = noted_in_type_part t ⊕ noted_in_type_pat_part p

@@ -7,14 +7,13 @@ use Rattle.hir_store.specs.declared.type_ref.LifetimeRef.{LifetimeRef}
 use Rattle.hir_store.specs.declared.type_ref.LifetimeRef.TheVariants as lifetime
 use Rattle.hir_env.specs.declared.place.LifetimeScope.{LifetimeScope}
 use Rattle.hir_env.specs.declared.place.LifetimeScope.TheVariants as scope
-use Rattle.hir_env.specs.Answered.{Lifetime}
-use Rattle.hir_data.specs.Data.{BoundsData}
+use Rattle.hir_env.specs.Answered.{Bounds, Lifetime}
 
 -- an `impl` that becomes a parameter: of which definition, at which node, and with which bounds
 pub record Impl : Type 0 where
   pub parent : GenericDefId
   pub at : Pointer
-  pub bounds : BoundsData
+  pub bounds : Bounds
 
 -- The `impl`s that become parameters, in the order in which they do, those inside of the bounds of another in front of it; and the names
 -- in bounds, in arguments and in what is returned, in the order in which they are read.

@@ -17,11 +17,12 @@ use Rattle.hir_env.specs.declared.place.LifetimeScope.{LifetimeScope}
 use Rattle.hir_env.specs.declared.place.LifetimeScope.TheVariants as scope
 use Rattle.hir_env.specs.declared.resolved.Resolution.{Resolution}
 use Rattle.hir_env.specs.declared.resolved.Resolution.TheVariants as resolution
+use Rattle.hir_env.specs.Answered as tree
+use Rattle.hir_env.specs.Answered.{Bounds}
 use Rattle.hir_env.specs.Paths.{alias_of}
 use Rattle.hir_env.specs.Spot.{Spot}
 use Rattle.hir_env.specs.Whole.{answered_path, answered_type}
 use Rattle.hir_data.specs.Data as datum
-use Rattle.hir_data.specs.Data.{BoundsData}
 use Rattle.hir_data.specs.Trees.{impl_at, no_range, node, bare, pointer, reference_with, type_at, with_argument}
 use Rattle.hir_data.specs.Written.{type_data}
 use Rattle.hir_sets.specs.Noting.{Impl, Noting, chosen, none, one_name}
@@ -152,9 +153,9 @@ in_argument def at =
     record at { place = record at.place { impl_trait = impl.Argument def; in_impl = false; lifetimes = scope.Input } }
 
 -- how many bounds there are
-abbrev pub how_many : BoundsData → ℕ
-how_many datum.no_bounds = 0
-how_many (datum.more_bounds b bs) = suc (how_many bs)
+abbrev pub how_many : Bounds → ℕ
+how_many tree.no_bounds = 0
+how_many (tree.more_bounds b bs) = suc (how_many bs)
 
 -- its definition, its node and how many bounds it has
 abbrev pub Told : Type 0

@@ -14,7 +14,6 @@ use Rattle.hir_env.specs.declared.place.LifetimeScope.{LifetimeScope}
 use Rattle.hir_env.specs.declared.place.LifetimeScope.TheVariants as scope
 use Rattle.hir_env.specs.Answered as tree
 use Rattle.hir_env.specs.Answered.{Arg, Args, Lifetime, OptionPath, Segment, Segments, SegmentArgs, Type_}
-use Rattle.hir_data.specs.Written.{bounds_data}
 use Rattle.hir_sets.specs.Noting.{Impl, Noting, none, one_name, of_lifetime, ◌⊕◌}
 use Rattle.hir_sets.specs.Fold.{noted_in_bound, noted_in_type}
 use Rattle.hir_sets.specs.Kinds.{bound_kind, sets_of}
@@ -147,7 +146,7 @@ ImplsNote = (at : Pointer) (def : GenericDefId)
     → let inner = tree.path_bound at (path_of_one None (with_lifetimes (named_in at scope.Bound a ∷ []))) false [] in
     let bounds = tree.more_bounds inner (tree.more_bounds (tree.lifetime_bound (named_in at scope.Bound b)) tree.no_bounds) in
     let own = tree.path_bound at (path_of_one None (with_lifetimes (named_in at scope.Input a ∷ []))) false [] in
-    let parameter : Impl = record { parent = def; at = at; bounds = bounds_data bounds } in
+    let parameter : Impl = record { parent = def; at = at; bounds = bounds } in
     (noted_in_type (tree.impl_type at (Argument def) bounds) ≡ record none { impls = parameter ∷ []; bounds = a ∷ b ∷ [] })
     × (noted_in_type (tree.impl_type at Opaque bounds) ≡ record none { bounds = a ∷ b ∷ [] })
     × (noted_in_type (tree.impl_type at Error bounds) ≡ record none { bounds = a ∷ b ∷ [] })
@@ -162,6 +161,6 @@ InnerImplsFirst = (at inside : Pointer) (def : GenericDefId)
     let around = tree.more_bounds (tree.path_bound at (path_of_one None (tree.name_segment b tt args)) false []) tree.no_bounds in
     noted_in_type (tree.impl_type at (Argument def) around)
     ≡ record none {
-      impls = record { parent = def; at = inside; bounds = bounds_data within }
-          ∷ record { parent = def; at = at; bounds = bounds_data around } ∷ [];
+      impls = record { parent = def; at = inside; bounds = within }
+          ∷ record { parent = def; at = at; bounds = around } ∷ [];
     }
