@@ -18,13 +18,15 @@ use Rattle.hir_lower_item.specs.Items as item
 use Rattle.hir_lower_item.specs.Items.{Argument, Function, Generics, Receiver}
 use Rattle.hir_data.specs.Trees.{bare, binding_of, impl_at, never_at, pointer, with_argument}
 use Rattle.hir_data.proofs.Trees.{arg_made, assoc_arg_made, never_is}
-use Rattle.hir_item_worked.specs.Trees.{disabling, dots_at, enabled, param_at, with_impl}
+use Rattle.hir_item_worked.specs.Trees.{disabling, dots_at, enabled, impl_by, param_at, with_impl}
 use Rattle.hir_item_worked.specs.Read.{function_seen}
 use Rattle.hir_item_worked.specs.Expected.{text}
 use Rattle.hir_item_worked.specs.FunctionRows.{ArgumentImplsAreRead, ArgumentsAreRead, CoroutinesAreRead, FunctionsAreRead}
 use Rattle.hir_item_worked.specs.FunctionRows.{ReceiversAreRead, ReturnedIsRead, binding_impl}
+use Rattle.hir_item_worked.specs.ParamRows.{all_bounds}
+use Rattle.hir_item_worked.proofs.ParamRows.{all_are}
 use Rattle.hir_item_worked.proofs.ItemRows.{both_are}
-use Rattle.hir_item_worked.proofs.Levels.{a_with, impl_in, impl_is, list_with, segment_with}
+use Rattle.hir_item_worked.proofs.Levels.{a_with, impl_by_is, impl_in, impl_is, list_with, segment_with}
 use Rattle.hir_item_worked.proofs.Small.{around_in, around_is, b_in, impl_b}
 
 -- ---- parameters at any spot, with the condition that may disable one
@@ -86,6 +88,9 @@ reads_arguments at def by =
           (typed_is there def 2 (never_at 3) (never_is (given_at there def) 3) i
           ∷ param_is there def 1 (Some (impl_at 6 (bare (codes "B")))) refl i
           ∷ param_is there def 4 None refl i ∷ dots_are there def 5 None i ∷ []));
+      behind_self = λ i. function_seen def (taking (item.typed_receiver (never_is (given_at there def) 3 i))
+          (param_is there def 1 (Some (impl_at 6 (bare (codes "B")))) refl i
+          ∷ typed_is there def 4 (never_at 5) (never_is (given_at there def) 5) i ∷ []));
       dots_disabled = λ i. function_seen def (taking item.no_receiver (dots_are there def 1 None i ∷ []));
       listless = refl;
     }
@@ -120,6 +125,9 @@ reads_argument_impls at def =
     let s = given_at here def in record {
       in_binding = λ i. function_seen def (taking item.no_receiver (typed_is here def 2 binding_impl (binding_impl_is s) i ∷ []));
       in_argument = λ i. function_seen def (taking item.no_receiver (typed_is here def 2 (impl_at 4 with_impl) (nested_is s) i ∷ []));
+      by_each = λ i. function_seen def (taking item.no_receiver
+          (typed_is here def 1 (impl_by 8 (all_bounds at def)) (impl_by_is s 8 (all_bounds at def) (all_are at def (in_impl s))) i ∷ []));
+      boundless = λ i. function_seen def (taking item.no_receiver (typed_is here def 1 (impl_by 8 []) (impl_by_is s 8 [] refl) i ∷ []));
       behind_others = λ i. function_seen def (function_with
           (record { params = item.type_param (text (codes "T")) tree.no_type tree.no_bounds ∷ []; predicates = [] })
           (item.typed_receiver (impl_b s 3 i)) (typed_is here def 4 (impl_at 5 (bare (codes "B"))) (impl_b s 5) i ∷ []) tree.no_ret None);

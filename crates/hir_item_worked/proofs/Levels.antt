@@ -1,19 +1,26 @@
 -- Small written trees of types and bounds, computed level by level.
-use Rattle.std.proofs.Common.{◌≡◌, ◌∙◌, ap, ℕ, suc, codes, Bool, true, false, List, [], ◌∷◌, Some, None}
-use Rattle.hir_syntax.specs.declared.ast.ElseBranch.TheOpen.{GenericArg-F}
+use Rattle.std.proofs.Common.{◌≡◌, ◌∙◌, ap, ℕ, suc, codes, Bool, true, false, List, [], ◌∷◌, Some, None, Result, Ok}
+use Rattle.hir_syntax.specs.declared.ast.ElseBranch.TheOpen.{ExprKind-F, GenericArg-F}
+use Rattle.hir_syntax.specs.declared.ast.ExprKind.{out-roll-ExprKind}
 use Rattle.hir_syntax.specs.declared.ast.PathSegment.{PathSegment as AstPathSegment}
 use Rattle.hir_syntax.specs.declared.types.GenericArg.{GenericArg as AstGenericArg, roll-GenericArg}
+use Rattle.hir_syntax.specs.declared.types.TypeBound.{TypeBound as AstTypeBound}
 use Rattle.hir_syntax.specs.declared.types.Type_.{Type_ as AstType}
 use Rattle.hir_store.specs.declared.hir.Mutability.TheVariants.{Shared}
+use Rattle.hir_store.specs.declared.ids.CfgId.{CfgId}
 use Rattle.hir_store.specs.declared.name.Name.TheVariants as name
-use Rattle.hir_env.specs.Spot.{Spot}
+use Rattle.hir_env.specs.Answering as reads
+use Rattle.hir_env.specs.Spot.{Spot, ptr, site_of}
 use Rattle.hir_env.specs.Paths as of
 use Rattle.hir_env.specs.Answered as tree
-use Rattle.hir_env.specs.Answered.{Arg, Binder, Bound, Lifetime, Path, Segment, SegmentArgs, Type_}
-use Rattle.hir_env.specs.Whole.{answered_arg, answered_bound, answered_segment, answered_type, in_impl}
-use Rattle.hir_data.specs.Trees.{bare, impl_at, pointer, type_arg_of, with_argument}
+use Rattle.hir_env.specs.Answered.{Arg, Binder, Bound, Bounds, Constant, Lifetime, Path, Segment, SegmentArgs, Type_}
+use Rattle.hir_env.specs.Whole.{answered_arg, answered_bound, answered_constant, answered_segment, answered_type, bounds_part}
+use Rattle.hir_env.specs.Whole.{in_constant, in_impl, into, reader}
+use Rattle.hir_env.proofs.Levels.{expr_is_level}
+use Rattle.hir_data.specs.Trees.{bare, impl_at, no_range, node, pointer, type_arg_of, with_argument}
 use Rattle.hir_data.proofs.Trees.{arg_made, bound_made, never_is, path_made, path_type_made, segment_made, type_made}
-use Rattle.hir_item_worked.specs.Trees.{broken_bound, for_trait_at, lifetime_arg_at, lifetime_at, maybe_at, outlives_at, path_at}
+use Rattle.hir_item_worked.specs.Trees.{broken_bound, cast_at, for_trait_at, impl_by, lifetime_arg_at, lifetime_at, maybe_at, outlives_at}
+use Rattle.hir_item_worked.specs.Trees.{path_at}
 use Rattle.hir_item_worked.specs.Trees.{reference_at, trait_at, uses_at}
 
 module _ (at : Spot) where
@@ -102,6 +109,26 @@ module _ (at : Spot) where
 
   pub lifetime_arg_is : (n : ℕ) (t : List ℕ) → answered_arg at (lifetime_arg_at n t) ≡ tree.lifetime_arg (lifetime_in n t)
   lifetime_arg_is n t = arg_made at _
+
+  -- `as t`, where no condition disables it
+  abbrev pub cast_in : ℕ → Type_ → Constant
+  cast_in n t = tree.constant (tree.some_expr (tree.cast_expr (pointer at n) tree.no_expr (tree.some_type t)))
+
+  abbrev as_kept : ℕ → Result (Unit {0}) CfgId → Type_ → Constant
+  as_kept n why t = tree.constant (tree.some_expr
+      (reads.asked (pointer at n) why (tree.cast_expr (pointer at n) tree.no_expr (tree.some_type t))))
+
+  pub cast_is : (n : ℕ) (t : AstType) {x : Type_} → at.answers.cfg (site_of (pointer at n)) ≡ Ok tt
+      → answered_type (in_constant at) t ≡ x → answered_constant at (Some (cast_at n t)) ≡ cast_in n x
+  cast_is n t enabled h = ap (λ e. tree.constant (tree.some_expr e)) (expr_is_level (in_constant at) _
+      ∙ ap (λ k. reads.expr_kind at.answers (reader at.answers (into at)) k (ptr (node n) no_range) (in_constant at).place)
+      (out-roll-ExprKind (ExprKind-F.CastExpr None (Some t))))
+      ∙ (λ i. as_kept n (enabled i) (h i))
+
+-- an `impl` of these bounds
+pub impl_by_is : (at : Spot) (n : ℕ) (bs : List AstTypeBound) {x : Bounds} → bounds_part (in_impl at) bs ≡ x
+    → answered_type at (impl_by n bs) ≡ of.impl_at at.place.in_impl at.place.impl_trait (pointer at n) x
+impl_by_is at n bs h = type_made at n _ ∙ ap (of.impl_at at.place.in_impl at.place.impl_trait (pointer at n)) h
 
 -- an `impl` of this one segment
 abbrev pub impl_in : Spot → ℕ → Segment → Type_

@@ -10,27 +10,30 @@ use Rattle.hir_alias.specs.Alias.{Alias}
 use Rattle.hir_env.specs.declared.resolved.Resolution.{Resolution}
 use Rattle.hir_env.specs.declared.resolved.Resolution.TheVariants as resolution
 use Rattle.hir_env.specs.Answered as tree
-use Rattle.hir_env.specs.Answered.{Arg, Bounds, OptionRet, OptionType, Path, Segment, Type_}
+use Rattle.hir_env.specs.Answered.{Arg, Bounds, Constant, OptionRet, OptionType, Path, Segment, Type_}
 use Rattle.hir_env.specs.Paths as of
 use Rattle.hir_env.specs.Paths.{inside_projection}
 use Rattle.hir_env.specs.Spot.{Spot}
 use Rattle.hir_env.specs.TypeLayers.{PathTypeReading}
-use Rattle.hir_env.specs.Whole.{answered_bound, answered_path_type, answered_segment, answered_type, in_impl}
+use Rattle.hir_env.specs.Whole.{answered_bound, answered_constant, answered_path_type, answered_segment, answered_type, in_constant}
+use Rattle.hir_env.specs.Whole.{in_impl}
 use Rattle.hir_lower_item.specs.Answering.{answered_argument, answered_function, at_place, in_arguments, in_bounds, in_output, in_plain}
 use Rattle.hir_lower_item.specs.Answering.{in_target}
 use Rattle.hir_lower_item.specs.Items as item
 use Rattle.hir_lower_item.specs.Items.{Argument, Function, Generics, Param, Predicate}
 use Rattle.hir_data.specs.Trees.{bare, never_at, pointer, segment_of}
 use Rattle.hir_data.proofs.Trees.{never_is, path_made, path_type_made, segment_made, type_made}
-use Rattle.hir_item_worked.specs.Trees.{lifetime_arg_at, param_at, path_at, trait_path_at}
+use Rattle.hir_item_worked.specs.Trees.{cast_at, lifetime_arg_at, param_at, path_at, trait_path_at}
 use Rattle.hir_item_worked.specs.Read.{function_read}
 use Rattle.hir_item_worked.specs.Expected.{text}
-use Rattle.hir_item_worked.specs.LifetimeRows.{AliasesConstrainWhatTheyName, BoundsDecide, ImplsDecide, ProjectionsConstrainNothing}
-use Rattle.hir_item_worked.specs.LifetimeRows.{TypesDecide, a_reference, both_references, bound_with_a, by_alias, for_a, impl_with_a}
-use Rattle.hir_item_worked.specs.LifetimeRows.{projection}
+use Rattle.hir_item_worked.specs.LifetimeRows.{AliasesConstrainWhatTheyName, BoundsDecide, DefaultsNameNothing, ImplsDecide}
+use Rattle.hir_item_worked.specs.LifetimeRows.{ProjectionsConstrainNothing, TypesDecide, a_reference, b_reference, both_references}
+use Rattle.hir_item_worked.specs.LifetimeRows.{bound_with_a, by_alias}
+use Rattle.hir_item_worked.specs.LifetimeRows.{for_a, impl_with_a, projection}
 use Rattle.hir_item_worked.specs.LifetimeRows.{qualified, resolving, with_a, with_both}
 use Rattle.hir_item_worked.proofs.Levels.{a_is, a_with, aliased, alone, b_is, impl_in, impl_is, lifetime_arg_is, lifetime_in, list_with}
-use Rattle.hir_item_worked.proofs.Levels.{outlives_is, path_is, reference_in, reference_is, segment_with, trait_in, trait_is}
+use Rattle.hir_item_worked.proofs.Levels.{cast_in, cast_is, outlives_is, path_is, reference_in, reference_is, segment_with, trait_in}
+use Rattle.hir_item_worked.proofs.Levels.{trait_is}
 use Rattle.hir_item_worked.proofs.Small.{one, trait_a}
 use Rattle.hir_item_worked.proofs.FunctionRows.{typed_is}
 
@@ -223,6 +226,16 @@ module _ (at : Spot) (def : GenericDefId) where
   abbrev by_where : Predicate → Argument → List LifetimeParamData
   by_where w x = said a_alone (w ∷ []) (x ∷ []) tree.no_ret
 
+  -- beside this parameter, given nothing
+  abbrev beside : Param → OptionRet → List LifetimeParamData
+  beside x r = said (a_by tree.no_bounds ∷ x ∷ []) [] [] r
+
+  abbrev constant_by : Type_ → Option Constant → Param
+  constant_by t d = item.const_param name.Missing (tree.some_type t) d
+
+  cast_a : answered_constant in_it (Some (cast_at 8 a_reference)) ≡ cast_in in_it 8 (reference_in (in_constant in_it) 3 (codes "'a"))
+  cast_a = cast_is in_it 8 a_reference refl (a_ref_is (in_constant in_it))
+
   abbrev of_a : Bounds → Predicate
   of_a bs = item.of_lifetime (lifetime_in in_where 2 (codes "'a")) bs
 
@@ -251,6 +264,9 @@ bounds_decide at def = record {
   of_type = λ i. by_second at def tree.no_type (one (outlives_is (in_bound at def) 3 (codes "'a") i)) (takes_a at def i);
   inside = λ i. by_second at def tree.no_type (one (bound_is (in_bound at def) i)) (takes_a at def i);
   where_of_it = λ i. by_where at def (of_a at def (one (outlives_is (in_bound at def) 3 (codes "'static") i))) (takes_a at def i);
+  where_by_other = λ i. said at def (with_b at def None None)
+      (of_a at def (one (outlives_is (in_bound at def) 3 (codes "'b") i)) ∷ [])
+      (takes at def b_reference (reference_is (in_given at def) 6 (codes "'b")) i ∷ []) tree.no_ret;
   where_by_trait = λ i. by_where at def (of_a at def (one (trait_a (in_bound at def) 3 i))) (takes_a at def i);
   where_inside = λ i. by_where at def
       (item.of_type (never_is (in_where at def) 2 i) None (one (bound_is (in_bound at def) i))) (takes_a at def i);
@@ -269,6 +285,24 @@ impls_decide at def = record {
   in_const = λ i. said at def
       (a_by at def tree.no_bounds ∷ item.const_param name.Missing (tree.some_type (a_ref_is (in_it at def) i)) None ∷ []) []
       (takes_a at def i ∷ []) tree.no_ret;
+}
+
+pub defaults_name_nothing : DefaultsNameNothing
+defaults_name_nothing at def = record {
+  of_type = record {
+    alone = λ i. beside at def (t_by at def (tree.some_type (a_ref_is (in_it at def) i)) tree.no_bounds) tree.no_ret;
+    returned = λ i. beside at def (t_by at def (tree.some_type (a_ref_is (in_it at def) i)) tree.no_bounds)
+        (to at def (a_ref_is (in_out at def) i));
+  };
+  typed = record {
+    alone = λ i. beside at def (constant_by at def (a_ref_is (in_it at def) i) None) tree.no_ret;
+    returned = λ i. beside at def (constant_by at def (a_ref_is (in_it at def) i) None) (to at def (a_ref_is (in_out at def) i));
+  };
+  of_const = record {
+    alone = λ i. beside at def (constant_by at def (never_is (in_it at def) 8 i) (Some (cast_a at def i))) tree.no_ret;
+    returned = λ i. beside at def (constant_by at def (never_is (in_it at def) 8 i) (Some (cast_a at def i)))
+        (to at def (a_ref_is (in_out at def) i));
+  };
 }
 
 pub projections_constrain_nothing : ProjectionsConstrainNothing

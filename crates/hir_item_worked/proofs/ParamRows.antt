@@ -15,14 +15,14 @@ use Rattle.hir_lower_item.specs.Items as item
 use Rattle.hir_lower_item.specs.Items.{Param, Predicate}
 use Rattle.hir_data.specs.Trees.{bare, never_at, no_range, node, pointer}
 use Rattle.hir_data.proofs.Trees.{never_is}
-use Rattle.hir_item_worked.specs.Trees.{disabling, enabled, trait_at}
+use Rattle.hir_item_worked.specs.Trees.{disabling, enabled, impl_by, trait_at}
 use Rattle.hir_item_worked.specs.Read.{Read, generics_read}
 use Rattle.hir_item_worked.specs.Expected.{text}
 use Rattle.hir_item_worked.specs.ParamRows.{AsksByBounds, Everywhere, InWrittenOrder, ParametersFirst, ReadsConstParams}
 use Rattle.hir_item_worked.specs.ParamRows.{ReadsImpls, ReadsLifetimeParams, ReadsTypeParams, ReadsWhereClauses}
 use Rattle.hir_item_worked.specs.ParamRows.{DisabledAnywhere, all_bounds, constant_at}
 use Rattle.hir_item_worked.proofs.Levels.{a_is, alone, broken_is, for_trait_is, lifetime_in, maybe_is, outlives_is, segment_with, trait_in}
-use Rattle.hir_item_worked.proofs.Levels.{uses_is}
+use Rattle.hir_item_worked.proofs.Levels.{cast_is, impl_by_is, uses_is}
 use Rattle.hir_item_worked.proofs.Small.{a_at, impl_b, inside_is, one, trait_a, trait_b}
 
 module _ (at : Spot) (def : GenericDefId) where
@@ -49,20 +49,21 @@ module _ (at : Spot) (def : GenericDefId) where
       ∙ ap (λ x. reads.expr_kind (enabled at).answers (reader (enabled at).answers (into plainly)) x (ptr (node 3) no_range)
       (in_constant plainly).place) (out-roll-ExprKind ExprKind-F.UnderscoreExpr))
 
-  abbrev all_in : Bounds
-  all_in = tree.more_bounds (a_at bound_at 2)
-      (tree.more_bounds (trait_in bound_at 3 (segment_with bound_at (codes "A") (alone bound_at)) true [])
-      (tree.more_bounds (tree.lifetime_bound (lifetime_in bound_at 4 (codes "'a")))
-      (tree.more_bounds (tree.use_bound (tree.used_lifetime (lifetime_in bound_at 5 (codes "'a")) ∷ []))
-      (tree.more_bounds (trait_in bound_at 6 (segment_with bound_at (codes "A") (alone bound_at)) false (text (codes "'b") ∷ []))
+  -- at any spot
+  abbrev pub all_in : Spot → Bounds
+  all_in s = tree.more_bounds (a_at s 2)
+      (tree.more_bounds (trait_in s 3 (segment_with s (codes "A") (alone s)) true [])
+      (tree.more_bounds (tree.lifetime_bound (lifetime_in s 4 (codes "'a")))
+      (tree.more_bounds (tree.use_bound (tree.used_lifetime (lifetime_in s 5 (codes "'a")) ∷ []))
+      (tree.more_bounds (trait_in s 6 (segment_with s (codes "A") (alone s)) false (text (codes "'b") ∷ []))
       (one tree.error_bound)))))
 
-  all_are : bounds_part bound_at (all_bounds at def) ≡ all_in
-  all_are = λ i. tree.more_bounds (trait_a bound_at 2 i)
-      (tree.more_bounds (maybe_is bound_at 3 (bare (codes "A")) (a_is bound_at) i)
-      (tree.more_bounds (outlives_is bound_at 4 (codes "'a") i)
-      (tree.more_bounds (uses_is bound_at 5 (codes "'a") i)
-      (tree.more_bounds (for_trait_is bound_at 6 (bare (codes "A")) (a_is bound_at) (codes "'b") i) (one (broken_is bound_at i))))))
+  pub all_are : (s : Spot) → bounds_part s (all_bounds at def) ≡ all_in s
+  all_are s = λ i. tree.more_bounds (trait_a s 2 i)
+      (tree.more_bounds (maybe_is s 3 (bare (codes "A")) (a_is s) i)
+      (tree.more_bounds (outlives_is s 4 (codes "'a") i)
+      (tree.more_bounds (uses_is s 5 (codes "'a") i)
+      (tree.more_bounds (for_trait_is s 6 (bare (codes "A")) (a_is s) (codes "'b") i) (one (broken_is s i))))))
 
   -- `!: A`, with what a `for` introduces
   of_never_is : (b : Option Binder)
@@ -106,10 +107,10 @@ tells_what_is_disabled at def by = let here = at_place (in_bounds def) (disablin
 
 pub asks_by_bounds : Everywhere AsksByBounds
 asks_by_bounds at def = record {
-  of_type = ap (λ bs. read at def (typed at def (codes "T") bs ∷ []) []) (all_are at def);
+  of_type = ap (λ bs. read at def (typed at def (codes "T") bs ∷ []) []) (all_are at def (bound_at at def));
   of_lifetime = ap
       (λ bs. read at def (item.lifetime_param (text (codes "'c")) (lifetime_in (plainly at def) 1 (codes "'c")) bs ∷ []) [])
-      (all_are at def);
+      (all_are at def (bound_at at def));
 }
 
 pub reads_where_clauses : Everywhere ReadsWhereClauses
@@ -118,7 +119,7 @@ reads_where_clauses at def = record {
   binding = of_never_is at def (Some (text (codes "'b") ∷ name.Missing ∷ []));
   empty = of_never_is at def (Some []);
   of_lifetime = ap (λ bs. read at def [] (item.of_lifetime (lifetime_in (target_at at def) 1 (codes "'c")) bs ∷ []))
-      (all_are at def);
+      (all_are at def (bound_at at def));
   of_nothing = refl;
 }
 
@@ -130,9 +131,15 @@ pub reads_impls : Everywhere ReadsImpls
 reads_impls at def = record {
   in_bound = λ i. read at def (typed at def (codes "T") (one (inside_is (bound_at at def) i))
       ∷ typed at def (codes "U") (one (trait_a (bound_at at def) 2 i)) ∷ []) [];
+  of_lifetime = λ i. read at def
+      (item.lifetime_param (text (codes "'c")) (lifetime_in (plainly at def) 1 (codes "'c")) (one (inside_is (bound_at at def) i)) ∷ []) [];
   in_where = λ i. read at def [] (item.of_type (never_is (target_at at def) 1 i) None (one (inside_is (bound_at at def) i)) ∷ []);
+  where_lifetime = λ i. read at def []
+      (item.of_lifetime (lifetime_in (target_at at def) 1 (codes "'c")) (one (inside_is (bound_at at def) i)) ∷ []);
   in_default = λ i. read at def
       (item.type_param (text (codes "T")) (tree.some_type (impl_b (plainly at def) 2 i)) tree.no_bounds ∷ []) [];
   in_const = λ i. read at def (item.const_param (text (codes "N")) (tree.some_type (impl_b (plainly at def) 2 i)) None ∷ []) [];
+  in_constant = λ i. read at def (item.const_param (text (codes "N")) (tree.some_type (never_is (plainly at def) 2 i))
+      (Some (cast_is (plainly at def) 3 (impl_by 4 []) refl (impl_by_is (in_constant (plainly at def)) 4 [] refl) i)) ∷ []) [];
   in_target = λ i. read at def [] (item.of_type (impl_b (target_at at def) 1 i) None (one (trait_a (bound_at at def) 2 i)) ∷ []);
 }

@@ -16,7 +16,7 @@ use Rattle.hir_store.specs.declared.path.PathKind.TheVariants as kind
 use Rattle.hir_store.specs.declared.type_ref.LifetimeRef.TheVariants as lifetime
 use Rattle.hir_store.specs.declared.type_ref.TraitBoundModifier.TheVariants as modifier
 use Rattle.hir_env.specs.Answered as tree
-use Rattle.hir_env.specs.Answered.{Binder}
+use Rattle.hir_env.specs.Answered.{Binder, Expr}
 use Rattle.hir_env.specs.Spot.{Spot, site_of}
 use Rattle.hir_data.specs.Data as datum
 use Rattle.hir_data.specs.Data.{ArgumentData, BoundData, BoundsData, LifetimeData, OptionArgsData, OptionTypeData, TypeData, TypesData}
@@ -90,10 +90,12 @@ self_param = type_param (text (codes "Self")) provenance.TraitSelf datum.no_type
 abbrev pub const_alone : Name → TypeData → Param
 const_alone n t = const_param n t [] None []
 
--- with a default that is `_`, from this node
+-- with a default from this node, in which no body is, and with one that is `_`
+abbrev pub const_by : Name → TypeData → Pointer → Expr → Param
+const_by n t at e = const_param n t [] (Some (Some (site_of at))) (constant_body (tree.some_expr e) ∷ [])
+
 abbrev pub const_with : Name → TypeData → Pointer → Param
-const_with n t at =
-    const_param n t [] (Some (Some (site_of at))) (constant_body (tree.some_expr (tree.leaf_expr at tree.underscore)) ∷ [])
+const_with n t at = const_by n t at (tree.leaf_expr at tree.underscore)
 
 abbrev pub is_bound : LifetimeBoundType → List ℕ → LifetimeParamData
 is_bound b t = record { name = text t; bound_type = b }

@@ -1,5 +1,5 @@
 -- Small functions, and what is read off them.
-use Rattle.std.specs.Prelude.{◌≡◌, ℕ, codes, Bool, true, false, List, [], ◌∷◌, Option, Some, None}
+use Rattle.std.specs.Prelude.{◌≡◌, ℕ, codes, Bool, true, false, List, [], ◌∷◌, map, Option, Some, None}
 use Rattle.hir_syntax.specs.declared.ast.Lifetime.{Lifetime as AstLifetime}
 use Rattle.hir_syntax.specs.declared.params.ParamList.{ParamList as AstParamList}
 use Rattle.hir_syntax.specs.declared.params.SelfParam.{SelfParam as AstSelfParam}
@@ -20,10 +20,12 @@ use Rattle.hir_data.specs.Data.{LifetimeData, NamesData, OptionTypeData, TypeDat
 use Rattle.hir_data.specs.Trees.{bare, binding_of, error_data, impl_at, impl_data, never_at, never_data, no_range, node, one_binding}
 use Rattle.hir_data.specs.Trees.{pointer, with_argument}
 use Rattle.hir_lower_item.specs.Answering.{answered_function}
-use Rattle.hir_item_worked.specs.Trees.{disabling, dots_at, enabled, lifetime_at, param_at, param_list, self_at, type_param_at, with_impl}
+use Rattle.hir_item_worked.specs.Trees.{disabling, dots_at, enabled, impl_by, lifetime_at, param_at, param_list, self_at, type_param_at}
+use Rattle.hir_item_worked.specs.Trees.{with_impl}
 use Rattle.hir_item_worked.specs.Read.{Read, Seen, Signed, a_bound, a_lifetime, a_param, a_type, function_seen, type_made}
 use Rattle.hir_item_worked.specs.Expected.{absent, args_of, bounded_by, data_with, from_impl, inactive, lifetime_from, named_data, of_impl}
 use Rattle.hir_item_worked.specs.Expected.{of_parameter, of_written, one_bound, only, parameter_from, plain_param, text}
+use Rattle.hir_item_worked.specs.ParamRows.{all_bounds, all_data}
 use Rattle.hir_item_worked.specs.ItemRows.{a_bound_at, b_of_never, never_of_b, t_of_a}
 
 abbrev pub fn_of : Option (List AstGenericParam) → Option (List AstWherePred) → Option AstParamList → Option AstRetType → Bool → Bool
@@ -111,7 +113,7 @@ module _ (at : Spot) (def : GenericDefId) where
   Disabled by x r answers = FunctionReads def (disabling 1 by at) x r answers
 
   -- `fn(_: !, _, ...: impl B)`, a disabled `self: impl B` in front of `_: !`, a disabled `_: impl B` between `_: !` and `_`, with dots
-  -- behind them, disabled dots, and a function without a list
+  -- behind them, one between `self: !` and `_: !`, disabled dots, and a function without a list
   pub record ReadsArguments (by : CfgId) : Type 0 where
     pub variadic : FunctionReads def (enabled at)
         (given None (param_at 2 (Some (never_at 3)) ∷ param_at 4 None ∷ dots_at 5 (Some (impl_at 6 (bare (codes "B")))) ∷ []))
@@ -125,6 +127,11 @@ module _ (at : Spot) (def : GenericDefId) where
         ∷ dots_at 5 None ∷ []))
         (of_parts (inactive at 1 by ∷ a_type (never_data at 3) ∷ type_made ∷ []))
         (taking (datum.more_types (never_data at 3) (only absent)) false true)
+    pub behind_self : Disabled by
+        (given (Some (self_at 2 false false None (Some (never_at 3))))
+        (param_at 1 (Some (impl_at 6 (bare (codes "B")))) ∷ param_at 4 (Some (never_at 5)) ∷ []))
+        (of_parts (a_type (never_data at 3) ∷ inactive at 1 by ∷ a_type (never_data at 5) ∷ []))
+        (taking (datum.more_types (never_data at 3) (only (never_data at 5))) true false)
     pub dots_disabled : Disabled by (given None (dots_at 1 None ∷ [])) (of_parts (inactive at 1 by ∷ []))
         (taking datum.no_types false false)
     pub listless : FunctionReads def (enabled at) (fn_of None None None None false false) (of_parts []) (taking datum.no_types false false)
@@ -136,7 +143,8 @@ module _ (at : Spot) (def : GenericDefId) where
   abbrev pub bound_to_error : TypeData
   bound_to_error = data_with at 9 (codes "A") (args_of (datum.type_argument (error_data at 5)))
 
-  -- `fn(_: impl A<T = impl B>)`, `fn(_: impl A<impl B>)`, and `fn<T>(self: impl B, _: impl B)`
+  -- `fn(_: impl A<T = impl B>)`, `fn(_: impl A<impl B>)`, an `impl` with `A + ?A + 'a + use<'a> + for<'b> A` and a bound that the text
+  -- lacks, one without bounds, and `fn<T>(self: impl B, _: impl B)`
   pub record ReadsArgumentImpls : Type 0 where
     pub in_binding : FunctionReads def (enabled at) (given None (param_at 2 (Some binding_impl) ∷ []))
         (record {
@@ -155,6 +163,17 @@ module _ (at : Spot) (def : GenericDefId) where
           parts = a_type (parameter_from at 4 def) ∷ [];
         })
         (taking (only (parameter_from at 4 def)) false false)
+    pub by_each : FunctionReads def (enabled at) (given None (param_at 1 (Some (impl_by 8 (all_bounds at def))) ∷ []))
+        (record {
+          params = from_impl def (pointer at 8) ∷ [];
+          lifetimes = [];
+          asks = map (of_impl def 0 (pointer at 8)) (all_data at def);
+          parts = a_type (parameter_from at 8 def) ∷ [];
+        })
+        (taking (only (parameter_from at 8 def)) false false)
+    pub boundless : FunctionReads def (enabled at) (given None (param_at 1 (Some (impl_by 8 [])) ∷ []))
+        (record { params = from_impl def (pointer at 8) ∷ []; lifetimes = []; asks = []; parts = a_type (parameter_from at 8 def) ∷ [] })
+        (taking (only (parameter_from at 8 def)) false false)
     pub behind_others : FunctionReads def (enabled at)
         (fn_of (Some (type_param_at 1 (Some (codes "T")) [] None ∷ [])) None
         (Some (param_list (Some (self_at 2 false false None (Some (impl_at 3 (bare (codes "B"))))))

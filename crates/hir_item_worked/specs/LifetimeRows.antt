@@ -18,7 +18,8 @@ use Rattle.hir_env.specs.declared.resolved.Resolution.TheVariants as resolution
 use Rattle.hir_env.specs.Spot.{Spot}
 use Rattle.hir_data.specs.Trees.{bare, impl_at, never_at, no_range, node, segment_of, type_at, with_argument}
 use Rattle.hir_lower_item.specs.Answering.{answered_function}
-use Rattle.hir_item_worked.specs.Trees.{binder_of, const_param_at, enabled, lifetime_arg_at, lifetime_at, lifetime_param_at, outlives_at}
+use Rattle.hir_item_worked.specs.Trees.{binder_of, cast_at, const_param_at, enabled, lifetime_arg_at, lifetime_at, lifetime_param_at}
+use Rattle.hir_item_worked.specs.Trees.{outlives_at}
 use Rattle.hir_item_worked.specs.Trees.{param_at, param_list, path_at, reference_at, self_at, trait_at, trait_path_at, type_param_at}
 use Rattle.hir_item_worked.specs.Trees.{where_of}
 use Rattle.hir_item_worked.specs.Read.{function_read}
@@ -39,9 +40,12 @@ a_param_of bs = lifetime_param_at 1 (Some (lifetime_at 1 (codes "'a"))) bs
 abbrev pub b_param : AstGenericParam
 b_param = lifetime_param_at 2 (Some (lifetime_at 2 (codes "'b"))) []
 
--- `&'a !`
+-- `&'a !`, and `&'b !`
 abbrev pub a_reference : AstType
 a_reference = reference_at 3 (codes "'a")
+
+abbrev pub b_reference : AstType
+b_reference = reference_at 6 (codes "'b")
 
 -- `A<'a>`, as a bound, and an `impl` of it
 abbrev pub with_a : AstPathSegment
@@ -97,7 +101,7 @@ with_both =
     path_at 8 (segment_of (codes "A") (Some (lifetime_arg_at 4 (codes "'a") ∷ lifetime_arg_at 5 (codes "'b") ∷ [])) None None)
 
 abbrev pub both_references : AstType
-both_references = type_at 9 (TypeKind-F.TupleType (a_reference ∷ reference_at 6 (codes "'b") ∷ []))
+both_references = type_at 9 (TypeKind-F.TupleType (a_reference ∷ b_reference ∷ []))
 
 -- `fn<'a, 'b>(_: A<'a, 'b>) -> (&'a !, &'b !)`
 abbrev pub by_alias : AstFn
@@ -128,7 +132,7 @@ module _ (at : Spot) (def : GenericDefId) where
         (late (codes "'a") ∷ early (codes "'b") ∷ [])
 
   -- each given `&'a !`: `<'a: 'b, 'b>`, `<'a: A>`, `<'a, T: 'a>`, `<'a, T: A<'a>>`, `where 'a: 'static`, `where 'a: A`, `where !: A<'a>`,
-  -- and `where &'a !: A`
+  -- and `where &'a !: A`; and `where 'a: 'b` of `<'a, 'b>`, given `&'b !`
   pub record KindsByBounds : Type 0 where
     pub of_lifetime : Kinds (from_to (a_param_of (outlives_at 3 (codes "'b") ∷ []) ∷ b_param ∷ []) [] (a_reference ∷ []) None)
         (early (codes "'a") ∷ early (codes "'b") ∷ [])
@@ -138,6 +142,9 @@ module _ (at : Spot) (def : GenericDefId) where
     pub inside : Early (from_to (a_param_of [] ∷ type_param_at 2 None (bound_with_a ∷ []) None ∷ []) [] (a_reference ∷ []) None)
     pub where_of_it : Early (from_to of_a
         (where_of None (Some (lifetime_at 2 (codes "'a"))) None (outlives_at 3 (codes "'static") ∷ []) ∷ []) (a_reference ∷ []) None)
+    pub where_by_other : Kinds (from_to (a_param_of [] ∷ b_param ∷ [])
+        (where_of None (Some (lifetime_at 2 (codes "'a"))) None (outlives_at 3 (codes "'b") ∷ []) ∷ []) (b_reference ∷ []) None)
+        (early (codes "'a") ∷ early (codes "'b") ∷ [])
     pub where_by_trait : Early (from_to of_a
         (where_of None (Some (lifetime_at 2 (codes "'a"))) None (trait_at 3 (bare (codes "A")) ∷ []) ∷ []) (a_reference ∷ []) None)
     pub where_inside : Early (from_to of_a (where_of (Some (never_at 2)) None None (bound_with_a ∷ []) ∷ []) (a_reference ∷ []) None)
@@ -153,6 +160,18 @@ module _ (at : Spot) (def : GenericDefId) where
     pub in_default : Late (from_to (a_param_of [] ∷ type_param_at 2 None [] (Some a_reference) ∷ []) [] (a_reference ∷ []) None)
     pub default_impl : Early (from_to (a_param_of [] ∷ type_param_at 2 None [] (Some impl_with_a) ∷ []) [] [] None)
     pub in_const : Late (from_to (a_param_of [] ∷ const_param_at 2 None (Some a_reference) None ∷ []) [] (a_reference ∷ []) None)
+
+  -- Beside this parameter `'a` is late bound where nothing is given or returned, and early bound where `&'a !` is returned: so it isn't
+  -- named there.
+  pub record NamesNothing (x : AstGenericParam) : Type 0 where
+    pub alone : Late (from_to (a_param_of [] ∷ x ∷ []) [] [] None)
+    pub returned : Early (from_to (a_param_of [] ∷ x ∷ []) [] [] (Some a_reference))
+
+  -- `T = &'a !`, `const N: &'a !`, and `const N: ! = as &'a !`
+  pub record KindsByDefaults : Type 0 where
+    pub of_type : NamesNothing (type_param_at 2 None [] (Some a_reference))
+    pub typed : NamesNothing (const_param_at 2 None (Some a_reference) None)
+    pub of_const : NamesNothing (const_param_at 2 None (Some (never_at 8)) (Some (Some (cast_at 8 a_reference))))
 
   -- each returning `&'a !`: `fn(_: <! as A<'a>>::B)`, `fn(_: <&'a ! as A>::B)`, and `fn(_: for<'a> &'a !)`
   pub record KindsByProjections : Type 0 where
@@ -178,6 +197,9 @@ BoundsDecide = (at : Spot) (def : GenericDefId) → KindsByBounds at def
 
 abbrev pub ImplsDecide : Type 0
 ImplsDecide = (at : Spot) (def : GenericDefId) → KindsByImpls at def
+
+abbrev pub DefaultsNameNothing : Type 0
+DefaultsNameNothing = (at : Spot) (def : GenericDefId) → KindsByDefaults at def
 
 abbrev pub ProjectionsConstrainNothing : Type 0
 ProjectionsConstrainNothing = (at : Spot) (def : GenericDefId) → KindsByProjections at def

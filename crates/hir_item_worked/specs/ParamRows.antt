@@ -1,5 +1,5 @@
 -- Small generic parameters and where clauses, and what is read off them.
-use Rattle.std.specs.Prelude.{◌≡◌, ℕ, codes, List, [], ◌∷◌, Option, Some, None}
+use Rattle.std.specs.Prelude.{◌≡◌, ℕ, codes, List, [], ◌∷◌, map, Option, Some, None}
 use Rattle.hir_syntax.specs.declared.ast.ElseBranch.TheOpen.{ExprKind-F}
 use Rattle.hir_syntax.specs.declared.ast.Expr.{Expr as AstExpr}
 use Rattle.hir_syntax.specs.declared.ast.ExprKind.{roll-ExprKind}
@@ -12,6 +12,9 @@ use Rattle.hir_store.specs.declared.name.Name.TheVariants as name
 use Rattle.hir_store.specs.declared.type_ref.LifetimeRef.{LifetimeRef}
 use Rattle.hir_store.specs.declared.type_ref.LifetimeRef.TheVariants as lifetime
 use Rattle.hir_store.specs.declared.type_ref.TraitBoundModifier.TheVariants as modifier
+use Rattle.hir_env.specs.declared.place.ImplTrait.TheVariants as becomes
+use Rattle.hir_env.specs.Answered as tree
+use Rattle.hir_env.specs.Answered.{Expr}
 use Rattle.hir_env.specs.Spot.{Spot, site_of}
 use Rattle.hir_data.specs.Data as datum
 use Rattle.hir_data.specs.Data.{BoundData, TypeData}
@@ -19,11 +22,13 @@ use Rattle.hir_data.specs.Trees.{bare, error_data, impl_at, never_at, never_data
 use Rattle.hir_lower_item.specs.Answering.{answered_generics}
 use Rattle.hir_item_asked.specs.Fold.{Asking}
 use Rattle.hir_item_worked.specs.Trees.{enabled, disabling, lifetime_at, trait_at, maybe_at, for_trait_at, outlives_at, uses_at}
-use Rattle.hir_item_worked.specs.Trees.{broken_bound, binder_of, type_param_at, const_param_at, lifetime_param_at, where_of, impl_inside}
+use Rattle.hir_item_worked.specs.Trees.{broken_bound, binder_of, cast_at, impl_by, type_param_at, const_param_at, lifetime_param_at}
+use Rattle.hir_item_worked.specs.Trees.{where_of, impl_inside}
 use Rattle.hir_item_worked.specs.Read.{Read, generics_read, a_type, type_made, a_bound, a_constant, a_lifetime, lifetime_made}
 use Rattle.hir_item_worked.specs.Read.{a_param, a_lifetime_param, Seen}
 use Rattle.hir_item_worked.specs.Expected.{text, named_data, data_with, args_of, lifetime_from, bounded_by, parameter_from, absent}
-use Rattle.hir_item_worked.specs.Expected.{plain_param, default_param, from_impl, const_alone, const_with, early, of_parameter, of_impl}
+use Rattle.hir_item_worked.specs.Expected.{plain_param, default_param, from_impl, const_alone, const_by, const_with, early, of_parameter}
+use Rattle.hir_item_worked.specs.Expected.{of_impl}
 use Rattle.hir_item_worked.specs.Expected.{nameless_param, of_bound_type, of_written, outlives, inactive, fault_alone}
 
 module _ (at : Spot) (def : GenericDefId) where
@@ -152,11 +157,13 @@ module _ (at : Spot) (def : GenericDefId) where
   abbrev pub for_data : BoundData
   for_data = datum.for_bound (text (codes "'b") ∷ []) (named_data at 6 (codes "A"))
 
+  -- all of them
+  abbrev pub all_data : List BoundData
+  all_data = bounded_by (named_data at 2 (codes "A")) ∷ maybe_data ∷ datum.lifetime_bound (lifetime_from at 4 (codes "'a"))
+      ∷ datum.use_bound (datum.lifetime_used (lifetime_from at 5 (codes "'a")) ∷ []) ∷ for_data ∷ datum.error_bound ∷ []
+
   abbrev pub all_read : List Seen
-  all_read = a_bound (bounded_by (named_data at 2 (codes "A"))) ∷ a_bound maybe_data
-      ∷ a_bound (datum.lifetime_bound (lifetime_from at 4 (codes "'a")))
-      ∷ a_bound (datum.use_bound (datum.lifetime_used (lifetime_from at 5 (codes "'a")) ∷ []))
-      ∷ a_bound for_data ∷ a_bound datum.error_bound ∷ []
+  all_read = map a_bound all_data
 
   -- of a type parameter, and of a lifetime
   pub record AsksByBounds : Type 0 where
@@ -223,7 +230,12 @@ module _ (at : Spot) (def : GenericDefId) where
   abbrev pub with_parameter : BoundData
   with_parameter = bounded_by (data_with at 4 (codes "A") (args_of (datum.type_argument (parameter_from at 5 def))))
 
-  -- `<T: A<impl B>, U: A>`, `where !: A<impl B>`, `<T = impl B>`, `<const N: impl B>`, and `where impl B: A`
+  -- `as impl`, where the `impl` is an error
+  abbrev pub cast_to_error : Expr
+  cast_to_error = tree.cast_expr (pointer at 3) tree.no_expr (tree.some_type (tree.impl_type (pointer at 4) becomes.Error tree.no_bounds))
+
+  -- `<T: A<impl B>, U: A>`, `<'c: A<impl B>>`, `where !: A<impl B>`, `where 'c: A<impl B>`, `<T = impl B>`, `<const N: impl B>`,
+  -- `<const N: ! = as impl>`, and `where impl B: A`
   pub record ReadsImpls : Type 0 where
     pub in_bound : Reads (type_param_at 1 (Some (codes "T")) (impl_inside ∷ []) None ∷ type_param_at 2 (Some (codes "U")) bounded None ∷ [])
         []
@@ -235,12 +247,26 @@ module _ (at : Spot) (def : GenericDefId) where
           parts = a_param ∷ type_made ∷ a_bound with_parameter
               ∷ a_param ∷ type_made ∷ a_bound (bounded_by (named_data at 2 (codes "A"))) ∷ [];
         })
+    pub of_lifetime : Reads (lifetime_param_at 1 (Some (lifetime_at 1 (codes "'c"))) (impl_inside ∷ []) ∷ []) []
+        (record {
+          params = from_impl def (pointer at 5) ∷ [];
+          lifetimes = early (codes "'c") ∷ [];
+          asks = of_impl def 0 (pointer at 5) (bounded_by (named_data at 9 (codes "B"))) ∷ [];
+          parts = a_lifetime (lifetime_from at 1 (codes "'c")) ∷ a_lifetime_param ∷ a_bound with_parameter ∷ [];
+        })
     pub in_where : Reads [] (where_of (Some (never_at 1)) None None (impl_inside ∷ []) ∷ [])
         (record {
           params = from_impl def (pointer at 5) ∷ [];
           lifetimes = [];
           asks = of_impl def 0 (pointer at 5) (bounded_by (named_data at 9 (codes "B"))) ∷ of_written (never_data at 1) with_parameter ∷ [];
           parts = a_type (never_data at 1) ∷ a_bound with_parameter ∷ [];
+        })
+    pub where_lifetime : Reads [] (where_of None (Some (lifetime_at 1 (codes "'c"))) None (impl_inside ∷ []) ∷ [])
+        (record {
+          params = from_impl def (pointer at 5) ∷ [];
+          lifetimes = [];
+          asks = of_impl def 0 (pointer at 5) (bounded_by (named_data at 9 (codes "B"))) ∷ [];
+          parts = a_lifetime (lifetime_from at 1 (codes "'c")) ∷ a_bound with_parameter ∷ [];
         })
     pub in_default : Reads (type_param_at 1 (Some (codes "T")) [] (Some (impl_at 2 (bare (codes "B")))) ∷ []) []
         (record {
@@ -255,6 +281,13 @@ module _ (at : Spot) (def : GenericDefId) where
           lifetimes = [];
           asks = [];
           parts = a_type (error_data at 2) ∷ a_param ∷ [];
+        })
+    pub in_constant : Reads (const_param_at 1 (Some (codes "N")) (Some (never_at 2)) (Some (Some (cast_at 3 (impl_by 4 [])))) ∷ []) []
+        (record {
+          params = const_by (text (codes "N")) (never_data at 2) (pointer at 3) cast_to_error ∷ [];
+          lifetimes = [];
+          asks = [];
+          parts = a_type (never_data at 2) ∷ a_constant (Some (site_of (pointer at 3))) ∷ a_param ∷ [];
         })
     pub in_target : Reads [] (where_of (Some (impl_at 1 (bare (codes "B")))) None None bounded ∷ [])
         (asking_alone (of_written (error_data at 1) (bounded_by (named_data at 2 (codes "A"))) ∷ [])

@@ -1,7 +1,9 @@
 -- Small written trees of items, and where they are read.
 use Rattle.std.specs.Prelude.{ℕ, suc, nat_eq, codes, Bool, true, false, if◌then◌else◌, List, [], ◌∷◌, Option, Some, None}
 use Rattle.std.specs.Prelude.{option_map, Ok, Err}
-use Rattle.hir_syntax.specs.declared.ast.ElseBranch.TheOpen.{GenericArg-F, TypeKind-F}
+use Rattle.hir_syntax.specs.declared.ast.ElseBranch.TheOpen.{ExprKind-F, GenericArg-F, TypeKind-F}
+use Rattle.hir_syntax.specs.declared.ast.Expr.{Expr as AstExpr}
+use Rattle.hir_syntax.specs.declared.ast.ExprKind.{roll-ExprKind}
 use Rattle.hir_syntax.specs.declared.ast.Lifetime.{Lifetime as AstLifetime}
 use Rattle.hir_syntax.specs.declared.ast.Path.{roll-Path}
 use Rattle.hir_syntax.specs.declared.ast.PathSegment.{PathSegment as AstPathSegment, roll-PathSegment}
@@ -46,6 +48,10 @@ lifetime_at n t = record { id = node n; range = no_range; t = t }
 -- `&t !`, the lifetime and the type with the two numbers behind that of the reference
 abbrev pub reference_at : ℕ → List ℕ → AstType
 reference_at n t = type_at n (TypeKind-F.RefType (Some (lifetime_at (suc n) t)) false (Some (never_at (suc (suc n)))))
+
+-- `as t`, where the text lacks what is cast
+abbrev pub cast_at : ℕ → AstType → AstExpr
+cast_at n t = record { id = node n; range = no_range; kind = roll-ExprKind (ExprKind-F.CastExpr None (Some t)) }
 
 -- a path of this one segment, as a type and as that of a trait
 abbrev pub path_at : ℕ → AstPathSegment → AstType
@@ -123,6 +129,10 @@ uses_at n t = bound_by (Some bound.Use) None None false None (used.Lifetime (lif
 
 abbrev pub broken_bound : AstTypeBound
 broken_bound = bound_by None None None false None []
+
+-- an `impl` of these
+abbrev pub impl_by : ℕ → List AstTypeBound → AstType
+impl_by n bs = type_at n (TypeKind-F.ImplTraitType bs)
 
 -- `A<impl B>`, the name alone and as a bound: the node of the `impl` is 5, and that of the bound's path 4
 abbrev pub with_impl : AstPathSegment

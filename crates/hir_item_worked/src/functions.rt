@@ -8,13 +8,13 @@ pub fn reads_receivers()
     ensures { ReceiversAreRead }
 {}
 
-/// What is disabled is told before all types, is no `self` and makes nothing variadic; of dots nothing is read.
+/// What is disabled is told before the types of all but `self`, is no `self` and makes nothing variadic; of dots nothing is read.
 pub fn reads_arguments()
     ensures { ArgumentsAreRead }
 {}
 
-/// An `impl` that is given is a parameter, behind those that are written and behind the one in a binding inside of it; elsewhere inside of
-/// it one is an error.
+/// An `impl` that is given is a parameter, of which each bound is asked, whatever it is. It comes behind those that are written and behind
+/// the one in a binding inside of it; elsewhere inside of it one is an error.
 pub fn reads_argument_impls()
     ensures { ArgumentImplsAreRead }
 {}

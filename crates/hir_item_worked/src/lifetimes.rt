@@ -1,7 +1,7 @@
 //! Laws of small functions with lifetime parameters.
 
-ghost use Rattle.hir_item_worked.specs.LifetimeRows.{AliasesConstrainWhatTheyName, BoundsDecide, ImplsDecide, TypesDecide};
-ghost use Rattle.hir_item_worked.specs.LifetimeRows.{ProjectionsConstrainNothing};
+ghost use Rattle.hir_item_worked.specs.LifetimeRows.{AliasesConstrainWhatTheyName, BoundsDecide, DefaultsNameNothing};
+ghost use Rattle.hir_item_worked.specs.LifetimeRows.{ImplsDecide, ProjectionsConstrainNothing, TypesDecide};
 
 /// A lifetime is early bound where what is returned alone names it, and late bound where what is given does, or nothing.
 pub fn types_decide()
@@ -18,6 +18,12 @@ pub fn bounds_decide()
 /// `impl` in it, nor does the type of a constant.
 pub fn impls_decide()
     ensures { ImplsDecide }
+{}
+
+/// The default of a type or of a constant counts neither as what is given nor as what is returned, nor as a bound; nor does the type of a
+/// constant.
+pub fn defaults_name_nothing()
+    ensures { DefaultsNameNothing }
 {}
 
 /// What is given constrains nothing by the type or the trait of a projection; a `for<'a>` hides no `'a`.

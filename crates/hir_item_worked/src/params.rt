@@ -44,8 +44,8 @@ pub fn reads_parameters_first()
     ensures { Everywhere ParametersFirst }
 {}
 
-/// An `impl` in a bound is a parameter, numbered behind the one that the bound is of, and what it asks comes first; in a default, in the
-/// type of a constant and where a where clause says of what it is, one is an error.
+/// An `impl` in a bound is a parameter, numbered behind the one that the bound is of, and what it asks comes first, of a lifetime too; in
+/// a default, in the type of a constant and where a where clause says of what it is, one is an error.
 pub fn reads_impls()
     ensures { Everywhere ReadsImpls }
 {}
