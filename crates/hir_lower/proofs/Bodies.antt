@@ -26,9 +26,12 @@ use Rattle.hir_one_result.specs.OneResult.{OneResult, fresh_owing}
 use Rattle.hir_one_result.specs.Room.{BodyTooLarge, body_size}
 use Rattle.hir_one_result.proofs.Fits.{bodies_fit}
 use Rattle.hir_one_result.proofs.Whole.{one_results}
+use Rattle.hir_told.specs.StoredData.{ReadsAs}
 use Rattle.hir_told.proofs.AsExpansions.{bodies_expand}
+use Rattle.hir_told.proofs.AsStoredData.{whole_bodies_store}
 use Rattle.hir_type_result.proofs.InsideBody.{body_inside}
 use Rattle.hir_lower.specs.Formals.{Given}
+use Rattle.hir_lower.specs.Data.{data_in_body}
 use Rattle.hir_lower.specs.Means.{DoesBody, HasBody, expanded_in_body, kind_unless_skipped, owed_faults, unless_skipped}
 use Rattle.hir_lower.specs.Roots.{GivenFromNothing, RefusedAtEnd, StoresFromNothing, behind, body_of, formals_of, given_of}
 use Rattle.hir_lower.specs.declared.body.Body.{Body}
@@ -97,6 +100,12 @@ module _ (kind : Option CoroutineKind) (skipped : Bool) (f : Formals) (e : Optio
               (record { exprs = refl; pats = refl; types = refl }) s.lowered end ext depth le;
         })
 
+    all_stored : ReadsAs (data_in_body kind skipped f e) (store_of b'.stored) (map_of b'.stored)
+    unfolding storing.record_root
+    all_stored =
+        let P : Builder → Type 0 = λ x. ReadsAs (data_in_body kind skipped f e) (store_of x.stored) (map_of x.stored) in
+        subst P s.left (whole_bodies_store limit owed kind skipped f e given i s.inner s.lowered)
+
     expanded : b'.stored.expansions ≡ expanded_in_body kind skipped f e
     unfolding storing.record_root
     expanded =
@@ -158,6 +167,15 @@ module _ (kind : Option CoroutineKind) (skipped : Bool) (node : Pointer) (k : Op
       ap (λ (m : SourceMap). m.expansions) s.source_map_is
       ∙ expanded read_kind skipped f read limit owed s.builder s.answer.0 s.answer.1 (sym (item_is kind skipped node k f e limit) ∙ s.done)
 
+  body_stored : (store : Store) (source_map : SourceMap) → StoresFromNothing item limit store source_map
+      → ReadsAs (data_in_body read_kind skipped f read) store source_map
+  body_stored store source_map s =
+      let done = sym (item_is kind skipped node k f e limit) ∙ s.done in
+      let w = all_stored read_kind skipped f read limit owed s.builder s.answer.0 s.answer.1 done in
+      let P : Store → Type 0 = λ x. ReadsAs (data_in_body read_kind skipped f read) x source_map in
+      let Q : SourceMap → Type 0 = λ x. ReadsAs (data_in_body read_kind skipped f read) (store_of s.builder.stored) x in
+      subst P (sym s.store_is) (subst Q (sym s.source_map_is) w)
+
   pub body_too_large : RefusedAtEnd item limit → BodyTooLarge (fresh limit) read_kind skipped f read
   body_too_large r = too_large read_kind skipped f read limit owed r.builder (sym (item_is kind skipped node k f e limit) ∙ r.refused)
 
@@ -173,6 +191,11 @@ module _ (kind : Option CoroutineKind) (skipped : Bool) (node : Pointer) (k : Op
         → IfOk r (λ a. OneResult (store a) (source_map a) owed read_kind skipped f (given_of (b a)) read)
     one_result_if b (Ok a) s g = one_result (b a) (store a) (source_map a) s g
     one_result_if b (Err x) s g = tt
+
+    pub body_stored_if : (r : Result A E) → IfOk r (λ a. StoresFromNothing item limit (store a) (source_map a))
+        → IfOk r (λ a. ReadsAs (data_in_body read_kind skipped f read) (store a) (source_map a))
+    body_stored_if (Ok a) s = body_stored (store a) (source_map a) s
+    body_stored_if (Err x) s = tt
 
     pub body_expanded_if : (r : Result A E) → IfOk r (λ a. StoresFromNothing item limit (store a) (source_map a))
         → IfOk r (λ a. (source_map a).expansions ≡ expanded_in_body read_kind skipped f read)

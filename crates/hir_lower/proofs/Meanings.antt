@@ -46,6 +46,7 @@ use Rattle.hir_one_result.proofs.Fits.{all_fit}
 use Rattle.hir_one_result.proofs.Took.{Room, Took}
 use Rattle.hir_one_result.proofs.TreeRooms.{part_takes}
 use Rattle.hir_told.proofs.AsExpansions.{exprs_expand}
+use Rattle.hir_told.proofs.AsStoredData.{exprs_store}
 use Rattle.hir_type_result.proofs.Inside.{expr_inside}
 use Rattle.hir_type_result.proofs.Named.{expr_bindings_came, expr_pats_once, expr_types_once}
 use Rattle.hir_lower.specs.Calls.{Outside}
@@ -284,6 +285,10 @@ module _ (e : OptionExpr) (b inner : Builder) (i : ExprId) (none_open : b.scopes
           type_sources = fits.type_sources;
           lifetime_sources = fits.lifetime_sources;
           types_map = fits.types_map;
+        };
+        stored_data = let d = exprs_store e b i inner paired is in record {
+          types = λ later x. d.types later (extends_trans (recorded_extends (first b) inner i) x);
+          lifetimes = λ later x. d.lifetimes later (extends_trans (recorded_extends (first b) inner i) x);
         };
         owners = fits.owners may;
         roots = ap (λ rs. rs ++ root_at (store_of inner.stored) i ∷ []) (roots_inside in_root);

@@ -34,6 +34,7 @@ use Rattle.hir_one_result.proofs.TreeFaults.{whole_reports}
 use Rattle.hir_one_result.proofs.TreeRooms.{path_tells}
 use Rattle.hir_one_result.proofs.TreeStands.{whole_left}
 use Rattle.hir_told.proofs.AsExpansions.{paths_expand}
+use Rattle.hir_told.proofs.AsStoredData.{paths_store}
 use Rattle.hir_type_result.specs.Roots.{RootsOf, recorded}
 use Rattle.hir_type_result.proofs.Behind.{blocks_behind, faults_behind, path_roots, ways_behind}
 use Rattle.hir_type_result.proofs.Inside.{path_inside}
@@ -155,6 +156,7 @@ module _ (at : Spot) (x : AstPath) (b b' : Builder) where
         inside_reached_once = λ later ext depth le. path_inside p b b' y d l.0 later ext depth le;
         bindings_came = path_bindings_came p b b' y d l.0;
         grown = grown;
+        stored_data = paths_store p b b' y d l.0;
         owners = grown.owners m;
         paired = kept.paired d;
         mapped = kept.mapped d;

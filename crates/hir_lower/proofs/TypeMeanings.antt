@@ -22,10 +22,13 @@ use Rattle.hir_steps.proofs.Apart.{stored_type_apart}
 use Rattle.hir_steps.proofs.Keeping.{apart_by}
 use Rattle.hir_steps.proofs.Mapping.{leads_entry}
 use Rattle.hir_one_result.specs.Laws.{Defined, MayBeOwned}
+use Rattle.hir_told.specs.StoredData.{ReadsAs}
 use Rattle.hir_told.proofs.AsExpansions.{types_expand}
+use Rattle.hir_told.proofs.AsStoredData.{whole_types_store}
 use Rattle.hir_type_result.specs.TypeResult.{TypeResult, TypeTooLarge}
 use Rattle.hir_type_result.proofs.Whole.{refused_types, type_results}
 use Rattle.hir_lower.specs.Calls.{Outside}
+use Rattle.hir_lower.specs.Data.{data_in_type}
 use Rattle.hir_lower.specs.Means.{AddsType, NoRoomForType, expanded_in_type, whole_type}
 use Rattle.hir_lower.specs.Roots.{AnswersFromNothing, RefusedAtEnd}
 use Rattle.hir_lower.proofs.Onward.{made}
@@ -180,6 +183,21 @@ module _ (at : Spot) (x : Option AstType_) (limit : ℕ) where
       ap (λ (m : SourceMap). m.expansions) h.source_map_is
       ∙ types_expand None (whole_type at x) (fresh limit) h.builder (id a) none h.done
   type_expanded_if store source_map id (Err e) h = tt
+
+  type_stored : (i : TypeRefId) (store : Store) (source_map : SourceMap)
+      → AnswersFromNothing (type_part None (whole_type at x)) limit i store source_map
+      → ReadsAs (data_in_type (whole_type at x)) store source_map
+  type_stored i store source_map s =
+      let w = whole_types_store limit (whole_type at x) i s.builder s.done in
+      let P : Store → Type 0 = λ y. ReadsAs (data_in_type (whole_type at x)) y source_map in
+      let Q : SourceMap → Type 0 = λ m. ReadsAs (data_in_type (whole_type at x)) (store_of s.builder.stored) m in
+      subst P (sym s.store_is) (subst Q (sym s.source_map_is) w)
+
+  pub type_stored_if : {A E : Type 0} (store : A → Store) (source_map : A → SourceMap) (id : A → TypeRefId) (r : Result A E)
+      → IfOk r (λ a. AnswersFromNothing (type_part None (whole_type at x)) limit (id a) (store a) (source_map a))
+      → IfOk r (λ a. ReadsAs (data_in_type (whole_type at x)) (store a) (source_map a))
+  type_stored_if store source_map id (Ok a) h = type_stored (id a) (store a) (source_map a) h
+  type_stored_if store source_map id (Err e) h = tt
 
   pub type_too_large : RefusedAtEnd (type_part None (whole_type at x)) limit → TypeTooLarge limit (whole_type at x)
   type_too_large r = refused_types limit (whole_type at x) Full r.builder r.refused

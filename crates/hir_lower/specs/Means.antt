@@ -59,8 +59,10 @@ use Rattle.hir_one_result.specs.Leads.{OwnedBy, OwnersAre, Way}
 use Rattle.hir_one_result.specs.Stands.{StandsPart, WholeWays}
 use Rattle.hir_told.specs.Bodies.{grade_body}
 use Rattle.hir_told.specs.Expanded as told
+use Rattle.hir_told.specs.StoredData.{DataAdded}
 use Rattle.hir_told.specs.Grades.{grade_expr_part, grade_part, grade_whole}
 use Rattle.hir_lower.specs.declared.body.Param.{Param}
+use Rattle.hir_lower.specs.Data.{data_in, data_in_path}
 use Rattle.hir_lower.specs.Formals.{formals_read}
 use Rattle.hir_type_result.specs.Unrun.{unrun_in, unrun_in_path, unrun_in_pats}
 use Rattle.hir_type_result.specs.Named.{TypesSpread, of_exprs, of_pats, of_pats_alone, of_types_alone}
@@ -110,6 +112,7 @@ expanded_in_body kind skipped f e = grade_body told.expansions told.bodies_expan
 pub record Rooted (old new : Stored) (i : ExprId) (e : OptionExpr) : Type 0 where
   pub lives : (later : Stored) → Extends new later → Settled new later → Lives old new later i e
   pub grown : Grown (owned (size_part e)) old new
+  pub stored_data : DataAdded (data_in e) old new
   pub owners : new.bindings.owners ≡ old.bindings.owners ++ placed (length old.exprs.entries) (owned (size_part e)).owners
   pub roots : new.roots ≡ old.roots ++ root_at (store_of new) i ∷ []
   pub bindings_came : BindingsCame old new
@@ -239,6 +242,7 @@ pub record PathRooted (old new : Stored) (r : Option Path) (p : OptionPath) : Ty
       (of_each (reached_to (store_of later) depth) (unrun_in_path (store_of later) r))
   pub bindings_came : BindingsCame old new
   pub grown : Grown (whole_size p) old new
+  pub stored_data : DataAdded (data_in_path p) old new
   pub owners : new.bindings.owners ≡ old.bindings.owners ++ placed (length old.exprs.entries) (whole_size p).owners
   pub paired : Paired new
   pub mapped : Mapped old → Mapped new

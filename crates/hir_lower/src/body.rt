@@ -12,7 +12,9 @@ ghost use Rattle.hir_lower_form.specs.Lowering.{Lowers};
 ghost use Rattle.hir_one_result.specs.Formals.{lower_body, plain_body};
 ghost use Rattle.hir_one_result.specs.OneResult.{OneResult};
 ghost use Rattle.hir_one_result.specs.Room.{BodyTooLarge};
+ghost use Rattle.hir_told.specs.StoredData.{ReadsAs};
 ghost use Rattle.hir_lower_handlers.specs.Spots.{spot_at};
+ghost use Rattle.hir_lower.specs.Data.{data_in_body};
 ghost use Rattle.hir_lower.specs.Formals.{are_read, formals_read, item_formals, outside_the_body, self_source};
 ghost use Rattle.hir_lower.specs.Means.{HasBody, HasParams, MadeOnce, body_owes, body_read, expanded_in_body, kind_unless_skipped};
 ghost use Rattle.hir_lower.specs.Means.{required_body};
@@ -493,7 +495,8 @@ fn body_steps<E: LowerEnv>(
 /// label to what it became, from the nodes of patterns, types and lifetimes to them, from calls of macros to the expression, pattern or
 /// type that they stand for, from the values and patterns of a record's kept fields to their fields, and from nothing else; each binding is
 /// owned by the innermost closure, coroutine, `const` block, length or argument around it, and where it stands in none of these, by
-/// nothing, as `self` and all that the outside hands its arguments to; the numbers of blocks come in the order of entering, and so do the
+/// nothing, as `self` and all that the outside hands its arguments to; all stored types and all lifetimes, in their order, read back as
+/// what is written, also those that nothing reaches; the numbers of blocks come in the order of entering, and so do the
 /// calls of macros that are entered, each behind what else was expanded for it; the diagnostics are those that body, parameters and tree
 /// owe. Each name that is made up is of one binding or label at most, or of a parameter as it is handed in and of what its coroutine begins
 /// with. Each number in store and source map is in range. A skipped body is a missing expression, no coroutine, and owes no fault of its
@@ -537,6 +540,12 @@ pub fn lower_body<E: LowerEnv>(
         let kind = kind_unless_skipped skipped (coroutine_kind is_async_fn is_gen_fn) in
         let read = body_read at owner (option_copied body.entry) in
         IfOk result (λ r. r.1.store.expansions ≡ expanded_in_body kind skipped formals read) }
+    ensures stored { let at = body_spot (E.answers db.now) owner current_file_id inside is_async_fn in
+        let formals = item_formals at owner (option_copied params.entry) (is_some (option_copied body.entry)) in
+        let skipped = at.answers.skip owner in
+        let kind = kind_unless_skipped skipped (coroutine_kind is_async_fn is_gen_fn) in
+        let read = body_read at owner (option_copied body.entry) in
+        IfOk result (λ r. ReadsAs (data_in_body kind skipped formals read) r.0.store r.1.store) }
     ensures params { let at = body_spot (E.answers db.now) owner current_file_id inside is_async_fn in
         let formals = item_formals at owner (option_copied params.entry) (is_some (option_copied body.entry)) in
         let skipped = at.answers.skip owner in

@@ -5,7 +5,9 @@ ghost use Rattle.hir_store.specs.Range.{HasType, InRange};
 ghost use Rattle.hir_lower_form.specs.Lower.{type_part};
 ghost use Rattle.hir_lower_form.specs.Lowering.{Lowers};
 ghost use Rattle.hir_type_result.specs.TypeResult.{TypeResult, TypeTooLarge};
+ghost use Rattle.hir_told.specs.StoredData.{ReadsAs};
 ghost use Rattle.hir_lower_handlers.specs.Spots.{spot_at};
+ghost use Rattle.hir_lower.specs.Data.{data_in_type};
 ghost use Rattle.hir_lower.specs.Means.{MadeOnce, expanded_in_type, whole_type};
 ghost use Rattle.hir_lower.specs.Roots.{AnswersFromNothing, RefusedAtEnd, type_spot};
 
@@ -88,11 +90,12 @@ fn type_steps<E: LowerEnv>(
 /// one way only. Each constant runs as it is written and is a root, in the order in which they are done, also one that the type doesn't
 /// reach; each binding is owned by the innermost closure, coroutine, `const` block, length or argument around it; the faults are those
 /// of the constants, and of calls whose macro isn't found, and the entered blocks those of the constants; the calls of macros that are
-/// entered come in the order of entering, each behind what else was expanded for it. Each number in store and source map is in range.
-/// An `impl` stays one. `Memory` where a growth was refused; `Full` only where the tree becomes more types, lifetimes, expressions,
-/// labels, patterns or bindings than the arenas have room for, or a path in it has more `super`s, a pattern more parts in front of its
-/// two dots, a block more definitions of one name by `macro_rules`, or it more names that are made up, than 32 bits count; never
-/// `Failed`.
+/// entered come in the order of entering, each behind what else was expanded for it. All stored types and all lifetimes, in
+/// their order, read back as what is written, also those that nothing reaches. Each number in store and source map is in range.
+/// An `impl` stays one. `Memory` where a growth was refused; `Full` only where the tree becomes more types, lifetimes,
+/// expressions, labels, patterns or bindings than the arenas have room for, or a path in it has more `super`s, a pattern more
+/// parts in front of its two dots, a block more definitions of one name by `macro_rules`, or it more names that are made up,
+/// than 32 bits count; never `Failed`.
 pub fn lower_type_ref<E: LowerEnv>(
     alloc: Global,
     db: &E,
@@ -103,6 +106,8 @@ pub fn lower_type_ref<E: LowerEnv>(
         IfOk result (λ r. TypeResult r.0 r.1 r.2 (whole_type at (option_copied type_ref.entry.value))) }
     ensures expanded { let at = type_spot (E.answers db.now) type_ref.entry.file_id inside in
         IfOk result (λ r. r.1.expansions ≡ expanded_in_type (whole_type at (option_copied type_ref.entry.value))) }
+    ensures stored { let at = type_spot (E.answers db.now) type_ref.entry.file_id inside in
+        IfOk result (λ r. ReadsAs (data_in_type (whole_type at (option_copied type_ref.entry.value))) r.0 r.1) }
     ensures made_once { IfOk result (λ r. MadeOnce r.0 []) }
     ensures in_range { IfOk result (λ r. InRange r.0 r.1) }
     ensures too_large { let at = type_spot (E.answers db.now) type_ref.entry.file_id inside in

@@ -1,4 +1,4 @@
-use Rattle.hir_lower.proofs.Bodies.{body_expanded_if, body_too_large, has_body_if, one_result_if}
+use Rattle.hir_lower.proofs.Bodies.{body_expanded_if, body_stored_if, body_too_large, has_body_if, one_result_if}
 use Rattle.hir_lower.proofs.MadeNames.{made_once_if}
 use Rattle.hir_lower.proofs.Params.{params_if}
 use Rattle.hir_lower.proofs.body.lower_body.Goals as goal
@@ -16,6 +16,10 @@ returns-clause-one_result g c =
 pub returns-clause-expanded : goal.returns-clause-expanded
 returns-clause-expanded g c =
     body_expanded_if _ _ _ _ _ _ 4294967295 (λ r. r.0.store) (λ r. r.1.store) c.body_steps.result c.body_steps.ensures.stores
+
+pub returns-clause-stored : goal.returns-clause-stored
+returns-clause-stored g c =
+    body_stored_if _ _ _ _ _ _ 4294967295 (λ r. r.0.store) (λ r. r.1.store) c.body_steps.result c.body_steps.ensures.stores
 
 pub returns-clause-params : goal.returns-clause-params
 returns-clause-params g c =

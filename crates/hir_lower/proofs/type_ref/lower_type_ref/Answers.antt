@@ -1,7 +1,7 @@
 use Rattle.std.specs.Prelude.{option_copied}
 use Rattle.hir_lower.specs.Roots.{type_spot}
 use Rattle.hir_lower.proofs.MadeNames.{type_once_if}
-use Rattle.hir_lower.proofs.TypeMeanings.{type_expanded_if, type_result_if, type_too_large}
+use Rattle.hir_lower.proofs.TypeMeanings.{type_expanded_if, type_result_if, type_stored_if, type_too_large}
 use Rattle.hir_lower.proofs.type_ref.lower_type_ref.Goals as goal
 
 pub returns-clause-type_result : goal.returns-clause-type_result
@@ -11,6 +11,10 @@ returns-clause-type_result g c =
 pub returns-clause-expanded : goal.returns-clause-expanded
 returns-clause-expanded g c =
     type_expanded_if _ _ 4294967295 (λ r. r.0) (λ r. r.1) (λ r. r.2) c.type_steps.result c.type_steps.ensures.stores
+
+pub returns-clause-stored : goal.returns-clause-stored
+returns-clause-stored g c =
+    type_stored_if _ _ 4294967295 (λ r. r.0) (λ r. r.1) (λ r. r.2) c.type_steps.result c.type_steps.ensures.stores
 
 pub returns-clause-too_large : goal.returns-clause-too_large
 returns-clause-too_large g c = λ is. type_too_large _ _ 4294967295 (c.type_steps.ensures.full is)
