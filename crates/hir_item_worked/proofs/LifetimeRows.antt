@@ -20,7 +20,7 @@ use Rattle.hir_env.specs.Whole.{in_impl}
 use Rattle.hir_lower_item.specs.Answering.{answered_argument, answered_function, at_place, in_arguments, in_bounds, in_output, in_plain}
 use Rattle.hir_lower_item.specs.Answering.{in_target}
 use Rattle.hir_lower_item.specs.Items as item
-use Rattle.hir_lower_item.specs.Items.{Argument, Function, Generics, Param, Predicate}
+use Rattle.hir_lower_item.specs.Items.{Argument, Function, Generics, Param, Predicate, Receiver}
 use Rattle.hir_data.specs.Trees.{bare, never_at, pointer, segment_of}
 use Rattle.hir_data.proofs.Trees.{never_is, path_made, path_type_made, segment_made, type_made}
 use Rattle.hir_item_worked.specs.Trees.{cast_at, lifetime_arg_at, param_at, path_at, trait_path_at}
@@ -226,6 +226,16 @@ module _ (at : Spot) (def : GenericDefId) where
   abbrev by_where : Predicate → Argument → List LifetimeParamData
   by_where w x = said a_alone (w ∷ []) (x ∷ []) tree.no_ret
 
+  -- with `'a` alone, given this `self`
+  abbrev by_self : Receiver → Type_ → List LifetimeParamData
+  by_self x t = (function_read def (record {
+    generics = record { params = a_alone; predicates = [] };
+    receiver = x;
+    arguments = [];
+    ret = to t;
+    kind = None;
+  })).lifetimes
+
   -- beside this parameter, given nothing
   abbrev beside : Param → OptionRet → List LifetimeParamData
   beside x r = said (a_by tree.no_bounds ∷ x ∷ []) [] [] r
@@ -247,13 +257,9 @@ types_decide at def = record {
   both = λ i. said at def (a_alone at def) [] (takes_a at def i ∷ []) (to at def (a_ref_is (in_out at def) i));
   in_path = λ i. said at def (a_alone at def) [] (takes at def (path_at 8 with_a) (path_a_is (in_given at def)) i ∷ [])
       (to at def (a_ref_is (in_out at def) i));
-  behind_self = λ i. (function_read def (record {
-    generics = record { params = a_alone at def; predicates = [] };
-    receiver = item.self_receiver (Some Shared) (Some (lifetime_in (in_given at def) 8 (codes "'a")));
-    arguments = [];
-    ret = to at def (a_ref_is (in_out at def) i);
-    kind = None;
-  })).lifetimes;
+  behind_self = λ i. by_self at def (item.self_receiver (Some Shared) (Some (lifetime_in (in_given at def) 8 (codes "'a"))))
+      (a_ref_is (in_out at def) i);
+  typed_self = λ i. by_self at def (item.typed_receiver (a_ref_is (in_given at def) i)) (a_ref_is (in_out at def) i);
   of_two = λ i. said at def (with_b at def None None) [] (takes_a at def i ∷ []) (to at def (both_refs_are (in_out at def) i));
 }
 

@@ -4,6 +4,7 @@ use Rattle.hir_syntax.specs.declared.ast.ElseBranch.TheOpen.{TypeKind-F}
 use Rattle.hir_syntax.specs.declared.ast.Path.{roll-Path}
 use Rattle.hir_syntax.specs.declared.ast.PathSegment.{PathSegment as AstPathSegment, roll-PathSegment}
 use Rattle.hir_syntax.specs.declared.ast.SegmentKind.TheVariants as segment
+use Rattle.hir_syntax.specs.declared.params.SelfParam.{SelfParam as AstSelfParam}
 use Rattle.hir_syntax.specs.declared.types.TypeBound.{TypeBound as AstTypeBound}
 use Rattle.hir_syntax.specs.declared.types.Type_.{Type_ as AstType}
 use Rattle.hir_items.specs.declared.ast.Fn.{Fn as AstFn}
@@ -66,6 +67,10 @@ from_to ps ws ts r =
 abbrev pub of_a : List AstGenericParam
 of_a = a_param_of [] ∷ []
 
+-- given this `self`, and returning `&'a !`
+abbrev pub of_self : AstSelfParam → AstFn
+of_self x = fn_of (Some of_a) None (Some (param_list (Some x) [])) (Some (Some a_reference)) false false
+
 -- `for<'a> &'a !`
 abbrev pub for_a : AstType
 for_a = type_at 8 (TypeKind-F.ForType (Some (binder_of (Some (lifetime_at 9 (codes "'a")) ∷ []))) (Some a_reference))
@@ -118,16 +123,16 @@ module _ (at : Spot) (def : GenericDefId) where
   abbrev pub Late : AstFn → Type 0
   Late x = Kinds x (late (codes "'a") ∷ [])
 
-  -- `fn()`, `fn() -> &'a !`, `fn(_: &'a !)`, `fn(_: &'a !) -> &'a !`, `fn(_: A<'a>) -> &'a !`, `fn(&'a self) -> &'a !`, and both in one:
-  -- `fn<'a, 'b>(_: &'a !) -> (&'a !, &'b !)`
+  -- `fn()`, `fn() -> &'a !`, `fn(_: &'a !)`, `fn(_: &'a !) -> &'a !`, `fn(_: A<'a>) -> &'a !`, `fn(&'a self) -> &'a !`,
+  -- `fn(self: &'a !) -> &'a !`, and both in one: `fn<'a, 'b>(_: &'a !) -> (&'a !, &'b !)`
   pub record KindsByTypes : Type 0 where
     pub unnamed : Late (from_to of_a [] [] None)
     pub returned : Early (from_to of_a [] [] (Some a_reference))
     pub given : Late (from_to of_a [] (a_reference ∷ []) None)
     pub both : Late (from_to of_a [] (a_reference ∷ []) (Some a_reference))
     pub in_path : Late (from_to of_a [] (path_at 8 with_a ∷ []) (Some a_reference))
-    pub behind_self : Late (fn_of (Some of_a) None
-        (Some (param_list (Some (self_at 8 true false (Some (lifetime_at 8 (codes "'a"))) None)) [])) (Some (Some a_reference)) false false)
+    pub behind_self : Late (of_self (self_at 8 true false (Some (lifetime_at 8 (codes "'a"))) None))
+    pub typed_self : Late (of_self (self_at 8 false false None (Some a_reference)))
     pub of_two : Kinds (from_to (a_param_of [] ∷ b_param ∷ []) [] (a_reference ∷ []) (Some both_references))
         (late (codes "'a") ∷ early (codes "'b") ∷ [])
 
