@@ -6,8 +6,15 @@ pub mod Told
 pub mod Ways
 pub mod Quiet
 pub mod Took
+pub mod Limits
+pub mod LimitForms
+pub mod AsLimits
+pub mod Fitting
 pub mod Whole
+pub mod Words
 pub mod ReadsBack
 pub mod Held
 pub mod Answered
+pub mod Later
+pub mod Once
 pub mod Apart

@@ -8,6 +8,7 @@ use Rattle.hir_store.specs.declared.diagnostics.ExpressionStoreDiagnostics.{Expr
 use Rattle.hir_store.specs.declared.diagnostics.ExpressionStoreDiagnostics.TheVariants.{InactiveCode}
 use Rattle.hir_store.specs.declared.diagnostics.MissingBodyItemKind.{MissingBodyItemKind}
 use Rattle.hir_store.specs.declared.hir.CoroutineKind.{CoroutineKind}
+use Rattle.hir_store.specs.declared.hir.CoroutineKind.TheVariants as coroutine
 use Rattle.hir_store.specs.declared.hir.Mutability.{Mutability}
 use Rattle.hir_store.specs.declared.ids.GenericDefId.{GenericDefId}
 use Rattle.hir_store.specs.declared.ids.TypeRefId.{TypeRefId}
@@ -23,7 +24,7 @@ use Rattle.hir_env.specs.Answered as tree
 use Rattle.hir_env.specs.Answered.{Lifetime, OptionRet}
 use Rattle.hir_env.specs.TypeLayers.{PathTypeReading}
 use Rattle.hir_data.specs.Data as datum
-use Rattle.hir_data.specs.Data.{BoundsData, OptionTypeData, TypeData, TypesData, typed}
+use Rattle.hir_data.specs.Data.{BoundsData, OptionTypeData, PathData, TypeData, TypesData, typed}
 use Rattle.hir_data.specs.Reading.{Readers, names_beside, path_layer}
 use Rattle.hir_data.specs.Rule.{PathRead, data_of}
 use Rattle.hir_data.specs.Written as written
@@ -47,9 +48,10 @@ use Rattle.hir_read_back.proofs.Walk.{Answers, matches_read}
 use Rattle.hir_type_result.proofs.Adding.{Quiet}
 use Rattle.hir_type_result.proofs.Naming.{quiet_pure, quiet_report, quiet_then}
 use Rattle.hir_item_result.specs.Answers.{arguments_data, borrowed_data, coroutine_data, coroutine_path_data, output_data, receiver_data}
-use Rattle.hir_item_result.specs.Answers.{self_data, trait_data}
+use Rattle.hir_item_result.specs.Answers.{keeps_self, keeps_variadic, self_data, trait_data}
 use Rattle.hir_item_result.proofs.Quiet.{items_are_quiet}
 use Rattle.hir_item_result.proofs.Reading.{bind_assoc, bind_pure}
+use Rattle.hir_item_result.proofs.Words.{same_self, same_variadic}
 
 -- the parameters, whatever is in them
 pub generics_quiet : (def : GenericDefId) (g : Generics) → Correct (steps.lower_generics def g) Quiet
@@ -193,6 +195,19 @@ input_reads (item.self_receiver borrow l) xs =
 
 -- ---- what a function returns
 
+-- the path of the trait of a coroutine, in the words of the steps
+abbrev named_path : CoroutineKind → TypeData → PathData
+named_path k given =
+    let b = datum.binding_data (steps.given_name k) datum.no_args (datum.some_type given) datum.no_bounds in
+    let a = datum.args_data datum.no_arguments false (datum.more_bindings b datum.no_bindings) parens.No in
+    let beside = datum.no_args ∷ (datum.no_args ∷ (datum.some_args a ∷ [])) in
+    datum.path_data kind.Abs datum.no_type (names_beside (steps.trait_names k) beside) false
+
+same_path : (k : CoroutineKind) (given : TypeData) → named_path k given ≡ coroutine_path_data k given
+same_path coroutine.Async given = refl
+same_path coroutine.Gen given = refl
+same_path coroutine.AsyncGen given = refl
+
 coroutine_path_reads : (store : Store) (source_map : SourceMap) (r : Readers) (k : CoroutineKind) (given : TypeRefId) (x : TypeData)
     → r.type given ≡ x → path_layer store source_map r (steps.coroutine_path k given) ≡ coroutine_path_data k x
 coroutine_path_reads store source_map r k given x e =
@@ -202,6 +217,7 @@ coroutine_path_reads store source_map r k given x e =
     ∙ ap (λ b. datum.args_data datum.no_arguments false (datum.more_bindings b datum.no_bindings) parens.No)
     (binding_roll store source_map r (steps.given_name k) None (Some given) []
     ∙ ap (λ t. datum.binding_data (steps.given_name k) datum.no_args (datum.some_type t) datum.no_bounds) e))
+    ∙ same_path k x
 
 coroutine_reads : {x : TypeData} {p : Lowering TypeRefId} (k : CoroutineKind) → Correct p (Reads a_type x)
     → Correct (p >>= (λ given. alloc_type (ty.Path (steps.coroutine_path k given)) None
@@ -241,8 +257,8 @@ abbrev pub function_data : Function → TypesData × OptionTypeData × Bool × B
 function_data x = (
   receiver_data x.receiver (arguments_data x.arguments),
   output_data x.kind x.ret,
-  steps.is_received x.receiver,
-  steps.any_variadic x.arguments,
+  keeps_self x.receiver,
+  keeps_variadic x.arguments,
 )
 
 pub function_reads : (def : GenericDefId) (x : Function)
@@ -254,7 +270,7 @@ function_reads def x = correct_as (correct_bind (generics_quiet def x.generics) 
       is = λ d le. λ j. (
         s.first.is d (omega (le, u.before.entries, arith)) j,
         u.first.is d le j,
-        steps.is_received x.receiver,
-        steps.any_variadic x.arguments,
+        same_self x.receiver j,
+        same_variadic x.arguments j,
       );
     }))

@@ -1,5 +1,5 @@
 -- As much is stored as the parts of an item become, or there is no room for it.
-use Rattle.std.proofs.Common.{◌≡◌, refl, ap, subst, arith, inl, inr, ⊎_elim, ◌⊎◌, ℕ, ◌+◌, ◌≤◌, ◌^◌, nat_lt, length, length-append}
+use Rattle.std.proofs.Common.{◌≡◌, refl, ap, subst, arith, inl, inr, ⊎_elim, ◌⊎◌, ℕ, ◌+◌, ◌<◌, ◌≤◌, ◌^◌, nat_lt, length, length-append}
 use Rattle.std.proofs.Common.{Bool, true, false, List, [], ◌∷◌, Option, Some, None, is_some, Ok, Err}
 use Rattle.std.proofs.lemmas.Bool.{ltb-false}
 use Rattle.hir_store.specs.Pointers.{Pointer}
@@ -39,11 +39,12 @@ use Rattle.hir_one_result.proofs.Tellings.{Tells, anything, takes_of, tells_any,
 use Rattle.hir_one_result.proofs.Took.{Room, Took, may_be_owned, none_before, short_as, short_first, short_then, took_as, took_none}
 use Rattle.hir_one_result.proofs.Took.{took_then}
 use Rattle.hir_one_result.proofs.TreeRooms.{part_takes, path_tells, type_takes}
+use Rattle.hir_item_result.specs.Exceeding.{Exceeds}
 use Rattle.hir_item_result.specs.Fits.{FitsTo, ItemFits, ItemsFit, Refused, RefusedItems}
 use Rattle.hir_item_result.specs.Items.{OfItems}
 use Rattle.hir_item_result.specs.Parts as part
 use Rattle.hir_item_result.specs.Parts.{Part}
-use Rattle.hir_item_result.specs.Sizes.{ItemShort, a_lifetime_param, lifetime_params, part_size, parts_size}
+use Rattle.hir_item_result.specs.Sizes.{ItemShort, ItemTooLarge, a_lifetime_param, lifetime_params, part_size, parts_size}
 use Rattle.hir_item_result.proofs.Items.{items_read}
 use Rattle.hir_item_result.proofs.Reading.{Beside, Reading, nothing_paired}
 
@@ -170,11 +171,11 @@ stored_tells at x p e = tells_any (subst (λ y. Takes (if_so (is_some y) (a_type
 pub trait_takes : (at : Pointer) (p : OptionPath) → Takes (part_size (part.trait_read at p)) (lower_path p >>= stored_trait at)
 trait_takes at p = takes_of (tells_then (path_tells p) (λ r e. stored_tells at (whole_read p) r e))
 
-trait_noted : (at : Pointer) (p : Option HirPath) → noted.Notes none (stored_trait at p)
+pub trait_noted : (at : Pointer) (p : Option HirPath) → noted.Notes none (stored_trait at p)
 trait_noted at None = noted.notes_pure None
 trait_noted at (Some p) = noted.notes_begin (notes_type _ _) (λ id. noted.notes_pure _)
 
-lifetime_noted : (l : LifetimeRef) (at : Option Pointer) → noted.Notes none (alloc_lifetime l at)
+pub lifetime_noted : (l : LifetimeRef) (at : Option Pointer) → noted.Notes none (alloc_lifetime l at)
 unfolding alloc_lifetime
 lifetime_noted l at = noted.notes_stored (storing.alloc_lifetime l at) (correct_alloc_lifetime l at)
 
@@ -266,6 +267,24 @@ grown_of h = record {
 
 -- ---- laws
 
+one_of : {A B C D : Type 0} → (A → C) → (B → D) → A ⊎ B → C ⊎ D
+one_of f g h = ⊎_elim (λ a. inl (f a)) (λ b. inr (g b)) h
+
+over_none : (limit n : ℕ) → limit < 0 + n → limit < n
+over_none limit n h = omega (arith, h)
+
+far_from_none : (far n : ℕ) → far ≤ 0 + n → far ≤ n
+far_from_none far n h = omega (arith, h)
+
+-- behind nothing
+pub exceeds_first : (n : Size) (limit : ℕ) → Short n (fresh limit) → Exceeds limit n
+exceeds_first n limit h = one_of (over_none limit n.exprs) (one_of (over_none limit n.labels) (one_of (over_none limit (length n.pats))
+    (one_of (over_none limit n.bindings) (one_of (over_none limit (length n.types)) (one_of (over_none limit (length n.lifetimes))
+    (one_of (λ far. far) (one_of (far_from_none (2 ^ 32) n.names) (far_from_none (2 ^ 32) n.params)))))))) h
+
+too_large : (limit : ℕ) (xs : List Part) → ItemShort xs (fresh limit) → ItemTooLarge limit xs
+too_large limit xs h = one_of (exceeds_first (parts_size xs) limit) (far_from_none (2 ^ 32) (lifetime_params xs)) h
+
 fits_to : {A : Type 0} {xs : List Part} {p : Lowering A} → TakesAll xs p → ItemFits xs p
 fits_to {A = A} {xs = xs} {p = p} h b d = by (p b).0 (p b).1 (h.takes b d)
   where
@@ -288,7 +307,7 @@ items_fit def = let t = items_take def in (
 )
 
 refused : {A : Type 0} {xs : List Part} {p : Lowering A} → TakesAll xs p → Refused xs p
-refused h limit new fault is = short_of h (fresh limit) new fault (nothing_paired limit) is
+refused {xs = xs} h limit new fault is = too_large limit xs (short_of h (fresh limit) new fault (nothing_paired limit) is)
 
 pub refused_items : RefusedItems
 refused_items def = let t = items_take def in (

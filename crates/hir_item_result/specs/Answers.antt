@@ -1,16 +1,21 @@
 -- What lowering an item answers: it reads back as what is written, and each body inside it does what the written one does.
-use Rattle.std.specs.Prelude.{◌≡◌, true, false, List, [], ◌∷◌, ◌++◌, Option, Some, None, option_map, Ok}
+use Rattle.std.specs.Prelude.{codes, ◌≡◌, ℕ, Bool, true, false, List, [], ◌∷◌, ◌++◌, Option, Some, None, option_map, Ok}
 use Rattle.hir_store.specs.Stored.{Store, SourceMap, Stored, map_of, store_of}
 use Rattle.hir_store.specs.Storing.{Extends}
 use Rattle.hir_store.specs.declared.hir.CoroutineKind.{CoroutineKind}
+use Rattle.hir_store.specs.declared.hir.CoroutineKind.TheVariants as coroutine
 use Rattle.hir_store.specs.declared.hir.Mutability.{Mutability}
 use Rattle.hir_store.specs.declared.ids.GenericDefId.{GenericDefId}
 use Rattle.hir_store.specs.declared.ids.TypeRefId.{TypeRefId}
+use Rattle.hir_store.specs.declared.name.Name.{Name}
+use Rattle.hir_store.specs.declared.name.Name.TheVariants as name
 use Rattle.hir_store.specs.declared.path.GenericArgsParentheses.TheVariants as parens
 use Rattle.hir_store.specs.declared.path.PathKind.TheVariants as kind
 use Rattle.hir_store.specs.declared.type_ref.TraitBoundModifier.TheVariants as modifier
 use Rattle.hir_store.specs.declared.type_ref.TraitRef.{TraitRef}
 use Rattle.hir_store.specs.declared.type_ref.TypeBound.{TypeBound}
+use Rattle.hir_store.specs.declared.type_ref.TypeRef.{TypeRef}
+use Rattle.hir_store.specs.declared.type_ref.TypeRef.TheVariants as type
 use Rattle.hir_env.specs.Answered as tree
 use Rattle.hir_env.specs.Answered.{OptionRet}
 use Rattle.hir_env.specs.TypeLayers.{PathTypeReading}
@@ -23,12 +28,45 @@ use Rattle.hir_meaning.specs.Inner.{type_inner_bodies}
 use Rattle.hir_meaning.specs.Same.{SameBodies}
 use Rattle.hir_lower_form.specs.Builder.{Builder}
 use Rattle.hir_lower_form.specs.Lowering.{Lowering}
-use Rattle.hir_lower_item.specs.declared.function.Signature.{Signature}
 use Rattle.hir_lower_item.specs.Items as item
 use Rattle.hir_lower_item.specs.Items.{Alias, Argument, Function, Impl, Receiver}
-use Rattle.hir_lower_item.specs.Lower.{any_variadic, given_name, is_received, lower_alias, lower_function, lower_impl}
-use Rattle.hir_lower_item.specs.Lower.{self_text, trait_names}
+use Rattle.hir_lower_item.specs.Lower.{lower_alias, lower_function, lower_impl}
 use Rattle.hir_steps.specs.Keeps.{Paired}
+
+-- ---- words
+
+abbrev pub self_name : Name
+self_name = name.Text (codes "Self")
+
+-- the names of the trait of a coroutine
+abbrev pub coroutine_trait : CoroutineKind → List Name
+coroutine_trait coroutine.Async = name.Text (codes "core") ∷ name.Text (codes "future") ∷ name.Text (codes "Future") ∷ []
+coroutine_trait coroutine.Gen = name.Text (codes "core") ∷ name.Text (codes "iter") ∷ name.Text (codes "Iterator") ∷ []
+coroutine_trait coroutine.AsyncGen = name.Text (codes "core") ∷ name.Text (codes "async_iter") ∷ name.Text (codes "AsyncIterator") ∷ []
+
+-- and that of the type in it which the coroutine gives
+abbrev pub coroutine_item : CoroutineKind → Name
+coroutine_item coroutine.Async = name.Text (codes "Output")
+coroutine_item coroutine.Gen = name.Text (codes "Item")
+coroutine_item coroutine.AsyncGen = name.Text (codes "Item")
+
+-- whether a `self` is there and kept, with a type or without
+abbrev pub keeps_self : Receiver → Bool
+keeps_self item.no_receiver = false
+keeps_self (item.disabled_receiver at by) = false
+keeps_self (item.typed_receiver t) = true
+keeps_self (item.self_receiver borrow l) = true
+
+-- whether one of the others is variadic and kept
+abbrev pub keeps_variadic : List Argument → Bool
+keeps_variadic [] = false
+keeps_variadic (item.disabled_argument at by ∷ xs) = keeps_variadic xs
+keeps_variadic (item.variadic_argument ∷ xs) = true
+keeps_variadic (item.argument t ∷ xs) = keeps_variadic xs
+
+-- the type that the parameter of this definition with this number is
+abbrev pub parameter_type : GenericDefId → ℕ → TypeRef
+parameter_type def k = type.TypeParam (record { parent = def; local_id = record { 0 = k } })
 
 -- ---- what is written
 
@@ -44,7 +82,7 @@ trait_bodies (Some x) = path_bodies x.path
 -- `Self`, which comes from no node
 abbrev pub self_data : TypeData
 self_data = typed None (datum.path_shape (datum.path_data kind.Plain datum.no_type
-    (datum.more_names self_text datum.no_args datum.no_names) true))
+    (datum.more_names self_name datum.no_args datum.no_names) true))
 
 -- or a reference to it, which comes from no node either
 abbrev pub borrowed_data : Option Mutability → Option LifetimeData → TypeData
@@ -79,9 +117,11 @@ arguments_bodies (item.argument t ∷ xs) = part_bodies t ++ arguments_bodies xs
 
 -- the path of the trait of a coroutine, with what it gives
 abbrev pub coroutine_path_data : CoroutineKind → TypeData → PathData
-coroutine_path_data k given = datum.path_data kind.Abs datum.no_type (names_beside (trait_names k)
-    (datum.no_args ∷ (datum.no_args ∷ (datum.some_args (datum.args_data datum.no_arguments false (datum.more_bindings
-    (datum.binding_data (given_name k) datum.no_args (datum.some_type given) datum.no_bounds) datum.no_bindings) parens.No) ∷ [])))) false
+coroutine_path_data k given =
+    let b = datum.binding_data (coroutine_item k) datum.no_args (datum.some_type given) datum.no_bounds in
+    let a = datum.args_data datum.no_arguments false (datum.more_bindings b datum.no_bindings) parens.No in
+    let beside = datum.no_args ∷ (datum.no_args ∷ (datum.some_args a ∷ [])) in
+    datum.path_data kind.Abs datum.no_type (names_beside (coroutine_trait k) beside) false
 
 -- an `impl` of it
 abbrev pub coroutine_data : CoroutineKind → TypeData → TypeData
@@ -122,15 +162,14 @@ module _ (store : Store) (source_map : SourceMap) where
         (all_of (of_bound (all_inners store)) bounds ++ of_present (type_inner_bodies store) ty)
         (bounds_bodies x.bounds ++ part_bodies x.type_)
 
-  -- the types of what is given, and of what is returned
-  pub record FunctionReads (x : Function) (answer : Signature) : Type 0 where
-    pub args_read : types_layer store source_map whole answer.args datum.no_types
-        ≡ receiver_data x.receiver (arguments_data x.arguments)
-    pub ret_reads : stored_option_type store source_map answer.ret ≡ output_data x.kind x.ret
-    pub has_self : answer.has_self ≡ is_received x.receiver
-    pub has_variadic : answer.has_variadic ≡ any_variadic x.arguments
+  -- the types of what is given, and of what is returned; whether it has a `self`, and whether it is variadic
+  pub record FunctionReads (x : Function) (args : List TypeRefId) (ret : Option TypeRefId) (self variadic : Bool) : Type 0 where
+    pub args_read : types_layer store source_map whole args datum.no_types ≡ receiver_data x.receiver (arguments_data x.arguments)
+    pub ret_reads : stored_option_type store source_map ret ≡ output_data x.kind x.ret
+    pub has_self : self ≡ keeps_self x.receiver
+    pub has_variadic : variadic ≡ keeps_variadic x.arguments
     pub bodies : SameBodies store source_map
-        (all_of (type_inner_bodies store) answer.args ++ of_present (type_inner_bodies store) answer.ret)
+        (all_of (type_inner_bodies store) args ++ of_present (type_inner_bodies store) ret)
         ((receiver_bodies x.receiver ++ arguments_bodies x.arguments) ++ output_bodies x.ret)
 
 -- ---- laws
@@ -150,4 +189,4 @@ AliasesRead = (def : GenericDefId) (x : Alias)
 
 abbrev pub FunctionsRead : Type 0
 FunctionsRead = (def : GenericDefId) (x : Function)
-    → Answers (λ store source_map a. FunctionReads store source_map x a) (lower_function def x)
+    → Answers (λ store source_map a. FunctionReads store source_map x a.args a.ret a.has_self a.has_variadic) (lower_function def x)

@@ -8,7 +8,7 @@ use Rattle.hir_steps.specs.Keeps.{Paired}
 use Rattle.hir_one_result.specs.Laws.{Grown}
 use Rattle.hir_item_result.specs.Items.{OfItems}
 use Rattle.hir_item_result.specs.Parts.{Part}
-use Rattle.hir_item_result.specs.Sizes.{ItemShort, ItemTooLarge, lifetime_params, parts_size}
+use Rattle.hir_item_result.specs.Sizes.{ItemFitsIn, ItemShort, ItemTooLarge, lifetime_params, parts_size}
 
 -- What came, with as many names that are made up, and as many parameters of both sorts.
 pub record ItemGrown (xs : List Part) (b c : Builder) : Type 0 where
@@ -31,6 +31,13 @@ ItemsFit = OfItems (λ A xs p. ItemFits xs p)
 -- where it is lowered first
 abbrev pub Refused : {A : Type 0} → List Part → Lowering A → Type 0
 Refused xs p = (limit : ℕ) (new : Builder) (fault : StoreFault) → p (fresh limit) ≡ (Err fault, new) → ItemTooLarge limit xs
+
+-- What has no room isn't answered.
+abbrev pub Fitting : {A : Type 0} → List Part → Lowering A → Type 0
+Fitting {A} xs p = (limit : ℕ) (new : Builder) (a : A) → p (fresh limit) ≡ (Ok a, new) → ItemFitsIn limit xs
+
+abbrev pub FittingItems : Type 0
+FittingItems = OfItems (λ A xs p. Fitting xs p)
 
 -- only an item is refused that is too large
 abbrev pub RefusedItems : Type 0

@@ -1,9 +1,13 @@
 pub mod Parts
 pub mod Items
+pub mod Exceeding
 pub mod Sizes
 pub mod Fits
 pub mod Roots
 pub mod Told
 pub mod ItemResult
 pub mod Answers
+pub mod Words
 pub mod Apart
+pub mod Numbers
+pub mod Once

@@ -1,9 +1,10 @@
 -- How much is stored where parts of an item are read, and how much there is no room for.
-use Rattle.std.specs.Prelude.{ℕ, ◌+◌, ◌≤◌, ◌^◌, ◌⊎◌, List, [], ◌∷◌, length, Some, None, is_some}
-use Rattle.hir_lower_form.specs.Builder.{Builder, fresh}
+use Rattle.std.specs.Prelude.{ℕ, ◌+◌, ◌<◌, ◌≤◌, ◌^◌, ◌⊎◌, List, [], ◌∷◌, length, Some, None, is_some}
+use Rattle.hir_lower_form.specs.Builder.{Builder}
 use Rattle.hir_one_result.specs.PathRoom.{whole_read}
 use Rattle.hir_one_result.specs.Room.{Short, bound_size, constant_size, type_size, whole_size}
 use Rattle.hir_one_result.specs.Size.{Size, a_lifetime, a_param, a_type, if_so, nothing, ◌∪◌}
+use Rattle.hir_item_result.specs.Exceeding.{Exceeds, FitsIn}
 use Rattle.hir_item_result.specs.Parts as part
 use Rattle.hir_item_result.specs.Parts.{Part}
 
@@ -36,6 +37,11 @@ lifetime_params (x ∷ xs) = a_lifetime_param x + lifetime_params xs
 abbrev pub ItemShort : List Part → Builder → Type 0
 ItemShort xs b = Short (parts_size xs) b ⊎ (2 ^ 32 ≤ length b.notes.generics.lifetimes + lifetime_params xs)
 
--- so it is where nothing is stored yet, in arenas of this limit
+-- of an item that is lowered first, in arenas of this limit
 abbrev pub ItemTooLarge : ℕ → List Part → Type 0
-ItemTooLarge limit xs = ItemShort xs (fresh limit)
+ItemTooLarge limit xs = Exceeds limit (parts_size xs) ⊎ (2 ^ 32 ≤ lifetime_params xs)
+
+-- and what there is room for
+pub record ItemFitsIn (limit : ℕ) (xs : List Part) : Type 0 where
+  pub parts : FitsIn limit (parts_size xs)
+  pub lifetimes : lifetime_params xs < 2 ^ 32

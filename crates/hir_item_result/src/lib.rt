@@ -4,9 +4,12 @@
 
 ghost use Rattle.hir_item_result.specs.Answers.{AliasesRead, FunctionsRead, ImplsRead};
 ghost use Rattle.hir_item_result.specs.Apart.{ItemsApart};
-ghost use Rattle.hir_item_result.specs.Fits.{ItemsFit, RefusedItems};
+ghost use Rattle.hir_item_result.specs.Exceeding.{RoomIsThere};
+ghost use Rattle.hir_item_result.specs.Fits.{FittingItems, ItemsFit, RefusedItems};
 ghost use Rattle.hir_item_result.specs.ItemResult.{ItemResults};
+ghost use Rattle.hir_item_result.specs.Once.{AliasesOnce, FunctionsOnce, ImplsOnce};
 ghost use Rattle.hir_item_result.specs.Roots.{FirstItemRoots, ItemRoots};
+ghost use Rattle.hir_item_result.specs.Words.{SameWords};
 
 /// Where no root is being lowered, each constant in an item is recorded as one, in the order in which its parts are read, and does what
 /// the written one does: also what stands in a path that is refused, in arguments that are dropped, or in the bounds of an `impl` that
@@ -24,10 +27,18 @@ pub fn item_results()
 /// Lowering an item stores as much as its parts become, and makes as many parameters; it is refused only where there is no room for as
 /// many patterns, types and lifetimes as are counted in them, or for as many expressions, labels and bindings as are in the bodies inside
 /// them, or where something counts further than is counted, be it names that are made up or parameters, of which lifetimes are counted
-/// apart.
+/// apart. Nor is it answered where it doesn't fit: as much of each sort as is counted in its parts fits into an arena of the limit, and as
+/// many names and parameters as are made are counted.
 pub fn refused_items()
     ensures from_any { ItemsFit }
     ensures first { RefusedItems }
+    ensures fits { FittingItems }
+{}
+
+/// What lowering a tree, a type, a path or a body behind its parameters stores, and the names and parameters that it makes, there was room
+/// for. So where there is no room it is refused. It leaves no arena with more than it may hold, and counts as far as 32 bits do.
+pub fn room_is_there()
+    ensures { RoomIsThere }
 {}
 
 /// What lowering an item answers reads back as what is written, and each body inside it does what the written one does: the type and the
@@ -37,6 +48,20 @@ pub fn items_read_back()
     ensures impls { ImplsRead }
     ensures aliases { AliasesRead }
     ensures functions { FunctionsRead }
+{}
+
+/// What an item is answered with names types, and reaches through them others, each in one way only, and none that an expression or a
+/// pattern names.
+pub fn answers_reach_once()
+    ensures impls { ImplsOnce }
+    ensures aliases { AliasesOnce }
+    ensures functions { FunctionsOnce }
+{}
+
+/// What stands in a description of what is answered for `Self`, for the names of a coroutine's trait and of what it gives, for the type
+/// that a parameter is, and for whether a function has a `self` or is variadic, is what the steps say.
+pub fn same_words()
+    ensures { SameWords }
 {}
 
 /// Where each name that lowering made up is of one binding or label at most, or of two bindings, of which one is a formal parameter, so it

@@ -30,6 +30,9 @@ use Rattle.hir_told.specs.StoredData.{ReadsAs}
 use Rattle.hir_told.proofs.AsExpansions.{bodies_expand}
 use Rattle.hir_told.proofs.AsStoredData.{whole_bodies_store}
 use Rattle.hir_type_result.proofs.InsideBody.{body_inside}
+use Rattle.hir_item_result.specs.Exceeding.{Exceeds, FitsIn}
+use Rattle.hir_item_result.proofs.AsLimits.{fits_first, fresh_within, room_is_there}
+use Rattle.hir_item_result.proofs.Took.{exceeds_first}
 use Rattle.hir_lower.specs.Formals.{Given}
 use Rattle.hir_lower.specs.Data.{data_in_body}
 use Rattle.hir_lower.specs.Means.{DoesBody, HasBody, expanded_in_body, kind_unless_skipped, owed_faults, unless_skipped}
@@ -112,6 +115,22 @@ module _ (kind : Option CoroutineKind) (skipped : Bool) (f : Formals) (e : Optio
         let P : Builder → Type 0 = λ x. x.stored.expansions ≡ expanded_in_body kind skipped f e in
         subst P s.left (bodies_expand kind skipped f e (closed start) s.inner (given, i) paired s.lowered)
 
+    -- there was room for what came
+    fits_body : FitsIn limit (body_size kind skipped f e)
+    fits_body =
+        let room = room_is_there.bodies kind skipped f e (closed start) s.inner (given, i) paired (fresh_within limit) s.lowered in
+        let x = room.fits in
+        fits_first {n = body_size kind skipped f e} {limit = limit} (record {
+          exprs = x.exprs;
+          labels = x.labels;
+          pats = x.pats;
+          bindings = x.bindings;
+          types = x.types;
+          lifetimes = x.lifetimes;
+          names = x.names;
+          params = x.params;
+        })
+
   too_large : (b' : Builder) → behind lowered start ≡ (Err Full, b') → BodyTooLarge (fresh limit) kind skipped f e
   too_large b' h =
       let own = lowered (closed start) in
@@ -176,8 +195,9 @@ module _ (kind : Option CoroutineKind) (skipped : Bool) (node : Pointer) (k : Op
       let Q : SourceMap → Type 0 = λ x. ReadsAs (data_in_body read_kind skipped f read) (store_of s.builder.stored) x in
       subst P (sym s.store_is) (subst Q (sym s.source_map_is) w)
 
-  pub body_too_large : RefusedAtEnd item limit → BodyTooLarge (fresh limit) read_kind skipped f read
-  body_too_large r = too_large read_kind skipped f read limit owed r.builder (sym (item_is kind skipped node k f e limit) ∙ r.refused)
+  pub body_too_large : RefusedAtEnd item limit → Exceeds limit (body_size read_kind skipped f read)
+  body_too_large r = exceeds_first (body_size read_kind skipped f read) limit
+      (too_large read_kind skipped f read limit owed r.builder (sym (item_is kind skipped node k f e limit) ∙ r.refused))
 
   module _ {A E : Type 0} (store : A → Store) (source_map : A → SourceMap) where
     pub has_body_if : (b : A → Body) (r : Result A E) → IfOk r (λ a. StoresFromNothing item limit (store a) (source_map a))
@@ -191,6 +211,12 @@ module _ (kind : Option CoroutineKind) (skipped : Bool) (node : Pointer) (k : Op
         → IfOk r (λ a. OneResult (store a) (source_map a) owed read_kind skipped f (given_of (b a)) read)
     one_result_if b (Ok a) s g = one_result (b a) (store a) (source_map a) s g
     one_result_if b (Err x) s g = tt
+
+    pub body_fits_if : (r : Result A E) → IfOk r (λ a. StoresFromNothing item limit (store a) (source_map a))
+        → IfOk r (λ a. FitsIn limit (body_size read_kind skipped f read))
+    body_fits_if (Ok a) s =
+        fits_body read_kind skipped f read limit owed s.builder s.answer.0 s.answer.1 (sym (item_is kind skipped node k f e limit) ∙ s.done)
+    body_fits_if (Err x) s = tt
 
     pub body_stored_if : (r : Result A E) → IfOk r (λ a. StoresFromNothing item limit (store a) (source_map a))
         → IfOk r (λ a. ReadsAs (data_in_body read_kind skipped f read) (store a) (source_map a))

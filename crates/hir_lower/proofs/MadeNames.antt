@@ -27,6 +27,8 @@ use Rattle.hir_steps.proofs.Mapping.{leads_none}
 use Rattle.hir_one_result.specs.Formals.{lower_body}
 use Rattle.hir_one_result.specs.Laws.{Defined}
 use Rattle.hir_one_result.specs.OneResult.{fresh_owing}
+use Rattle.hir_item_result.specs.Exceeding.{InLimits}
+use Rattle.hir_item_result.proofs.AsLimits.{fresh_within}
 use Rattle.hir_lower.specs.Formals.{Given}
 use Rattle.hir_lower.specs.Means.{IsHandedTo, MadeOnce, kind_unless_skipped, owed_faults, unless_skipped, whole_type}
 use Rattle.hir_lower.specs.Roots.{AnswersFromNothing, GivenFromNothing, StoresFromNothing, body_of, formals_of, fresh}
@@ -54,6 +56,10 @@ fresh_defined b limit h = rw h
 
 pub fresh_mapped : (b : Builder) (limit : ℕ) → b ≡ fresh limit → ∥ Mapped b.stored ∥₁
 fresh_mapped b limit h = rw h (∣ record { types = leads_none limit; lifetimes = maps_back_none (λ i. i.0) limit } ∣₁)
+
+-- and there is room
+pub fresh_limits : (b : Builder) (limit : ℕ) → b ≡ fresh limit → InLimits b
+fresh_limits b limit h = rw h (fresh_within limit)
 
 -- by what stays apart in all that is stored
 pub once_if : (names : ℕ) (s : Stored) → MadeApart names s → MadeOnce (store_of s) []

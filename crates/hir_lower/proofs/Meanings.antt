@@ -49,6 +49,8 @@ use Rattle.hir_told.proofs.AsExpansions.{exprs_expand}
 use Rattle.hir_told.proofs.AsStoredData.{exprs_store}
 use Rattle.hir_type_result.proofs.Inside.{expr_inside}
 use Rattle.hir_type_result.proofs.Named.{expr_bindings_came, expr_pats_once, expr_types_once}
+use Rattle.hir_item_result.specs.Exceeding.{FitsBehind, HadRoom, InLimits}
+use Rattle.hir_item_result.proofs.AsLimits.{room_is_there}
 use Rattle.hir_lower.specs.Calls.{Outside}
 use Rattle.hir_lower.specs.Roots.{root_of}
 use Rattle.hir_lower.specs.Stays.{Stays}
@@ -380,6 +382,35 @@ pub names_if : (e : OptionExpr) (b b' : Builder) (r : Checked ExprId) → Lowers
     → IfOk r (λ i. b'.names ≡ b.names + (size_part e).names)
 names_if e b b' (Ok i) l d = root_names e b b' i l.0 d
 names_if e b b' (Err f) l d = tt
+
+-- there was room for what came, and for the names that were made up
+root_room : (e : OptionExpr) (b b' : Builder) (i : ExprId) → root_of e b ≡ (Ok i, b') → Paired b.stored → InLimits b
+    → HadRoom (size_part e) b b'
+root_room e b b' i h d w =
+    let p : Parts e b i b' = parts e b b' i h in
+    let room : HadRoom (size_part e) (closed b) p.inner = room_is_there.exprs e (closed b) p.inner i d w p.is in record {
+      fits = record {
+        exprs = room.fits.exprs;
+        labels = room.fits.labels;
+        pats = room.fits.pats;
+        bindings = room.fits.bindings;
+        types = room.fits.types;
+        lifetimes = room.fits.lifetimes;
+        names = room.fits.names;
+        params = room.fits.params;
+      };
+      within = subst InLimits p.left room.within;
+    }
+
+pub fits_if : (e : OptionExpr) (b b' : Builder) (r : Checked ExprId) → Lowers HasExpr (root_of e) b r b' → Paired b.stored → InLimits b
+    → IfOk r (λ i. FitsBehind (size_part e) b)
+fits_if e b b' (Ok i) l d w = (root_room e b b' i l.0 d w).fits
+fits_if e b b' (Err f) l d w = tt
+
+pub within_if : (e : OptionExpr) (b b' : Builder) (r : Checked ExprId) → Lowers HasExpr (root_of e) b r b' → Paired b.stored → InLimits b
+    → IfOk r (λ i. InLimits b')
+within_if e b b' (Ok i) l d w = (root_room e b b' i l.0 d w).within
+within_if e b b' (Err f) l d w = tt
 
 -- after a root all is closed again
 root_outside : (e : OptionExpr) (b b' : Builder) (i : ExprId) → root_of e b ≡ (Ok i, b') → Outside b'

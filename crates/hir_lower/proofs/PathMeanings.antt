@@ -39,6 +39,8 @@ use Rattle.hir_type_result.specs.Roots.{RootsOf, recorded}
 use Rattle.hir_type_result.proofs.Behind.{blocks_behind, faults_behind, path_roots, ways_behind}
 use Rattle.hir_type_result.proofs.Inside.{path_inside}
 use Rattle.hir_type_result.proofs.Named.{path_bindings_came, path_pats_once, path_types_once}
+use Rattle.hir_item_result.specs.Exceeding.{FitsBehind, HadRoom, InLimits}
+use Rattle.hir_item_result.proofs.AsLimits.{room_is_there}
 use Rattle.hir_lower.specs.declared.error.LowerError.{LowerError}
 use Rattle.hir_lower.specs.declared.error.LowerError.TheVariants as refused
 use Rattle.hir_lower.specs.Beside.{TakesArguments}
@@ -198,6 +200,19 @@ module _ (at : Spot) (x : AstPath) (b b' : Builder) where
       let n = whole_size (whole_path at x) in
       let took : Took n b b' = subst (λ q. Room n b q.0 q.1) l.0 ((takes_of (path_tells (whole_path at x))).takes b d) in took.names
   path_names_if (Err e) l d = tt
+
+  -- there was room for what came
+  path_room : (y : Option Path) → Alone (Ok y) → Paired b.stored → InLimits b → HadRoom (whole_size (whole_path at x)) b b'
+  path_room y l d w = room_is_there.paths (whole_path at x) b b' y d w l.0
+
+  pub path_fits_if : (r : Checked (Option Path)) → Alone r → Paired b.stored → InLimits b
+      → IfOk r (λ y. FitsBehind (whole_size (whole_path at x)) b)
+  path_fits_if (Ok y) l d w = (path_room y l d w).fits
+  path_fits_if (Err e) l d w = tt
+
+  pub path_within_if : (r : Checked (Option Path)) → Alone r → Paired b.stored → InLimits b → IfOk r (λ y. InLimits b')
+  path_within_if (Ok y) l d w = (path_room y l d w).within
+  path_within_if (Err e) l d w = tt
 
   pub ends_if : (r : Checked (Option Path)) → Alone r → IsErrOf r Full → SomeEnd b'
   ends_if (Ok y) l is = cc

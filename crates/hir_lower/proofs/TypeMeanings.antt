@@ -1,6 +1,7 @@
 -- What is stored as a type is one more.
 use Rattle.std.proofs.Common.{arith, ◌≡◌, ◌≢◌, ◌∙◌, refl, sym, ap, subst, ℕ, Bool, true, false, nat_lt, length}
 use Rattle.std.proofs.Common.{Option, Some, None, Ok, Err}
+use Rattle.std.proofs.lemmas.Bool.{ltb-true}
 use Rattle.std.proofs.lemmas.Bool.Decides.{nat_tests}
 use Rattle.std.proofs.Math.Logic.{∥∥₁_map}
 use Rattle.std.specs.Prelude.{IfOk, IsErrOf, Result}
@@ -25,11 +26,16 @@ use Rattle.hir_one_result.specs.Laws.{Defined, MayBeOwned}
 use Rattle.hir_told.specs.StoredData.{ReadsAs}
 use Rattle.hir_told.proofs.AsExpansions.{types_expand}
 use Rattle.hir_told.proofs.AsStoredData.{whole_types_store}
-use Rattle.hir_type_result.specs.TypeResult.{TypeResult, TypeTooLarge}
+use Rattle.hir_one_result.specs.Room.{type_part_size}
+use Rattle.hir_type_result.specs.TypeResult.{TypeResult}
 use Rattle.hir_type_result.proofs.Whole.{refused_types, type_results}
+use Rattle.hir_item_result.specs.Exceeding.{Exceeds, FitsIn, InLimits}
+use Rattle.hir_item_result.proofs.AsLimits.{fits_first, fresh_within, room_is_there}
+use Rattle.hir_item_result.proofs.Limits.{LimitsTo, limited_type}
+use Rattle.hir_item_result.proofs.Took.{exceeds_first}
 use Rattle.hir_lower.specs.Calls.{Outside}
 use Rattle.hir_lower.specs.Data.{data_in_type}
-use Rattle.hir_lower.specs.Means.{AddsType, NoRoomForType, expanded_in_type, whole_type}
+use Rattle.hir_lower.specs.Means.{AddsType, NoRoomForType, RoomForType, expanded_in_type, whole_type}
 use Rattle.hir_lower.specs.Roots.{AnswersFromNothing, RefusedAtEnd}
 use Rattle.hir_lower.proofs.Onward.{made}
 
@@ -73,6 +79,21 @@ module _ (b b' : Builder) (ty : TypeRef) (at : Pointer) where
       let full : e ≡ Full = cc in
       refused (nat_lt (length b.stored.types.entries) b.stored.types.limit) refl
       (sym (alloc_is b ty at) ∙ subst (λ x. alloc_type ty (Some at) b ≡ (Err x, b')) full (l other).0)
+
+  -- there was room for it
+  room : (t : Bool) → nat_lt (length b.stored.types.entries) b.stored.types.limit ≡ t → (i : TypeRefId) → after t b ty at ≡ (Ok i, b')
+      → RoomForType b.stored
+  room true is i e = ltb-true (length b.stored.types.entries) b.stored.types.limit is
+  room false is i e = let no = ap (λ (q : Checked TypeRefId × Builder). q.0) e in cc
+
+  pub room_if : (r : Checked TypeRefId) → Alone r → IfOk r (λ i. RoomForType b.stored)
+  room_if (Ok i) l = room (nat_lt (length b.stored.types.entries) b.stored.types.limit) refl i (sym (alloc_is b ty at) ∙ l.0)
+  room_if (Err e) l = tt
+
+  pub within_type_if : (r : Checked TypeRefId) → Alone r → InLimits b → IfOk r (λ i. InLimits b')
+  within_type_if (Ok i) l w =
+      subst (λ (q : Checked TypeRefId × Builder). LimitsTo q.0 q.1) l.0 ((limited_type ty (Some at)).limited b w)
+  within_type_if (Err e) l w = tt
 
   pub ends_of_type_if : (r : Checked TypeRefId) → Alone r → IsErrOf r Full → SomeEnd b'
   ends_of_type_if (Ok i) l is = cc
@@ -199,5 +220,14 @@ module _ (at : Spot) (x : Option AstType_) (limit : ℕ) where
   type_stored_if store source_map id (Ok a) h = type_stored (id a) (store a) (source_map a) h
   type_stored_if store source_map id (Err e) h = tt
 
-  pub type_too_large : RefusedAtEnd (type_part None (whole_type at x)) limit → TypeTooLarge limit (whole_type at x)
-  type_too_large r = refused_types limit (whole_type at x) Full r.builder r.refused
+  pub type_too_large : RefusedAtEnd (type_part None (whole_type at x)) limit → Exceeds limit (type_part_size (whole_type at x))
+  type_too_large r =
+      exceeds_first (type_part_size (whole_type at x)) limit (refused_types limit (whole_type at x) Full r.builder r.refused)
+
+  pub type_fits_if : {A E : Type 0} (store : A → Store) (source_map : A → SourceMap) (id : A → TypeRefId) (r : Result A E)
+      → IfOk r (λ a. AnswersFromNothing (type_part None (whole_type at x)) limit (id a) (store a) (source_map a))
+      → IfOk r (λ a. FitsIn limit (type_part_size (whole_type at x)))
+  type_fits_if store source_map id (Ok a) h =
+      let none : Paired (fresh limit).stored = record { exprs = refl; labels = refl; pats = refl; types = refl; lifetimes = refl } in
+      fits_first (room_is_there.types (whole_type at x) (fresh limit) h.builder (id a) none (fresh_within limit) h.done).fits
+  type_fits_if store source_map id (Err e) h = tt

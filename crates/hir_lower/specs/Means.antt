@@ -1,5 +1,5 @@
 -- What a lowered constant and a lowered body are, in words of meaning.
-use Rattle.std.specs.Prelude.{◌≡◌, ◌≤◌, ◌⊎◌, ◌+◌, ℕ, Bool, true, false, List, [], ◌∷◌, ◌++◌, length, map, option_map, Option}
+use Rattle.std.specs.Prelude.{◌≡◌, ◌<◌, ◌≤◌, ◌⊎◌, ◌+◌, ℕ, Bool, true, false, List, [], ◌∷◌, ◌++◌, length, map, option_map, Option}
 use Rattle.std.specs.Prelude.{Some, None, IsPermutation, option_and_then, slice_get}
 use Rattle.hir_base.specs.declared.node.AstPtr.{AstPtr}
 use Rattle.hir_syntax.specs.declared.ast.Expr.{Expr as AstExpr}
@@ -31,7 +31,6 @@ use Rattle.hir_env.specs.Spot.{Spot}
 use Rattle.hir_env.specs.declared.place.ImplTrait.{ImplTrait}
 use Rattle.hir_env.specs.declared.place.ImplTrait.TheVariants as mode
 use Rattle.hir_lower_form.specs.Generics.{predicates_of, unnamed_param}
-use Rattle.hir_lower_form.specs.Lowering.{param_type}
 use Rattle.hir_lower_form.specs.declared.generics.GenericLists.{GenericLists}
 use Rattle.hir_env.specs.Answering.{in_file}
 use Rattle.hir_env.specs.Answered as tree
@@ -61,6 +60,7 @@ use Rattle.hir_told.specs.Bodies.{grade_body}
 use Rattle.hir_told.specs.Expanded as told
 use Rattle.hir_told.specs.StoredData.{DataAdded}
 use Rattle.hir_told.specs.Grades.{grade_expr_part, grade_part, grade_whole}
+use Rattle.hir_item_result.specs.Answers.{parameter_type}
 use Rattle.hir_lower.specs.declared.body.Param.{Param}
 use Rattle.hir_lower.specs.Data.{data_in, data_in_path}
 use Rattle.hir_lower.specs.Formals.{formals_read}
@@ -191,7 +191,7 @@ next_param (Some l) = length l.type_or_consts
 abbrev pub becomes : ImplTrait → Option GenericLists → List TypeBound → TypeRef
 becomes mode.Error lists bounds = ty.Error
 becomes mode.Opaque lists bounds = ty.ImplTrait bounds
-becomes (mode.Argument def) lists bounds = param_type def (next_param lists)
+becomes (mode.Argument def) lists bounds = parameter_type def (next_param lists)
 
 -- a parameter more, which an `impl` became, with a predicate for each of its bounds
 abbrev pub with_impl : TypeRefId → List TypeBound → GenericLists → GenericLists
@@ -211,6 +211,14 @@ lists_behind (mode.Argument def) (Some l) target bounds = Some (with_impl target
 abbrev pub NoRoomForImpl : Stored → Option GenericLists → Type 0
 NoRoomForImpl old None = NoRoomForType old
 NoRoomForImpl old (Some l) = NoRoomForType old ⊎ (4294967295 ≤ length l.type_or_consts)
+
+-- one type more fits, and so does one parameter more
+abbrev pub RoomForType : Stored → Type 0
+RoomForType old = length old.types.entries < old.types.limit
+
+abbrev pub RoomForImpl : Stored → Option GenericLists → Type 0
+RoomForImpl old None = RoomForType old
+RoomForImpl old (Some l) = RoomForType old × (length l.type_or_consts < 4294967295)
 
 -- What stands in a later store for the constants of a lowered path: as for the tree of a root.
 pub record ConstantsLive (old new later : Stored) (p : OptionPath) : Type 0 where

@@ -3,7 +3,6 @@
 ghost use Rattle.std.specs.Prelude.{◌≡◌, ◌≢◌, Bool, false, is_some, IfOk, IsErrOf, option_copied, option_map, slice_get};
 ghost use Rattle.hir_store.specs.Range.{InRange};
 ghost use Rattle.hir_store.specs.Stored.{map_of, store_of};
-ghost use Rattle.hir_lower_form.specs.Builder.{fresh};
 ghost use Rattle.hir_env.specs.Answered as tree;
 ghost use Rattle.hir_env.specs.Answering.{coroutine_kind};
 ghost use Rattle.hir_env.specs.Formals.{answered_formals};
@@ -11,7 +10,8 @@ ghost use Rattle.hir_env.specs.Whole.{expr_part};
 ghost use Rattle.hir_lower_form.specs.Lowering.{Lowers};
 ghost use Rattle.hir_one_result.specs.Formals.{lower_body, plain_body};
 ghost use Rattle.hir_one_result.specs.OneResult.{OneResult};
-ghost use Rattle.hir_one_result.specs.Room.{BodyTooLarge};
+ghost use Rattle.hir_one_result.specs.Room.{body_size};
+ghost use Rattle.hir_item_result.specs.Exceeding.{Exceeds, FitsIn};
 ghost use Rattle.hir_told.specs.StoredData.{ReadsAs};
 ghost use Rattle.hir_lower_handlers.specs.Spots.{spot_at};
 ghost use Rattle.hir_lower.specs.Data.{data_in_body};
@@ -502,7 +502,8 @@ fn body_steps<E: LowerEnv>(
 /// with. Each number in store and source map is in range. A skipped body is a missing expression, no coroutine, and owes no fault of its
 /// own. `Memory` where a growth was refused; `Full` only where parameters and tree become more expressions, labels, patterns, bindings,
 /// types or lifetimes than the arenas have room for, or a path in them has more `super`s, a pattern more parts in front of its two dots, a
-/// block more definitions of one name by `macro_rules`, or they more names that are made up, than 32 bits count; never `Failed`. Each
+/// block more definitions of one name by `macro_rules`, or they more names that are made up, than 32 bits count; never `Failed`. It isn't
+/// `Ok` where there is no room for what they become, or for the names that are made up (clause `fits`). Each
 /// parameter reads back as it is written, in order, and `self` is the binding of its name, of which nothing is wrong. The outside hands its
 /// arguments to these, or, where the body is a coroutine, to a `mut` name for each at the node of its pattern, if it has one, and to a
 /// `self` of its own. Parameters are read of functions alone, and of each item that is skipped, `self` first and then those that no
@@ -561,7 +562,13 @@ pub fn lower_body<E: LowerEnv>(
         let skipped = at.answers.skip owner in
         let kind = kind_unless_skipped skipped (coroutine_kind is_async_fn is_gen_fn) in
         let read = body_read at owner (option_copied body.entry) in
-        IsErrOf result LowerError.Full → BodyTooLarge (fresh 4294967295) kind skipped formals read }
+        IsErrOf result LowerError.Full → Exceeds 4294967295 (body_size kind skipped formals read) }
+    ensures fits { let at = body_spot (E.answers db.now) owner current_file_id inside is_async_fn in
+        let formals = item_formals at owner (option_copied params.entry) (is_some (option_copied body.entry)) in
+        let skipped = at.answers.skip owner in
+        let kind = kind_unless_skipped skipped (coroutine_kind is_async_fn is_gen_fn) in
+        let read = body_read at owner (option_copied body.entry) in
+        IfOk result (λ r. FitsIn 4294967295 (body_size kind skipped formals read)) }
     ensures own { result ≢ Err LowerError.Failed }
 {
     body_steps(

@@ -1,22 +1,24 @@
 //! The collector, which lowers trees into one store and stops for good after its first error.
 
-ghost use Rattle.std.specs.Prelude.{[], ◌+◌, ◌++◌, ◌≡◌, ◌≢◌, ◌≤◌, ◌⊎◌, false, true, Err, IfOk, IsErrOf, IsOkAnd, OnOk, length};
+ghost use Rattle.std.specs.Prelude.{[], ◌+◌, ◌++◌, ◌≡◌, ◌≢◌, ◌<◌, ◌≤◌, ◌⊎◌, false, true, Err, IfOk, IsErrOf, IsOkAnd, OnOk, length};
 ghost use Rattle.std.specs.Prelude.{option_copied};
 ghost use Rattle.hir_store.specs.Range.{HasExpr, HasTypeParts, InRange};
 ghost use Rattle.hir_store.specs.Stored.{map_of, store_of};
 ghost use Rattle.hir_env.specs.Spot.{in_file};
 ghost use Rattle.hir_env.specs.Whole.{expr_part};
 ghost use Rattle.hir_lower_form.specs.Generics.{predicates_of};
-ghost use Rattle.hir_lower_form.specs.Lowering.{Lowers, SomeEnd, param_type};
+ghost use Rattle.hir_lower_form.specs.Lowering.{Lowers, SomeEnd};
 ghost use Rattle.hir_lower_form.specs.Methods.{LowersExprOpt};
 ghost use Rattle.hir_steps.specs.Keeps.{MadeApart, Mapped, Paired};
 ghost use Rattle.hir_one_result.specs.Definitions.{DefinitionsAre};
 ghost use Rattle.hir_one_result.specs.Laws.{Defined, MayBeOwned};
 ghost use Rattle.hir_one_result.specs.Room.{Short, TooLarge, size_part, whole_size};
+ghost use Rattle.hir_item_result.specs.Answers.{parameter_type};
+ghost use Rattle.hir_item_result.specs.Exceeding.{FitsBehind, InLimits};
 ghost use Rattle.hir_lower_handlers.specs.Spots.{spot_at};
 ghost use Rattle.hir_lower.specs.Beside.{TakesArguments};
 ghost use Rattle.hir_lower.specs.Calls.{Calls, Outside};
-ghost use Rattle.hir_lower.specs.Means.{AddsType, BearsNames, MadeOnce, NoRoomForType, PathRooted, ReadsBack, Rooted};
+ghost use Rattle.hir_lower.specs.Means.{AddsType, BearsNames, MadeOnce, NoRoomForType, PathRooted, ReadsBack, RoomForType, Rooted};
 ghost use Rattle.hir_lower.specs.Means.{whole_path, with_impl};
 ghost use Rattle.hir_lower.specs.Named.{none_named};
 ghost use Rattle.hir_lower.specs.Roots.{becoming, fresh, outside_body, root_of};
@@ -119,6 +121,9 @@ pub(crate) fn lower_root<E: LowerEnv>(
         Paired state.old.stored → IsErrOf result StoreFault.Full → TooLarge state.old e }
     ensures names { let e = expr_part (spot_at (E.answers env.now) place) (option_copied expr.entry) in
         Paired state.old.stored → IfOk result (λ i. state.new.names ≡ state.old.names + (size_part e).names) }
+    ensures fits { let e = expr_part (spot_at (E.answers env.now) place) (option_copied expr.entry) in
+        Paired state.old.stored → InLimits state.old → IfOk result (λ i. FitsBehind (size_part e) state.old) }
+    ensures within { Paired state.old.stored → InLimits state.old → IfOk result (λ i. InLimits state.new) }
     ensures stays { MayBeOwned state.old.stored → result ≢ Err StoreFault.Memory → Stays state.old.stored state.new.stored }
 {
     root_steps(alloc, env, place, state, expr)
@@ -152,6 +157,9 @@ fn lower_whole_path<E: LowerEnv>(
         Paired state.old.stored → IsErrOf result StoreFault.Full → Short (whole_size p) state.old }
     ensures names { let p = whole_path (spot_at (E.answers env.now) place) path.now in
         Paired state.old.stored → IfOk result (λ r. state.new.names ≡ state.old.names + (whole_size p).names) }
+    ensures fits { let p = whole_path (spot_at (E.answers env.now) place) path.now in
+        Paired state.old.stored → InLimits state.old → IfOk result (λ r. FitsBehind (whole_size p) state.old) }
+    ensures within { Paired state.old.stored → InLimits state.old → IfOk result (λ r. InLimits state.new) }
     ensures stays { MayBeOwned state.old.stored → result ≢ Err StoreFault.Memory → Stays state.old.stored state.new.stored }
 {
     lower_path(alloc, env, place, state, path)
@@ -167,6 +175,8 @@ fn add_type(
     ensures adds { IfOk result (λ i. AddsType state.old.stored state.new.stored i ty source) }
     ensures full { IsErrOf result StoreFault.Full → SomeEnd state.new }
     ensures no_room { IsErrOf result StoreFault.Full → NoRoomForType state.old.stored }
+    ensures fits { IfOk result (λ i. RoomForType state.old.stored) }
+    ensures within { InLimits state.old → IfOk result (λ i. InLimits state.new) }
     ensures unchanged { IsErrOf result StoreFault.Full → state.new.stored ≡ state.old.stored }
     ensures scopes { result ≢ Err StoreFault.Memory → state.new.scopes ≡ state.old.scopes }
     ensures names { result ≢ Err StoreFault.Memory → state.new.names ≡ state.old.names }
@@ -228,10 +238,12 @@ fn add_param(
     source: InFile<AstPtr>,
 ) -> Result<TypeRefId, StoreFault>
     ensures adds { IfOk result (λ i. AddsType state.old.stored state.new.stored i
-        (param_type parent (length lists.old.type_or_consts)) source) }
+        (parameter_type parent (length lists.old.type_or_consts)) source) }
     ensures lists { IfOk result (λ i. lists.new ≡ with_impl i bounds.now lists.old) }
     ensures no_room { IsErrOf result StoreFault.Full
         → NoRoomForType state.old.stored ⊎ (4294967295 ≤ length lists.old.type_or_consts) }
+    ensures fits { IfOk result (λ i. RoomForType state.old.stored × (length lists.old.type_or_consts < 4294967295)) }
+    ensures within { InLimits state.old → IfOk result (λ i. InLimits state.new) }
     ensures unchanged { IsErrOf result StoreFault.Full → state.new.stored ≡ state.old.stored }
     ensures scopes { result ≢ Err StoreFault.Memory → state.new.scopes ≡ state.old.scopes }
     ensures names { result ≢ Err StoreFault.Memory → state.new.names ≡ state.old.names }
@@ -273,6 +285,7 @@ pub struct ExprCollector<'db, E: LowerEnv> {
     ghost mapped: { failed ≡ false → ∥ Mapped state.stored ∥₁ },
     ghost outside: { failed ≡ false → Outside state },
     ghost apart: { failed ≡ false → ∥ MadeApart state.names state.stored ∥₁ },
+    ghost within: { failed ≡ false → InLimits state },
 }
 
 impl<'db, E: LowerEnv> Drop for ExprCollector<'db, E> {
@@ -346,7 +359,8 @@ impl<'db, E: LowerEnv> ExprCollector<'db, E> {
     /// Each binding that came is owned by the innermost closure, coroutine, `const` block, length or argument around it, and where it
     /// stands in none of these, by the constant. `Memory` where a growth was refused, `Full` where an arena has no room for the tree, or a
     /// path in the tree has more `super`s, a pattern more parts in front of its two dots, a block more definitions of one name by
-    /// `macro_rules`, or more names are made up, than 32 bits count, `Failed` after an error, and then nothing changes. As many names are
+    /// `macro_rules`, or more names are made up, than 32 bits count, `Failed` after an error, and then nothing changes. It isn't `Ok` where
+    /// there is no room for what the tree becomes, or for the names that are made up. As many names are
     /// made up as the tree needs, and no more. All that was stored is stored still, unless memory was refused, each binding with what owns
     /// it, and a node leads to where it led, or to what came since.
     pub fn lower_const_arg(&mut self, arg: &ast::ConstArg) -> Result<ConstRef, LowerError>
@@ -356,6 +370,8 @@ impl<'db, E: LowerEnv> ExprCollector<'db, E> {
         ensures full { IsErrOf result LowerError.Full → SomeEnd self.new.state }
         ensures too_large { let e = expr_part (spot_at (E.answers self.old.db.now) self.old.place) arg.now in
             IsErrOf result LowerError.Full → TooLarge self.old.state e }
+        ensures fits { let e = expr_part (spot_at (E.answers self.old.db.now) self.old.place) arg.now in
+            IfOk result (λ c. FitsBehind (size_part e) self.old.state) }
         ensures names { let e = expr_part (spot_at (E.answers self.old.db.now) self.old.place) arg.now in
             IfOk result (λ c. self.new.state.names ≡ self.old.state.names + (size_part e).names) }
         ensures stays { result ≢ Err LowerError.Memory → Stays self.old.state.stored self.new.state.stored }
@@ -386,7 +402,8 @@ impl<'db, E: LowerEnv> ExprCollector<'db, E> {
     /// written behind its segment. `Memory` where a growth was refused, `Full` where an arena has no room for its types, lifetimes and
     /// constants and the patterns in them, or it has more `super`s, a pattern in it more parts in front of its two dots, a block in it more
     /// definitions of one name by `macro_rules`, or more names are made up, or more `impl`s become parameters, than 32 bits count,
-    /// `Failed` after an error. All that was
+    /// `Failed` after an error. It isn't `Ok` where there is no room for what the path becomes, nor for the names and the parameters. All
+    /// that was
     /// stored is stored still, unless memory was refused, and nothing comes behind it but the path's types, its lifetimes and its
     /// constants, each of which is recorded as a root, with the patterns and bindings in them, what is wrong in it, the blocks in its
     /// constants, and the calls of macros that are entered, each behind what else was expanded for it; so it is also where the path is
@@ -407,6 +424,8 @@ impl<'db, E: LowerEnv> ExprCollector<'db, E> {
         ensures full { IsErrOf result LowerError.Full → SomeEnd self.new.state }
         ensures too_large { let at = spot_at (E.answers self.old.db.now) (becoming self.old.place (I.mode impl_trait.old)) in
             IsErrOf result LowerError.Full → Short (whole_size (whole_path at path.now)) self.old.state }
+        ensures fits { let at = spot_at (E.answers self.old.db.now) (becoming self.old.place (I.mode impl_trait.old)) in
+            IfOk result (λ r. FitsBehind (whole_size (whole_path at path.now)) self.old.state) }
         ensures names { let at = spot_at (E.answers self.old.db.now) (becoming self.old.place (I.mode impl_trait.old)) in
             IfOk result (λ r. self.new.state.names ≡ self.old.state.names + (whole_size (whole_path at path.now)).names) }
         ensures stays { result ≢ Err LowerError.Memory → Stays self.old.state.stored self.new.state.stored }
@@ -433,6 +452,7 @@ impl<'db, E: LowerEnv> ExprCollector<'db, E> {
         ensures calls { Calls self.old.failed self.old.state result self.new.state self.new.failed }
         ensures adds { IfOk result (λ i. AddsType self.old.state.stored self.new.state.stored i ty (in_file self.old.place ptr)) }
         ensures full { IsErrOf result LowerError.Full → NoRoomForType self.old.state.stored }
+        ensures fits { IfOk result (λ i. RoomForType self.old.state.stored) }
         ensures unchanged { IsErrOf result LowerError.Full → self.new.state.stored ≡ self.old.state.stored }
         ensures scopes { result ≢ Err LowerError.Memory → self.new.state.scopes ≡ self.old.state.scopes }
         ensures names { result ≢ Err LowerError.Memory → self.new.state.names ≡ self.old.state.names }
@@ -462,10 +482,11 @@ impl<'db, E: LowerEnv> ExprCollector<'db, E> {
     ) -> Result<TypeRefId, LowerError>
         ensures calls { Calls self.old.failed self.old.state result self.new.state self.new.failed }
         ensures adds { IfOk result (λ i. AddsType self.old.state.stored self.new.state.stored i
-            (param_type parent (length lists.old.type_or_consts)) (in_file self.old.place ptr)) }
+            (parameter_type parent (length lists.old.type_or_consts)) (in_file self.old.place ptr)) }
         ensures lists { IfOk result (λ i. lists.new ≡ with_impl i bounds.now lists.old) }
         ensures full { IsErrOf result LowerError.Full
             → NoRoomForType self.old.state.stored ⊎ (4294967295 ≤ length lists.old.type_or_consts) }
+        ensures fits { IfOk result (λ i. RoomForType self.old.state.stored × (length lists.old.type_or_consts < 4294967295)) }
         ensures unchanged { IsErrOf result LowerError.Full → self.new.state.stored ≡ self.old.state.stored }
         ensures scopes { result ≢ Err LowerError.Memory → self.new.state.scopes ≡ self.old.state.scopes }
         ensures names { result ≢ Err LowerError.Memory → self.new.state.names ≡ self.old.state.names }

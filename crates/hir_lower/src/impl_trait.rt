@@ -6,7 +6,7 @@ ghost use Rattle.hir_env.specs.Spot.{in_file};
 ghost use Rattle.hir_env.specs.declared.place.ImplTrait.{ImplTrait as Mode};
 ghost use Rattle.hir_lower.specs.Calls.{Calls};
 ghost use Rattle.hir_lower_form.specs.declared.generics.GenericLists.{GenericLists as AllLists};
-ghost use Rattle.hir_lower.specs.Means.{AddsType, NoRoomForImpl, NoRoomForType, becomes, lists_behind};
+ghost use Rattle.hir_lower.specs.Means.{AddsType, NoRoomForImpl, NoRoomForType, RoomForImpl, RoomForType, becomes, lists_behind};
 
 use crate::collector::ExprCollector;
 use crate::error::LowerError;
@@ -47,6 +47,7 @@ pub trait ImplTraitLower: ImplTraitMode {
             (becomes (Self.mode self.old) (lists self.old) bounds) at) }
         ensures lists { IfOk result (λ i. lists self.new ≡ lists_behind (Self.mode self.old) (lists self.old) i bounds) }
         ensures full { IsErrOf result LowerError.Full → NoRoomForImpl collector.old.state.stored (lists self.old) }
+        ensures fits { IfOk result (λ i. RoomForImpl collector.old.state.stored (lists self.old)) }
         ensures unchanged { IsErrOf result LowerError.Full → collector.new.state.stored ≡ collector.old.state.stored }
         ensures scopes { result ≢ Err LowerError.Memory → collector.new.state.scopes ≡ collector.old.state.scopes }
         ensures names { result ≢ Err LowerError.Memory → collector.new.state.names ≡ collector.old.state.names }
@@ -156,6 +157,7 @@ pub fn impl_trait_error_allocator<E: LowerEnv>(
     ensures adds { let at = in_file collector.old.place ptr in
         IfOk result (λ i. AddsType collector.old.state.stored collector.new.state.stored i TypeRef.Error at) }
     ensures full { IsErrOf result LowerError.Full → NoRoomForType collector.old.state.stored }
+    ensures fits { IfOk result (λ i. RoomForType collector.old.state.stored) }
     ensures unchanged { IsErrOf result LowerError.Full → collector.new.state.stored ≡ collector.old.state.stored }
     ensures scopes { result ≢ Err LowerError.Memory → collector.new.state.scopes ≡ collector.old.state.scopes }
     ensures names { result ≢ Err LowerError.Memory → collector.new.state.names ≡ collector.old.state.names }

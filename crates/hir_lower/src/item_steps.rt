@@ -1,9 +1,11 @@
 //! The steps of the entry functions of items.
 
 ghost use Rattle.std.specs.Prelude.{◌≡◌, ◌≢◌, Err, IfOk, IfErr, IsErrOf, option_copied};
+ghost use Rattle.hir_store.specs.Past.{Within};
 ghost use Rattle.hir_store.specs.Range.{InRange};
 ghost use Rattle.hir_env.specs.declared.place.LoweringMode.TheVariants as mode_of;
 ghost use Rattle.hir_lower_item.specs.Kinds as kinds;
+ghost use Rattle.hir_item_result.specs.Numbers.{past_alias, past_function, past_impl};
 ghost use Rattle.hir_lower.specs.Items.{ItemFromNothing, alias_at, as_noted, function_at, generics_at, impl_at, item_spot, signature};
 ghost use Rattle.hir_lower.specs.Items.{trait_at};
 ghost use Rattle.hir_lower.specs.Roots.{RefusedAtEnd, outside_body};
@@ -116,6 +118,7 @@ pub(crate) fn impl_steps<E: LowerEnv>(
         let p = impl_at at id item.entry.value.now in
         IfOk result (λ r. ItemFromNothing p as_noted 4294967295 (r.2, r.3) r.4 r.0 r.1) }
     ensures in_range { IfOk result (λ r. InRange r.0 r.1) }
+    ensures answer_in_range { IfOk result (λ r. Within r.0 (past_impl r.2 r.3)) }
     ensures full { let at = item_spot (E.answers db.now) item.entry.file_id inside mode_of.Analysis in
         let p = impl_at at id item.entry.value.now in
         IsErrOf result LowerError.Full → RefusedAtEnd p 4294967295 }
@@ -191,6 +194,7 @@ pub(crate) fn alias_steps<E: LowerEnv>(
         let p = alias_at at id container item.entry.value.now in
         IfOk result (λ r. ItemFromNothing p as_noted 4294967295 (r.3, r.4) r.2 r.0 r.1) }
     ensures in_range { IfOk result (λ r. InRange r.0 r.1) }
+    ensures answer_in_range { IfOk result (λ r. Within r.0 (past_alias r.3 r.4)) }
     ensures full { let at = item_spot (E.answers db.now) item.entry.file_id ((E.answers db.now).module_of container) mode_of.Analysis in
         let p = alias_at at id container item.entry.value.now in
         IsErrOf result LowerError.Full → RefusedAtEnd p 4294967295 }
@@ -247,6 +251,7 @@ pub(crate) fn function_steps<E: LowerEnv>(
         let p = function_at at id item.entry.value.now in
         IfOk result (λ r. ItemFromNothing p kinds.of_kinds 4294967295 (signature r.3 r.4 r.5 r.6) r.2 r.0 r.1) }
     ensures in_range { IfOk result (λ r. InRange r.0 r.1) }
+    ensures answer_in_range { IfOk result (λ r. Within r.0 (past_function r.3 r.4)) }
     ensures full { let at = item_spot (E.answers db.now) item.entry.file_id inside mode_of.Analysis in
         let p = function_at at id item.entry.value.now in
         IsErrOf result LowerError.Full → RefusedAtEnd p 4294967295 }

@@ -1,15 +1,18 @@
 //! Items: functions, traits, implementations, aliases of types, and generic parameters by themselves.
 
 ghost use Rattle.std.specs.Prelude.{[], ◌≢◌, Err, IfOk, IsErrOf, option_copied};
+ghost use Rattle.hir_store.specs.Past.{Within};
 ghost use Rattle.hir_store.specs.Range.{InRange};
 ghost use Rattle.hir_store.specs.declared.ids.GenericDefId.TheVariants as definition;
 ghost use Rattle.hir_item_result.specs.Answers.{AliasReads, FunctionReads, ImplReads};
 ghost use Rattle.hir_item_result.specs.ItemResult.{ItemResult};
+ghost use Rattle.hir_item_result.specs.Once.{ReachesOnce, named_by_alias, named_by_function, named_by_impl};
+ghost use Rattle.hir_item_result.specs.Numbers.{past_alias, past_function, past_impl, past_params};
 ghost use Rattle.hir_item_result.specs.Parts.{alias_parts, function_parts, generics_parts, impl_parts, trait_parts};
-ghost use Rattle.hir_item_result.specs.Sizes.{ItemTooLarge};
+ghost use Rattle.hir_item_result.specs.Sizes.{ItemFitsIn, ItemTooLarge};
 ghost use Rattle.hir_lower.specs.ItemParams.{AliasHas, FunctionHas, GenericsHave, ImplHas, TraitHas};
 ghost use Rattle.hir_lower.specs.Means.{MadeOnce};
-ghost use Rattle.hir_lower.specs.Items.{read_alias, read_function, read_generics, read_impl, read_trait, signature};
+ghost use Rattle.hir_lower.specs.Items.{read_alias, read_function, read_generics, read_impl, read_trait};
 
 use crate::error::LowerError;
 use crate::item_steps::{
@@ -34,7 +37,8 @@ use std::alloc::Global;
 ///
 /// A condition is asked about each parameter at its own node; one that is disabled leaves a fault alone. An `impl` in a bound becomes an
 /// unnamed parameter, behind those inside of its own bounds. A bound that is an error or a `use<..>` becomes no predicate, nor does a trait
-/// of a lifetime. Each lifetime is early bound. Each number in store and source map is in range.
+/// of a lifetime. Each lifetime is early bound. Each number in store and source map is in range, and so is each in what is answered beside
+/// them.
 ///
 /// Store and source map are one result of the item (clause `result`): what is stored comes from just those of its nodes that become
 /// something, in the order in which its parts are read, and nothing besides; each constant, also one that nothing reaches, is a root, in
@@ -46,7 +50,7 @@ use std::alloc::Global;
 ///
 /// `Memory` where a growth was refused; `Full` only where the item becomes more types, lifetimes, expressions, labels, patterns, bindings
 /// or parameters than there is room for, or something in it counts further than 32 bits do; never `Failed`. What was stored until then
-/// is dropped.
+/// is dropped. It isn't `Ok` where there is no room for what it becomes, or for the names that are made up in it (clause `fits`).
 pub fn lower_generic_params<E: LowerEnv>(
     alloc: Global,
     db: &E,
@@ -65,9 +69,13 @@ pub fn lower_generic_params<E: LowerEnv>(
         IfOk result (λ r. GenericsHave r.0 r.2 def x r.1) }
     ensures made_once { IfOk result (λ r. MadeOnce r.0 []) }
     ensures in_range { IfOk result (λ r. InRange r.0 r.2) }
+    ensures params_in_range { IfOk result (λ r. Within r.0 (past_params r.1)) }
     ensures too_large { let ps = option_copied param_list.entry in
         let x = read_generics (E.answers db.now) file_id inside mode def ps (option_copied where_clause.entry) in
         IsErrOf result LowerError.Full → ItemTooLarge 4294967295 (generics_parts x) }
+    ensures fits { let ps = option_copied param_list.entry in
+        let x = read_generics (E.answers db.now) file_id inside mode def ps (option_copied where_clause.entry) in
+        IfOk result (λ r. ItemFitsIn 4294967295 (generics_parts x)) }
     ensures own { result ≢ Err LowerError.Failed }
 {
     generic_params_steps(
@@ -87,11 +95,12 @@ pub fn lower_generic_params<E: LowerEnv>(
 ///
 /// The trait is read only where it is written as a path as it stands; none is answered for another form, nor for a path that is absent or
 /// refused. Type and trait read back as they are written, and the bodies inside them run so (clause
-/// `reads`). Of parameters and predicates, of ranges and of what is claimed, the same is so as for `lower_generic_params`.
+/// `reads`); each type that they reach is reached in one way only (`reached_once`). Of parameters and predicates, of ranges and of what is
+/// claimed, the same is so as for `lower_generic_params`.
 ///
 /// `Memory` where a growth was refused; `Full` only where the item becomes more types, lifetimes, expressions, labels, patterns, bindings
 /// or parameters than there is room for, or something in it counts further than 32 bits do; never `Failed`. What was stored until then
-/// is dropped.
+/// is dropped. It isn't `Ok` where there is no room for what it becomes, or for the names that are made up in it (clause `fits`).
 pub fn lower_impl<E: LowerEnv>(
     alloc: Global,
     db: &E,
@@ -114,10 +123,15 @@ pub fn lower_impl<E: LowerEnv>(
         IfOk result (λ r. ImplHas r.0 r.1 (definition.ImplId id) x r.4) }
     ensures reads { let x = read_impl (E.answers db.now) item.entry.file_id inside id item.entry.value.now in
         IfOk result (λ r. ImplReads r.0 r.1 x r.2 r.3) }
+    ensures reached_once { IfOk result (λ r. ReachesOnce r.0 (named_by_impl r.2 r.3)) }
     ensures made_once { IfOk result (λ r. MadeOnce r.0 []) }
     ensures in_range { IfOk result (λ r. InRange r.0 r.1) }
+    ensures answer_in_range { IfOk result (λ r. Within r.0 (past_impl r.2 r.3)) }
+    ensures params_in_range { IfOk result (λ r. Within r.0 (past_params r.4)) }
     ensures too_large { let x = read_impl (E.answers db.now) item.entry.file_id inside id item.entry.value.now in
         IsErrOf result LowerError.Full → ItemTooLarge 4294967295 (impl_parts x) }
+    ensures fits { let x = read_impl (E.answers db.now) item.entry.file_id inside id item.entry.value.now in
+        IfOk result (λ r. ItemFitsIn 4294967295 (impl_parts x)) }
     ensures own { result ≢ Err LowerError.Failed }
 {
     impl_steps(alloc, db, inside, item, id)
@@ -130,7 +144,7 @@ pub fn lower_impl<E: LowerEnv>(
 ///
 /// `Memory` where a growth was refused; `Full` only where the item becomes more types, lifetimes, expressions, labels, patterns, bindings
 /// or parameters than there is room for, or something in it counts further than 32 bits do; never `Failed`. What was stored until then
-/// is dropped.
+/// is dropped. It isn't `Ok` where there is no room for what it becomes, or for the names that are made up in it (clause `fits`).
 pub fn lower_trait<E: LowerEnv>(
     alloc: Global,
     db: &E,
@@ -144,8 +158,11 @@ pub fn lower_trait<E: LowerEnv>(
         IfOk result (λ r. TraitHas r.0 r.1 (definition.TraitId id) x r.2) }
     ensures made_once { IfOk result (λ r. MadeOnce r.0 []) }
     ensures in_range { IfOk result (λ r. InRange r.0 r.1) }
+    ensures params_in_range { IfOk result (λ r. Within r.0 (past_params r.2)) }
     ensures too_large { let x = read_trait (E.answers db.now) item.entry.file_id inside id item.entry.value.now in
         IsErrOf result LowerError.Full → ItemTooLarge 4294967295 (trait_parts x) }
+    ensures fits { let x = read_trait (E.answers db.now) item.entry.file_id inside id item.entry.value.now in
+        IfOk result (λ r. ItemFitsIn 4294967295 (trait_parts x)) }
     ensures own { result ≢ Err LowerError.Failed }
 {
     trait_steps(alloc, db, inside, item, id)
@@ -155,12 +172,12 @@ pub fn lower_trait<E: LowerEnv>(
 /// type, where one is written.
 ///
 /// An alias of a module or an `impl` owes a type; where it lacks one, that is told last. Bounds and type read back as they are
-/// written, and the bodies inside them run so (clause `reads`). Of parameters and predicates, of ranges and of what is claimed, the same
-/// is so as for `lower_generic_params`.
+/// written, and the bodies inside them run so (clause `reads`); each type that they reach is reached in one way only (`reached_once`). Of
+/// parameters and predicates, of ranges and of what is claimed, the same is so as for `lower_generic_params`.
 ///
 /// `Memory` where a growth was refused; `Full` only where the item becomes more types, lifetimes, expressions, labels, patterns, bindings
 /// or parameters than there is room for, or something in it counts further than 32 bits do; never `Failed`. What was stored until then
-/// is dropped.
+/// is dropped. It isn't `Ok` where there is no room for what it becomes, or for the names that are made up in it (clause `fits`).
 pub fn lower_type_alias<E: LowerEnv>(
     alloc: Global,
     db: &E,
@@ -183,10 +200,15 @@ pub fn lower_type_alias<E: LowerEnv>(
         IfOk result (λ r. AliasHas r.0 r.1 (definition.TypeAliasId id) x r.2) }
     ensures reads { let x = read_alias (E.answers db.now) item.entry.file_id container id item.entry.value.now in
         IfOk result (λ r. AliasReads r.0 r.1 x r.3 r.4) }
+    ensures reached_once { IfOk result (λ r. ReachesOnce r.0 (named_by_alias r.3 r.4)) }
     ensures made_once { IfOk result (λ r. MadeOnce r.0 []) }
     ensures in_range { IfOk result (λ r. InRange r.0 r.1) }
+    ensures answer_in_range { IfOk result (λ r. Within r.0 (past_alias r.3 r.4)) }
+    ensures params_in_range { IfOk result (λ r. Within r.0 (past_params r.2)) }
     ensures too_large { let x = read_alias (E.answers db.now) item.entry.file_id container id item.entry.value.now in
         IsErrOf result LowerError.Full → ItemTooLarge 4294967295 (alias_parts x) }
+    ensures fits { let x = read_alias (E.answers db.now) item.entry.file_id container id item.entry.value.now in
+        IfOk result (λ r. ItemFitsIn 4294967295 (alias_parts x)) }
     ensures own { result ≢ Err LowerError.Failed }
 {
     alias_steps(alloc, db, container, item, id)
@@ -195,19 +217,20 @@ pub fn lower_type_alias<E: LowerEnv>(
 /// Lowers the types of a function (upstream's function of this name): its parameters and what its where clause asks; the types of what it
 /// is given, of `self` first; what it returns; whether it has a `self`, and whether it is variadic.
 ///
-/// Of what it is given a condition is asked at each node, and all faults are told before the types are read; those that are disabled have
-/// no type, nor has a variadic one. An `impl` among these types becomes an unnamed parameter. `self` without a type is `Self`, or a
-/// reference to it. A function with `async`, `gen` or both returns an `impl` of the trait of its coroutine, of what is written there, or of
-/// `()`.
+/// Of what it is given a condition is asked at each node. The type of `self` is read first, or it is told that it is disabled; then it is
+/// told of all others that are, before their types are read. Those that are disabled have no type, nor has a variadic one. An `impl` among
+/// these types becomes an unnamed parameter. `self` without a type is `Self`, or a reference to it. A function with `async`, `gen` or both
+/// returns an `impl` of the trait of its coroutine, of what is written there, or of `()`.
 ///
 /// A lifetime parameter is late bound, unless a bound names it, or what is returned names it and nothing that is given does: a projection
 /// doesn't count, and of an alias only the lifetimes that its type names. The types of what is given and of what is returned read
-/// back as they are written, and the bodies inside them run so (clause `reads`). Of parameters and predicates, of ranges and of what is
+/// back as they are written, and the bodies inside them run so (clause `reads`); each type that they reach is reached in one way only
+/// (`reached_once`). Of parameters and predicates, of ranges and of what is
 /// claimed, the same is so as for `lower_generic_params`.
 ///
 /// `Memory` where a growth was refused; `Full` only where the item becomes more types, lifetimes, expressions, labels, patterns, bindings
 /// or parameters than there is room for, or something in it counts further than 32 bits do; never `Failed`. What was stored until then
-/// is dropped.
+/// is dropped. It isn't `Ok` where there is no room for what it becomes, or for the names that are made up in it (clause `fits`).
 pub fn lower_function<E: LowerEnv>(
     alloc: Global,
     db: &E,
@@ -231,11 +254,16 @@ pub fn lower_function<E: LowerEnv>(
     ensures params { let x = read_function (E.answers db.now) item.entry.file_id inside id item.entry.value.now in
         IfOk result (λ r. FunctionHas r.0 r.1 (definition.FunctionId id) x r.2) }
     ensures reads { let x = read_function (E.answers db.now) item.entry.file_id inside id item.entry.value.now in
-        IfOk result (λ r. FunctionReads r.0 r.1 x (signature r.3 r.4 r.5 r.6)) }
+        IfOk result (λ r. FunctionReads r.0 r.1 x r.3 r.4 r.5 r.6) }
+    ensures reached_once { IfOk result (λ r. ReachesOnce r.0 (named_by_function r.3 r.4)) }
     ensures made_once { IfOk result (λ r. MadeOnce r.0 []) }
     ensures in_range { IfOk result (λ r. InRange r.0 r.1) }
+    ensures answer_in_range { IfOk result (λ r. Within r.0 (past_function r.3 r.4)) }
+    ensures params_in_range { IfOk result (λ r. Within r.0 (past_params r.2)) }
     ensures too_large { let x = read_function (E.answers db.now) item.entry.file_id inside id item.entry.value.now in
         IsErrOf result LowerError.Full → ItemTooLarge 4294967295 (function_parts x) }
+    ensures fits { let x = read_function (E.answers db.now) item.entry.file_id inside id item.entry.value.now in
+        IfOk result (λ r. ItemFitsIn 4294967295 (function_parts x)) }
     ensures own { result ≢ Err LowerError.Failed }
 {
     function_steps(alloc, db, inside, item, id)

@@ -4,7 +4,9 @@ ghost use Rattle.std.specs.Prelude.{[], ◌≡◌, ◌≢◌, None, IfOk, IsErrO
 ghost use Rattle.hir_store.specs.Range.{HasType, InRange};
 ghost use Rattle.hir_lower_form.specs.Lower.{type_part};
 ghost use Rattle.hir_lower_form.specs.Lowering.{Lowers};
-ghost use Rattle.hir_type_result.specs.TypeResult.{TypeResult, TypeTooLarge};
+ghost use Rattle.hir_one_result.specs.Room.{type_part_size};
+ghost use Rattle.hir_type_result.specs.TypeResult.{TypeResult};
+ghost use Rattle.hir_item_result.specs.Exceeding.{Exceeds, FitsIn};
 ghost use Rattle.hir_told.specs.StoredData.{ReadsAs};
 ghost use Rattle.hir_lower_handlers.specs.Spots.{spot_at};
 ghost use Rattle.hir_lower.specs.Data.{data_in_type};
@@ -95,7 +97,8 @@ fn type_steps<E: LowerEnv>(
 /// An `impl` stays one. `Memory` where a growth was refused; `Full` only where the tree becomes more types, lifetimes,
 /// expressions, labels, patterns or bindings than the arenas have room for, or a path in it has more `super`s, a pattern more
 /// parts in front of its two dots, a block more definitions of one name by `macro_rules`, or it more names that are made up,
-/// than 32 bits count; never `Failed`.
+/// than 32 bits count; never `Failed`. It isn't `Ok` where there is no room for what the tree becomes, or for the names that
+/// are made up (clause `fits`).
 pub fn lower_type_ref<E: LowerEnv>(
     alloc: Global,
     db: &E,
@@ -111,7 +114,9 @@ pub fn lower_type_ref<E: LowerEnv>(
     ensures made_once { IfOk result (λ r. MadeOnce r.0 []) }
     ensures in_range { IfOk result (λ r. InRange r.0 r.1) }
     ensures too_large { let at = type_spot (E.answers db.now) type_ref.entry.file_id inside in
-        IsErrOf result LowerError.Full → TypeTooLarge 4294967295 (whole_type at (option_copied type_ref.entry.value)) }
+        IsErrOf result LowerError.Full → Exceeds 4294967295 (type_part_size (whole_type at (option_copied type_ref.entry.value))) }
+    ensures fits { let at = type_spot (E.answers db.now) type_ref.entry.file_id inside in
+        IfOk result (λ r. FitsIn 4294967295 (type_part_size (whole_type at (option_copied type_ref.entry.value)))) }
     ensures own { result ≢ Err LowerError.Failed }
 {
     type_steps(alloc, db, inside, type_ref)

@@ -1,3 +1,4 @@
+use Rattle.hir_item_result.proofs.Fitting.{fitting_items}
 use Rattle.hir_item_result.proofs.Took.{items_fit, refused_items as proved}
 use Rattle.hir_item_result.proofs.refused_items.Goals as goal
 
@@ -6,3 +7,6 @@ returns-clause-from_any c = items_fit
 
 pub returns-clause-first : goal.returns-clause-first
 returns-clause-first c = proved
+
+pub returns-clause-fits : goal.returns-clause-fits
+returns-clause-fits c = fitting_items

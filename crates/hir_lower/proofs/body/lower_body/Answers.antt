@@ -1,4 +1,4 @@
-use Rattle.hir_lower.proofs.Bodies.{body_expanded_if, body_stored_if, body_too_large, has_body_if, one_result_if}
+use Rattle.hir_lower.proofs.Bodies.{body_expanded_if, body_fits_if, body_stored_if, body_too_large, has_body_if, one_result_if}
 use Rattle.hir_lower.proofs.MadeNames.{made_once_if}
 use Rattle.hir_lower.proofs.Params.{params_if}
 use Rattle.hir_lower.proofs.body.lower_body.Goals as goal
@@ -33,3 +33,7 @@ pub returns-clause-made_once : goal.returns-clause-made_once
 returns-clause-made_once g c =
     made_once_if _ _ _ _ _ _ 4294967295 (λ r. r.0) (λ r. r.0.store) (λ r. r.1.store) c.body_steps.result c.body_steps.ensures.stores
     c.body_steps.ensures.given
+
+pub returns-clause-fits : goal.returns-clause-fits
+returns-clause-fits g c =
+    body_fits_if _ _ _ _ _ _ 4294967295 (λ r. r.0.store) (λ r. r.1.store) c.body_steps.result c.body_steps.ensures.stores

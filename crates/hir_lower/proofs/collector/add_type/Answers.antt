@@ -1,5 +1,6 @@
 use Rattle.hir_lower.proofs.TypeMeanings.{adds_if, apart_type_if, ends_of_type_if, may_be_owned_type_if, no_room_if, outside_type_if}
-use Rattle.hir_lower.proofs.TypeMeanings.{defined_type_if, mapped_type_if, names_of_type_if, scopes_if, unchanged_if}
+use Rattle.hir_lower.proofs.TypeMeanings.{defined_type_if, mapped_type_if, names_of_type_if, room_if, scopes_if, unchanged_if}
+use Rattle.hir_lower.proofs.TypeMeanings.{within_type_if}
 use Rattle.hir_lower.proofs.collector.add_type.Goals as goal
 
 pub returns-clause-adds : goal.returns-clause-adds
@@ -34,3 +35,9 @@ returns-clause-mapped c = λ m. mapped_type_if _ _ _ _ c.alloc_type.result c.all
 
 pub returns-clause-owners : goal.returns-clause-owners
 returns-clause-owners c = λ m. may_be_owned_type_if _ _ _ _ c.alloc_type.result c.alloc_type.ensures m
+
+pub returns-clause-fits : goal.returns-clause-fits
+returns-clause-fits c = room_if _ _ _ _ c.alloc_type.result c.alloc_type.ensures
+
+pub returns-clause-within : goal.returns-clause-within
+returns-clause-within c = λ w. within_type_if _ _ _ _ c.alloc_type.result c.alloc_type.ensures w

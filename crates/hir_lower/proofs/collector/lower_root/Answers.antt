@@ -1,5 +1,5 @@
 use Rattle.hir_lower.proofs.Meanings.{apart_if, defined_if, mapped_if, may_be_owned_if, names_if, outside_if, rooted_if, stays_unless}
-use Rattle.hir_lower.proofs.Meanings.{too_large_if}
+use Rattle.hir_lower.proofs.Meanings.{fits_if, too_large_if, within_if}
 use Rattle.hir_lower.proofs.collector.lower_root.Goals as goal
 
 pub returns-clause-rooted : goal.returns-clause-rooted
@@ -28,3 +28,9 @@ returns-clause-mapped g c = λ d m. mapped_if _ _ _ c.root_steps.result c.root_s
 
 pub returns-clause-owners : goal.returns-clause-owners
 returns-clause-owners g c = λ m. may_be_owned_if _ _ _ c.root_steps.result c.root_steps.ensures m
+
+pub returns-clause-fits : goal.returns-clause-fits
+returns-clause-fits g c = λ d w. fits_if _ _ _ c.root_steps.result c.root_steps.ensures d w
+
+pub returns-clause-within : goal.returns-clause-within
+returns-clause-within g c = λ d w. within_if _ _ _ c.root_steps.result c.root_steps.ensures d w

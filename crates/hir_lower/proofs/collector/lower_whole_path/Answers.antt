@@ -1,6 +1,6 @@
 use Rattle.hir_lower.proofs.PathMeanings.{arguments_if, data_if, ends_if, names_if, outside_path_if, path_apart_if, path_defined_if}
 use Rattle.hir_lower.proofs.PathMeanings.{path_mapped_if, path_may_be_owned_if, path_names_if, path_stays_if, path_too_large_if}
-use Rattle.hir_lower.proofs.PathMeanings.{rooted_path_if}
+use Rattle.hir_lower.proofs.PathMeanings.{path_fits_if, path_within_if, rooted_path_if}
 use Rattle.hir_lower.proofs.collector.lower_whole_path.Goals as goal
 
 pub returns-clause-data : goal.returns-clause-data
@@ -41,3 +41,9 @@ returns-clause-mapped g c = λ d m. path_mapped_if _ _ _ _ c.lower_path.result c
 
 pub returns-clause-owners : goal.returns-clause-owners
 returns-clause-owners g c = λ m. path_may_be_owned_if _ _ _ _ c.lower_path.result c.lower_path.ensures m
+
+pub returns-clause-fits : goal.returns-clause-fits
+returns-clause-fits g c = λ d w. path_fits_if _ _ _ _ c.lower_path.result c.lower_path.ensures d w
+
+pub returns-clause-within : goal.returns-clause-within
+returns-clause-within g c = λ d w. path_within_if _ _ _ _ c.lower_path.result c.lower_path.ensures d w

@@ -5,9 +5,12 @@ use Rattle.hir_env.specs.declared.place.Place.{Place}
 use Rattle.hir_lower_handlers.specs.Spots.{spot_at}
 use Rattle.hir_lower_item.specs.Answering.{answered_alias}
 use Rattle.hir_lower_item.specs.Lower.{lower_alias}
+use Rattle.hir_lower_item.specs.Has.{HasAlias}
+use Rattle.hir_item_result.specs.Numbers.{past_alias}
 use Rattle.hir_lower.specs.Items.{as_noted}
 use Rattle.hir_lower.specs.Roots.{outside_body}
 use Rattle.hir_lower.proofs.FromNothing.{made_from, refused_from}
+use Rattle.hir_lower.proofs.ItemNumbers.{alias_exists, answer_exists}
 use Rattle.hir_lower.proofs.item_steps.alias_steps.Goals as goal
 
 pub returns-in-Ok-clause-made : goal.returns-in-Ok-clause-made
@@ -26,3 +29,7 @@ returns-in-Err-clause-full g c = λ is.
     let steps = λ (p : Place). lower_alias def (answered_alias (spot_at env p) def c.args.container c.args.item.value.now) in
     let at = c.item_place-place.ensures ∙ ap (λ m. outside_body env c.args.item.file_id m Analysis) c.module_of-inside.ensures in
     refused_from steps c.in-Err.fault c.from.result at c.new-state.ensures c.in-Err.ensures c.from.ensures is
+
+pub returns-in-Ok-clause-answer_in_range : goal.returns-in-Ok-clause-answer_in_range
+returns-in-Ok-clause-answer_in_range g c = answer_exists HasAlias (λ a. past_alias a.0 a.1) alias_exists _ _ c.in-Ok.ensures.2
+    c.into_parts-stored.ensures.stored c.finish-store.ensures.store

@@ -4,7 +4,9 @@ use Rattle.hir_lower_handlers.specs.Spots.{spot_at}
 use Rattle.hir_lower_item.specs.Answering.{answered_function}
 use Rattle.hir_lower_item.specs.Kinds.{of_kinds}
 use Rattle.hir_lower_item.specs.Lower.{lower_function}
+use Rattle.hir_item_result.specs.Numbers.{past_function}
 use Rattle.hir_lower.proofs.FromNothing.{made_from, refused_from}
+use Rattle.hir_lower.proofs.ItemNumbers.{HasFunction, answer_exists, function_exists}
 use Rattle.hir_lower.proofs.item_steps.function_steps.Goals as goal
 
 pub returns-in_ok-params-in-Ok-clause-made : goal.returns-in_ok-params-in-Ok-clause-made
@@ -21,3 +23,7 @@ returns-in-Err-clause-full g c = λ is.
     let def = definition.FunctionId c.args.id in
     let steps = λ (p : Place). lower_function def (answered_function (spot_at env p) def c.args.item.value.now) in
     refused_from steps c.in-Err.fault c.from.result c.item_place-place.ensures c.new-state.ensures c.in-Err.ensures c.from.ensures is
+
+pub returns-in_ok-params-in-Ok-clause-answer_in_range : goal.returns-in_ok-params-in-Ok-clause-answer_in_range
+returns-in_ok-params-in-Ok-clause-answer_in_range g c = answer_exists HasFunction (λ a. past_function a.0 a.1) function_exists _ _
+    c.in-Ok.ensures.2 c.into_parts-stored.ensures.stored c.finish-store.ensures.store

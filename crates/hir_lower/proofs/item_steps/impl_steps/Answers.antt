@@ -4,7 +4,10 @@ use Rattle.hir_lower_handlers.specs.Spots.{spot_at}
 use Rattle.hir_lower_item.specs.Answering.{answered_impl}
 use Rattle.hir_lower_item.specs.Lower.{lower_impl}
 use Rattle.hir_lower.specs.Items.{as_noted}
+use Rattle.hir_item_result.specs.Numbers.{past_impl}
+use Rattle.hir_lower_item.specs.Has.{HasImpl}
 use Rattle.hir_lower.proofs.FromNothing.{made_from, refused_from}
+use Rattle.hir_lower.proofs.ItemNumbers.{answer_exists, impl_exists}
 use Rattle.hir_lower.proofs.item_steps.impl_steps.Goals as goal
 
 pub returns-in-Ok-clause-made : goal.returns-in-Ok-clause-made
@@ -21,3 +24,7 @@ returns-in-Err-clause-full g c = λ is.
     let def = definition.ImplId c.args.id in
     let steps = λ (p : Place). lower_impl def (answered_impl (spot_at env p) def c.args.item.value.now) in
     refused_from steps c.in-Err.fault c.from.result c.item_place-place.ensures c.new-state.ensures c.in-Err.ensures c.from.ensures is
+
+pub returns-in-Ok-clause-answer_in_range : goal.returns-in-Ok-clause-answer_in_range
+returns-in-Ok-clause-answer_in_range g c = answer_exists HasImpl (λ a. past_impl a.0 a.1) impl_exists _ _ c.in-Ok.ensures.2
+    c.into_parts-stored.ensures.stored c.finish-store.ensures.store

@@ -1,4 +1,5 @@
 use Rattle.std.proofs.Common.{refl}
+use Rattle.hir_store.specs.Past.{Within}
 use Rattle.hir_store.specs.declared.ids.GenericDefId.TheVariants as definition
 use Rattle.hir_lower_form.specs.Builder.{fresh}
 use Rattle.hir_lower_item.specs.Kinds.{of_kinds}
@@ -10,13 +11,19 @@ use Rattle.hir_item_noted.specs.Noted.{by_kind}
 use Rattle.hir_item_noted.proofs.Laws.{items_make}
 use Rattle.hir_item_result.specs.Answers.{FunctionReads}
 use Rattle.hir_item_result.specs.ItemResult.{ItemResult}
+use Rattle.hir_item_result.specs.Numbers.{past_params}
+use Rattle.hir_item_result.specs.Once.{ReachesOnce, named_by_function}
 use Rattle.hir_item_result.specs.Parts.{function_parts}
+use Rattle.hir_item_result.specs.Sizes.{ItemFitsIn}
 use Rattle.hir_item_result.proofs.Answered.{functions_read}
 use Rattle.hir_item_result.proofs.Apart.{items_apart}
+use Rattle.hir_item_result.proofs.Fitting.{fitting_items}
 use Rattle.hir_item_result.proofs.Took.{refused_items}
+use Rattle.hir_item_result.proofs.Once.{functions_once}
 use Rattle.hir_item_result.proofs.Whole.{item_results}
 use Rattle.hir_lower.specs.ItemParams.{ParamsAre}
 use Rattle.hir_lower.specs.Items.{read_function, signature}
+use Rattle.hir_lower.proofs.ItemNumbers.{params_exist}
 use Rattle.hir_lower.proofs.ItemMeanings.{from_if, item_too_large, made_once_if, nothing_stored, params_are, reads_if}
 use Rattle.hir_lower.proofs.items.lower_function.Goals as goal
 
@@ -48,7 +55,7 @@ returns-clause-reads g c =
     let def = definition.FunctionId c.args.id in
     let x = read_function env c.args.item.file_id c.args.inside c.args.id c.args.item.value.now in
     reads_if (lower_function def x) of_kinds 4294967295 (λ r. signature r.3 r.4 r.5 r.6) (λ r. r.2) (λ r. r.0) (λ r. r.1)
-    (λ s m a. FunctionReads s m x a) (functions_read def x)
+    (λ s m a. FunctionReads s m x a.args a.ret a.has_self a.has_variadic) (functions_read def x)
     c.function_steps.result c.function_steps.ensures.made
 
 pub returns-clause-too_large : goal.returns-clause-too_large
@@ -65,3 +72,35 @@ returns-clause-made_once g c =
     let x = read_function env c.args.item.file_id c.args.inside c.args.id c.args.item.value.now in
     made_once_if (lower_function def x) of_kinds 4294967295 (λ r. signature r.3 r.4 r.5 r.6) (λ r. r.2) (λ r. r.0) (λ r. r.1)
     ((items_apart def).4 x) c.function_steps.result c.function_steps.ensures.made
+
+pub returns-clause-fits : goal.returns-clause-fits
+returns-clause-fits g c =
+    let env = g.E.LowerEnv.answers c.args.db.now in
+    let def = definition.FunctionId c.args.id in
+    let x = read_function env c.args.item.file_id c.args.inside c.args.id c.args.item.value.now in
+    from_if (lower_function def x) of_kinds 4294967295 (λ r. signature r.3 r.4 r.5 r.6) (λ r. r.2) (λ r. r.0) (λ r. r.1)
+    (λ ps s m a. ItemFitsIn 4294967295 (function_parts x)) (λ b a is. (fitting_items def).4 x 4294967295 b a is)
+    c.function_steps.result c.function_steps.ensures.made
+
+pub returns-clause-params_in_range : goal.returns-clause-params_in_range
+returns-clause-params_in_range g c =
+    let env = g.E.LowerEnv.answers c.args.db.now in
+    let def = definition.FunctionId c.args.id in
+    let x = read_function env c.args.item.file_id c.args.inside c.args.id c.args.item.value.now in
+    let n = noted_in_function x in
+    let asks = asked_in_function def x in
+    from_if (lower_function def x) of_kinds 4294967295 (λ r. signature r.3 r.4 r.5 r.6) (λ r. r.2) (λ r. r.0) (λ r. r.1)
+    (λ ps s m a. Within s (past_params ps))
+    (λ b a is. params_exist n (by_kind n) asks 4294967295 b (of_kinds b.notes)
+    ((item_results def).4 x 4294967295 b a is).expr_sources ((items_make def).4 x 4294967295 b a is)
+    ((items_ask def).4 x (fresh 4294967295) b a (nothing_stored 4294967295) is) refl)
+    c.function_steps.result c.function_steps.ensures.made
+
+pub returns-clause-reached_once : goal.returns-clause-reached_once
+returns-clause-reached_once g c =
+    let env = g.E.LowerEnv.answers c.args.db.now in
+    let def = definition.FunctionId c.args.id in
+    let x = read_function env c.args.item.file_id c.args.inside c.args.id c.args.item.value.now in
+    from_if (lower_function def x) of_kinds 4294967295 (λ r. signature r.3 r.4 r.5 r.6) (λ r. r.2) (λ r. r.0) (λ r. r.1)
+    (λ ps s m a. ReachesOnce s (named_by_function a.args a.ret)) (λ b a is. functions_once def x 4294967295 b a is)
+    c.function_steps.result c.function_steps.ensures.made

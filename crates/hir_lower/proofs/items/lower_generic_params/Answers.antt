@@ -1,5 +1,6 @@
 use Rattle.std.specs.Prelude.{option_copied}
 use Rattle.std.proofs.Common.{refl}
+use Rattle.hir_store.specs.Past.{Within}
 use Rattle.hir_lower_form.specs.Builder.{fresh}
 use Rattle.hir_lower_item.specs.Lower.{lower_generics}
 use Rattle.hir_item_asked.specs.Fold.{asked_in_generics}
@@ -8,12 +9,16 @@ use Rattle.hir_item_noted.specs.Fold.{noted_in_generics}
 use Rattle.hir_item_noted.specs.Noted.{all_early}
 use Rattle.hir_item_noted.proofs.Laws.{items_make}
 use Rattle.hir_item_result.specs.ItemResult.{ItemResult}
+use Rattle.hir_item_result.specs.Numbers.{past_params}
 use Rattle.hir_item_result.specs.Parts.{generics_parts}
+use Rattle.hir_item_result.specs.Sizes.{ItemFitsIn}
 use Rattle.hir_item_result.proofs.Apart.{items_apart}
+use Rattle.hir_item_result.proofs.Fitting.{fitting_items}
 use Rattle.hir_item_result.proofs.Took.{refused_items}
 use Rattle.hir_item_result.proofs.Whole.{item_results}
 use Rattle.hir_lower.specs.ItemParams.{ParamsAre}
 use Rattle.hir_lower.specs.Items.{as_noted, read_generics}
+use Rattle.hir_lower.proofs.ItemNumbers.{params_exist}
 use Rattle.hir_lower.proofs.ItemMeanings.{from_if, item_too_large, made_once_if, nothing_stored, params_are}
 use Rattle.hir_lower.proofs.items.lower_generic_params.Goals as goal
 
@@ -57,3 +62,28 @@ returns-clause-made_once g c =
     let x = read_generics env c.args.file_id c.args.inside c.args.mode def ps (option_copied c.args.where_clause) in
     made_once_if (lower_generics def x) as_noted 4294967295 (λ r. tt) (λ r. r.1) (λ r. r.0) (λ r. r.2)
     ((items_apart def).0 x) c.generic_params_steps.result c.generic_params_steps.ensures.made
+
+pub returns-clause-fits : goal.returns-clause-fits
+returns-clause-fits g c =
+    let env = g.E.LowerEnv.answers c.args.db.now in
+    let def = c.args.def in
+    let ps = option_copied c.args.param_list in
+    let x = read_generics env c.args.file_id c.args.inside c.args.mode def ps (option_copied c.args.where_clause) in
+    from_if (lower_generics def x) as_noted 4294967295 (λ r. tt) (λ r. r.1) (λ r. r.0) (λ r. r.2)
+    (λ ps s m a. ItemFitsIn 4294967295 (generics_parts x)) (λ b a is. (fitting_items def).0 x 4294967295 b a is)
+    c.generic_params_steps.result c.generic_params_steps.ensures.made
+
+pub returns-clause-params_in_range : goal.returns-clause-params_in_range
+returns-clause-params_in_range g c =
+    let env = g.E.LowerEnv.answers c.args.db.now in
+    let def = c.args.def in
+    let ps = option_copied c.args.param_list in
+    let x = read_generics env c.args.file_id c.args.inside c.args.mode def ps (option_copied c.args.where_clause) in
+    let n = noted_in_generics x in
+    let asks = asked_in_generics def x in
+    from_if (lower_generics def x) as_noted 4294967295 (λ r. tt) (λ r. r.1) (λ r. r.0) (λ r. r.2)
+    (λ ps s m a. Within s (past_params ps))
+    (λ b a is. params_exist n (all_early n) asks 4294967295 b (as_noted b.notes)
+    ((item_results def).0 x 4294967295 b a is).expr_sources ((items_make def).0 x 4294967295 b a is)
+    ((items_ask def).0 x (fresh 4294967295) b a (nothing_stored 4294967295) is) refl)
+    c.generic_params_steps.result c.generic_params_steps.ensures.made

@@ -1,4 +1,5 @@
 use Rattle.std.proofs.Common.{refl}
+use Rattle.hir_store.specs.Past.{Within}
 use Rattle.hir_store.specs.declared.ids.GenericDefId.TheVariants as definition
 use Rattle.hir_lower_form.specs.Builder.{fresh}
 use Rattle.hir_lower_item.specs.Lower.{lower_impl}
@@ -9,13 +10,19 @@ use Rattle.hir_item_noted.specs.Noted.{all_early}
 use Rattle.hir_item_noted.proofs.Laws.{items_make}
 use Rattle.hir_item_result.specs.Answers.{ImplReads}
 use Rattle.hir_item_result.specs.ItemResult.{ItemResult}
+use Rattle.hir_item_result.specs.Numbers.{past_params}
+use Rattle.hir_item_result.specs.Once.{ReachesOnce, named_by_impl}
 use Rattle.hir_item_result.specs.Parts.{impl_parts}
+use Rattle.hir_item_result.specs.Sizes.{ItemFitsIn}
 use Rattle.hir_item_result.proofs.Answered.{impls_read}
 use Rattle.hir_item_result.proofs.Apart.{items_apart}
+use Rattle.hir_item_result.proofs.Fitting.{fitting_items}
 use Rattle.hir_item_result.proofs.Took.{refused_items}
+use Rattle.hir_item_result.proofs.Once.{impls_once}
 use Rattle.hir_item_result.proofs.Whole.{item_results}
 use Rattle.hir_lower.specs.ItemParams.{ParamsAre}
 use Rattle.hir_lower.specs.Items.{as_noted, read_impl}
+use Rattle.hir_lower.proofs.ItemNumbers.{params_exist}
 use Rattle.hir_lower.proofs.ItemMeanings.{from_if, item_too_large, made_once_if, nothing_stored, params_are, reads_if}
 use Rattle.hir_lower.proofs.items.lower_impl.Goals as goal
 
@@ -64,3 +71,35 @@ returns-clause-made_once g c =
     let x = read_impl env c.args.item.file_id c.args.inside c.args.id c.args.item.value.now in
     made_once_if (lower_impl def x) as_noted 4294967295 (λ r. (r.2, r.3)) (λ r. r.4) (λ r. r.0) (λ r. r.1)
     ((items_apart def).2 x) c.impl_steps.result c.impl_steps.ensures.made
+
+pub returns-clause-fits : goal.returns-clause-fits
+returns-clause-fits g c =
+    let env = g.E.LowerEnv.answers c.args.db.now in
+    let def = definition.ImplId c.args.id in
+    let x = read_impl env c.args.item.file_id c.args.inside c.args.id c.args.item.value.now in
+    from_if (lower_impl def x) as_noted 4294967295 (λ r. (r.2, r.3)) (λ r. r.4) (λ r. r.0) (λ r. r.1)
+    (λ ps s m a. ItemFitsIn 4294967295 (impl_parts x)) (λ b a is. (fitting_items def).2 x 4294967295 b a is)
+    c.impl_steps.result c.impl_steps.ensures.made
+
+pub returns-clause-params_in_range : goal.returns-clause-params_in_range
+returns-clause-params_in_range g c =
+    let env = g.E.LowerEnv.answers c.args.db.now in
+    let def = definition.ImplId c.args.id in
+    let x = read_impl env c.args.item.file_id c.args.inside c.args.id c.args.item.value.now in
+    let n = noted_in_impl x in
+    let asks = asked_in_impl def x in
+    from_if (lower_impl def x) as_noted 4294967295 (λ r. (r.2, r.3)) (λ r. r.4) (λ r. r.0) (λ r. r.1)
+    (λ ps s m a. Within s (past_params ps))
+    (λ b a is. params_exist n (all_early n) asks 4294967295 b (as_noted b.notes)
+    ((item_results def).2 x 4294967295 b a is).expr_sources ((items_make def).2 x 4294967295 b a is)
+    ((items_ask def).2 x (fresh 4294967295) b a (nothing_stored 4294967295) is) refl)
+    c.impl_steps.result c.impl_steps.ensures.made
+
+pub returns-clause-reached_once : goal.returns-clause-reached_once
+returns-clause-reached_once g c =
+    let env = g.E.LowerEnv.answers c.args.db.now in
+    let def = definition.ImplId c.args.id in
+    let x = read_impl env c.args.item.file_id c.args.inside c.args.id c.args.item.value.now in
+    from_if (lower_impl def x) as_noted 4294967295 (λ r. (r.2, r.3)) (λ r. r.4) (λ r. r.0) (λ r. r.1)
+    (λ ps s m a. ReachesOnce s (named_by_impl a.0 a.1)) (λ b a is. impls_once def x 4294967295 b a is)
+    c.impl_steps.result c.impl_steps.ensures.made

@@ -1,4 +1,5 @@
 use Rattle.std.proofs.Common.{refl}
+use Rattle.hir_store.specs.Past.{Within}
 use Rattle.hir_store.specs.declared.ids.GenericDefId.TheVariants as definition
 use Rattle.hir_lower_form.specs.Builder.{fresh}
 use Rattle.hir_lower_item.specs.Lower.{lower_trait}
@@ -8,12 +9,16 @@ use Rattle.hir_item_noted.specs.Fold.{noted_in_trait}
 use Rattle.hir_item_noted.specs.Noted.{all_early}
 use Rattle.hir_item_noted.proofs.Laws.{items_make}
 use Rattle.hir_item_result.specs.ItemResult.{ItemResult}
+use Rattle.hir_item_result.specs.Numbers.{past_params}
 use Rattle.hir_item_result.specs.Parts.{trait_parts}
+use Rattle.hir_item_result.specs.Sizes.{ItemFitsIn}
 use Rattle.hir_item_result.proofs.Apart.{items_apart}
+use Rattle.hir_item_result.proofs.Fitting.{fitting_items}
 use Rattle.hir_item_result.proofs.Took.{refused_items}
 use Rattle.hir_item_result.proofs.Whole.{item_results}
 use Rattle.hir_lower.specs.ItemParams.{ParamsAre}
 use Rattle.hir_lower.specs.Items.{as_noted, read_trait}
+use Rattle.hir_lower.proofs.ItemNumbers.{params_exist}
 use Rattle.hir_lower.proofs.ItemMeanings.{from_if, item_too_large, made_once_if, nothing_stored, params_are}
 use Rattle.hir_lower.proofs.items.lower_trait.Goals as goal
 
@@ -53,3 +58,26 @@ returns-clause-made_once g c =
     let x = read_trait env c.args.item.file_id c.args.inside c.args.id c.args.item.value.now in
     made_once_if (lower_trait def x) as_noted 4294967295 (λ r. tt) (λ r. r.2) (λ r. r.0) (λ r. r.1)
     ((items_apart def).1 x) c.trait_steps.result c.trait_steps.ensures.made
+
+pub returns-clause-fits : goal.returns-clause-fits
+returns-clause-fits g c =
+    let env = g.E.LowerEnv.answers c.args.db.now in
+    let def = definition.TraitId c.args.id in
+    let x = read_trait env c.args.item.file_id c.args.inside c.args.id c.args.item.value.now in
+    from_if (lower_trait def x) as_noted 4294967295 (λ r. tt) (λ r. r.2) (λ r. r.0) (λ r. r.1)
+    (λ ps s m a. ItemFitsIn 4294967295 (trait_parts x)) (λ b a is. (fitting_items def).1 x 4294967295 b a is)
+    c.trait_steps.result c.trait_steps.ensures.made
+
+pub returns-clause-params_in_range : goal.returns-clause-params_in_range
+returns-clause-params_in_range g c =
+    let env = g.E.LowerEnv.answers c.args.db.now in
+    let def = definition.TraitId c.args.id in
+    let x = read_trait env c.args.item.file_id c.args.inside c.args.id c.args.item.value.now in
+    let n = noted_in_trait x in
+    let asks = asked_in_trait def x in
+    from_if (lower_trait def x) as_noted 4294967295 (λ r. tt) (λ r. r.2) (λ r. r.0) (λ r. r.1)
+    (λ ps s m a. Within s (past_params ps))
+    (λ b a is. params_exist n (all_early n) asks 4294967295 b (as_noted b.notes)
+    ((item_results def).1 x 4294967295 b a is).expr_sources ((items_make def).1 x 4294967295 b a is)
+    ((items_ask def).1 x (fresh 4294967295) b a (nothing_stored 4294967295) is) refl)
+    c.trait_steps.result c.trait_steps.ensures.made

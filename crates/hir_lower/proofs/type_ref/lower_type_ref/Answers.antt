@@ -1,7 +1,7 @@
 use Rattle.std.specs.Prelude.{option_copied}
 use Rattle.hir_lower.specs.Roots.{type_spot}
 use Rattle.hir_lower.proofs.MadeNames.{type_once_if}
-use Rattle.hir_lower.proofs.TypeMeanings.{type_expanded_if, type_result_if, type_stored_if, type_too_large}
+use Rattle.hir_lower.proofs.TypeMeanings.{type_expanded_if, type_fits_if, type_result_if, type_stored_if, type_too_large}
 use Rattle.hir_lower.proofs.type_ref.lower_type_ref.Goals as goal
 
 pub returns-clause-type_result : goal.returns-clause-type_result
@@ -24,3 +24,7 @@ returns-clause-made_once g c =
     let at = type_spot (g.E.LowerEnv.answers c.args.db.now) c.args.type_ref.file_id c.args.inside in
     type_once_if at (option_copied c.args.type_ref.value) 4294967295 (λ r. r.0) (λ r. r.1) (λ r. r.2) c.type_steps.result
     c.type_steps.ensures.stores
+
+pub returns-clause-fits : goal.returns-clause-fits
+returns-clause-fits g c =
+    type_fits_if _ _ 4294967295 (λ r. r.0) (λ r. r.1) (λ r. r.2) c.type_steps.result c.type_steps.ensures.stores

@@ -11,3 +11,8 @@ returns-clause-names g c = rw (← c.unboxed.ensures) (c.in_ok-expr.ensures.name
 
 pub returns-then-self-clause-stays : goal.returns-then-self-clause-stays
 returns-then-self-clause-stays g c = λ n. stays_refl _
+
+pub returns-clause-fits : goal.returns-clause-fits
+returns-clause-fits g c =
+    let self = c.args.self.now in
+    rw (← c.unboxed.ensures) (c.in_ok-expr.ensures.fits (self.paired c.if-self.false) (self.within c.if-self.false))

@@ -25,3 +25,8 @@ pub returns-in_err-lowered-clause-too_large : goal.returns-in_err-lowered-clause
 returns-in_err-lowered-clause-too_large g c =
     full_before _ _ c.from_residual.ensures.1
     (λ is. rw (← c.mode.ensures) (c.in_err-lowered.ensures.too_large (c.args.self.now.paired c.if-self.false) (ap Err is)))
+
+pub returns-clause-fits : goal.returns-clause-fits
+returns-clause-fits g c =
+    let self = c.args.self.now in
+    rw (← c.mode.ensures) (c.in_ok-lowered.ensures.fits (self.paired c.if-self.false) (self.within c.if-self.false))

@@ -1,5 +1,5 @@
 use Rattle.std.proofs.Common.{rules}
-use Rattle.hir_lower.proofs.MadeNames.{fresh_apart, fresh_defined, fresh_mapped}
+use Rattle.hir_lower.proofs.MadeNames.{fresh_apart, fresh_defined, fresh_limits, fresh_mapped}
 use Rattle.hir_lower.proofs.collector.ExprCollector.with_limit.Goals as goal
 
 pub returns-clause-place : goal.returns-clause-place
@@ -16,3 +16,6 @@ invariant_of-result-clause-mapped g c = λ works. fresh_mapped _ _ c.new.ensures
 
 pub invariant_of-result-clause-apart : goal.invariant_of-result-clause-apart
 invariant_of-result-clause-apart g c = λ works. fresh_apart _ _ c.new.ensures
+
+pub invariant_of-result-clause-within : goal.invariant_of-result-clause-within
+invariant_of-result-clause-within g c = λ works. fresh_limits _ _ c.new.ensures
