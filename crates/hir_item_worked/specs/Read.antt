@@ -9,12 +9,11 @@ use Rattle.hir_data.specs.Data.{BoundData, BoundsData, LifetimeData, OptionTypeD
 use Rattle.hir_data.specs.Written.{bound_data, bounds_data, constant_site, lifetime_data, type_data, written_option_type, written_path}
 use Rattle.hir_data.specs.Written.{written_type}
 use Rattle.hir_lower_item.specs.Items.{Alias, Function, Generics, Impl, Trait}
-use Rattle.hir_lower_item.specs.Lower.{any_variadic, is_received}
 use Rattle.hir_item_noted.specs.Fold.{ItemNoting, Param, noted_in_alias, noted_in_function, noted_in_generics, noted_in_impl}
 use Rattle.hir_item_noted.specs.Fold.{noted_in_trait}
 use Rattle.hir_item_noted.specs.Noted.{all_early, by_kind}
 use Rattle.hir_item_asked.specs.Fold.{Asking, Asks, asked_in_alias, asked_in_function, asked_in_generics, asked_in_impl, asked_in_trait}
-use Rattle.hir_item_result.specs.Answers.{arguments_data, output_data, receiver_data, trait_data}
+use Rattle.hir_item_result.specs.Answers.{arguments_data, keeps_self, keeps_variadic, output_data, receiver_data, trait_data}
 use Rattle.hir_item_result.specs.Parts as part
 use Rattle.hir_item_result.specs.Parts.{Part, alias_parts, function_parts, generics_parts, impl_parts, trait_parts}
 
@@ -99,8 +98,8 @@ abbrev pub function_answers : Function → Signed
 function_answers x = record {
   args = receiver_data x.receiver (arguments_data x.arguments);
   ret = output_data x.kind x.ret;
-  has_self = is_received x.receiver;
-  has_variadic = any_variadic x.arguments;
+  has_self = keeps_self x.receiver;
+  has_variadic = keeps_variadic x.arguments;
 }
 
 -- ---- both
