@@ -1,6 +1,6 @@
 -- The forms that lowering makes up nodes for: `for`, `?` and `try` (rust-analyzer, `collect_for_loop`, `collect_try_operator` and
 -- `desugar_try_block`; Rust Reference, iterator loops and the question mark operator).
-use Rattle.std.specs.Prelude.{ℕ, Bool, false, if◌then◌else◌, [], ◌∷◌, Option, Some, None}
+use Rattle.std.specs.Prelude.{ℕ, Bool, false, true, if◌then◌else◌, [], ◌∷◌, Option, Some, None}
 use Rattle.hir_binding.specs.declared.binding.BindingAnnotation.{BindingAnnotation}
 use Rattle.hir_binding.specs.declared.binding.BindingAnnotation.TheVariants.{Mutable, Unannotated}
 use Rattle.hir_store.specs.Pointers.{Pointer}
@@ -150,6 +150,102 @@ typed_try_form at block type_ref = do
   p ← made_bind_form Unannotated n
   e ← made_path_form at n
   alloc_made (bound_block p t b e) (Some at)
+
+-- ---- `for`
+
+-- an arm without a guard
+abbrev pub arm_for : PatId → ExprId → MatchArm
+arm_for p e = record { pat = p; guard = None; expr = e }
+
+-- `&mut` of the name of this number
+unfoldable pub made_reference_form : Pointer → ℕ → ExprSteps
+made_reference_form at n = do
+  e ← made_path_form at n
+  alloc_made (hir.Ref Ref Mut e) (Some at)
+
+-- a call of the item with such a reference
+unfoldable pub next_form : Pointer → LangItemId → ℕ → ExprSteps
+next_form at item n = do
+  r ← made_reference_form at n
+  item_call_form at (Some item) r
+
+-- the arm for the item that holds nothing, which ends the loop
+unfoldable pub done_arm_form : Pointer → LangItemId → Lowering MatchArm
+done_arm_form at item = do
+  p ← alloc_pat (pat.Path (LangItem item) root_hygiene) None
+  e ← alloc_made (hir.Break None None) (Some at)
+  pure (arm_for p e)
+
+-- the arm for the item that holds what this pattern fits, with the body
+unfoldable pub gives_arm_form : LangItemId → PatId → ExprSteps → Lowering MatchArm
+gives_arm_form item p body = do
+  q ← alloc_pat (item_pat item p) None
+  e ← body
+  pure (arm_for q e)
+
+-- a block whose value this is, and which has nothing else in it
+abbrev pub only_tail : ExprId → HirExpr
+only_tail e = hir.Block false None None [] (Some e)
+
+-- `{ match next(&mut g) { None => break, Some(p) => body } }`
+unfoldable pub for_turn_form : Pointer → ForItems → ℕ → PatId → ExprSteps → ExprSteps
+for_turn_form at items n p body = do
+  c ← next_form at items.next n
+  a ← done_arm_form at items.is_done
+  b ← gives_arm_form items.gives p body
+  e ← alloc_made (hir.Match c (a ∷ b ∷ [])) (Some at)
+  alloc_made (only_tail e) (Some at)
+
+-- a loop to which its node doesn't lead
+unfoldable pub made_loop_form : Pointer → Option Label → ExprSteps → ExprSteps
+made_loop_form at None body = do
+  b ← body
+  alloc_made (hir.Loop b None ForLoop) (Some at)
+made_loop_form at (Some l) body = do
+  id ← open_label l
+  b ← body
+  close
+  alloc_made (hir.Loop b (Some id) ForLoop) (Some at)
+
+-- `match into_iter(head) { mut g => label: loop { .. } }`, where what makes an iterator of the head comes from the head's node. Head and
+-- pattern lie outside of the label.
+unfoldable pub for_form : Pointer → Pointer → ForItems → Option Label → ExprSteps → Lowering PatId → ExprSteps → ExprSteps
+for_form at head_at items label head pattern body = do
+  h ← head
+  i ← item_call_form head_at (Some items.into_iter) h
+  p ← pattern
+  n ← made_number
+  q ← made_bind_form Mutable n
+  l ← made_loop_form at label (for_turn_form at items n p body)
+  alloc_expr (hir.Match i (arm_for q l ∷ [])) (Some at)
+
+-- ---- a condition whose temporaries end
+
+-- what binds a value by the pattern
+abbrev pub held : PatId → ExprId → Statement
+held p value = statement.Let p None (Some value) None
+
+-- a block that does so, and then is what stands behind it
+abbrev pub held_block : PatId → ExprId → ExprId → HirExpr
+held_block p value e = hir.Block false None None (held p value ∷ []) (Some e)
+
+-- `{ let g = value; g }`
+unfoldable pub hold_form : Pointer → ExprId → ExprSteps
+hold_form at value = do
+  n ← made_number
+  p ← made_bind_form Unannotated n
+  e ← made_path_form at n
+  alloc_made (held_block p value e) (Some at)
+
+unfoldable pub held_form : Pointer → ExprSteps → ExprSteps
+held_form at condition = do
+  c ← condition
+  hold_form at c
+
+-- one that holds a `let` stands as it is
+abbrev pub condition_form : Bool → Pointer → ExprSteps → ExprSteps
+condition_form true at condition = condition
+condition_form false at condition = held_form at condition
 
 -- ---- `for`
 

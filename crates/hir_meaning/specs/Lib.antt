@@ -3,7 +3,6 @@ pub mod Events
 pub mod Run
 pub mod Catching
 pub mod Left
-pub mod Conditions
 pub mod Contents
 pub mod Syntax
 pub mod Places

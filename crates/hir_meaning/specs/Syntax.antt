@@ -14,6 +14,7 @@ use Rattle.hir_store.specs.declared.ids.LangItemId.{LangItemId}
 use Rattle.hir_store.specs.declared.ids.MacroDefId.{MacroDefId}
 use Rattle.hir_base.specs.declared.op.LogicOp.{LogicOp}
 use Rattle.hir_base.specs.declared.op.BinaryOp.TheVariants as ast
+use Rattle.hir_env.specs.Conditions.{holds_let}
 use Rattle.hir_env.specs.NodeMap.{Site}
 use Rattle.hir_env.specs.Answering.{site_of}
 use Rattle.hir_env.specs.Answered as tree
@@ -43,7 +44,6 @@ use Rattle.hir_data.specs.Rule.{PathRead}
 use Rattle.hir_data.specs.Targets.{target_data}
 use Rattle.hir_data.specs.Tops.{params_tops}
 use Rattle.hir_data.specs.Written.{path_of, root_hygiene, written_path, written_type, written_option_type, written_args}
-use Rattle.hir_meaning.specs.Conditions.{holds_let}
 use Rattle.hir_meaning.specs.Left.{is_kept, is_left, is_last, field_names}
 
 -- it keeps nothing besides
