@@ -14,7 +14,7 @@ use Rattle.hir_data.specs.Written.{path_of, written_path, written_type, written_
 use Rattle.hir_meaning.specs.Run.{Value, unit, truth, is_true, call, method_call, cast, yielding, awaiting, break, continue, leave}
 use Rattle.hir_meaning.specs.Run.{repeated, became, unmatched, ends, pure, ◌>>=◌, ◌>>◌, ask, tests, tests_pattern, binds, assigns, entering, ends_temps}
 use Rattle.hir_meaning.specs.Catching.{turn, loop}
-use Rattle.hir_meaning.specs.Conditions.{holds_let}
+use Rattle.hir_env.specs.Conditions.{holds_let}
 use Rattle.hir_meaning.specs.Left.{is_kept, is_left, is_last, field_names}
 use Rattle.hir_meaning.specs.Syntax.{run_for, run_question, run_try, is_typed, through, as_it_is}
 use Rattle.hir_meaning.specs.Syntax.{SyntaxRun, catching, run_expr, run_part, run_block_part, run_or_unit, run_each}

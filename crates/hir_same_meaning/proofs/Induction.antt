@@ -18,7 +18,7 @@ use Rattle.hir_lower_form.specs.Lower.{lower_target_fields, present_block}
 use Rattle.hir_lower_form.specs.Pats.{Elements, no_elements}
 use Rattle.hir_lower_form.specs.Lowering.{Lowering}
 use Rattle.hir_meaning.specs.Run.{Value}
-use Rattle.hir_meaning.specs.Conditions.{holds_let}
+use Rattle.hir_env.specs.Conditions.{holds_let}
 use Rattle.hir_meaning.specs.Left.{is_kept, is_left, field_names}
 use Rattle.hir_meaning.specs.Syntax.{run_expr, run_block_part, run_or_unit, run_each, run_block, spread_form, run_fields, run_spread}
 use Rattle.hir_meaning.specs.Syntax.{run_present, run_arms, run_places, run_each_place, run_field_places}
