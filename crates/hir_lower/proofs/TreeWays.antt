@@ -26,6 +26,7 @@ use Rattle.hir_env.specs.Answered.{OptionRet, OptionArgs, Args, Arg, Bounds, Bou
 use Rattle.hir_env.specs.Answered.{Listing, Label, Jump, Expr, OptionExpr, Exprs, Fields, Field, Spread, Block, OptionBlock, Stmts, Stmt}
 use Rattle.hir_env.specs.Answered.{Arms, Arm, Guard, Pat, OptionPat, Pats, PatFields, PatField, Side, OptionTypePat, TypePat, TypePats}
 use Rattle.hir_env.specs.Answered.{Called, Limit, Param, Params, Target, Targets, TargetFields, TargetField}
+use Rattle.hir_env.specs.Conditions.{holds_let}
 use Rattle.hir_env.specs.Targets.{head_pointer}
 use Rattle.hir_lower_form.specs.declared.args.ArgLists.{ArgLists}
 use Rattle.hir_lower_form.specs.declared.closures.ClosureParams.{ClosureParams}
@@ -72,7 +73,7 @@ use Rattle.hir_lower.proofs.PatWays.{tuple_struct_leads, tuple_target_leads, typ
 use Rattle.hir_lower.proofs.PatWays.{barred_pat_leads, beside_later, beside_pat, called_target_leads}
 use Rattle.hir_lower.proofs.PatWays.{alternatives_in, called_names_lead, called_pat_leads, named_pat, no_alternative, one_alternative}
 use Rattle.hir_lower.proofs.PatWays.{only_names, then_names, top_form_leads, uncalled_pat_leads}
-use Rattle.hir_lower.proofs.MadeWays.{for_leads, question_leads, try_block_leads, typed_try_leads}
+use Rattle.hir_lower.proofs.MadeWays.{condition_leads, for_leads, question_leads, try_block_leads, typed_try_leads}
 
 missing_leads : Leading since missing
 unfolding missing
@@ -342,7 +343,8 @@ mutual
   node_leads (tree.if_expr at c t e) = if_leads at (part_leads c) (block_part_leads t) (present_leads e)
   node_leads (tree.block_expr b) = block_leads b
   node_leads (tree.loop_expr at label _ b) = loop_leads at _ label (block_part_leads b)
-  node_leads (tree.while_expr at label _ c b) = loop_leads at _ label (turn_leads at (part_leads c) (block_part_leads b))
+  node_leads (tree.while_expr at label _ c b) =
+      loop_leads at _ label (turn_leads at (condition_leads at (holds_let c) (part_leads c)) (block_part_leads b))
   node_leads (tree.for_expr at items label _ p h b) =
       for_leads at (head_pointer at h) items label (part_leads h) (top_leads p) (part_leads b)
   node_leads (tree.question_expr at items e) = question_leads at items (part_leads e)

@@ -15,6 +15,7 @@ use Rattle.hir_env.specs.Answered.{OptionArgs, Args, Arg, Bounds, Bound, Constan
 use Rattle.hir_env.specs.Answered.{OptionBlock, Stmts, Stmt, Arms, Arm, Guard, Pat, OptionPat, Pats, PatFields, PatField, Side, TypePat}
 use Rattle.hir_env.specs.Answered.{OptionTypePat, TypePats, Limit, Param, Params, Called}
 use Rattle.hir_env.specs.Answered.{Target, Targets, TargetFields, TargetField, Label, Lifetime, Listing, RangeForm, UseRead}
+use Rattle.hir_env.specs.Conditions.{holds_let}
 use Rattle.hir_data.specs.Patterns.{is_dots}
 use Rattle.hir_data.specs.Uses.{FirstUses}
 use Rattle.hir_data.specs.Written.{written_path}
@@ -150,6 +151,11 @@ behind_is : (s : Stmt) (D E : Told) → ((ss : List Scope) → Like (D ss) (E ss
     → Like (p.grade_behind faults s D ss) (E (now.behind_stmt s ss))
 behind_is (tree.macro_stmt k (Some d)) D E h ss = h (macro_scope d ∷ ss)
 behind_is s D E h ss = h ss
+
+-- nothing is told of what a condition stands in
+condition_is : (lets : Bool) {D : Told} {ss : List Scope} (xs : Faults) → Like (D ss) xs → Like (p.condition faults lets D ss) xs
+condition_is true xs h = h
+condition_is false xs h = behind h
 
 name_none : (n : Name) (ss : List Scope) → p.grade_name_side faults n ss ≡ []
 name_none name.Missing ss = refl
@@ -467,7 +473,7 @@ mutual
   expr_is (tree.while_expr at label _ c b) ss =
       let inside = loop_scope label ∷ ss in
       turned_two (now.part_diagnostics inside c) (now.block_part_diagnostics inside b)
-      (both (block_part_is b inside) (behind (expr_part_is c inside)))
+      (both (block_part_is b inside) (behind (condition_is (holds_let c) (now.part_diagnostics inside c) (expr_part_is c inside))))
   expr_is (tree.for_expr at items label _ q h b) ss =
       both (expr_part_is h ss) (both (top_is q ss) (behind (behind (expr_part_is b (loop_scope label ∷ ss)))))
   expr_is (tree.question_expr at items e) ss = behind (expr_part_is e ss)
