@@ -7,7 +7,7 @@ use Rattle.hir_store.specs.declared.ids.ExprId.{ExprId}
 use Rattle.hir_store.specs.declared.ids.LangItemId.{LangItemId}
 use Rattle.hir_store.specs.declared.ids.PatId.{PatId}
 use Rattle.hir_env.specs.Answered.{ForItems, Label, QuestionItems}
-use Rattle.hir_lower_form.specs.Forms.{ExprSteps, StoredContents}
+use Rattle.hir_lower_form.specs.Forms.{ExprSteps, StoredContents, turn_form}
 use Rattle.hir_lower_form.specs.Lowering.{Lowering}
 use Rattle.hir_lower_form.specs.Made.{flow_arm_form, item_call_form, made_bind_form, made_path_form, question_form, residual_form}
 use Rattle.hir_lower_form.specs.Made.{try_block_form, typed_try_form, value_or_unit, wrapped_form, made_reference_form, next_form}
@@ -77,10 +77,16 @@ module _ (at : Pointer) where
   held_leads h = makes h (λ c. makes leading_number (λ n. makes (bind_leads _ n) (λ p. makes (path_leads n) (λ e.
       leading_made _ (Some at)))))
 
-  pub condition_leads : (lets : Bool) {condition : ExprSteps} → Leading since condition
+  condition_leads : (lets : Bool) {condition : ExprSteps} → Leading since condition
       → Leading since (condition_form lets at condition)
   condition_leads true h = h
   condition_leads false h = held_leads h
+
+  pub turn_leads : (lets : Bool) {condition body : ExprSteps} → Leading since condition → Leading since body
+      → Leading since (turn_form at (condition_form lets at condition) body)
+  unfolding turn_form
+  turn_leads lets hc hb =
+      makes hb (λ i. makes (condition_leads lets hc) (λ k. makes (leading_alloc _ (Some at)) (λ o. leading_alloc _ (Some at))))
 
   next_leads : (item : LangItemId) (n : ℕ) → Leading since (next_form at item n)
   unfolding next_form made_reference_form

@@ -33,6 +33,7 @@ use Rattle.hir_told.specs.Grades as g
 use Rattle.hir_told.specs.Grading as p
 use Rattle.hir_told.specs.Laws.{blocks}
 use Rattle.hir_told.proofs.AsTelling.{exprs_enter}
+use Rattle.hir_told.proofs.ConditionsAgree.{blocks_of_condition}
 use Rattle.hir_told.proofs.PathsAgree.{read_alike}
 
 -- ---- small parts
@@ -127,12 +128,6 @@ behind_is : (s : Stmt) {D : List Scope → List BlockId} {ns : List BlockId} →
     → p.grade_behind blocks s D ss ≡ ns
 behind_is (tree.macro_stmt k (Some d)) h ss = h (macro_scope d ∷ ss)
 behind_is s h ss = h ss
-
--- nothing is told of what a condition stands in
-condition_is : (lets : Bool) {D : Told} {ns : List BlockId} → ((ss : List Scope) → D ss ≡ ns) → (ss : List Scope)
-    → p.condition blocks lets D ss ≡ ns
-condition_is true h ss = h ss
-condition_is false h ss = behind (h ss)
 
 name_none : (n : Name) (ss : List Scope) → p.grade_name_side blocks n ss ≡ []
 name_none name.Missing ss = refl
@@ -445,7 +440,7 @@ mutual
   expr_is (tree.block_expr b) ss = block_is b ss
   expr_is (tree.loop_expr at label _ b) ss = block_part_is b (loop_scope label ∷ ss)
   expr_is (tree.while_expr at label _ c b) ss =
-      both (block_part_is b (loop_scope label ∷ ss)) (behind (condition_is (holds_let c) (expr_part_is c) (loop_scope label ∷ ss)))
+      both (block_part_is b (loop_scope label ∷ ss)) (behind (blocks_of_condition (holds_let c) (expr_part_is c (loop_scope label ∷ ss))))
   expr_is (tree.for_expr at items label _ q h b) ss =
       both (expr_part_is h ss) (both (top_is q ss) (behind (behind (expr_part_is b (loop_scope label ∷ ss)))))
   expr_is (tree.question_expr at items e) ss = behind (expr_part_is e ss)

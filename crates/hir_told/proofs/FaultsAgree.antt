@@ -33,6 +33,7 @@ use Rattle.hir_told.specs.Grades as g
 use Rattle.hir_told.specs.Grading as p
 use Rattle.hir_told.specs.Laws.{faults}
 use Rattle.hir_told.proofs.AsTelling.{exprs_report}
+use Rattle.hir_told.proofs.ConditionsAgree.{faults_of_condition, turned_two}
 use Rattle.hir_told.proofs.PathsAgree.{read_alike}
 
 -- ---- small parts
@@ -73,9 +74,6 @@ first {xs = xs} {ys = ys} e f = subst (λ zs. Like (xs ++ zs) ys) (sym f) (behin
 turned : (c t e : Faults) {xs : Faults} → Like xs (t ++ (e ++ c)) → Like xs (c ++ (t ++ e))
 turned c t e {xs = xs} h = IsPermutation-trans (c ++ (t ++ e)) (t ++ (e ++ c)) xs
     (subst (IsPermutation (c ++ (t ++ e))) (append_assoc t e c) (IsPermutation-append_comm c (t ++ e))) h
-
-turned_two : (c b : Faults) {xs : Faults} → Like xs (b ++ c) → Like xs (c ++ b)
-turned_two c b {xs = xs} h = IsPermutation-trans (c ++ b) (b ++ c) xs (IsPermutation-append_comm c b) h
 
 none_if : (b : Bool) (ss : List Scope) → p.if_so faults b none ss ≡ []
 none_if true ss = refl
@@ -151,11 +149,6 @@ behind_is : (s : Stmt) (D E : Told) → ((ss : List Scope) → Like (D ss) (E ss
     → Like (p.grade_behind faults s D ss) (E (now.behind_stmt s ss))
 behind_is (tree.macro_stmt k (Some d)) D E h ss = h (macro_scope d ∷ ss)
 behind_is s D E h ss = h ss
-
--- nothing is told of what a condition stands in
-condition_is : (lets : Bool) {D : Told} {ss : List Scope} (xs : Faults) → Like (D ss) xs → Like (p.condition faults lets D ss) xs
-condition_is true xs h = h
-condition_is false xs h = behind h
 
 name_none : (n : Name) (ss : List Scope) → p.grade_name_side faults n ss ≡ []
 name_none name.Missing ss = refl
@@ -473,7 +466,7 @@ mutual
   expr_is (tree.while_expr at label _ c b) ss =
       let inside = loop_scope label ∷ ss in
       turned_two (now.part_diagnostics inside c) (now.block_part_diagnostics inside b)
-      (both (block_part_is b inside) (behind (condition_is (holds_let c) (now.part_diagnostics inside c) (expr_part_is c inside))))
+      (both (block_part_is b inside) (behind (faults_of_condition (holds_let c) (now.part_diagnostics inside c) (expr_part_is c inside))))
   expr_is (tree.for_expr at items label _ q h b) ss =
       both (expr_part_is h ss) (both (top_is q ss) (behind (behind (expr_part_is b (loop_scope label ∷ ss)))))
   expr_is (tree.question_expr at items e) ss = behind (expr_part_is e ss)

@@ -10,6 +10,7 @@ pub mod CallForms
 pub mod Tree
 pub mod Bodies
 pub mod PathsAgree
+pub mod ConditionsAgree
 pub mod BlocksAgree
 pub mod FaultsAgree
 pub mod CorrectWhere
