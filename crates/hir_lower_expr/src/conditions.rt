@@ -28,23 +28,23 @@ fn is_with_let<P: LowerParts>(lowerer: &Lowerer<P>, node: &ast::Expr) -> bool
     ensures { result ≡ of.is_with_let (answered (P.spot lowerer.now.parts) node.now) }
 {
     let at = lowerer.pointer(node.id, node.range);
-    if lowerer.parts.cfg(site(at)).is_err() {
-        return false;
-    }
-    match &node.kind {
-        ast::ExprKind::LetExpr { .. } => true,
-        ast::ExprKind::ParenExpr { expr } => holds_let(lowerer, expr),
-        ast::ExprKind::BinExpr { op, lhs, rhs } => match op {
-            Some(BinaryOp::LogicOp(LogicOp::And)) => {
-                holds_let(lowerer, lhs) || holds_let(lowerer, rhs)
-            }
+    match lowerer.parts.cfg(site(at)) {
+        Err(_) => false,
+        Ok(()) => match &node.kind {
+            ast::ExprKind::LetExpr { .. } => true,
+            ast::ExprKind::ParenExpr { expr } => holds_let(lowerer, expr),
+            ast::ExprKind::BinExpr { op, lhs, rhs } => match op {
+                Some(BinaryOp::LogicOp(LogicOp::And)) => {
+                    holds_let(lowerer, lhs) || holds_let(lowerer, rhs)
+                }
+                _ => false,
+            },
+            ast::ExprKind::MacroExpr { call } => match call {
+                None => false,
+                Some(call) => called_with_let(lowerer, call),
+            },
             _ => false,
         },
-        ast::ExprKind::MacroExpr { call } => match call {
-            None => false,
-            Some(call) => called_with_let(lowerer, call),
-        },
-        _ => false,
     }
 }
 

@@ -440,7 +440,9 @@ mutual
   expr_is (tree.block_expr b) ss = block_is b ss
   expr_is (tree.loop_expr at label _ b) ss = block_part_is b (loop_scope label ∷ ss)
   expr_is (tree.while_expr at label _ c b) ss =
-      both (block_part_is b (loop_scope label ∷ ss)) (behind (blocks_of_condition (holds_let c) (expr_part_is c (loop_scope label ∷ ss))))
+      let inside = loop_scope label ∷ ss in
+      both (block_part_is b inside)
+      (behind (blocks_of_condition (holds_let c) (g.grade_expr_part blocks c) inside (expr_part_is c inside)))
   expr_is (tree.for_expr at items label _ q h b) ss =
       both (expr_part_is h ss) (both (top_is q ss) (behind (behind (expr_part_is b (loop_scope label ∷ ss)))))
   expr_is (tree.question_expr at items e) ss = behind (expr_part_is e ss)

@@ -7,15 +7,15 @@ use Rattle.hir_one_result.specs.Diagnostics.{Faults}
 use Rattle.hir_told.specs.Grading.{condition}
 use Rattle.hir_told.specs.Laws.{blocks, faults}
 
-pub blocks_of_condition : (lets : Bool) {D : List Scope → List BlockId} {ss : List Scope} {ns : List BlockId} → D ss ≡ ns
+pub blocks_of_condition : (lets : Bool) (D : List Scope → List BlockId) (ss : List Scope) {ns : List BlockId} → D ss ≡ ns
     → condition blocks lets D ss ≡ ns
-blocks_of_condition true h = h
-blocks_of_condition false h = append-nil _ ∙ h
+blocks_of_condition true D ss h = h
+blocks_of_condition false D ss h = append-nil (D ss) ∙ h
 
-pub faults_of_condition : (lets : Bool) {D : List Scope → Faults} {ss : List Scope} (xs : Faults) → IsPermutation (D ss) xs
-    → IsPermutation (condition faults lets D ss) xs
-faults_of_condition true xs h = h
-faults_of_condition false {D = D} {ss = ss} xs h = subst (λ ys. IsPermutation ys xs) (sym (append-nil (D ss))) h
+pub faults_of_condition : (lets : Bool) (D : List Scope → Faults) (ss : List Scope) (xs : Faults) → IsPermutation xs (D ss)
+    → IsPermutation xs (condition faults lets D ss)
+faults_of_condition true D ss xs h = h
+faults_of_condition false D ss xs h = subst (λ ys. IsPermutation xs ys) (sym (append-nil (D ss))) h
 
 pub turned_two : (c b : Faults) {xs : Faults} → IsPermutation (b ++ c) xs → IsPermutation (c ++ b) xs
 turned_two c b {xs = xs} h = IsPermutation-trans (c ++ b) (b ++ c) xs (IsPermutation-append_comm c b) h

@@ -466,7 +466,8 @@ mutual
   expr_is (tree.while_expr at label _ c b) ss =
       let inside = loop_scope label ∷ ss in
       turned_two (now.part_diagnostics inside c) (now.block_part_diagnostics inside b)
-      (both (block_part_is b inside) (behind (faults_of_condition (holds_let c) (now.part_diagnostics inside c) (expr_part_is c inside))))
+      (both (block_part_is b inside) (behind (faults_of_condition (holds_let c) (g.grade_expr_part faults c) inside
+      (now.part_diagnostics inside c) (expr_part_is c inside))))
   expr_is (tree.for_expr at items label _ q h b) ss =
       both (expr_part_is h ss) (both (top_is q ss) (behind (behind (expr_part_is b (loop_scope label ∷ ss)))))
   expr_is (tree.question_expr at items e) ss = behind (expr_part_is e ss)
