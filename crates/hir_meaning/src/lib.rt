@@ -2,6 +2,7 @@
 //! function whose contract is the law. Those of small bodies are computed, as they are written and as they are stored.
 #![tactic(auto)]
 
+pub mod conditions;
 pub mod definitions;
 pub mod listing;
 pub mod reading;
@@ -21,7 +22,6 @@ ghost use Rattle.hir_meaning.specs.Endings.{ContinuesPastTheBlock, AnswersNoPast
 ghost use Rattle.hir_meaning.specs.Patterned.{AssignsInOrder, TestsThePattern, TriesTheArms, LeavesByElse, BindsNoValue, MakesRanges};
 ghost use Rattle.hir_meaning.specs.Patterned.{CallsForTheLast};
 ghost use Rattle.hir_meaning.specs.Whiles.{WhileHasNoTurn, AsksAgain, ContinuesTheWhile, JumpsInItsCondition, LeavesByItsCondition};
-ghost use Rattle.hir_meaning.specs.Whiles.{EndsItsTemporaries, KeepsItsTemporaries};
 ghost use Rattle.hir_meaning.specs.Questions.{GoesOn, ReturnsTheResidual, IsOfNeitherKind, LacksItsConversion, ItemlessIsMissing};
 ghost use Rattle.hir_meaning.specs.Questions.{AsksOfTheAnswer, NamesKeepTheirValues};
 ghost use Rattle.hir_meaning.specs.Tries.{LeavesTheTry, LacksItsConversionInside, LacksItsOutput, LeavesTheInnerTry, GoesOnToTheOutput};
@@ -325,16 +325,6 @@ pub fn makes_ranges()
 /// In a type, the last before the end of a range is what a call of an item answers, at no node.
 pub fn calls_for_the_last()
     ensures { CallsForTheLast }
-{}
-
-/// The temporaries of the condition of `while a {}` end before it is tested.
-pub fn ends_its_temporaries()
-    ensures { EndsItsTemporaries }
-{}
-
-/// Those of `while a && (let x = b) {}` don't.
-pub fn keeps_its_temporaries()
-    ensures { KeepsItsTemporaries }
 {}
 
 /// With no turn `while a {}` is cut before anything happens.
