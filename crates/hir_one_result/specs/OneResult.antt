@@ -63,7 +63,7 @@ StandsBody store source_map rs (Some kind) skipped f e given i = λ ws. (body : 
 -- root stands for the tree, and each expression is what a written one became, or a
 -- missing one for an absent or disabled part, or in front of a tuple with a leading comma, or what is called for a range, or
 -- the turn of a `while` or the break in it, or the block in a coroutine, or the coroutine of a closure or a function or a name that is
--- read in front of its body, or is made up for a `for`, a `?` or a `try`; each label is what a written one or a `try` became, and there
+-- read in front of its body, or is made up for the condition of a `while`, a `for`, a `?` or a `try`; each label is what a written one or a `try` became, and there
 -- are as many; each binding is that of a name of a top pattern, or of `self`, or of a name that is made up or that a parameter is handed
 -- in by, has the patterns that make it, and is owned by the innermost closure, coroutine, `const` block, length or argument around it, or
 -- by nothing, as its way says and as it is counted. The source map leads from each written expression and label to what it became, and
