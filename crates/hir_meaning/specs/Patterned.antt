@@ -245,7 +245,8 @@ declared by = record {
 
 -- It is bound to nothing, and whether that fits doesn't count.
 abbrev pub BindsNoValue : Type 0
-BindsNoValue = (by : CfgId) → BothDoPatterned (declared by) (no 11 ∷ []) (event_of (bound (x_data 3) datum.no_type) [] 3 ∷ end_of_temps ∷ []) (ended unit)
+BindsNoValue = (by : CfgId)
+    → BothDoPatterned (declared by) (no 11 ∷ []) (event_of (bound (x_data 3) datum.no_type) [] 3 ∷ end_of_temps ∷ []) (ended unit)
 
 -- ---- ranges
 

@@ -62,9 +62,8 @@ use Rattle.hir_one_result.specs.Forms.{pat_unary_form, range_fields}
 use Rattle.hir_one_result.specs.PathRoom.{Seen, nothing_seen, at_first, segments_read, own_read, yields}
 use Rattle.hir_one_result.specs.Leads.{Ways, No, OneWay, OneUnled, OneLabelWay, OneFieldWay, OnePatFieldWay, OwnedBy, Overtaken, ◌&◌}
 pub use Rattle.hir_one_result.specs.StandsParts.{ExprAt, LabelAt, Open, opened, Absent, There, ThereIf, ReadsAs, statement_of, SomeExpr}
-use Rattle.hir_one_result.specs.StandsMade.{StandsCondition}
 use Rattle.hir_one_result.specs.StandsMade.{StandsFor, StandsForLoop, StandsForTurn, StandsQuestion, StandsTry, StandsTypedTry, StandsWhile}
-use Rattle.hir_one_result.specs.StandsMade.{StandsClosure, StandsCoroutine, StandsParam, StoredParams}
+use Rattle.hir_one_result.specs.StandsMade.{StandsClosure, StandsCondition, StandsCoroutine, StandsParam, StoredParams}
 use Rattle.hir_one_result.specs.StandsPreludes.{StandsCoroutineClosure}
 pub use Rattle.hir_one_result.specs.StandsReads.{NamesOf, WithNames, ReadsAsPat, ReadsAsTarget, ReadsAsType}
 pub use Rattle.hir_one_result.specs.StandsParts.{SomeConst, WhereOn, Unless, StandsBefore, WherePath, BehindFront, Names, StandsName}
