@@ -138,9 +138,9 @@ inside_projection p = record p { lifetimes = in_projection_scope p.lifetimes }
 abbrev pub outside_impl : Place → Place
 outside_impl p = record p { in_impl = false }
 
--- Inside of a constant, or of the pattern of a type, where an `impl` is an error. An `await` there stands in what the constant stands in.
+-- Inside of a constant, or of the pattern of a type, where an `impl` is an error, and which is what an `await` there stands in.
 abbrev pub inside_constant : Place → Place
-inside_constant p = record p { impl_trait = becomes.Error }
+inside_constant p = record p { impl_trait = becomes.Error; await_location = Some location.Constant }
 
 -- Inside of a `const` block, which is what an `await` there stands in.
 abbrev pub inside_const_block : Place → Place

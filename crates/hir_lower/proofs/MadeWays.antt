@@ -1,5 +1,5 @@
 -- The forms that lowering makes up nodes for are made of such steps.
-use Rattle.std.proofs.Common.{ℕ, Bool, Option, Some, None}
+use Rattle.std.proofs.Common.{ℕ, Bool, true, false, Option, Some, None}
 use Rattle.hir_binding.specs.declared.binding.BindingAnnotation.{BindingAnnotation}
 use Rattle.hir_store.specs.Pointers.{Pointer}
 use Rattle.hir_store.specs.declared.ids.BlockId.{BlockId}
@@ -7,11 +7,12 @@ use Rattle.hir_store.specs.declared.ids.ExprId.{ExprId}
 use Rattle.hir_store.specs.declared.ids.LangItemId.{LangItemId}
 use Rattle.hir_store.specs.declared.ids.PatId.{PatId}
 use Rattle.hir_env.specs.Answered.{ForItems, Label, QuestionItems}
-use Rattle.hir_lower_form.specs.Forms.{ExprSteps, StoredContents}
+use Rattle.hir_lower_form.specs.Forms.{ExprSteps, StoredContents, turn_form}
 use Rattle.hir_lower_form.specs.Lowering.{Lowering}
 use Rattle.hir_lower_form.specs.Made.{flow_arm_form, item_call_form, made_bind_form, made_path_form, question_form, residual_form}
 use Rattle.hir_lower_form.specs.Made.{try_block_form, typed_try_form, value_or_unit, wrapped_form, made_reference_form, next_form}
 use Rattle.hir_lower_form.specs.Made.{done_arm_form, gives_arm_form, for_turn_form, made_loop_form, for_form}
+use Rattle.hir_lower_form.specs.Made.{condition_form, held_form, hold_form}
 use Rattle.hir_lower_form.specs.Types.{TypeSteps}
 use Rattle.hir_lower.proofs.Onward.{Leading, any, since, then', makes, anyway, leading_pure}
 use Rattle.hir_lower.proofs.Ways.{leading_alloc, leading_alloc_binding, leading_alloc_pat, leading_block, leading_close, leading_define}
@@ -70,6 +71,22 @@ module _ (at : Pointer) where
   typed_try_leads hb ht =
       makes hb (λ b. makes leading_number (λ n. makes ht (λ t. makes (bind_leads _ n) (λ p. makes (path_leads n) (λ e.
       leading_made _ (Some at))))))
+
+  held_leads : {condition : ExprSteps} → Leading since condition → Leading since (held_form at condition)
+  unfolding held_form hold_form
+  held_leads h = makes h (λ c. makes leading_number (λ n. makes (bind_leads _ n) (λ p. makes (path_leads n) (λ e.
+      leading_made _ (Some at)))))
+
+  condition_leads : (lets : Bool) {condition : ExprSteps} → Leading since condition
+      → Leading since (condition_form lets at condition)
+  condition_leads true h = h
+  condition_leads false h = held_leads h
+
+  pub turn_leads : (lets : Bool) {condition body : ExprSteps} → Leading since condition → Leading since body
+      → Leading since (turn_form at (condition_form lets at condition) body)
+  unfolding turn_form
+  turn_leads lets hc hb =
+      makes hb (λ i. makes (condition_leads lets hc) (λ k. makes (leading_alloc _ (Some at)) (λ o. leading_alloc _ (Some at))))
 
   next_leads : (item : LangItemId) (n : ℕ) → Leading since (next_form at item n)
   unfolding next_form made_reference_form

@@ -26,12 +26,13 @@ use Rattle.hir_env.specs.Answered.{OptionRet, OptionArgs, Args, Arg, Bounds, Bou
 use Rattle.hir_env.specs.Answered.{Listing, Label, Jump, Expr, OptionExpr, Exprs, Fields, Field, Spread, Block, OptionBlock, Stmts, Stmt}
 use Rattle.hir_env.specs.Answered.{Arms, Arm, Guard, Pat, OptionPat, Pats, PatFields, PatField, Side, OptionTypePat, TypePat, TypePats}
 use Rattle.hir_env.specs.Answered.{Called, Limit, Param, Params, Target, Targets, TargetFields, TargetField}
+use Rattle.hir_env.specs.Conditions.{holds_let}
 use Rattle.hir_env.specs.Targets.{head_pointer}
 use Rattle.hir_lower_form.specs.declared.args.ArgLists.{ArgLists}
 use Rattle.hir_lower_form.specs.declared.closures.ClosureParams.{ClosureParams}
 use Rattle.hir_lower_form.specs.declared.walk.PathWalk.{PathWalk}
 use Rattle.hir_lower_form.specs.Lowering.{Lowering}
-use Rattle.hir_lower_form.specs.Lower.{ExprSteps, StoredContents, missing, some, if_form, loop_form, turn_form, call_form, continue_form}
+use Rattle.hir_lower_form.specs.Lower.{ExprSteps, StoredContents, missing, some, if_form, loop_form, call_form, continue_form}
 use Rattle.hir_lower_form.specs.Lower.{break_form, paren_form, operand_form, operands_form, value_form, list_form, repeat_form, const_form}
 use Rattle.hir_lower_form.specs.Lower.{closure_form, param_form, yield_form, lower_param, lower_params, no_closure_params}
 use Rattle.hir_lower_form.specs.Types.{TypeSteps}
@@ -72,7 +73,7 @@ use Rattle.hir_lower.proofs.PatWays.{tuple_struct_leads, tuple_target_leads, typ
 use Rattle.hir_lower.proofs.PatWays.{barred_pat_leads, beside_later, beside_pat, called_target_leads}
 use Rattle.hir_lower.proofs.PatWays.{alternatives_in, called_names_lead, called_pat_leads, named_pat, no_alternative, one_alternative}
 use Rattle.hir_lower.proofs.PatWays.{only_names, then_names, top_form_leads, uncalled_pat_leads}
-use Rattle.hir_lower.proofs.MadeWays.{for_leads, question_leads, try_block_leads, typed_try_leads}
+use Rattle.hir_lower.proofs.MadeWays.{for_leads, question_leads, try_block_leads, turn_leads, typed_try_leads}
 
 missing_leads : Leading since missing
 unfolding missing
@@ -91,10 +92,6 @@ module _ (at : Pointer) where
   unfolding loop_form
   loop_leads from None h = makes h (λ i. leading_alloc _ (Some at))
   loop_leads from (Some l) h = makes (leading_open l) (λ n. makes h (λ i. makes leading_close (λ u. leading_alloc _ (Some at))))
-
-  turn_leads : {c b : ExprSteps} → Leading since c → Leading since b → Leading since (turn_form at c b)
-  unfolding turn_form
-  turn_leads hc hb = makes hb (λ i. makes hc (λ k. makes (leading_alloc _ (Some at)) (λ o. leading_alloc _ (Some at))))
 
   call_leads : {f : ExprSteps} {xs : Lowering (List ExprId)} → Leading since f → Leading any xs → Leading since (call_form at f xs)
   unfolding call_form
@@ -342,7 +339,8 @@ mutual
   node_leads (tree.if_expr at c t e) = if_leads at (part_leads c) (block_part_leads t) (present_leads e)
   node_leads (tree.block_expr b) = block_leads b
   node_leads (tree.loop_expr at label _ b) = loop_leads at _ label (block_part_leads b)
-  node_leads (tree.while_expr at label _ c b) = loop_leads at _ label (turn_leads at (part_leads c) (block_part_leads b))
+  node_leads (tree.while_expr at label _ c b) =
+      loop_leads at _ label (turn_leads at (holds_let c) (part_leads c) (block_part_leads b))
   node_leads (tree.for_expr at items label _ p h b) =
       for_leads at (head_pointer at h) items label (part_leads h) (top_leads p) (part_leads b)
   node_leads (tree.question_expr at items e) = question_leads at items (part_leads e)

@@ -4,6 +4,7 @@ ghost use Rattle.std.specs.Prelude.{[], ◌+◌, ◌++◌, ◌≡◌, ◌≢◌,
 ghost use Rattle.std.specs.Prelude.{option_copied};
 ghost use Rattle.hir_store.specs.Range.{HasExpr, HasTypeParts, InRange};
 ghost use Rattle.hir_store.specs.Stored.{map_of, store_of};
+ghost use Rattle.hir_env.specs.Paths.{inside_constant};
 ghost use Rattle.hir_env.specs.Spot.{in_file};
 ghost use Rattle.hir_env.specs.Whole.{expr_part};
 ghost use Rattle.hir_lower_form.specs.Generics.{predicates_of};
@@ -57,6 +58,17 @@ fn unboxed(expr: &Option<Boxed<ast::Expr>>) -> Option<&ast::Expr>
     match expr {
         None => None,
         Some(expr) => Some(expr.get()),
+    }
+}
+
+/// Where the expression of a constant is read that stands alone: inside of the constant.
+fn constant_place(place: Place) -> Place
+    ensures { result ≡ inside_constant place }
+{
+    Place {
+        impl_trait: ImplTrait::Error,
+        await_location: Some(AwaitLocation::Constant),
+        ..place
     }
 }
 
@@ -365,14 +377,14 @@ impl<'db, E: LowerEnv> ExprCollector<'db, E> {
     /// it, and a node leads to where it led, or to what came since.
     pub fn lower_const_arg(&mut self, arg: &ast::ConstArg) -> Result<ConstRef, LowerError>
         ensures calls { Calls self.old.failed self.old.state result self.new.state self.new.failed }
-        ensures rooted { let e = expr_part (spot_at (E.answers self.old.db.now) self.old.place) arg.now in
+        ensures rooted { let e = expr_part (spot_at (E.answers self.old.db.now) (inside_constant self.old.place)) arg.now in
             IfOk result (λ c. Rooted self.old.state.stored self.new.state.stored c.expr e) }
         ensures full { IsErrOf result LowerError.Full → SomeEnd self.new.state }
-        ensures too_large { let e = expr_part (spot_at (E.answers self.old.db.now) self.old.place) arg.now in
+        ensures too_large { let e = expr_part (spot_at (E.answers self.old.db.now) (inside_constant self.old.place)) arg.now in
             IsErrOf result LowerError.Full → TooLarge self.old.state e }
-        ensures fits { let e = expr_part (spot_at (E.answers self.old.db.now) self.old.place) arg.now in
+        ensures fits { let e = expr_part (spot_at (E.answers self.old.db.now) (inside_constant self.old.place)) arg.now in
             IfOk result (λ c. FitsBehind (size_part e) self.old.state) }
-        ensures names { let e = expr_part (spot_at (E.answers self.old.db.now) self.old.place) arg.now in
+        ensures names { let e = expr_part (spot_at (E.answers self.old.db.now) (inside_constant self.old.place)) arg.now in
             IfOk result (λ c. self.new.state.names ≡ self.old.state.names + (size_part e).names) }
         ensures stays { result ≢ Err LowerError.Memory → Stays self.old.state.stored self.new.state.stored }
         ensures db { self.new.db ≡ self.old.db }
@@ -385,7 +397,7 @@ impl<'db, E: LowerEnv> ExprCollector<'db, E> {
         let expr = lower_root(
             self.alloc,
             self.db,
-            self.place,
+            constant_place(self.place),
             &mut self.state,
             unboxed(arg),
         )?;

@@ -1,4 +1,5 @@
 pub mod CallLemmas
+pub mod ConditionLemmas
 pub mod ContentLemmas
 pub mod DefinitionLemmas
 pub mod Owning

@@ -4,6 +4,7 @@ ghost use Rattle.std.specs.Prelude.{◌≡◌, ◌-◌, false, length, slice_get
 ghost use Rattle.hir_syntax.specs.declared.ast.BlockExpr.{out-BlockExpr};
 ghost use Rattle.hir_store.specs.Range.{HasExpr, HasLabelOption};
 ghost use Rattle.hir_env.specs.Whole.{answered_block, label_part};
+ghost use Rattle.hir_lower_form.specs.Forms as form;
 ghost use Rattle.hir_lower_form.specs.Lowering.{Lowers};
 ghost use Rattle.hir_lower_form.specs.Lower as spec;
 ghost use Rattle.hir_lower_form.specs.Nests.{KidsBlock, KidsBody};
@@ -24,6 +25,7 @@ use hir_store::fault::StoreFault;
 use hir_store::hir::{CoroutineKind, Statement};
 use hir_store::ids::{BlockId, ExprId, LabelId, LangItemId};
 use hir_syntax::{Seq, ast};
+use std::alloc::Global;
 use std::collections::BTreeMap;
 
 /// The expression of a last statement that has no semicolon.
@@ -136,6 +138,27 @@ fn try_node<P: LowerParts, N: WrittenBlock>(
     )
 }
 
+/// The block of these statements and this tail, which comes from no node, and the coroutine around it.
+#[tactic(auto, unfolding(hir_lower_form::specs::Forms::coroutine_around_form))]
+#[inline(never)]
+fn coroutine_around(
+    alloc: Global,
+    state: &mut BodyBuilder,
+    at: InFile<AstPtr>,
+    kind: CoroutineKind,
+    moves: bool,
+    number: Option<BlockId>,
+    mut statements: Seq<Statement>,
+    tail: Option<ExprId>,
+) -> Result<ExprId, StoreFault>
+    requires { HasContents state.old.stored (statements, tail) }
+    ensures { Lowers HasExpr (form.coroutine_around_form at kind moves number (statements, tail)) state.old result state.new }
+{
+    let tail = settle(&mut statements, tail);
+    let body = store_block(state, None, false, None, number, statements, tail)?;
+    store_coroutine(alloc, state, at, kind, moves, body)
+}
+
 /// The block of a coroutine that is read here, which comes from no node, and the coroutine around it.
 #[tactic(auto, unfolding(hir_lower_form::specs::Forms::coroutine_block_form))]
 #[inline(never)]
@@ -153,10 +176,17 @@ fn coroutine_node<P: LowerParts, N: WrittenBlock>(
         Lowers HasExpr (spec.as_role (role.Coroutine kind moves) at number (N.stored spot node.now)) state.old result state.new }
 {
     state.enter_block(number)?;
-    let (mut statements, tail) = node.contents(lowerer, state)?;
-    let tail = settle(&mut statements, tail);
-    let body = store_block(state, None, false, None, number, statements, tail)?;
-    store_coroutine(lowerer.alloc, state, at, kind, moves, body)
+    let (statements, tail) = node.contents(lowerer, state)?;
+    coroutine_around(
+        lowerer.alloc,
+        state,
+        at,
+        kind,
+        moves,
+        number,
+        statements,
+        tail,
+    )
 }
 
 /// A block that is read here, of this role.

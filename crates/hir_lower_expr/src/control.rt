@@ -4,6 +4,7 @@ ghost use Rattle.hir_syntax.specs.declared.ast.ElseBranch.{out-ElseBranch};
 ghost use Rattle.hir_env.specs.Answered as tree;
 ghost use Rattle.hir_env.specs.Answered.{OptionExpr};
 ghost use Rattle.hir_env.specs.Answering.{label_written};
+ghost use Rattle.hir_env.specs.Conditions.{holds_let};
 ghost use Rattle.hir_env.specs.declared.place.Place.{Place as AtPlace};
 ghost use Rattle.hir_env.specs.Spot.{Spot};
 ghost use Rattle.hir_env.specs.Whole.{answered_else, else_level, else_part, label_part};
@@ -11,6 +12,7 @@ ghost use Rattle.hir_store.specs.Range.{HasExpr};
 ghost use Rattle.hir_lower_form.specs.Lower.{lower_block_part, lower_part};
 ghost use Rattle.hir_lower_form.specs.Lower as spec;
 ghost use Rattle.hir_lower_form.specs.Lowering.{Lowers};
+ghost use Rattle.hir_lower_form.specs.Made as made;
 ghost use Rattle.hir_lower_form.specs.Nests.{Claims, IfPresent, KidsElse};
 ghost use Rattle.hir_lower_form.specs.Methods.{LowersExpr, LowersIfPresent};
 
@@ -145,6 +147,33 @@ pub fn loop_form<P: LowerParts, B: BlockPart>(
     }
 }
 
+/// The condition of a `while`, whose temporaries end before it is tested, but those of one that holds a `let`, which the body may use.
+///
+/// `c` becomes
+///
+/// ```text
+/// { let made = c; made }
+/// ```
+#[tactic(auto, unfolding(hir_lower_form::specs::Made::held_form))]
+#[inline(never)]
+fn condition_form<P: LowerParts, E: ExprPart>(
+    lowerer: &Lowerer<P>,
+    state: &mut BodyBuilder,
+    at: InFile<AstPtr>,
+    condition: &E,
+) -> Result<ExprId, StoreFault>
+    requires { E.can (P.can lowerer.now.parts) condition.now }
+    ensures { let c = E.read (P.spot lowerer.now.parts) condition.now in
+        Lowers HasExpr (made.condition_form (holds_let c) at (lower_part c)) state.old result state.new }
+{
+    let tested = condition.lower(lowerer, state)?;
+    if condition.holds_let(lowerer) {
+        Ok(tested)
+    } else {
+        state.hold(lowerer.alloc, at, tested)
+    }
+}
+
 /// The turn of a `while`: its body where the condition holds, else a break. The body is lowered before the condition.
 #[tactic(auto, unfolding(hir_lower_form::specs::Forms::turn_form))]
 #[inline(never)]
@@ -157,12 +186,13 @@ fn turn_form<P: LowerParts, E: ExprPart, B: BlockPart>(
 ) -> Result<ExprId, StoreFault>
     requires condition { E.can (P.can lowerer.now.parts) condition.now }
     requires body { B.can (P.can lowerer.now.parts) (P.spot lowerer.now.parts).place body.now }
-    ensures { Lowers HasExpr (spec.turn_form at
-        (lower_part (E.read (P.spot lowerer.now.parts) condition.now))
+    ensures { let c = E.read (P.spot lowerer.now.parts) condition.now in
+        Lowers HasExpr (spec.turn_form at
+        (made.condition_form (holds_let c) at (lower_part c))
         (lower_block_part (B.read (P.spot lowerer.now.parts) body.now))) state.old result state.new }
 {
     let body = body.lower(lowerer, state)?;
-    let tested = condition.lower(lowerer, state)?;
+    let tested = condition_form(lowerer, state, at, condition)?;
     let out = store_break(state, at)?;
     let turn = Expr::If {
         condition: tested,
@@ -177,7 +207,8 @@ fn turn_form<P: LowerParts, E: ExprPart, B: BlockPart>(
 /// `'a: while c b` becomes
 ///
 /// ```text
-/// 'a: loop { if c b else { break } }
+/// 'a: loop { if { let made = c; made } b else { break } }     // where c holds no `let`
+/// 'a: loop { if c b else { break } }                          // where it does
 /// ```
 #[tactic(auto, unfolding(hir_lower_form::specs::Forms::loop_form))]
 #[inline(never)]

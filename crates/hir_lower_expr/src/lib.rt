@@ -6,6 +6,7 @@ pub mod assignments;
 pub mod blocks;
 pub mod calls;
 pub mod closures;
+mod conditions;
 mod consts;
 pub mod control;
 mod coroutine_closures;

@@ -2,6 +2,7 @@
 
 ghost use Rattle.std.specs.Prelude.{◌≡◌, Bool, None, is_some};
 ghost use Rattle.hir_env.specs.Answered.{Constant, Exprs, OptionArgs, OptionBlock, OptionExpr, OptionPat, OptionPath, OptionType};
+ghost use Rattle.hir_env.specs.Conditions as of;
 ghost use Rattle.hir_env.specs.declared.place.Place.{Place as AtPlace};
 ghost use Rattle.hir_env.specs.Spot.{Spot};
 ghost use Rattle.hir_env.specs.Targets.{head_pointer, resolves, target_of};
@@ -12,6 +13,7 @@ ghost use Rattle.hir_lower_form.specs.Methods.{LowersArgs, LowersBlockOpt, Lower
 ghost use Rattle.hir_lower_form.specs.Methods.{LowersPath, LowersTarget, LowersTop, LowersTypeIfPresent, LowersTypeOpt};
 ghost use Rattle.hir_lower_form.specs.Methods.{at_place, constant_at};
 
+use crate::conditions::holds_let;
 use crate::fors::head_node;
 use hir_base::node::{AstPtr, InFile};
 use hir_env::place::Place;
@@ -45,6 +47,10 @@ pub trait ExprPart {
     /// The node of the expression, or this one where it is absent.
     fn node_or<P: LowerParts>(&self, lowerer: &Lowerer<P>, at: InFile<AstPtr>) -> InFile<AstPtr>
         ensures { result ≡ head_pointer at (read (P.spot lowerer.now.parts) self.now) };
+
+    /// Whether it holds a `let`, as the condition of a `while`.
+    fn holds_let<P: LowerParts>(&self, lowerer: &Lowerer<P>) -> bool
+        ensures { result ≡ of.holds_let (read (P.spot lowerer.now.parts) self.now) };
 
     /// The expression, missing where it is absent or a condition disables it.
     fn lower<P: LowerParts>(
@@ -102,6 +108,10 @@ impl ExprPart for Option<Boxed<ast::Expr>> {
 
     fn node_or<P: LowerParts>(&self, lowerer: &Lowerer<P>, at: InFile<AstPtr>) -> InFile<AstPtr> {
         head_node(lowerer, at, self)
+    }
+
+    fn holds_let<P: LowerParts>(&self, lowerer: &Lowerer<P>) -> bool {
+        holds_let(lowerer, self)
     }
 
     fn lower<P: LowerParts>(

@@ -412,13 +412,18 @@ closure_form at moves is_static params ret body = do
 abbrev pub stored_coroutine : CoroutineKind → Bool → ExprId → HirExpr
 stored_coroutine kind moves body = hir.Closure [] [] None body (closure.Coroutine kind source.Block) (capture_by moves)
 
--- The block, which comes from no node, and the coroutine around it.
+-- the block of what is lowered, which comes from no node, and the coroutine around it
+unfoldable pub coroutine_around_form : Pointer → CoroutineKind → Bool → Option BlockId → StoredContents → ExprSteps
+coroutine_around_form at kind moves number r = do
+  b ← alloc_expr (settled_block false None number (settled r.0 r.1)) None
+  alloc_expr (stored_coroutine kind moves b) (Some at)
+
+-- the same, of what is to be lowered
 unfoldable pub coroutine_block_form : Pointer → CoroutineKind → Bool → Option BlockId → Lowering StoredContents → ExprSteps
 coroutine_block_form at kind moves number contents = do
   enter_block number
   r ← contents
-  b ← alloc_expr (settled_block false None number (settled r.0 r.1)) None
-  alloc_expr (stored_coroutine kind moves b) (Some at)
+  coroutine_around_form at kind moves number r
 
 -- No jump in it reaches what is open around it, and a `yield` in it is its own.
 unfoldable pub coroutine_form : ExprSteps → ExprSteps

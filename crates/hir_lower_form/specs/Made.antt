@@ -1,6 +1,6 @@
 -- The forms that lowering makes up nodes for: `for`, `?` and `try` (rust-analyzer, `collect_for_loop`, `collect_try_operator` and
 -- `desugar_try_block`; Rust Reference, iterator loops and the question mark operator).
-use Rattle.std.specs.Prelude.{ℕ, Bool, false, if◌then◌else◌, [], ◌∷◌, Option, Some, None}
+use Rattle.std.specs.Prelude.{ℕ, Bool, false, true, if◌then◌else◌, [], ◌∷◌, Option, Some, None}
 use Rattle.hir_binding.specs.declared.binding.BindingAnnotation.{BindingAnnotation}
 use Rattle.hir_binding.specs.declared.binding.BindingAnnotation.TheVariants.{Mutable, Unannotated}
 use Rattle.hir_store.specs.Pointers.{Pointer}
@@ -218,3 +218,31 @@ for_form at head_at items label head pattern body = do
   q ← made_bind_form Mutable n
   l ← made_loop_form at label (for_turn_form at items n p body)
   alloc_expr (hir.Match i (arm_for q l ∷ [])) (Some at)
+
+-- ---- a condition whose temporaries end
+
+-- what binds a value by the pattern
+abbrev pub held : PatId → ExprId → Statement
+held p value = statement.Let p None (Some value) None
+
+-- a block that does so, and then is what stands behind it
+abbrev pub held_block : PatId → ExprId → ExprId → HirExpr
+held_block p value e = hir.Block false None None (held p value ∷ []) (Some e)
+
+-- `{ let g = value; g }`
+unfoldable pub hold_form : Pointer → ExprId → ExprSteps
+hold_form at value = do
+  n ← made_number
+  p ← made_bind_form Unannotated n
+  e ← made_path_form at n
+  alloc_made (held_block p value e) (Some at)
+
+unfoldable pub held_form : Pointer → ExprSteps → ExprSteps
+held_form at condition = do
+  c ← condition
+  hold_form at c
+
+-- one that holds a `let` stands as it is
+abbrev pub condition_form : Bool → Pointer → ExprSteps → ExprSteps
+condition_form true at condition = condition
+condition_form false at condition = held_form at condition

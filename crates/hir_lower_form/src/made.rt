@@ -81,6 +81,21 @@ fn bound(
     Ok(statements)
 }
 
+/// The statements of a block that only binds a value.
+fn held(alloc: Global, pat: PatId, value: ExprId) -> Result<Seq<Statement>, AllocError>
+    ensures { IfOk result (λ ss. ss ≡ spec.held pat value ∷ []) }
+{
+    let mut statements = Seq::new(alloc);
+    let statement = Statement::Let {
+        pat,
+        type_ref: None,
+        initializer: Some(value),
+        else_branch: None,
+    };
+    push_statement(&mut statements, statement)?;
+    Ok(statements)
+}
+
 impl BodyBuilder {
     /// Stores the made name of this number, as a path.
     #[tactic(auto, unfolding(crate::specs::Made::made_path_form))]
@@ -292,5 +307,52 @@ impl BodyBuilder {
             tail: Some(tail),
         };
         self.alloc_made(expr, Some(at))
+    }
+
+    /// Stores a block that binds a value by the pattern, and then is what stands behind it.
+    pub fn held_block(
+        &mut self,
+        alloc: Global,
+        at: InFile<AstPtr>,
+        pat: PatId,
+        value: ExprId,
+        tail: ExprId,
+    ) -> Result<ExprId, StoreFault>
+        requires pat { HasPat self.old.stored pat }
+        requires value { HasExpr self.old.stored value }
+        requires tail { HasExpr self.old.stored tail }
+        ensures { Lowers HasExpr (step.alloc_made (spec.held_block pat value tail) (Some at)) self.old result self.new }
+    {
+        let statements = held(alloc, pat, value)?;
+        let expr = Expr::Block {
+            is_unsafe: false,
+            label: None,
+            id: None,
+            statements,
+            tail: Some(tail),
+        };
+        self.alloc_made(expr, Some(at))
+    }
+
+    /// Stores a block that binds a value by a made name, and then is that name.
+    ///
+    /// ```text
+    /// { let made = condition; made }     // of `while condition { .. }`
+    /// ```
+    #[tactic(auto, unfolding(crate::specs::Made::hold_form))]
+    #[inline(never)]
+    pub fn hold(
+        &mut self,
+        alloc: Global,
+        at: InFile<AstPtr>,
+        value: ExprId,
+    ) -> Result<ExprId, StoreFault>
+        requires { HasExpr self.old.stored value }
+        ensures { Lowers HasExpr (spec.hold_form at value) self.old result self.new }
+    {
+        let number = self.made_number()?;
+        let pat = self.made_bind(BindingAnnotation::Unannotated, number)?;
+        let tail = self.made_path(alloc, at, number)?;
+        self.held_block(alloc, at, pat, value, tail)
     }
 }

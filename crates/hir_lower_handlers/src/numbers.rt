@@ -9,6 +9,7 @@ use hir_env::place::{LoweringMode, Place};
 use hir_store::ids::{BlockId, ModuleId};
 
 /// The number and the module of a block, where numbers are asked for.
+#[inline(never)]
 pub fn number<E: LowerEnv>(env: &E, place: Place, node: NodeId) -> Option<(BlockId, ModuleId)>
     ensures { result ≡ number_at (E.answers env.now) place node }
 {
@@ -41,4 +42,15 @@ pub fn block_number(number: Option<(BlockId, ModuleId)>) -> Option<BlockId>
         None => None,
         Some((block, _)) => Some(block),
     }
+}
+
+/// Turns the place to where the parts of the block are read, and answers its number.
+#[inline(never)]
+pub fn enter<E: LowerEnv>(env: &E, place: &mut Place, node: NodeId) -> Option<BlockId>
+    ensures place { place.new ≡ place_inside (number_at (E.answers env.now) place.old node) place.old }
+    ensures number { result ≡ option_map (λ n. n.0) (number_at (E.answers env.now) place.old node) }
+{
+    let found = number(env, *place, node);
+    *place = inside(*place, found);
+    block_number(found)
 }

@@ -14,7 +14,7 @@ use hir_lower_form::builder::BodyBuilder;
 use hir_lower_form::parts::{BlockRole, Lowerer};
 use hir_lower_form::walk::{PathWalk, Reading};
 use hir_lower_handlers::handlers::Handlers;
-use hir_lower_handlers::numbers::{block_number, inside, number};
+use hir_lower_handlers::numbers::enter;
 use hir_lower_kinds::exprs::expr_node;
 use hir_lower_pat::{bare, top as patterns};
 use hir_lower_path::path::path_node;
@@ -67,15 +67,12 @@ pub fn collect_block_inside<E: LowerEnv>(
     requires { HasRole state.old.stored role }
     ensures { LowersInside role (answered_plain (spot_at (E.answers env.now) place) node.now) state.old result state.new }
 {
-    let found = number(env, place, node.id);
-    let inner = inside(place, found);
-    let block = block_number(found);
-    let lowerer = Lowerer {
+    let mut lowerer = Lowerer {
         alloc,
         parts: Handlers {
             alloc,
             env,
-            place: inner,
+            place,
             expr: maybe_collect_expr::<E>,
             block: collect_block_inside::<E>,
             path: read_path_segments::<E>,
@@ -83,6 +80,7 @@ pub fn collect_block_inside<E: LowerEnv>(
             args: lower_arg_list::<E>,
         },
     };
+    let block = enter(env, &mut lowerer.parts.place, node.id);
     block_node(&lowerer, state, role, block, node)
 }
 

@@ -3,7 +3,7 @@ pub mod KindLemmas
 pub mod Elements
 pub mod CallLemmas
 pub mod Kids
-mod OfKinds
+pub mod OfKinds
 pub mod AimLemmas
 pub mod AimSteps
 pub mod AimTurns

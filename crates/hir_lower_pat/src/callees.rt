@@ -21,7 +21,7 @@ use hir_store::path::Path;
 use hir_syntax::ast::{self, Fragment};
 
 /// The expression that a call stands for, and where it is read. Nothing is told of the call.
-fn expr_behind<'a, P: LowerParts>(
+pub fn expr_behind<'a, P: LowerParts>(
     lowerer: &'a Lowerer<P>,
     call: &ast::MacroCall,
 ) -> Option<(Place, &'a ast::Expr)>

@@ -5,7 +5,7 @@ mod aims;
 mod alternatives;
 pub mod bare;
 pub mod bindings;
-mod callees;
+pub mod callees;
 mod calls;
 pub mod items;
 mod limits;

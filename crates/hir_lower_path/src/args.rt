@@ -57,6 +57,7 @@ fn output<P: LowerParts>(
 }
 
 /// The arguments for this tuple of types, and this one that is answered.
+#[inline(never)]
 fn sugared_args(
     alloc: Global,
     tuple: TypeRefId,
@@ -135,7 +136,6 @@ fn found_or_parens<P: LowerParts>(
 
 /// Of `<..>`, `(A) -> C` and `(..)` the first that yields any.
 #[tactic(auto, unfolding(hir_lower_form::specs::Paths::segment_args_form))]
-#[inline(never)]
 pub(crate) fn segment_args<P: LowerParts>(
     lowerer: &Lowerer<P>,
     state: &mut BodyBuilder,

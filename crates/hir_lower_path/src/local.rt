@@ -70,6 +70,7 @@ fn at_root(root: Option<CrateId>, bare: bool, reading: Reading) -> Reading
     }
 }
 
+#[inline(never)]
 fn if_read(
     root: Option<CrateId>,
     bare: bool,

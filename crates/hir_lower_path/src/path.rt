@@ -155,7 +155,6 @@ pub(crate) fn projected_form<P: LowerParts>(
 
 /// `<T as Trait>`.
 #[tactic(auto, unfolding(hir_lower_form::specs::Paths::with_trait))]
-#[inline(never)]
 fn trait_form<P: LowerParts>(
     lowerer: &Lowerer<P>,
     state: &mut BodyBuilder,

@@ -13,7 +13,7 @@ use Rattle.hir_lower_form.specs.Lowering.{Checked, Lowering, Lowers, ◌>>=◌, 
 use Rattle.hir_lower_form.specs.Methods.{HasLists}
 use Rattle.hir_lower_form.specs.Types.{binding_form, lower_lifetime, past_lists}
 use Rattle.hir_lower_form.specs.declared.args.ArgLists.{ArgLists}
-use Rattle.hir_lower_type.specs.Single.{HasOne, past_one, single_arg, with_one}
+use Rattle.hir_lower_type.specs.Single.{HasOne, IsBehind, past_one, single_arg, with_one}
 use Rattle.hir_lower_type.specs.declared.one_arg.OneArg.{OneArg}
 use Rattle.hir_lower_type.specs.declared.one_arg.OneArg.TheVariants as one
 
@@ -27,6 +27,16 @@ mapped f g (Err e) b = refl
 pub fails_on : {A B : Type 0} (HasA : Stored → A → Type 0) (HasB : Stored → B → Type 0) (p : Lowering A) (f : A → Lowering B)
     (old new : Builder) (e : StoreFault) → Lowers HasA p old (Err e) new → Lowers HasB (p >>= f) old (Err e) new
 fails_on HasA HasB p f old new e h = λ n. (ap (λ o. go_on o.0 o.1 f) (h n).0, (h n).1)
+
+grown : (old mid new : Builder) → Grows old.stored mid.stored → Grows mid.stored new.stored → Grows old.stored new.stored
+grown old mid new a b = grind (arith)
+
+-- where they answer, it does what it does
+pub goes_on : {A B : Type 0} (HasA : Stored → A → Type 0) (HasB : Stored → B → Type 0) (p : Lowering A) (f : A → Lowering B)
+    (old mid new : Builder) (a : A) (r : Checked B) → Lowers HasA p old (Ok a) mid → Lowers HasB (f a) mid r new
+    → Lowers HasB (p >>= f) old r new
+goes_on HasA HasB p f old mid new a (Ok b) h k = (ap (λ o. go_on o.0 o.1 f) h.0 ∙ k.0, grown old mid new h.1 k.1, k.2)
+goes_on HasA HasB p f old mid new a (Err e) h k = λ n. (ap (λ o. go_on o.0 o.1 f) h.0 ∙ (k n).0, (k n).1)
 
 pub behind_single : (l : ArgLists) (a : Arg) (b : Builder) → lower_arg l a b ≡ (single_arg a >>= (λ o. pure (with_one l o))) b
 behind_single l tree.skipped_arg b = refl
@@ -58,3 +68,9 @@ fails_behind l a old new e h = λ n. (
   behind_single l a old ∙ ap (λ q. go_on q.0 q.1 (λ x. pure (with_one l x))) (h n).0,
   (h n).1,
 )
+
+pub found_behind : (l : ArgLists) (a : Arg) (found : Checked OneArg) (r : Checked ArgLists) (old new : Builder) → IsBehind l found r
+    → HasLists old.stored l → Lowers HasOne (single_arg a) old found new → Lowers HasLists (lower_arg l a) old r new
+found_behind l a (Ok o) (Ok m) old new i k h = lowers_behind l m a o old new i.0 i.1 k h
+found_behind l a (Ok o) (Err e) old new i k h = λ n. absurd (n i)
+found_behind l a (Err e) r old new i k h = subst (λ q. Lowers HasLists (lower_arg l a) old q new) (sym i) (fails_behind l a old new e h)

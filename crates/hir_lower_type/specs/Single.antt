@@ -1,14 +1,15 @@
 -- What an argument gives by itself, before it stands in the lists.
-use Rattle.std.specs.Prelude.{[], None}
-use Rattle.hir_store.specs.Past.{Past, nothing, past_arg, past_binding}
+use Rattle.std.specs.Prelude.{◌≡◌, [], None, Ok, Err}
+use Rattle.hir_store.specs.Past.{Past, join, nothing, past_arg, past_binding}
 use Rattle.hir_store.specs.Range.{Has}
 use Rattle.hir_store.specs.Stored.{Stored}
+use Rattle.hir_store.specs.declared.fault.StoreFault.TheVariants.{Memory}
 use Rattle.hir_store.specs.declared.path.GenericArg.TheVariants as arg
 use Rattle.hir_env.specs.Answered as tree
 use Rattle.hir_env.specs.Answered.{Arg}
 use Rattle.hir_lower_form.specs.Lower.{args_part, lower_bounds, lower_constant, present_type, type_part}
-use Rattle.hir_lower_form.specs.Lowering.{Lowering, ◌>>=◌, pure}
-use Rattle.hir_lower_form.specs.Types.{add_arg, add_binding, binding_form, lower_lifetime}
+use Rattle.hir_lower_form.specs.Lowering.{Checked, Lowering, ◌>>=◌, pure}
+use Rattle.hir_lower_form.specs.Types.{add_arg, add_binding, binding_form, lower_lifetime, past_lists}
 use Rattle.hir_lower_form.specs.declared.args.ArgLists.{ArgLists}
 use Rattle.hir_lower_type.specs.declared.one_arg.OneArg.{OneArg}
 use Rattle.hir_lower_type.specs.declared.one_arg.OneArg.TheVariants as one
@@ -23,6 +24,12 @@ abbrev pub past_one : OneArg → Past
 past_one one.Skipped = nothing
 past_one (one.Arg a) = past_arg a
 past_one (one.Binding b) = past_binding b
+
+-- the lists with what was found, or else the fault, unless memory ends
+abbrev pub IsBehind : ArgLists → Checked OneArg → Checked ArgLists → Type 0
+IsBehind l (Ok o) (Ok m) = (m ≡ with_one l o) × (past_lists m ≡ join (past_lists l) (past_one o))
+IsBehind l (Ok o) (Err e) = e ≡ Memory
+IsBehind l (Err e) r = r ≡ Err e
 
 abbrev pub HasOne : Stored → OneArg → Type 0
 HasOne s o = Has s (past_one o)

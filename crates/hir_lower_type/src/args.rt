@@ -18,7 +18,7 @@ ghost use Rattle.hir_lower_form.specs.Nests.{Each, KidsArg, KidsArgs, KidsAssoc,
 
 use crate::bounds::BoundsPart;
 use crate::lifetimes::lifetime;
-use crate::one_arg::OneArg;
+use crate::one_arg::{OneArg, behind_others};
 use crate::places::outside_impl;
 use hir_env::place::Place;
 use hir_lower_form::args::{ArgLists, or_notation};
@@ -150,17 +150,6 @@ fn arg_form<P: LowerParts>(
     }
 }
 
-fn arg<P: LowerParts>(
-    lowerer: &Lowerer<P>,
-    state: &mut BodyBuilder,
-    node: &ast::GenericArg,
-) -> Result<OneArg, StoreFault>
-    requires { KidsArg (P.can lowerer.now.parts) (P.spot lowerer.now.parts).place (out-GenericArg node.now) }
-    ensures { Lowers HasOne (single_arg (answered_arg (P.spot lowerer.now.parts) node.now)) state.old result state.new }
-{
-    arg_form(lowerer, state, node)
-}
-
 /// The lists with an argument more.
 fn with_arg<P: LowerParts>(
     lowerer: &Lowerer<P>,
@@ -172,10 +161,7 @@ fn with_arg<P: LowerParts>(
     requires lists { HasLists state.old.stored lists }
     ensures { Lowers HasLists (spec.lower_arg lists (answered_arg (P.spot lowerer.now.parts) node.now)) state.old result state.new }
 {
-    match arg(lowerer, state, node) {
-        Ok(one) => Ok(one.behind(lists)?),
-        Err(fault) => Err(fault),
-    }
+    behind_others(arg_form(lowerer, state, node), lists)
 }
 
 fn args<P: LowerParts>(

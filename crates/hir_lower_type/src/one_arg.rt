@@ -3,9 +3,10 @@
 ghost use Rattle.std.specs.Prelude.{◌≡◌, IfOk};
 ghost use Rattle.hir_store.specs.Past.{join};
 ghost use Rattle.hir_lower_form.specs.Types.{past_lists};
-ghost use Rattle.hir_lower_type.specs.Single.{past_one, with_one};
+ghost use Rattle.hir_lower_type.specs.Single.{IsBehind, past_one, with_one};
 
 use hir_lower_form::args::ArgLists;
+use hir_store::fault::StoreFault;
 use hir_store::path::{AssociatedTypeBinding, GenericArg};
 use std::alloc::AllocError;
 
@@ -29,5 +30,19 @@ impl OneArg {
             OneArg::Arg(arg) => lists.with_arg(arg),
             OneArg::Binding(binding) => lists.with_binding(binding),
         }
+    }
+}
+
+/// The lists with what was found, behind the others, unless there is a fault.
+#[inline(never)]
+pub fn behind_others(
+    found: Result<OneArg, StoreFault>,
+    lists: ArgLists,
+) -> Result<ArgLists, StoreFault>
+    ensures { IsBehind lists found result }
+{
+    match found {
+        Ok(one) => Ok(one.behind(lists)?),
+        Err(fault) => Err(fault),
     }
 }

@@ -4,6 +4,7 @@ ghost use Rattle.std.specs.Prelude.{◌≡◌};
 ghost use Rattle.hir_env.specs.Paths as spec;
 
 use hir_env::place::{ImplTrait, LifetimeScope, Place};
+use hir_store::diagnostics::AwaitLocation;
 
 /// Where a lifetime counts in an `impl`.
 fn in_impl_scope(scope: LifetimeScope) -> LifetimeScope
@@ -43,6 +44,7 @@ pub fn inside_constant(place: Place) -> Place
 {
     Place {
         impl_trait: ImplTrait::Error,
+        await_location: Some(AwaitLocation::Constant),
         ..place
     }
 }

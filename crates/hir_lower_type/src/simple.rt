@@ -1,13 +1,14 @@
 //! Types of one form.
 
 ghost use Rattle.std.specs.Prelude.{◌≡◌, None, Some, option_map};
-ghost use Rattle.hir_store.specs.Range.{HasConst, HasType};
+ghost use Rattle.hir_store.specs.Range.{HasConst, HasPathOption, HasType};
+ghost use Rattle.hir_store.specs.declared.type_ref.TypeRef.TheVariants as ty;
 ghost use Rattle.hir_env.specs.Answered as tree;
 ghost use Rattle.hir_env.specs.Paths.{binder_of, impl_at, lifetime_of, mutability};
 ghost use Rattle.hir_env.specs.Paths as of;
 ghost use Rattle.hir_env.specs.TypePats.{type_pat_or_none};
 ghost use Rattle.hir_lower_form.specs.Lower as steps;
-ghost use Rattle.hir_lower_form.specs.Lowering.{Lowers};
+ghost use Rattle.hir_lower_form.specs.Lowering.{Lowers, alloc_type};
 ghost use Rattle.hir_lower_form.specs.Methods.{LowersType, LowersTypeOpt, at_place};
 ghost use Rattle.hir_lower_form.specs.Types as steps_of;
 ghost use Rattle.hir_lower_form.specs.Nests.{Unless};
@@ -23,6 +24,7 @@ use hir_lower_pat::paths::PathPart;
 use hir_store::fault::StoreFault;
 use hir_store::hir::Mutability;
 use hir_store::ids::TypeRefId;
+use hir_store::path::Path;
 use hir_store::type_ref::{ArrayType, ConstRef, RefType, TypeRef};
 use hir_syntax::ast;
 
@@ -34,6 +36,37 @@ fn written_mutability(mut_: bool) -> Mutability
     } else {
         Mutability::Shared
     }
+}
+
+/// A type without parts, as it is stored.
+#[inline(never)]
+pub(crate) fn error_form(
+    state: &mut BodyBuilder,
+    at: InFile<AstPtr>,
+) -> Result<TypeRefId, StoreFault>
+    ensures { Lowers HasType (alloc_type ty.Error (Some at)) state.old result state.new }
+{
+    state.alloc_type(TypeRef::Error, Some(at))
+}
+
+#[inline(never)]
+pub(crate) fn never_form(
+    state: &mut BodyBuilder,
+    at: InFile<AstPtr>,
+) -> Result<TypeRefId, StoreFault>
+    ensures { Lowers HasType (alloc_type ty.Never (Some at)) state.old result state.new }
+{
+    state.alloc_type(TypeRef::Never, Some(at))
+}
+
+#[inline(never)]
+pub(crate) fn infer_form(
+    state: &mut BodyBuilder,
+    at: InFile<AstPtr>,
+) -> Result<TypeRefId, StoreFault>
+    ensures { Lowers HasType (alloc_type ty.Placeholder (Some at)) state.old result state.new }
+{
+    state.alloc_type(TypeRef::Placeholder, Some(at))
 }
 
 /// `for<..> T` is what T is.
@@ -161,7 +194,22 @@ pub(crate) fn tuple_form<P: LowerParts, L: TypesPart>(
     state.alloc_type(TypeRef::Tuple(fields), Some(at))
 }
 
-/// A path that is absent or refused is an error.
+/// The type that a path is, an error where it is absent or refused.
+#[inline(never)]
+fn type_of_path(
+    state: &mut BodyBuilder,
+    at: InFile<AstPtr>,
+    path: Option<Path>,
+) -> Result<TypeRefId, StoreFault>
+    requires { HasPathOption state.old.stored path }
+    ensures { Lowers HasType (alloc_type (steps_of.path_or_error path) (Some at)) state.old result state.new }
+{
+    match path {
+        None => state.alloc_type(TypeRef::Error, Some(at)),
+        Some(path) => state.alloc_type(TypeRef::Path(path), Some(at)),
+    }
+}
+
 #[tactic(auto, unfolding(hir_lower_form::specs::Types::path_type_form))]
 #[inline(never)]
 pub(crate) fn path_form<P: LowerParts, W: PathPart>(
@@ -173,9 +221,9 @@ pub(crate) fn path_form<P: LowerParts, W: PathPart>(
     requires { W.can ((P.can lowerer.now.parts).path (P.spot lowerer.now.parts).place) path.now }
     ensures { LowersType None (tree.path_type at (W.read (P.spot lowerer.now.parts) path.now)) state.old result state.new }
 {
-    match path.lower(lowerer, state, lowerer.parts.place())? {
-        None => state.alloc_type(TypeRef::Error, Some(at)),
-        Some(path) => state.alloc_type(TypeRef::Path(path), Some(at)),
+    match path.lower(lowerer, state, lowerer.parts.place()) {
+        Ok(path) => type_of_path(state, at, path),
+        Err(fault) => Err(fault),
     }
 }
 

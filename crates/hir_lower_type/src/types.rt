@@ -8,15 +8,14 @@ ghost use Rattle.hir_lower_form.specs.Nests.{KidsType};
 use crate::calls::call_form;
 use crate::functions::fn_form;
 use crate::simple::{
-    array_form, dyn_form, for_form, impl_form, path_form, pattern_form, pointer_form, ref_form,
-    slice_form, tuple_form,
+    array_form, dyn_form, error_form, for_form, impl_form, infer_form, never_form, path_form,
+    pattern_form, pointer_form, ref_form, slice_form, tuple_form,
 };
 use hir_lower_form::builder::BodyBuilder;
 use hir_lower_form::parts::{LowerParts, Lowerer};
 use hir_store::fault::StoreFault;
 use hir_store::ids::TypeRefId;
 use hir_store::name::Name;
-use hir_store::type_ref::TypeRef;
 use hir_syntax::{Seq, ast};
 
 /// A type that is read here, with the names of the `for<..>` directly around it, where one stands there.
@@ -52,11 +51,11 @@ pub fn type_node<P: LowerParts>(
         ast::TypeKind::ImplTraitType { bounds } => impl_form(lowerer, state, at, bounds),
         ast::TypeKind::DynTraitType { bounds } => dyn_form(lowerer, state, at, bounds),
         ast::TypeKind::PatternType { ty, pat } => pattern_form(lowerer, state, at, ty, pat),
-        ast::TypeKind::MacroType { call: None } => state.alloc_type(TypeRef::Error, Some(at)),
+        ast::TypeKind::MacroType { call: None } => error_form(state, at),
         ast::TypeKind::MacroType { call: Some(call) } => {
             call_form(lowerer, state, at, binder, call)
         }
-        ast::TypeKind::NeverType => state.alloc_type(TypeRef::Never, Some(at)),
-        ast::TypeKind::InferType => state.alloc_type(TypeRef::Placeholder, Some(at)),
+        ast::TypeKind::NeverType => never_form(state, at),
+        ast::TypeKind::InferType => infer_form(state, at),
     }
 }

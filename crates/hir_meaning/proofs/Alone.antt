@@ -12,8 +12,10 @@ use Rattle.hir_data.specs.Patterns.{written_pat}
 use Rattle.hir_data.specs.Targets.{target_data}
 use Rattle.hir_data.specs.Written.{path_of, written_path, written_type, written_option_type, written_args}
 use Rattle.hir_meaning.specs.Run.{Value, unit, truth, is_true, call, method_call, cast, yielding, awaiting, break, continue, leave}
-use Rattle.hir_meaning.specs.Run.{repeated, became, unmatched, ends, pure, ◌>>=◌, ◌>>◌, ask, tests, tests_pattern, binds, assigns, entering}
+use Rattle.hir_meaning.specs.Run.{repeated, became, unmatched, ends, ends_temps, pure, ◌>>=◌, ◌>>◌, ask, tests, tests_pattern, binds}
+use Rattle.hir_meaning.specs.Run.{assigns, entering}
 use Rattle.hir_meaning.specs.Catching.{turn, loop}
+use Rattle.hir_env.specs.Conditions.{holds_let}
 use Rattle.hir_meaning.specs.Left.{is_kept, is_left, is_last, field_names}
 use Rattle.hir_meaning.specs.Syntax.{run_for, run_question, run_try, is_typed, through, as_it_is}
 use Rattle.hir_meaning.specs.Syntax.{SyntaxRun, catching, run_expr, run_part, run_block_part, run_or_unit, run_each}
@@ -42,7 +44,8 @@ module _ (turns : ℕ) (outer : List Scope) where
         >>= (λ holds. if holds then block_part_alone t inner i else or_unit_alone e inner i))
     expr_alone (tree.loop_expr at label _ b) inner = λ i. loop outward turns (turn (block_part_alone b (loop_scope label ∷ inner) i))
     expr_alone (tree.while_expr at label _ c b) inner = λ i.
-        run_while turns (part_alone c (loop_scope label ∷ inner) i) (block_part_alone b (loop_scope label ∷ inner) i) (Some (site_of at))
+        run_while turns (holds_let c) (part_alone c (loop_scope label ∷ inner) i) (block_part_alone b (loop_scope label ∷ inner) i)
+        (Some (site_of at))
     expr_alone (tree.for_expr at items label _ p h b) inner = λ i.
         run_for turns items (written_pat p) (part_alone h inner i) (Some (site_of (head_pointer at h)))
         (part_alone b (loop_scope label ∷ inner) i) (Some (site_of at))
@@ -203,11 +206,11 @@ module _ (turns : ℕ) (outer : List Scope) where
         stmts_alone ss has_tail out tail h (macro_scope d ∷ inner)
     stmts_alone (tree.more_stmts (tree.let_stmt p t e b) ss) has_tail out tail h inner = λ i.
         present_alone e inner i >>= (λ vs. binds (written_pat p) (written_option_type t) vs
-        >>= (λ fits. else_alone b fits inner (stmts_alone ss has_tail out tail h inner) i))
+        >>= (λ fits. else_alone b fits inner (ap ends_temps (stmts_alone ss has_tail out tail h inner)) i))
     stmts_alone (tree.more_stmts (tree.expr_stmt e semi) ss) has_tail out tail h inner = λ i.
         if is_left e
         then (if is_last semi ss has_tail then out (part_alone e inner i)
-        else (part_alone e inner i >> stmts_alone ss has_tail out tail h inner i))
+        else (part_alone e inner i >> ends_temps (stmts_alone ss has_tail out tail h inner i)))
         else stmts_alone ss has_tail out tail h inner i
 
 pub runs_alone : RunsAlone

@@ -6,7 +6,7 @@ use Rattle.hir_env.specs.Answered.{OptionExpr, Stmts, Stmt}
 use Rattle.hir_data.specs.Patterns.{written_pat}
 use Rattle.hir_data.specs.Reading.{stored_path}
 use Rattle.hir_data.specs.Written.{written_option_type}
-use Rattle.hir_meaning.specs.Run.{Value, Event, entering, ends, event, ◌>>=◌, ◌>>◌, binds}
+use Rattle.hir_meaning.specs.Run.{ends_temps, Value, Event, entering, ends, event, ◌>>=◌, ◌>>◌, binds}
 use Rattle.hir_meaning.specs.Catching.{loop, block}
 use Rattle.hir_scope.specs.Scopes.{Scope, scopes_in_block}
 use Rattle.hir_meaning.specs.Left.{is_left, stmt_is_left, none_left}
@@ -104,7 +104,7 @@ module _ (x : Stmt) (after : Stmts) (gone : stmt_is_left x ≡ false)
   abbrev before_others : ℕ → Bool → List Scope → OptionExpr → Bool → Bool → SyntaxRun Value → SyntaxRun Value
   before_others turns has_tail scopes e semi none others =
       if is_left e
-      then (if not semi && (none && not has_tail) then run_part turns e scopes else (run_part turns e scopes >> others))
+      then (if not semi && (none && not has_tail) then run_part turns e scopes else (run_part turns e scopes >> ends_temps others))
       else others
 
   run_more : (turns : ℕ) (has_tail : Bool) (tail : List Scope → SyntaxRun Value) (scopes : List Scope) (before : Stmts)
@@ -116,7 +116,7 @@ module _ (x : Stmt) (after : Stmts) (gone : stmt_is_left x ≡ false)
   run_more turns has_tail tail scopes (tree.more_stmts (tree.disabled_stmt at c s) ss) = run_more turns has_tail tail scopes ss
   run_more turns has_tail tail scopes (tree.more_stmts (tree.let_stmt p t e b) ss) =
       ap (λ m. run_present turns e scopes >>= (λ vs. binds (written_pat p) (written_option_type t) vs
-      >>= (λ fits. run_else turns b fits m scopes))) (run_more turns has_tail tail scopes ss)
+      >>= (λ fits. run_else turns b fits (ends_temps m) scopes))) (run_more turns has_tail tail scopes ss)
   run_more turns has_tail tail scopes (tree.more_stmts (tree.expr_stmt e semi) ss) =
       ap (λ t. before_others turns has_tail scopes e semi t (run_stmts turns (more ss) has_tail as_it_is tail scopes))
       (none_more ss)

@@ -28,7 +28,8 @@ use Rattle.hir_meaning.specs.Inner.{making_body, prelude_body}
 use Rattle.hir_meaning.specs.InnerRows.{a_name, array, cast_to, never, nevers, plain}
 use Rattle.hir_meaning.specs.Run.{answered, argument, bound, event_at, read, unit}
 use Rattle.hir_meaning.specs.Same.{ended}
-use Rattle.hir_meaning.specs.Small.{at, root, one, two, literal_at, id, bare_data, stored_one, stored_two, stored_block, stored_name}
+use Rattle.hir_meaning.specs.Small.{end_of_temps, at, root, one, two, literal_at, id, bare_data, stored_one, stored_two, stored_block}
+use Rattle.hir_meaning.specs.Small.{stored_name}
 use Rattle.hir_meaning.specs.Patterned.{pat_number}
 use Rattle.hir_meaning.specs.Typed.{StoredTypes, type_number}
 use Rattle.hir_meaning.specs.Tries.{TypedTry, typed_in}
@@ -36,7 +37,8 @@ use Rattle.hir_meaning.specs.Questions.{made}
 use Rattle.hir_meaning.specs.Constants.{HasBodies}
 use Rattle.hir_meaning.specs.Coroutines.{BothDoInside}
 use Rattle.hir_meaning.specs.CoroutineClosures.{and_param, binding_as, binds_at, handed, letter, made_mut, making_event, name_data, named}
-use Rattle.hir_meaning.specs.CoroutineClosures.{reads_at_no_node, run_inside, stored_bind, stored_let, stored_making, y_and_z, y_and_z_data}
+use Rattle.hir_meaning.specs.CoroutineClosures.{reads_at_no_node, run_inside, stored_bind, stored_let, stored_making, y_and_z}
+use Rattle.hir_meaning.specs.CoroutineClosures.{y_and_z_data}
 use Rattle.hir_meaning.specs.Worked.{no}
 
 -- ---- `async fn f(self, x: A, (y, z): B) {}`, also with `mut self`
@@ -104,11 +106,11 @@ HandsInInOrder = (k : CoroutineKind) (mode : BindingAnnotation) (h : HygieneId) 
     × FunctionHas (typed_in x) 6 (self_at mode h) x_first empty_body (6 ∷ 7 ∷ []) (prelude_body (self_at mode h) x_first empty_body ∷ [])
     (handed 5 (6 ∷ 7 ∷ []) ∷ [])
     × BothDoInside (prelude_body (self_at mode h) x_first empty_body) (run_inside x (handed 5 (6 ∷ 7 ∷ []))) 0
-    (no 11 ∷ no 12 ∷ no 13 ∷ no 14 ∷ no 15 ∷ [])
+    (no 11 ∷ no 12 ∷ no 13 ∷ no 14 ∷ no 15 ∷ no 16 ∷ no 17 ∷ no 18 ∷ no 19 ∷ [])
     (event_at (read (bare_data self_name) h) [] None
     ∷ event_at (bound (datum.pat_at None (datum.bind_pattern self_name h mode datum.no_pattern)) datum.no_type) (answered 11 ∷ []) None
-    ∷ reads_at_no_node 120 root ∷ binds_at 4 (name_data 120 4 root Unannotated datum.no_pattern) (answered 13)
-    ∷ binds_at 2 y_and_z_data (argument 1) ∷ [])
+    ∷ end_of_temps ∷ reads_at_no_node 120 root ∷ binds_at 4 (name_data 120 4 root Unannotated datum.no_pattern) (answered 14)
+    ∷ end_of_temps ∷ end_of_temps ∷ binds_at 2 y_and_z_data (argument 1) ∷ end_of_temps ∷ [])
     (ended unit)
 
 -- ---- `async |<[!; 1]>::A: [!; 2]| -> [!; 1] 1 as [!; 2]`, and a function with that parameter and that body

@@ -24,6 +24,7 @@ pub mod InnerRows
 pub mod Endings
 pub mod Patterned
 pub mod Whiles
+pub mod Conditions
 pub mod Questions
 pub mod Tries
 pub mod Fors

@@ -16,7 +16,7 @@ use Rattle.hir_meaning.specs.Syntax.{run_block, run_syntax}
 use Rattle.hir_meaning.specs.Same.{ended, left}
 use Rattle.hir_meaning.specs.Small.{at, root, one, two, literal_at, name_at, in_braces, first, block_of, loop_of, break_of}
 use Rattle.hir_meaning.specs.Small.{StoredExprs, id, number, stored_one, stored_two, stored_name, stored_block, stored_loop}
-use Rattle.hir_meaning.specs.Small.{event_of, literal_event, read_name, Example, BothDo}
+use Rattle.hir_meaning.specs.Small.{end_of_temps, event_of, literal_event, read_name, Example, BothDo}
 use Rattle.hir_meaning.specs.Rows.{joined}
 use Rattle.hir_meaning.specs.Forms.{name_a, stored_a, reads_a, disabled_at}
 use Rattle.hir_meaning.specs.Worked.{no}
@@ -94,7 +94,8 @@ one_then_two = record {
 
 -- What it stands for happens in the block, whose value is that of the tail.
 abbrev pub SplicesItsTail : Type 0
-SplicesItsTail = BothDo one_then_two 0 (no 11 ∷ no 12 ∷ []) (literal_event one 4 ∷ literal_event two 5 ∷ []) (ended (answered 12))
+SplicesItsTail = BothDo one_then_two 0 (no 11 ∷ no 12 ∷ no 13 ∷ []) (literal_event one 4 ∷ end_of_temps ∷ literal_event two 5 ∷ [])
+    (ended (answered 13))
 
 -- `{ m!() }`, where m!() stands for `1;`
 
@@ -108,7 +109,7 @@ one_alone = record {
 
 -- It keeps its semicolon: the block has no value.
 abbrev pub KeepsItsSemicolon : Type 0
-KeepsItsSemicolon = BothDo one_alone 0 (no 11 ∷ []) (literal_event one 4 ∷ []) (ended unit)
+KeepsItsSemicolon = BothDo one_alone 0 (no 11 ∷ no 12 ∷ []) (literal_event one 4 ∷ end_of_temps ∷ []) (ended unit)
 
 -- `{ m!(); }`, where m!() stands for `1; 2`
 
@@ -127,7 +128,8 @@ one_and_two = record {
 
 -- The semicolon of the call is that of the expression behind its statements: the block has no value.
 abbrev pub KeepsTheCallsSemicolon : Type 0
-KeepsTheCallsSemicolon = BothDo one_and_two 0 (no 11 ∷ no 12 ∷ []) (literal_event one 4 ∷ literal_event two 5 ∷ []) (ended unit)
+KeepsTheCallsSemicolon = BothDo one_and_two 0 (no 11 ∷ no 12 ∷ no 13 ∷ no 14 ∷ [])
+    (literal_event one 4 ∷ end_of_temps ∷ literal_event two 5 ∷ end_of_temps ∷ []) (ended unit)
 
 -- ---- definitions
 
@@ -179,8 +181,8 @@ ReachesTheLabel = BothDo (behind_definition 9 (Some (number 0))) 1 (no 11 ∷ no
 
 -- One that another macro wrote doesn't, and leaves the loop around it.
 abbrev pub MissesTheLabel : Type 0
-MissesTheLabel = BothDo (behind_definition 8 None) 1 (no 11 ∷ no 12 ∷ []) (literal_event one 11 ∷ literal_event two 7 ∷ [])
-    (ended (answered 12))
+MissesTheLabel = BothDo (behind_definition 8 None) 1 (no 11 ∷ no 12 ∷ no 13 ∷ [])
+    (literal_event one 11 ∷ end_of_temps ∷ literal_event two 7 ∷ []) (ended (answered 13))
 
 -- Nor does one behind the block that has the definition, which ends with it.
 abbrev pub behind_its_block : Example
@@ -192,7 +194,8 @@ behind_its_block = record {
 }
 
 abbrev pub EndsWithItsBlock : Type 0
-EndsWithItsBlock = BothDo behind_its_block 1 (no 11 ∷ no 12 ∷ []) (literal_event one 11 ∷ literal_event two 7 ∷ []) (ended (answered 12))
+EndsWithItsBlock = BothDo behind_its_block 1 (no 11 ∷ no 12 ∷ no 13 ∷ no 14 ∷ [])
+    (end_of_temps ∷ literal_event one 11 ∷ end_of_temps ∷ literal_event two 7 ∷ []) (ended (answered 14))
 
 -- Nor does one in front of the definition.
 abbrev pub before_definition : Example
@@ -203,5 +206,5 @@ before_definition = record {
 }
 
 abbrev pub BeginsWhereItStands : Type 0
-BeginsWhereItStands = BothDo before_definition 1 (no 11 ∷ no 12 ∷ []) (literal_event one 11 ∷ literal_event two 7 ∷ [])
-    (ended (answered 12))
+BeginsWhereItStands = BothDo before_definition 1 (no 11 ∷ no 12 ∷ no 13 ∷ [])
+    (literal_event one 11 ∷ end_of_temps ∷ literal_event two 7 ∷ []) (ended (answered 13))

@@ -27,7 +27,7 @@ use Rattle.hir_meaning.specs.Run.{made_record, no_spread, missing, unmatched}
 use Rattle.hir_meaning.specs.Syntax.{written_body}
 use Rattle.hir_meaning.specs.Store.{stored_body}
 use Rattle.hir_meaning.specs.Same.{Ending, ended, left}
-use Rattle.hir_meaning.specs.Small.{at, root, one, two, literal_at, name_at, none_beside, in_braces}
+use Rattle.hir_meaning.specs.Small.{end_of_temps, at, root, one, two, literal_at, name_at, none_beside, in_braces}
 use Rattle.hir_meaning.specs.Small.{StoredExprs, only, from, id, stored_one, stored_two, stored_name, stored_block}
 use Rattle.hir_meaning.specs.Small.{bare_data, event_of, literal_event, read_name, Does}
 use Rattle.hir_meaning.specs.Forms.{yes, name_a, name_b, stored_a, stored_b, reads_a, reads_b}
@@ -225,7 +225,8 @@ binds_x = event_of (bound (x_data 3) datum.no_type) (answered 11 ∷ []) 3
 -- Where the value fits, what follows happens; else the block behind `else` does, and a value of that is none of the body.
 abbrev pub LeavesByElse : Type 0
 LeavesByElse =
-    BothDoPatterned else_leaves (no 11 ∷ yes 12 ∷ no 13 ∷ []) (reads_a ∷ binds_x ∷ literal_event two 6 ∷ []) (ended (answered 13))
+    BothDoPatterned else_leaves (no 11 ∷ yes 12 ∷ no 13 ∷ no 14 ∷ []) (reads_a ∷ binds_x ∷ end_of_temps ∷ literal_event two 6 ∷ [])
+    (ended (answered 14))
     × BothDoPatterned else_leaves (no 11 ∷ no 12 ∷ no 13 ∷ []) (reads_a ∷ binds_x ∷ literal_event one 5 ∷ []) (left unmatched)
 
 -- `{ let x = a; let x; }` with a disabled first statement
@@ -244,7 +245,8 @@ declared by = record {
 
 -- It is bound to nothing, and whether that fits doesn't count.
 abbrev pub BindsNoValue : Type 0
-BindsNoValue = (by : CfgId) → BothDoPatterned (declared by) (no 11 ∷ []) (event_of (bound (x_data 3) datum.no_type) [] 3 ∷ []) (ended unit)
+BindsNoValue = (by : CfgId)
+    → BothDoPatterned (declared by) (no 11 ∷ []) (event_of (bound (x_data 3) datum.no_type) [] 3 ∷ end_of_temps ∷ []) (ended unit)
 
 -- ---- ranges
 

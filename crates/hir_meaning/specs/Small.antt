@@ -23,7 +23,7 @@ use Rattle.hir_env.specs.Answered as tree
 use Rattle.hir_env.specs.Answered.{OptionPath, SegmentArgs, Label, IsWrittenLabel, Jump, Expr, OptionExpr, Block, Stmts}
 use Rattle.hir_data.specs.Data.{PathData, path_data, no_type, more_names, no_names, no_args}
 use Rattle.hir_meaning.specs.Data.{literal_data}
-use Rattle.hir_meaning.specs.Run.{Value, Operation, literal, read, Event, event_at, Answerer, Body}
+use Rattle.hir_meaning.specs.Run.{Value, Operation, literal, read, temps, Event, event_at, Answerer, Body}
 use Rattle.hir_meaning.specs.Syntax.{written_body}
 use Rattle.hir_meaning.specs.Store.{stored_body}
 use Rattle.hir_meaning.specs.Same.{Ending, ending, does}
@@ -167,6 +167,10 @@ abbrev pub stored_loop : Option LabelId → ℕ → Stored
 stored_loop label body = hir.Loop (id body) label source.Loop
 
 -- what both do
+
+-- temporaries end
+abbrev pub end_of_temps : Event
+end_of_temps = event_at temps [] None
 
 abbrev pub event_of : Operation → List Value → ℕ → Event
 event_of o vs n = event_at o vs (Some (site_of (at n)))

@@ -41,7 +41,7 @@ use Rattle.hir_meaning.specs.Run.{repeated, const_block, closure}
 use Rattle.hir_meaning.specs.Run.{yielding, awaiting, cast, SpreadForm, no_spread, field_defaults, rest_of, made_record, offset_of}
 use Rattle.hir_meaning.specs.Run.{returned, became, yeeted, unmatched, made_tuple, lazily, read_path, binds, assigns}
 use Rattle.hir_base.specs.declared.op.BinaryOp.TheVariants as ast
-use Rattle.hir_meaning.specs.Run.{ends, pure, ◌>>=◌, ◌>>◌, event, ask, tests, tests_pattern, entering}
+use Rattle.hir_meaning.specs.Run.{ends, ends_temps, pure, ◌>>=◌, ◌>>◌, event, ask, tests, tests_pattern, entering}
 use Rattle.hir_meaning.specs.Catching.{turn, loop, block}
 
 -- the label that a jump names; None: a plain jump
@@ -257,11 +257,11 @@ module _ (store : Store) (source_map : SourceMap) where
     run_statements (statement.MacroDef def ∷ ss) tail = run_statements ss tail
     run_statements (statement.Expr i semi ∷ ss) tail = do
       part i
-      run_statements ss tail
+      ends_temps (run_statements ss tail)
     run_statements (statement.Let p t e b ∷ ss) tail = do
       vs ← run_present turns part e
       holds ← bound_to p t vs
-      run_else turns part b holds (run_statements ss tail)
+      run_else turns part b holds (ends_temps (run_statements ss tail))
 
     -- the arms are tried in order, the first that fits runs
     abbrev pub run_arms : List MatchArm → Value → Option Site → StoreRun Value

@@ -14,6 +14,7 @@ use Rattle.hir_store.specs.declared.ids.LangItemId.{LangItemId}
 use Rattle.hir_store.specs.declared.ids.MacroDefId.{MacroDefId}
 use Rattle.hir_base.specs.declared.op.LogicOp.{LogicOp}
 use Rattle.hir_base.specs.declared.op.BinaryOp.TheVariants as ast
+use Rattle.hir_env.specs.Conditions.{holds_let}
 use Rattle.hir_env.specs.NodeMap.{Site}
 use Rattle.hir_env.specs.Answering.{site_of}
 use Rattle.hir_env.specs.Answered as tree
@@ -27,7 +28,7 @@ use Rattle.hir_meaning.specs.Run.{underscore, include_bytes, field, prefix, refe
 use Rattle.hir_meaning.specs.Run.{repeated, const_block, closure}
 use Rattle.hir_meaning.specs.Run.{yielding, awaiting, cast, SpreadForm, no_spread, field_defaults, rest_of, made_record, offset_of}
 use Rattle.hir_meaning.specs.Run.{Leave, returned, became, yeeted, unmatched, made_tuple, lazily, read_path, binds, assigns}
-use Rattle.hir_meaning.specs.Run.{ends, pure, ◌>>=◌, ◌>>◌, event, ask, tests, tests_pattern, entering}
+use Rattle.hir_meaning.specs.Run.{ends, ends_temps, pure, ◌>>=◌, ◌>>◌, event, ask, tests, tests_pattern, entering}
 use Rattle.hir_meaning.specs.Catching.{turn, loop, block}
 use Rattle.hir_scope.specs.Ribs.{Try}
 use Rattle.hir_scope.specs.Scopes.{Scope, loop_scope, macro_scope, try_scope, Count, break_target, continue_target, innermost_try}
@@ -197,7 +198,7 @@ run_typed no_type m = m
 run_typed (some_type t) m = do
   v ← m
   a ← event (bound unnamed_pattern (some_type t)) (v ∷ []) None
-  pure (answered a.value)
+  ends_temps (pure (answered a.value))
 
 -- The block, which is entered where it has a number; what a `?` brings it is its value as it is.
 abbrev pub run_try : OptionTypeData → Option BlockId → Option Site → SyntaxRun Value → SyntaxRun Value
@@ -236,15 +237,22 @@ abbrev pub if_read : {A : Type 0} → Option PathRead → A → A → A
 if_read None there behind = behind
 if_read (Some p) there behind = there
 
--- A turn of `while` runs the condition and tests it at the form; where it doesn't hold the turn ends the loop with unit.
-abbrev pub while_turn : SyntaxRun Value → SyntaxRun Value → Option Site → SyntaxRun (Option Value)
-while_turn condition body site = do
-  v ← condition
-  holds ← tests is_true v site
-  if holds then turn body else pure (Some unit)
+-- the temporaries of a condition end before it is tested, but those of one that holds a `let`, which the body may use
+abbrev pub ends_of_condition : {A : Type 0} → Bool → SyntaxRun A → SyntaxRun A
+ends_of_condition true m = m
+ends_of_condition false m = ends_temps m
 
-abbrev pub run_while : ℕ → SyntaxRun Value → SyntaxRun Value → Option Site → SyntaxRun Value
-run_while turns condition body site = loop outward turns (while_turn condition body site)
+-- A turn of `while` runs the condition and tests it at the form; where it doesn't hold the turn ends the loop with unit. It is said
+-- whether the condition holds a `let`.
+abbrev pub while_turn : Bool → SyntaxRun Value → SyntaxRun Value → Option Site → SyntaxRun (Option Value)
+while_turn lets condition body site = do
+  v ← condition
+  ends_of_condition lets (do
+    holds ← tests is_true v site
+    if holds then turn body else pure (Some unit))
+
+abbrev pub run_while : ℕ → Bool → SyntaxRun Value → SyntaxRun Value → Option Site → SyntaxRun Value
+run_while turns lets condition body site = loop outward turns (while_turn lets condition body site)
 
 -- ---- `for` (Rust Reference, iterator loops)
 
@@ -297,7 +305,7 @@ module _ (turns : ℕ) where
     run_expr (tree.loop_expr at label _ b) ss = loop outward turns (turn (run_block_part b (loop_scope label ∷ ss)))
     -- its condition lies under its label, too
     run_expr (tree.while_expr at label _ c b) ss =
-        run_while turns (run_part c (loop_scope label ∷ ss)) (run_block_part b (loop_scope label ∷ ss)) (Some (site_of at))
+        run_while turns (holds_let c) (run_part c (loop_scope label ∷ ss)) (run_block_part b (loop_scope label ∷ ss)) (Some (site_of at))
     -- its head lies outside of its label, and so does its pattern
     run_expr (tree.for_expr at items label _ p h b) ss =
         run_for turns items (written_pat p) (run_part h ss) (Some (site_of (head_pointer at h))) (run_part b (loop_scope label ∷ ss))
@@ -488,12 +496,12 @@ module _ (turns : ℕ) where
     run_stmts (tree.more_stmts (tree.let_stmt p t e b) stmts) has_tail out tail ss = do
       vs ← run_present e ss
       fits ← binds (written_pat p) (written_option_type t) vs
-      run_else b fits (run_stmts stmts has_tail out tail ss) ss
+      run_else b fits (ends_temps (run_stmts stmts has_tail out tail ss)) ss
     run_stmts (tree.more_stmts (tree.expr_stmt e semi) stmts) has_tail out tail ss =
         if is_left e
         then (if is_last semi stmts has_tail then out (run_part e ss) else (do
           run_part e ss
-          run_stmts stmts has_tail out tail ss))
+          ends_temps (run_stmts stmts has_tail out tail ss)))
         else run_stmts stmts has_tail out tail ss
 
 -- the run of a body that stands by itself, with so many turns

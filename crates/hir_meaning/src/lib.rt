@@ -2,6 +2,7 @@
 //! function whose contract is the law. Those of small bodies are computed, as they are written and as they are stored.
 #![tactic(auto)]
 
+pub mod conditions;
 pub mod definitions;
 pub mod listing;
 pub mod reading;

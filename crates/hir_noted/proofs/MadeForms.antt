@@ -1,5 +1,5 @@
 -- What is made up for `for`, `?` and `try` notes nothing beside what their parts do.
-use Rattle.std.proofs.Common.{ℕ, Bool, Option, Some, None}
+use Rattle.std.proofs.Common.{ℕ, Bool, true, false, Option, Some, None}
 use Rattle.hir_binding.specs.declared.binding.BindingAnnotation.{BindingAnnotation}
 use Rattle.hir_store.specs.Pointers.{Pointer}
 use Rattle.hir_store.specs.declared.ids.BlockId.{BlockId}
@@ -14,6 +14,7 @@ use Rattle.hir_lower_form.specs.Lowering.{Lowering, ◌>>=◌, open_try, close}
 use Rattle.hir_lower_form.specs.Made.{made_path_form, made_bind_form, item_call_form, flow_arm_form, residual_form, question_form}
 use Rattle.hir_lower_form.specs.Made.{value_or_unit, wrapped_form, try_block_form, typed_try_form, made_reference_form, next_form}
 use Rattle.hir_lower_form.specs.Made.{done_arm_form, gives_arm_form, for_turn_form, made_loop_form, for_form}
+use Rattle.hir_lower_form.specs.Made.{condition_form, held_form, hold_form}
 use Rattle.hir_sets.specs.Noting.{Noting, none, ◌⊕◌}
 use Rattle.hir_noted.proofs.Forms.{opened_notes}
 use Rattle.hir_noted.proofs.Logic.{Notes, notes_begin, notes_end, notes_pure, notes_then}
@@ -81,6 +82,17 @@ module _ (at : Pointer) where
   unfolding typed_try_form
   typed_try_notes hb ht = notes_then hb (λ b. notes_then notes_made_number (λ n. notes_end ht (λ t. notes_end (made_bind_notes _ n)
       (λ p. notes_end (made_path_notes n) (λ e. notes_made _ _)))))
+
+  -- a condition, where its temporaries end
+
+  held_notes : {D : Noting} {c : ExprSteps} → Notes D c → Notes D (held_form at c)
+  unfolding held_form hold_form
+  held_notes h = notes_end h (λ c. notes_end notes_made_number
+      (λ n. notes_end (made_bind_notes _ n) (λ p. notes_end (made_path_notes n) (λ e. notes_made _ _))))
+
+  pub condition_notes : (lets : Bool) {D : Noting} {c : ExprSteps} → Notes D c → Notes D (condition_form lets at c)
+  condition_notes true h = h
+  condition_notes false h = held_notes h
 
   -- `for`
 

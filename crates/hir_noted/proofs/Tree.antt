@@ -19,6 +19,7 @@ use Rattle.hir_env.specs.Answered.{Parts, Path, OptionPath, Segments, Segment, S
 use Rattle.hir_env.specs.Answered.{Bounds, Bound, Constant, Binder, Arms, Arm, Guard, Pat, OptionPat, Pats, PatFields, PatField, Side}
 use Rattle.hir_env.specs.Answered.{TypePat, OptionTypePat, TypePats, Limit, Target, Targets, TargetFields, TargetField, SelfFormal, Formal}
 use Rattle.hir_env.specs.Answered.{Formals, Param, Params}
+use Rattle.hir_env.specs.Conditions.{holds_let}
 use Rattle.hir_env.specs.Targets.{head_pointer}
 use Rattle.hir_lower_form.specs.Lowering.{Lowering}
 use Rattle.hir_store.specs.Pointers.{Pointer}
@@ -77,7 +78,7 @@ use Rattle.hir_noted.proofs.PatForms.{path_pat_notes, path_side_notes, path_targ
 use Rattle.hir_noted.proofs.PatForms.{pointed_notes, range_notes, range_pat_notes, record_pat_notes, record_target_notes, settle_notes}
 use Rattle.hir_noted.proofs.PatForms.{slice_pat_notes, target_field_notes, target_notes, tuple_pat_notes, tuple_struct_notes}
 use Rattle.hir_noted.proofs.PatForms.{tuple_target_notes, type_alternatives_note}
-use Rattle.hir_noted.proofs.MadeForms.{for_notes, question_notes, try_block_notes, typed_try_notes}
+use Rattle.hir_noted.proofs.MadeForms.{condition_notes, for_notes, question_notes, try_block_notes, typed_try_notes}
 use Rattle.hir_noted.proofs.CallForms.{behind_notes, called_notes, called_pat_notes, called_type_notes, closure_notes, coroutine_notes}
 use Rattle.hir_noted.proofs.CallForms.{define_notes, param_notes, uncalled_notes, uncalled_pat_notes, uncalled_type_notes, yield_notes}
 use Rattle.hir_noted.proofs.Preludes.{coroutine_closure_notes}
@@ -243,7 +244,8 @@ mutual
   node_noted (tree.if_expr at c t e) = if_notes at (part_noted c) (block_part_noted t) (present_noted e)
   node_noted (tree.block_expr b) = block_noted b
   node_noted (tree.loop_expr at label _ b) = loop_notes at _ label (block_part_noted b)
-  node_noted (tree.while_expr at label _ c b) = loop_notes at _ label (turn_notes at (part_noted c) (block_part_noted b))
+  node_noted (tree.while_expr at label _ c b) =
+      loop_notes at _ label (turn_notes at (condition_notes at (holds_let c) (part_noted c)) (block_part_noted b))
   node_noted (tree.for_expr at items label _ p h b) =
       for_notes at (head_pointer at h) items label (part_noted h) (top_noted p) (part_noted b)
   node_noted (tree.question_expr at items e) = question_notes at items (part_noted e)

@@ -25,8 +25,10 @@ use Rattle.hir_lower_form.specs.Lowering.{open_try_as, open_try_named}
 use Rattle.hir_lower_form.specs.Made.{made_path_form, made_bind_form, item_call_form, flow_arm_form, residual_form, question_form}
 use Rattle.hir_lower_form.specs.Made.{value_or_unit, wrapped_form, try_block_form, typed_try_form, made_reference_form, next_form}
 use Rattle.hir_lower_form.specs.Made.{done_arm_form, gives_arm_form, for_turn_form, made_loop_form, for_form}
+use Rattle.hir_lower_form.specs.Made.{condition_form, held_form, hold_form}
 use Rattle.hir_steps.proofs.Logic.{one_more}
 use Rattle.hir_one_result.specs.Room.{label_size}
+use Rattle.hir_one_result.specs.Size.{a_condition}
 use Rattle.hir_one_result.specs.Size.{Size, nothing, an_expr, a_label, a_pat, a_made_name, a_made_bind, a_flow_arm, a_for_turn}
 use Rattle.hir_one_result.specs.Size.{an_item_call, ◌∪◌, if_so}
 use Rattle.hir_one_result.proofs.Owners.{no_owners}
@@ -232,6 +234,17 @@ module _ (at : Pointer) where
   unfolding typed_try_form
   typed_try_takes hb ht = takes_then hb (λ b. takes_then takes_number (λ n. takes_then ht (λ t.
       takes_then (made_bind_takes _ n) (λ p. takes_then (made_path_takes n) (λ e. takes_made _ (Some at))))))
+
+  -- a condition, where its temporaries end
+
+  held_takes : {n : Size} {c : ExprSteps} → Takes n c → Takes (a_condition false n) (held_form at c)
+  unfolding held_form hold_form
+  held_takes h = takes_then h (λ c. takes_then takes_number
+      (λ n. takes_then (made_bind_takes _ n) (λ p. takes_then (made_path_takes n) (λ e. takes_made _ (Some at)))))
+
+  pub condition_takes : (lets : Bool) {n : Size} {c : ExprSteps} → Takes n c → Takes (a_condition lets n) (condition_form lets at c)
+  condition_takes true h = h
+  condition_takes false h = held_takes h
 
   -- `for`
 

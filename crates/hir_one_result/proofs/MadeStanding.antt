@@ -1,5 +1,5 @@
 -- What `?` and `try` become stands for them: what is made up, beside what their parts became.
-use Rattle.std.proofs.Common.{arith, ◌∙◌, refl, sym, ap, subst, ℕ, Bool, false, length, length-append, List, [], ◌∷◌, ◌++◌}
+use Rattle.std.proofs.Common.{arith, ◌∙◌, refl, sym, ap, subst, ℕ, Bool, true, false, length, length-append, List, [], ◌∷◌, ◌++◌}
 use Rattle.std.proofs.Common.{slice_get, Option, Some, None}
 use Rattle.hir_binding.specs.declared.binding.BindingAnnotation.{BindingAnnotation}
 use Rattle.hir_store.specs.Arenas.{Prefix}
@@ -24,7 +24,7 @@ use Rattle.hir_lower_form.specs.Lower.{kept_part, lower_stmts}
 use Rattle.hir_lower_form.specs.Lowering.{Lowering, alloc_made}
 use Rattle.hir_lower_form.specs.Made.{made_path_form, made_binding, made_bind_form, item_or_missing, made_call, item_call_form, item_pat}
 use Rattle.hir_lower_form.specs.Made.{conversion, leaving_node, flow_arm_form, residual_form, question_form, value_or_unit, wrapped_form}
-use Rattle.hir_lower_form.specs.Made.{try_block_form, bound_block, typed_try_form}
+use Rattle.hir_lower_form.specs.Made.{try_block_form, bound_block, typed_try_form, condition_form, held_block, held_form, hold_form}
 use Rattle.hir_steps.proofs.Frames.{Frame, ribs}
 use Rattle.hir_steps.proofs.Logic as logic
 use Rattle.hir_steps.proofs.PatSteps as pats
@@ -34,7 +34,7 @@ use Rattle.hir_steps.proofs.Steps.{Mark}
 use Rattle.hir_one_result.specs.Forms.{item_form, generated_path, residual_item, leaves_with}
 use Rattle.hir_one_result.specs.Leads.{Way, Ways, OneWay, OneLabelWay, ◌&◌}
 use Rattle.hir_one_result.specs.StandsMade.{PatMade, LabelMade, StandsMade, StandsMadeBind, StandsItemCall, StandsFlowArm, StandsResidual}
-use Rattle.hir_one_result.specs.StandsMade.{StandsQuestion, StandsValue, StandsWrapped, StandsTry, StandsTypedTry}
+use Rattle.hir_one_result.specs.StandsMade.{StandsCondition, StandsQuestion, StandsValue, StandsWrapped, StandsTry, StandsTypedTry}
 use Rattle.hir_one_result.proofs.Contents.{has_contents}
 use Rattle.hir_one_result.proofs.Lasting.{Correct, correct_alloc, correct_alloc_made, correct_alloc_pat, correct_as, correct_bind}
 use Rattle.hir_one_result.proofs.Lasting.{correct_enter_block, correct_made_number, correct_opened_try, correct_pure, correct_try_target}
@@ -250,3 +250,25 @@ typed_try_stands at hb ht = correct_as
     let last = shown_both u.first.shown (shown_both v.first.shown v.second.shown) in
     let parts = shown_both row.first.shown (shown_after (moved_same q.first.stored) (shown_both s.first.shown last)) in
     record { shown = shown_as parts (λ ws y. (row.one, s.one, q.one, u.one, v.one, y)) })
+
+-- ---- a condition, where its temporaries end
+
+held_stands : (at : Pointer) {c : ExprSteps} {C : Of ExprId} → Correct c (Shows C) → Correct (held_form at c)
+    (Shows (λ final rs i. StandsCondition (store_of final) (map_of final) at false (λ x. C final rs x) i))
+unfolding held_form hold_form
+held_stands at hc = correct_as
+    (correct_bind hc (λ c. correct_bind correct_made_number (λ n. correct_bind (made_bind_stands _ n)
+    (λ p. correct_bind (made_path_stands at n) (λ e. made_stands (held_block p c e) at)))))
+    (λ final ps m m' i g row.
+    let q = row.second in
+    let u = q.second in
+    let v = u.second in
+    let last = shown_both u.first.shown (shown_both v.first.shown v.second.shown) in
+    let parts = shown_both row.first.shown (shown_after (moved_same q.first.stored) last) in
+    record { shown = shown_as parts (λ ws y. (row.one, q.one, u.one, v.one, y)) })
+
+pub condition_stands : (at : Pointer) (lets : Bool) {c : ExprSteps} {C : Of ExprId} → Correct c (Shows C)
+    → Correct (condition_form lets at c)
+    (Shows (λ final rs i. StandsCondition (store_of final) (map_of final) at lets (λ x. C final rs x) i))
+condition_stands at true h = h
+condition_stands at false h = held_stands at h

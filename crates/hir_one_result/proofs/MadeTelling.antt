@@ -1,5 +1,5 @@
 -- What is made up for `for`, `?` and `try` adds nothing to what their parts add.
-use Rattle.std.proofs.Common.{◌∙◌, refl, ap, ℕ, Bool, List, [], ◌∷◌, ◌++◌, Option, Some, None}
+use Rattle.std.proofs.Common.{◌∙◌, refl, ap, ℕ, Bool, true, false, List, [], ◌∷◌, ◌++◌, Option, Some, None}
 use Rattle.hir_binding.specs.declared.binding.BindingAnnotation.{BindingAnnotation}
 use Rattle.hir_store.specs.Pointers.{Pointer}
 use Rattle.hir_store.specs.declared.hir.Expr.{Expr as HirExpr}
@@ -16,6 +16,7 @@ use Rattle.hir_lower_form.specs.Lowering.{Lowering, ◌>>=◌, alloc_made, made_
 use Rattle.hir_lower_form.specs.Made.{made_path_form, made_bind_form, item_call_form, flow_arm_form, residual_form, question_form}
 use Rattle.hir_lower_form.specs.Made.{value_or_unit, wrapped_form, try_block_form, typed_try_form, made_reference_form, next_form}
 use Rattle.hir_lower_form.specs.Made.{done_arm_form, gives_arm_form, for_turn_form, made_loop_form, for_form}
+use Rattle.hir_lower_form.specs.Made.{condition_form, held_form, hold_form}
 use Rattle.hir_steps.proofs.Frames.{loop_at, ribs}
 use Rattle.hir_steps.proofs.MadeSteps.{correct_alloc_made, correct_made_number, correct_try_target, correct_opened_try, made_label}
 use Rattle.hir_steps.proofs.MadeSteps.{put_made}
@@ -111,6 +112,18 @@ module _ {X : Type 0} (L : Listing X) where
     unfolding typed_try_form
     typed_try_tells hb ht = tells_bind L hb (λ b. tells_bind L tells_number (λ n. tells_end L ht (λ t. tells_end L (made_bind_tells _ n)
         (λ p. tells_end L (made_path_tells n) (λ e. tells_made _ _)))))
+
+    -- a condition, where its temporaries end
+
+    held_tells : {D : List Scope → List X} {c : ExprSteps} → Correct c (Tells L D) → Correct (held_form at c) (Tells L D)
+    unfolding held_form hold_form
+    held_tells h = tells_end L h (λ c. tells_end L tells_number
+        (λ n. tells_end L (made_bind_tells _ n) (λ p. tells_end L (made_path_tells n) (λ e. tells_made _ _))))
+
+    pub condition_tells : (lets : Bool) {D : List Scope → List X} {c : ExprSteps} → Correct c (Tells L D)
+        → Correct (condition_form lets at c) (Tells L D)
+    condition_tells true h = h
+    condition_tells false h = held_tells h
 
     -- `for`
 

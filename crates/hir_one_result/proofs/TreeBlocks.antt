@@ -23,6 +23,7 @@ use Rattle.hir_env.specs.Answered.{Parts, Path, OptionPath, Segments, Segment, S
 use Rattle.hir_env.specs.Answered.{Bounds, Bound, Constant, Binder, Arms, Arm, Guard, Pat, OptionPat, Pats, PatFields, PatField, Side}
 use Rattle.hir_env.specs.Answered.{TypePat, OptionTypePat, TypePats, Limit, Target, Targets, TargetFields, TargetField, SelfFormal, Formal}
 use Rattle.hir_env.specs.Answered.{Formals, Param, Params}
+use Rattle.hir_env.specs.Conditions.{holds_let}
 use Rattle.hir_env.specs.Targets.{head_pointer}
 use Rattle.hir_lower_form.specs.Lowering.{Lowering}
 use Rattle.hir_steps.proofs.Aside.{error_aside, unit_aside, lifetime_aside, uses_aside}
@@ -48,7 +49,7 @@ use Rattle.hir_one_result.proofs.Telling.{Listing, Tells, tells_bind, tells_as, 
 use Rattle.hir_one_result.proofs.Telling.{missing_tells, if_tells, loop_tells, turn_tells, call_tells, continue_tells, break_tells}
 use Rattle.hir_one_result.proofs.Telling.{paren_tells}
 use Rattle.hir_one_result.proofs.Telling.{operand_tells, operands_tells, value_tells, list_tells, method_call_tells, await_tells}
-use Rattle.hir_one_result.proofs.MadeTelling.{for_tells, question_tells, try_block_tells, typed_try_tells}
+use Rattle.hir_one_result.proofs.MadeTelling.{condition_tells, for_tells, question_tells, try_block_tells, typed_try_tells}
 use Rattle.hir_one_result.proofs.Telling.{cast_tells, record_tells, offset_of_tells, field_tells, contents_tells, path_tells}
 use Rattle.hir_one_result.proofs.Telling.{block_form_tells, labelled_tells, tells_alloc, tells_aside, constant_tells, inner_tells}
 use Rattle.hir_one_result.proofs.Telling.{repeat_tells, const_tells, rooted_tells}
@@ -285,7 +286,8 @@ mutual
   node_blocks (tree.if_expr at c t e) = if_tells entered at (part_blocks c) (block_part_blocks t) (present_blocks e)
   node_blocks (tree.block_expr b) = block_blocks b
   node_blocks (tree.loop_expr at label _ b) = loop_tells entered at _ label (block_part_blocks b)
-  node_blocks (tree.while_expr at label _ c b) = loop_tells entered at _ label (turn_tells entered at (part_blocks c) (block_part_blocks b))
+  node_blocks (tree.while_expr at label _ c b) = loop_tells entered at _ label
+      (turn_tells entered at (condition_tells entered at (holds_let c) (part_blocks c)) (block_part_blocks b))
   node_blocks (tree.for_expr at items label _ p h b) =
       for_tells entered at (head_pointer at h) items label (part_blocks h) (top_enters p) (part_blocks b)
   node_blocks (tree.question_expr at items e) = question_tells entered at items (part_blocks e)

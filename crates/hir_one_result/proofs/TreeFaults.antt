@@ -26,6 +26,7 @@ use Rattle.hir_env.specs.Answered.{Path, OptionPath, Segments, Segment, SegmentA
 use Rattle.hir_env.specs.Answered.{Bound, Constant, Binder, Arms, Arm, Guard, Pat, OptionPat, Pats, PatFields, PatField, Side, TypePat}
 use Rattle.hir_env.specs.Answered.{OptionTypePat, TypePats, Limit, Target, Targets, TargetFields, TargetField, SelfFormal, Formal, Formals}
 use Rattle.hir_env.specs.Answered.{Stmt, Param, Params}
+use Rattle.hir_env.specs.Conditions.{holds_let}
 use Rattle.hir_env.specs.Targets.{head_pointer}
 use Rattle.hir_lower_form.specs.Lowering.{Lowering}
 use Rattle.hir_steps.proofs.Aside.{error_aside, unit_aside, lifetime_aside, uses_aside}
@@ -48,7 +49,7 @@ use Rattle.hir_one_result.proofs.Telling.{Listing, Tells, tells_bind, tells_as, 
 use Rattle.hir_one_result.proofs.Telling.{missing_tells, if_tells, loop_tells, turn_tells, call_tells, continue_tells, break_tells}
 use Rattle.hir_one_result.proofs.Telling.{paren_tells}
 use Rattle.hir_one_result.proofs.Telling.{operand_tells, operands_tells, value_tells, list_tells, method_call_tells, await_tells}
-use Rattle.hir_one_result.proofs.MadeTelling.{for_tells, question_tells, try_block_tells, typed_try_tells}
+use Rattle.hir_one_result.proofs.MadeTelling.{condition_tells, for_tells, question_tells, try_block_tells, typed_try_tells}
 use Rattle.hir_one_result.proofs.Telling.{cast_tells, record_tells, offset_of_tells, field_tells, contents_tells, path_tells}
 use Rattle.hir_one_result.proofs.Telling.{block_form_tells, labelled_tells, tells_alloc, tells_aside, constant_tells, inner_tells}
 use Rattle.hir_one_result.proofs.Telling.{repeat_tells, const_tells, rooted_tells}
@@ -293,7 +294,8 @@ mutual
   node_faults (tree.block_expr b) = block_faults b
   node_faults (tree.loop_expr at label _ b) = loop_tells reported at _ label (block_part_faults b)
   node_faults (tree.while_expr at label _ c b) =
-      tells_as reported (loop_tells reported at _ label (turn_tells reported at (part_faults c) (block_part_faults b)))
+      tells_as reported (loop_tells reported at _ label
+      (turn_tells reported at (condition_tells reported at (holds_let c) (part_faults c)) (block_part_faults b)))
       (λ ss. IsPermutation-append_comm (part_diagnostics (loop_scope label ∷ ss) c) (block_part_diagnostics (loop_scope label ∷ ss) b))
   node_faults (tree.for_expr at items label _ p h b) =
       for_tells reported at (head_pointer at h) items label (part_faults h) (top_reports p) (part_faults b)

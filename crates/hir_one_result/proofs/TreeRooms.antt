@@ -11,6 +11,7 @@ use Rattle.hir_env.specs.Answered.{Binder, Type_, OptionType, Parts, Path as Tre
 use Rattle.hir_env.specs.Answered.{OptionRet, OptionArgs, Args, Arg, Bounds, Bound, Arms, Arm, Guard, Pat, OptionPat, Pats, PatFields}
 use Rattle.hir_env.specs.Answered.{PatField, Side, TypePat, OptionTypePat, TypePats, Limit, Target, Targets, TargetFields, TargetField}
 use Rattle.hir_env.specs.Answered.{SelfFormal, Formal, Formals, Param, Params}
+use Rattle.hir_env.specs.Conditions.{holds_let}
 use Rattle.hir_env.specs.Targets.{head_pointer}
 use Rattle.hir_store.specs.declared.hir.MatchArm.{MatchArm}
 use Rattle.hir_store.specs.declared.pat.RecordFieldPat.{RecordFieldPat}
@@ -93,7 +94,7 @@ use Rattle.hir_one_result.proofs.ExprRooms.{paren_takes, path_takes, operand_tak
 use Rattle.hir_one_result.proofs.ExprRooms.{method_call_takes, cast_takes, offset_of_takes, record_takes, field_takes, await_takes}
 use Rattle.hir_one_result.proofs.Giving.{tells_given, stmts_value}
 use Rattle.hir_one_result.proofs.NoteRooms.{aliased_takes, tells_aliased}
-use Rattle.hir_one_result.proofs.MadeRooms.{for_takes, question_takes, try_block_takes, typed_try_takes}
+use Rattle.hir_one_result.proofs.MadeRooms.{condition_takes, for_takes, question_takes, try_block_takes, typed_try_takes}
 use Rattle.hir_one_result.proofs.ExprRooms.{block_form_takes, contents_take, labelled_takes, kept_takes}
 
 -- the first segment, with the `::` in front of it
@@ -286,7 +287,8 @@ mutual
   node_takes (tree.if_expr at c t e) = if_takes at (part_takes c) (block_part_takes t) (present_takes e)
   node_takes (tree.block_expr b) = block_takes b
   node_takes (tree.loop_expr at label _ b) = loop_takes at _ label (block_part_takes b)
-  node_takes (tree.while_expr at label _ c b) = loop_takes at _ label (turn_takes at (part_takes c) (block_part_takes b))
+  node_takes (tree.while_expr at label _ c b) =
+      loop_takes at _ label (turn_takes at (condition_takes at (holds_let c) (part_takes c)) (block_part_takes b))
   node_takes (tree.for_expr at items label _ p h b) =
       for_takes at (head_pointer at h) items label (part_takes h) (top_takes p) (part_takes b)
   node_takes (tree.question_expr at items e) = question_takes at items (part_takes e)

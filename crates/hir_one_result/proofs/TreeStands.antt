@@ -21,6 +21,7 @@ use Rattle.hir_env.specs.Answered.{Expr, OptionExpr, Exprs, Fields, Spread, Bloc
 use Rattle.hir_env.specs.Answered.{OptionPath, Segments, Segment, SegmentArgs, OptionParens, OptionRet, OptionArgs, Args, Arg, Bounds}
 use Rattle.hir_env.specs.Answered.{Bound, Constant, Binder, Arms, Guard, Pat, OptionPat, Pats, PatFields, Side, TypePat, OptionTypePat}
 use Rattle.hir_env.specs.Answered.{TypePats, Limit, Params, Target, Targets, TargetFields}
+use Rattle.hir_env.specs.Conditions.{holds_let}
 use Rattle.hir_env.specs.Targets.{head_pointer}
 use Rattle.hir_data.specs.Patterns.{uses_after, uses_after_part, uses_after_each, uses_after_fields, uses_of, part_uses, each_uses}
 use Rattle.hir_data.specs.Patterns.{field_uses}
@@ -89,7 +90,7 @@ use Rattle.hir_one_result.proofs.Standing.{let_stands, match_stands, assign_stan
 use Rattle.hir_one_result.proofs.Standing.{repeat_stands, const_stands}
 use Rattle.hir_one_result.proofs.Whiles.{while_stands}
 use Rattle.hir_one_result.proofs.Fors.{for_stands}
-use Rattle.hir_one_result.proofs.MadeStanding.{question_stands, try_stands, typed_try_stands}
+use Rattle.hir_one_result.proofs.MadeStanding.{condition_stands, question_stands, try_stands, typed_try_stands}
 use Rattle.hir_one_result.proofs.TargetStanding.{done_stand, place_stands, path_target_stands, tuple_target_stands}
 use Rattle.hir_one_result.proofs.TargetStanding.{call_target_stands, array_target_stands, record_target_stands, targets_more}
 use Rattle.hir_one_result.proofs.TargetStanding.{facts_leave, missing_target_stands, pointed_stands, target_facts, target_fields_more}
@@ -226,7 +227,8 @@ mutual
   node_stands (tree.if_expr at c t e) = if_stands at (part_stands c) (block_part_stands t) (present_stands e)
   node_stands (tree.block_expr b) = block_stands b
   node_stands (tree.loop_expr at label _ b) = loop_stands at label (block_part_stands b)
-  node_stands (tree.while_expr at label _ c b) = while_stands at label (part_stands c) (block_part_stands b)
+  node_stands (tree.while_expr at label _ c b) =
+      while_stands at label (condition_stands at (holds_let c) (part_stands c)) (block_part_stands b)
   node_stands (tree.for_expr at items label _ p h b) =
       for_stands at (head_pointer at h) items label (part_stands h) (top_stands p) (part_stands b)
   node_stands (tree.question_expr at items e) = question_stands at items (part_stands e)

@@ -57,19 +57,19 @@ StandsBody store source_map rs (Some kind) skipped f e given i = λ ws. (body : 
     & StandsLets store source_map xs (formals_data skipped f.formals) given.1.1 lets & OneUnled block & OneUnled i)
     & StandsHanded store source_map xs (formals_data skipped f.formals) given.0.1) ws
 
--- What is stored where one body was lowered, behind its parameters, which may be one of a function that is a coroutine, and may be
--- skipped. To the one root belongs all that is stored, each with its source, as many expressions and bindings as the tree becomes, and
--- patterns, types and lifetimes from just those of its nodes that become one, and patterns that are made up for those of parameters. The
--- root stands for the tree, and each expression is what a written one became, or a
--- missing one for an absent or disabled part, or in front of a tuple with a leading comma, or what is called for a range, or
--- the turn of a `while` or the break in it, or the block in a coroutine, or the coroutine of a closure or a function or a name that is
--- read in front of its body, or is made up for a `for`, a `?` or a `try`; each label is what a written one or a `try` became, and there
--- are as many; each binding is that of a name of a top pattern, or of `self`, or of a name that is made up or that a parameter is handed
--- in by, has the patterns that make it, and is owned by the innermost closure, coroutine, `const` block, length or argument around it, or
--- by nothing, as its way says and as it is counted. The source map leads from each written expression and label to what it became, and
--- from nowhere else; the nodes of patterns, types and lifetimes lead to them, but for patterns that are made up or assigned to, and of
--- other nodes those of calls do, each to the last pattern or type that is stored by then, for which the call stands. What is assigned to,
--- where it is no place, leads to its pattern by a map of its own, and so does the node of a call that is what is assigned to.
+-- What is stored where one body was lowered, behind its parameters, which may be one of a function that is a coroutine, and may be skipped.
+-- To the one root belongs all that is stored, each with its source, as many expressions and bindings as the tree becomes, and patterns,
+-- types and lifetimes from just those of its nodes that become one, and patterns that are made up for those of parameters. The root stands
+-- for the tree, and each expression is what a written one became, or a missing one for an absent or disabled part, or in front of a tuple
+-- with a leading comma, or what is called for a range, or the turn of a `while` or the break in it, or the block in a coroutine, or the
+-- coroutine of a closure or a function or a name that is read in front of its body, or is made up for the condition of a `while`, a `for`,
+-- a `?` or a `try`; each label is what a written one or a `try` became, and there are as many; each binding is that of a name of a top
+-- pattern, or of `self`, or of a name that is made up or that a parameter is handed in by, has the patterns that make it, and is owned by
+-- the innermost closure, coroutine, `const` block, length or argument around it, or by nothing, as its way says and as it is counted. The
+-- source map leads from each written expression and label to what it became, and from nowhere else; the nodes of patterns, types and
+-- lifetimes lead to them, but for patterns that are made up or assigned to, and of other nodes those of calls do, each to the last pattern
+-- or type that is stored by then, for which the call stands. What is assigned to, where it is no place, leads to its pattern by a map of
+-- its own, and so does the node of a call that is what is assigned to.
 -- Behind the faults that the body owes as a whole come those of what is read of the tree, in some order. The blocks with numbers are those
 -- of the tree, in the order of entering.
 pub record OneResult (store : Store) (source_map : SourceMap) (owed : Faults) (kind : Option CoroutineKind) (skipped : Bool) (f : Formals)

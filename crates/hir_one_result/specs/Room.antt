@@ -11,6 +11,7 @@ use Rattle.hir_env.specs.Answered.{OptionArgs, Args, Arg, Bounds, Bound, Constan
 use Rattle.hir_env.specs.Answered.{Spread, Block, OptionBlock, Stmts, Stmt, Arms, Arm, Guard, Pat, OptionPat, Pats, PatFields, PatField}
 use Rattle.hir_env.specs.Answered.{Side, TypePat, OptionTypePat, TypePats, Limit, Target, Targets, TargetFields, TargetField, SelfFormal}
 use Rattle.hir_env.specs.Answered.{Formal, Formals, Param, Params}
+use Rattle.hir_env.specs.Conditions.{holds_let}
 use Rattle.hir_data.specs.Data.{PatData}
 use Rattle.hir_data.specs.Patterns.{is_dots, ellipsis_of, written_pat}
 use Rattle.hir_data.specs.Targets.{target_dots}
@@ -26,7 +27,7 @@ use Rattle.hir_one_result.specs.PreludeRoom.{handed_size, prelude_size, self_let
 use Rattle.hir_one_result.specs.Size.{Size, nothing, an_expr, a_label, a_binding, a_pat, a_type, a_lifetime, a_super, a_body, dots_behind}
 use Rattle.hir_one_result.specs.Size.{a_def, a_made_pat, a_pat_call, a_target, a_target_way, a_type_call, uncalled_pat_size}
 use Rattle.hir_one_result.specs.Size.{a_made_name, a_made_bind, a_flow_arm, a_for_turn, an_item_call, owned, ◌∪◌, if_so, or_missing}
-use Rattle.hir_one_result.specs.Size.{an_impl, or_missing_target, uncalled_type_size}
+use Rattle.hir_one_result.specs.Size.{a_condition, an_impl, or_missing_target, uncalled_type_size}
 use Rattle.hir_one_result.specs.PathRoom.{Seen, nothing_seen, at_first, segments_read, own_read, whole_read, before, yields, lifetime_size}
 use Rattle.hir_one_result.specs.PathRoom.{uses_size}
 
@@ -192,7 +193,8 @@ abbrev mutual
   size (tree.block_expr b) = block_size b
   size (tree.loop_expr at label _ b) = label_size label ∪ block_part_size b ∪ an_expr
   -- the body before the condition, then a break and the turn, and the loop last
-  size (tree.while_expr at label _ c b) = label_size label ∪ (block_part_size b ∪ size_part c ∪ an_expr ∪ an_expr) ∪ an_expr
+  size (tree.while_expr at label _ c b) =
+      label_size label ∪ (block_part_size b ∪ a_condition (holds_let c) (size_part c) ∪ an_expr ∪ an_expr) ∪ an_expr
   -- a call on the head, the pattern, and a name that the call's value has; then the loop in its label, and the match around it
   size (tree.for_expr at items label _ p h b) =
       size_part h ∪ an_item_call ∪ top_size p ∪ a_made_name ∪ a_made_bind

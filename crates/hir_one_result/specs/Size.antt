@@ -208,6 +208,12 @@ a_target at = a_made_pat (Some (source_of at)) ∪ a_target_way at.node
 abbrev pub a_made_bind : Size
 a_made_bind = a_binding ∪ a_pat None
 
+-- the condition of a `while`, by whether it holds a `let`: where it holds none a name is made up and bound to it, and stands behind that
+-- in a block
+abbrev pub a_condition : Bool → Size → Size
+a_condition true n = n
+a_condition false n = n ∪ a_made_name ∪ a_made_bind ∪ an_expr ∪ an_expr
+
 -- an arm for an item, with what is done with what the item holds
 abbrev pub a_flow_arm : Size → Size
 a_flow_arm body = a_made_name ∪ a_made_bind ∪ a_pat None ∪ body

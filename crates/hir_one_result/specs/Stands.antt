@@ -44,6 +44,7 @@ use Rattle.hir_env.specs.Answered.{Type_, OptionType, Parts, Path as WrittenPath
 use Rattle.hir_env.specs.Answered.{OptionRet, OptionArgs, Args, Arg, Bounds, Bound, Constant, Listing, Label, Expr, OptionExpr, Exprs}
 use Rattle.hir_env.specs.Answered.{Fields, Spread, Block, OptionBlock, Stmts, Arms, Guard, RangeForm, Signed, Pat, OptionPat, Pats}
 use Rattle.hir_env.specs.Answered.{PatFields, Side, TypePat, OptionTypePat, TypePats, Limit, Params, Target, Targets, TargetFields}
+use Rattle.hir_env.specs.Conditions.{holds_let}
 use Rattle.hir_env.specs.Targets.{head_pointer}
 use Rattle.hir_data.specs.Closures.{capture_of, kind_of}
 use Rattle.hir_data.specs.Data.{PathData}
@@ -62,7 +63,7 @@ use Rattle.hir_one_result.specs.PathRoom.{Seen, nothing_seen, at_first, segments
 use Rattle.hir_one_result.specs.Leads.{Ways, No, OneWay, OneUnled, OneLabelWay, OneFieldWay, OnePatFieldWay, OwnedBy, Overtaken, ◌&◌}
 pub use Rattle.hir_one_result.specs.StandsParts.{ExprAt, LabelAt, Open, opened, Absent, There, ThereIf, ReadsAs, statement_of, SomeExpr}
 use Rattle.hir_one_result.specs.StandsMade.{StandsFor, StandsForLoop, StandsForTurn, StandsQuestion, StandsTry, StandsTypedTry, StandsWhile}
-use Rattle.hir_one_result.specs.StandsMade.{StandsClosure, StandsCoroutine, StandsParam, StoredParams}
+use Rattle.hir_one_result.specs.StandsMade.{StandsClosure, StandsCondition, StandsCoroutine, StandsParam, StoredParams}
 use Rattle.hir_one_result.specs.StandsPreludes.{StandsCoroutineClosure}
 pub use Rattle.hir_one_result.specs.StandsReads.{NamesOf, WithNames, ReadsAsPat, ReadsAsTarget, ReadsAsType}
 pub use Rattle.hir_one_result.specs.StandsParts.{SomeConst, WhereOn, Unless, StandsBefore, WherePath, BehindFront, Names, StandsName}
@@ -314,7 +315,8 @@ module _ (store : Store) (source_map : SourceMap) where
         × (StandsBlockPart inner b body & OneWay at i) ws)
     -- its condition lies under its label, too
     Stands rs (tree.while_expr at label _ c b) i =
-        InLabel rs label (λ inner n. StandsWhile store source_map at n (λ x. StandsPart inner c x) (λ x. StandsBlockPart inner b x) i)
+        InLabel rs label (λ inner n. StandsWhile store source_map at n
+        (λ x. StandsCondition store source_map at (holds_let c) (λ y. StandsPart inner c y) x) (λ x. StandsBlockPart inner b x) i)
     -- its head and its pattern lie outside of its label
     Stands rs (tree.for_expr at items label _ p h b) i =
         StandsFor store source_map at (head_pointer at h) items (λ x. StandsPart rs h x)

@@ -1,7 +1,7 @@
 -- What stands for `while`, closures, coroutine blocks, `for`, `?` and `try`. All that lowering makes up for one came from its node, but
 -- what makes an iterator of the head of a `for` from the head's, and patterns and the block in a coroutine from none. The node leads to
 -- the outermost alone, but that of a `try` with a written type to the block in front of which its `let` stands.
-use Rattle.std.specs.Prelude.{◌≡◌, ℕ, Bool, false, List, [], ◌∷◌, Option, Some, None, slice_get}
+use Rattle.std.specs.Prelude.{◌≡◌, ℕ, Bool, true, false, List, [], ◌∷◌, Option, Some, None, slice_get}
 use Rattle.hir_binding.specs.declared.binding.BindingAnnotation.{BindingAnnotation}
 use Rattle.hir_binding.specs.declared.binding.BindingAnnotation.TheVariants.{Mutable, Unannotated}
 use Rattle.hir_store.specs.Pointers.{Pointer}
@@ -81,6 +81,14 @@ module _ (store : Store) (source_map : SourceMap) where
       × ExprAt store source_map turn (hir.If condition body (Some out)) (Some at)
       × ExprAt store source_map out (hir.Break None None) (Some at)
       × (C condition & B body & OneUnled out & OneUnled turn & OneWay at i) ws
+
+  -- A condition that holds a `let` stands as it is written. Any other one is bound to a name that is made up, which stands behind that in
+  -- a block.
+  abbrev pub StandsCondition : Pointer → Bool → (ExprId → Ways) → ExprId → Ways
+  StandsCondition at true C i = C i
+  StandsCondition at false C i = λ ws. (condition : ExprId) × (n : ℕ) × (p : PatId) × (e : ExprId)
+      × (C condition & StandsMadeBind Unannotated n p & StandsMade (generated_path n) at e
+      & StandsMade (hir.Block false None None (statement.Let p None (Some condition) None ∷ []) (Some e)) at i) ws
 
   -- ---- closures
 

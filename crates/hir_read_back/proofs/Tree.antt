@@ -27,7 +27,7 @@ use Rattle.hir_steps.proofs.Noted.{correct_aliased}
 use Rattle.hir_steps.proofs.Steps.{Correct}
 use Rattle.hir_steps.proofs.Keeping.{part_any, present_any, each_any, block_part_any, contents_part_any, contents_any, fields_any}
 use Rattle.hir_steps.proofs.Keeping.{any, turn_any, spread_any, one_type_any, type_any, lower_path_any, args_any, top_any, arms_any}
-use Rattle.hir_steps.proofs.Keeping.{for_loop_any, target_any, constant_any, rooted_any, params_any, present_type_any}
+use Rattle.hir_steps.proofs.Keeping.{condition_any, for_loop_any, target_any, constant_any, rooted_any, params_any, present_type_any}
 use Rattle.hir_data.specs.Data as datum
 use Rattle.hir_data.specs.Data.{TypesData, no_args}
 use Rattle.hir_data.specs.Rule.{broken, named}
@@ -246,7 +246,7 @@ mutual
       sites.record_from at (written.path_of p) (path_reads p) (contents_any (fields_any [] fs) (spread_any s))
   expr_from (tree.if_expr at c t e) = sites.if_from at (part_any c) (block_part_any t) (present_any e)
   expr_from (tree.loop_expr at label _ b) = sites.loop_from at _ label (block_part_any b)
-  expr_from (tree.while_expr at label _ c b) = sites.loop_from at _ label (turn_any at (part_any c) (block_part_any b))
+  expr_from (tree.while_expr at label _ c b) = sites.loop_from at _ label (turn_any at (condition_any at c) (block_part_any b))
   expr_from (tree.for_expr at items label w p h b) =
       sites.for_from at _ items label _ (part_any h) (top_any p) (λ n q. for_loop_any at items label w n q b)
   expr_from (tree.question_expr at items e) = sites.question_from at items (part_any e)

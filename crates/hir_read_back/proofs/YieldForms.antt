@@ -32,6 +32,7 @@ use Rattle.hir_lower_form.specs.Forms.{let_form, match_form, arm_form, assign_fo
 use Rattle.hir_lower_form.specs.Made.{conversion, done_arm_form, flow_arm_form, for_form, for_turn_form, gives_arm_form, item_call_form}
 use Rattle.hir_lower_form.specs.Made.{made_bind_form, made_loop_form, made_path_form, made_reference_form, next_form, question_form}
 use Rattle.hir_lower_form.specs.Made.{residual_form, try_block_form, typed_try_form, value_or_unit, wrapped_form}
+use Rattle.hir_lower_form.specs.Made.{condition_form, held_form, hold_form}
 use Rattle.hir_lower_form.specs.Ranges.{made_range, range_form}
 use Rattle.hir_steps.proofs.Steps.{correct_alloc, correct_enter_block, correct_point, correct_point_field, correct_report}
 use Rattle.hir_steps.proofs.Steps.{correct_report_await}
@@ -262,6 +263,19 @@ module _ (at : Pointer) where
   unfolding typed_try_form
   typed_try_raises hb ht = raises_end hb (λ b. raises_begin number_off (λ n. raises_begin ht (λ t. raises_begin (bind_off _ n)
       (λ p. raises_begin (path_off at n) (λ e. made_off _ (Some at))))))
+
+  hold_off : (value : ExprId) → Raises false (hold_form at value)
+  unfolding hold_form
+  hold_off value = raises_begin number_off
+      (λ n. raises_begin (bind_off _ n) (λ p. raises_begin (path_off at n) (λ e. made_off _ (Some at))))
+
+  held_raises : {y : Bool} {c : ExprSteps} → Raises y c → Raises y (held_form at c)
+  unfolding held_form
+  held_raises h = raises_end h hold_off
+
+  pub condition_raises : (lets : Bool) {y : Bool} {c : ExprSteps} → Raises y c → Raises y (condition_form lets at c)
+  condition_raises true h = h
+  condition_raises false h = held_raises h
 
   gives_arm_raises : {y : Bool} (item : LangItemId) (p : PatId) {b : ExprSteps} → Raises y b → Raises y (gives_arm_form item p b)
   unfolding gives_arm_form

@@ -18,6 +18,7 @@ use Rattle.hir_store.proofs.Extending.{extends_refl}
 use Rattle.hir_env.specs.Answered as tree
 use Rattle.hir_env.specs.Answered.{Arms, Block, Expr, Exprs, Fields, Guard, OptionBlock, OptionExpr, OptionPat, OptionPath, OptionType}
 use Rattle.hir_env.specs.Answered.{Origin, Spread, Stmts, Target, TargetFields, Targets}
+use Rattle.hir_env.specs.Conditions.{holds_let}
 use Rattle.hir_env.specs.Targets.{origin}
 use Rattle.hir_lower_form.specs.Builder.{Builder}
 use Rattle.hir_lower_form.specs.Forms.{ExprSteps, StoredFields, kept, record_form, record_of}
@@ -154,7 +155,7 @@ mutual
   expr_raises (tree.block_expr b) = block_raises b
   expr_raises (tree.loop_expr at label _ b) = forms.loop_raises at _ label (block_part_raises b)
   expr_raises (tree.while_expr at label _ c b) =
-      forms.loop_raises at _ label (forms.turn_raises at (part_raises c) (block_part_raises b))
+      forms.loop_raises at _ label (forms.turn_raises at (forms.condition_raises at (holds_let c) (part_raises c)) (block_part_raises b))
   expr_raises (tree.for_expr at items label _ p h b) =
       forms.for_raises at _ items label (part_raises h) (top_off p) (part_raises b)
   expr_raises (tree.question_expr at items e) = forms.question_raises at items (part_raises e)

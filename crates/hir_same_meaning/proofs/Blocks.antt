@@ -15,7 +15,7 @@ use Rattle.hir_data.specs.Reading.{stored_pat, stored_option_type}
 use Rattle.hir_data.specs.Written.{written_option_type}
 use Rattle.hir_lower_form.specs.Calls.{defined}
 use Rattle.hir_lower_form.specs.Lower.{settled}
-use Rattle.hir_meaning.specs.Run.{Value, unit, leave, unmatched, pure, ◌>>=◌, ◌>>◌, binds}
+use Rattle.hir_meaning.specs.Run.{Value, unit, leave, unmatched, pure, ends_temps, ◌>>=◌, ◌>>◌, binds}
 use Rattle.hir_scope.specs.Scopes.{Scope, macro_scope}
 use Rattle.hir_meaning.specs.Syntax.{SyntaxRun, as_it_is, behind_def, run_expr, run_part, run_present, run_else, run_block, run_stmts}
 use Rattle.hir_meaning.specs.Syntax.{run_tail}
@@ -25,7 +25,7 @@ use Rattle.hir_scope.specs.Each.{IfPresent}
 use Rattle.hir_meaning.specs.Jumps.{EachStatement, EnclosedTo}
 use Rattle.hir_steps.proofs.Frames.{Frame, scopes, Falls}
 use Rattle.hir_same_meaning.proofs.Views.{frames_behind, numbers}
-use Rattle.hir_same_meaning.proofs.Relation.{SameWhere, same_ends, same_inside, same_outside, same_pure, same_bind}
+use Rattle.hir_same_meaning.proofs.Relation.{SameWhere, same_ends, same_inside, same_outside, same_pure, same_bind, same_temps}
 use Rattle.hir_same_meaning.proofs.Senses.{Base}
 use Rattle.hir_same_meaning.proofs.Senses.{Walk, run_in, one, optional, present, contents, Goes, Wider, goes_within}
 use Rattle.hir_same_meaning.proofs.Unmade.{binds_same, written_is_unmade}
@@ -179,7 +179,7 @@ stored_run final turns d r = run_statements (store_of final) (map_of final) turn
 
 -- an expression statement that is left or not, and others behind it
 abbrev before : Bool → Bool → (SyntaxRun Value → SyntaxRun Value) → SyntaxRun Value → SyntaxRun Value → SyntaxRun Value
-before left last out y others = if left then (if last then out y else (y >> others)) else others
+before left last out y others = if left then (if last then out y else (y >> ends_temps others)) else others
 
 module _ (base : Base) (nodes : ℕ) (final : Stored) (turns d : ℕ) (deep : nodes ≤ d) where
   same_else : (ps : List Frame) → Falls base.labels ps → (b : OptionBlock) (o : Option ExprId) → ElseIs base nodes final ps b o
@@ -259,7 +259,7 @@ module _ (base : Base) (nodes : ℕ) (final : Stored) (turns d : ℕ) (deep : no
   with_tail ps f (tree.more_stmts (tree.let_stmt p t e b) ss) (statement.MacroDef def ∷ new) i k h = absurd h
   with_tail ps f (tree.more_stmts (tree.let_stmt p t e b) ss) (statement.Expr j semi ∷ new) i k h = absurd h
   with_tail ps f (tree.more_stmts (tree.let_stmt p t e b) ss) (statement.Let q t' j l ∷ new) i k h =
-      same_let base nodes final turns d deep ps f p t e b _ h.0 (with_tail ps f ss new i k h.1)
+      same_let base nodes final turns d deep ps f p t e b _ h.0 (same_temps (with_tail ps f ss new i k h.1))
   with_tail ps f (tree.more_stmts (tree.expr_stmt e semi) ss) new i k h =
       go (is_left e) (part_walk e) new (λ more h'. with_tail ps f ss more i k h') h
     where
@@ -275,7 +275,7 @@ module _ (base : Base) (nodes : ℕ) (final : Stored) (turns d : ℕ) (deep : no
       go true y (statement.MacroDef def ∷ new) more h = absurd h
       go true y (statement.Let q t' j l ∷ new) more h = absurd h
       go true y (statement.Expr j semi' ∷ new) more h =
-          rw (and_false (not semi) (none_left ss)) (same_bind (h.1.same turns d deep f) (λ v. more new h.2))
+          rw (and_false (not semi) (none_left ss)) (same_bind (h.1.same turns d deep f) (λ v. same_temps (more new h.2)))
 
   -- what does nothing is no tail
   silent_first : (ps : List Frame) (n : SyntaxRun Value) (def : Option MacroDefId) (new : List Statement) (s : Statement)
@@ -318,7 +318,7 @@ module _ (base : Base) (nodes : ℕ) (final : Stored) (turns d : ℕ) (deep : no
   without_tail ps f (tree.more_stmts (tree.let_stmt p t e b) ss) (statement.MacroDef def ∷ new) k h = absurd h
   without_tail ps f (tree.more_stmts (tree.let_stmt p t e b) ss) (statement.Expr j semi ∷ new) k h = absurd h
   without_tail ps f (tree.more_stmts (tree.let_stmt p t e b) ss) (statement.Let q t' j l ∷ new) k h =
-      same_let base nodes final turns d deep ps f p t e b _ h.0 (without_tail ps f ss new k h.1)
+      same_let base nodes final turns d deep ps f p t e b _ h.0 (same_temps (without_tail ps f ss new k h.1))
   without_tail ps f (tree.more_stmts (tree.expr_stmt e semi) ss) new k h =
       go (is_left e) (part_walk e) semi new (without_tail ps f ss) (λ more. none_left_is base nodes final false x ps ss more None) k h
     where
@@ -338,13 +338,13 @@ module _ (base : Base) (nodes : ℕ) (final : Stored) (turns d : ℕ) (deep : no
       go true y semi (statement.Item ∷ new) more left k h = absurd h
       go true y semi (statement.MacroDef def ∷ new) more left k h = absurd h
       go true y semi (statement.Let q t' j l ∷ new) more left k h = absurd h
-      go true y true (statement.Expr j true ∷ new) more left k h = same_bind (h.1.same turns d deep f) (λ v. more new k h.2)
+      go true y true (statement.Expr j true ∷ new) more left k h = same_bind (h.1.same turns d deep f) (λ v. same_temps (more new k h.2))
       go true y true (statement.Expr j false ∷ new) more left k h = absurd (true≢false (sym h.0))
       go true y false (statement.Expr j true ∷ new) more left k h = absurd (true≢false h.0)
       go true y false (statement.Expr j false ∷ []) more left k h =
           rw (left [] h.2) (k y (record { same = h.1.same; jumps = h.1.jumps }))
       go true y false (statement.Expr j false ∷ (s ∷ new)) more left k h =
-          rw (left (s ∷ new) h.2) (same_bind (h.1.same turns d deep f) (λ v. more (s ∷ new) k h.2))
+          rw (left (s ∷ new) h.2) (same_bind (h.1.same turns d deep f) (λ v. same_temps (more (s ∷ new) k h.2)))
 
 -- jumps
 

@@ -41,7 +41,7 @@ use Rattle.hir_meaning.specs.Catching.{turn, loop}
 use Rattle.hir_scope.specs.Scopes.{Scope, loop_scope, break_target, continue_target, outward, scopes_in_block}
 use Rattle.hir_meaning.specs.Left.{is_kept, is_left}
 use Rattle.hir_meaning.specs.Store.{read_or_look}
-use Rattle.hir_meaning.specs.Syntax.{SyntaxRun, as_it_is, run_path, run_stmts, run_tail, catching, while_turn, run_while}
+use Rattle.hir_meaning.specs.Syntax.{SyntaxRun, as_it_is, run_path, run_stmts, run_tail, catching}
 use Rattle.hir_steps.proofs.Frames.{Frame, plain_loop, loop_at, block_at, try_at, scopes, Falls}
 use Rattle.hir_steps.proofs.Steps.{Mark, Grows, Rel, Holds, Correct, Allocated, correct_bind, correct_as, correct_pure}
 use Rattle.hir_steps.proofs.Calls.{correct_told, correct_note_gone}
@@ -49,7 +49,7 @@ use Rattle.hir_steps.proofs.Steps.{correct_point, correct_enter_block, correct_a
 use Rattle.hir_same_meaning.proofs.Targets.{break_meets, continue_meets, among}
 use Rattle.hir_same_meaning.proofs.Relation.{SameWhere, TurnsAlike, same_read_path}
 use Rattle.hir_same_meaning.proofs.Views.{frames_behind}
-use Rattle.hir_same_meaning.proofs.Turns.{alike_same, branched, while_alike}
+use Rattle.hir_same_meaning.proofs.Turns.{alike_same, branched}
 use Rattle.hir_same_meaning.proofs.Senses.{Base, Under, base_of}
 use Rattle.hir_same_meaning.proofs.Senses.{Walk, one, optional, many, contents, Goes, Runs, Wider, goes_within, goes_at}
 use Rattle.hir_same_meaning.proofs.Nodes
@@ -118,7 +118,7 @@ module _ (at : Pointer) where
       Nodes.goes_if (goes_within (omega arith) q.first) (goes_within (omega arith) row.first) (goes_within (omega arith) r.first) q.second)
 
   -- a loop whose body goes as a turn that is one of the loop, in its scope
-  turns_fine : (from : LoopSource) (l : Option Label) (y : Walk (Option Value)) {p : ExprSteps} {x : Walk Value}
+  pub turns_fine : (from : LoopSource) (l : Option Label) (y : Walk (Option Value)) {p : ExprSteps} {x : Walk Value}
       → ((turns : ℕ) (ss : List Scope) → TurnsAlike (x turns (loop_scope l ∷ ss)) (y turns (loop_scope l ∷ ss)))
       → Correct p (Runs one x)
       → Correct (loop_form at from l p) (Runs one (λ turns ss. loop outward turns (y turns (loop_scope l ∷ ss))))
@@ -141,10 +141,10 @@ module _ (at : Pointer) where
       turns_fine from l (λ turns ss. turn (x turns ss)) (λ turns ss. alike_same (x turns (loop_scope l ∷ ss))) h
 
   -- the body where the condition holds, else a break of the innermost loop
-  abbrev turn_walk : Walk Value → Walk Value → Walk Value
+  abbrev pub turn_walk : Walk Value → Walk Value → Walk Value
   turn_walk x y turns ss = branched (x turns ss) (y turns ss) (◌then◌ (gives unit) (λ v. ends (break (break_target ss None) v))) here
 
-  turn_fine : {c b : ExprSteps} {x y : Walk Value} → Correct c (Runs one x) → Correct b (Runs one y)
+  pub turn_fine : {c b : ExprSteps} {x y : Walk Value} → Correct c (Runs one x) → Correct b (Runs one y)
       → Correct (turn_form at c b) (Runs one (turn_walk x y))
   unfolding turn_form
   turn_fine hc hb = correct_as
@@ -154,14 +154,6 @@ module _ (at : Pointer) where
       let out = Nodes.goes_break {base = base_of m} None (break_meets m.labels ps None) (among ps None) Nodes.goes_none q.first in
       Nodes.goes_if (goes_within (omega arith) r.first) (goes_within (omega arith) row.first)
       (Nodes.goes_some (goes_within (omega arith) out)) q.second)
-
-  pub while_fine : (from : LoopSource) (l : Option Label) {c b : ExprSteps} {x y : Walk Value} → Correct c (Runs one x)
-      → Correct b (Runs one y)
-      → Correct (loop_form at from l (turn_form at c b))
-      (Runs one (λ turns ss. run_while turns (x turns (loop_scope l ∷ ss)) (y turns (loop_scope l ∷ ss)) here))
-  while_fine from l {x = x} {y = y} hc hb =
-      turns_fine from l (λ turns ss. while_turn (x turns ss) (y turns ss) here)
-      (λ turns ss. while_alike (x turns (loop_scope l ∷ ss)) (y turns (loop_scope l ∷ ss)) here) (turn_fine hc hb)
 
   pub break_fine : (j : Option Jump) {p : Lowering (Option ExprId)} {x : Walk Value} → Correct p (Runs optional x)
       → Correct (break_form at j p) (Runs one (λ turns ss. ◌then◌ (x turns ss) (λ v. ends (break (break_target ss j) v))))

@@ -22,6 +22,7 @@ use Rattle.hir_env.specs.Answered.{OptionRet, OptionArgs, Args, Arg, Bounds, Bou
 use Rattle.hir_env.specs.Answered.{Expr, OptionExpr, Exprs, Fields, Field, Spread, Block, OptionBlock, Stmts, Stmt}
 use Rattle.hir_env.specs.Answered.{Arms, Arm, Guard, Pat, OptionPat, Pats, PatFields, Side, TypePat, OptionTypePat, TypePats, Limit}
 use Rattle.hir_env.specs.Answered.{Params, Target, Targets, TargetFields}
+use Rattle.hir_env.specs.Conditions.{holds_let}
 use Rattle.hir_env.specs.Targets.{head_pointer}
 use Rattle.hir_data.specs.Written.{path_of}
 use Rattle.hir_lower_form.specs.declared.args.ArgLists.{ArgLists}
@@ -220,7 +221,8 @@ mutual
   expr_holds (tree.if_expr at c t e) = forms.if_held at (body_holds c) (block_part_holds t) (present_holds e)
   expr_holds (tree.block_expr b) = block_holds b
   expr_holds (tree.loop_expr at label _ b) = forms.loop_held at _ label (block_part_holds b)
-  expr_holds (tree.while_expr at label _ c b) = forms.loop_held at _ label (forms.turn_held at (body_holds c) (block_part_holds b))
+  expr_holds (tree.while_expr at label _ c b) =
+      forms.loop_held at _ label (forms.turn_held at (tries.condition_held at (holds_let c) (body_holds c)) (block_part_holds b))
   expr_holds (tree.for_expr at items label _ p h b) =
       for_held at (head_pointer at h) items label (body_holds h) (top_holds p) (body_holds b)
   expr_holds (tree.question_expr at items e) = tries.question_held at items (body_holds e)

@@ -1,5 +1,5 @@
 -- What `?` and `try` become holds what their parts hold: nothing that is made up holds a body.
-use Rattle.std.proofs.Common.{◌≡◌, ◌∙◌, refl, sym, ap, subst, ℕ, ◌+◌, ◌≤◌, Bool, false, List, [], ◌∷◌, ◌++◌, append-nil, Option}
+use Rattle.std.proofs.Common.{◌≡◌, ◌∙◌, refl, sym, ap, subst, ℕ, ◌+◌, ◌≤◌, Bool, true, false, List, [], ◌∷◌, ◌++◌, append-nil, Option}
 use Rattle.std.proofs.Common.{Some, None, arith}
 use Rattle.hir_binding.specs.declared.binding.BindingAnnotation.{BindingAnnotation}
 use Rattle.hir_binding.specs.declared.binding.BindingAnnotation.TheVariants.{Unannotated}
@@ -19,6 +19,7 @@ use Rattle.hir_lower_form.specs.Forms.{ExprSteps, StoredContents, root_hygiene, 
 use Rattle.hir_lower_form.specs.Lowering.{Lowering, alloc_made}
 use Rattle.hir_lower_form.specs.Made.{bound_block, conversion, flow_arm_form, item_call_form, item_or_missing, item_pat, leaving_node}
 use Rattle.hir_lower_form.specs.Made.{made_bind_form, made_binding, made_call, made_path, made_path_form, question_form, residual_form}
+use Rattle.hir_lower_form.specs.Made.{condition_form, held_block, held_form, hold_form}
 use Rattle.hir_lower_form.specs.Made.{try_block_form, typed_try_form, value_or_unit, wrapped_form}
 use Rattle.hir_meaning.specs.Inner.{Bodies, Inners, of_arm, of_expr, of_present}
 use Rattle.hir_scope.specs.Ribs.{Try}
@@ -106,6 +107,38 @@ module _ (at : Pointer) where
         (same_append final (of_arm k u.one) (of_arm k t.one ++ []) [] []
         (u.first.same d (omega (arith, le, t.before.nodes, t.before.entries)))
         (same_ids final [] (append-nil (of_arm k t.one)) (t.first.same d le))))))
+
+    -- a condition, where its temporaries end
+    held_held : {c : ExprSteps} → Correct c (Holds an_expr es) → Correct (held_form at c) (Holds an_expr es)
+    unfolding held_form hold_form
+    held_held hc = correct_as (correct_bind hc (λ c. correct_bind correct_made_number (λ n. correct_bind (bind_held Unannotated n)
+        (λ p. correct_bind (name_held n) (λ e. correct_alloc_made (held_block p c e) (Some at))))))
+        (λ final ps m m' i g row. let s = row.second in let q = s.second in let r = q.second in
+        expr_held r.second r.after (λ d le. let k = inners_in final d in
+        same_bodies final (of_expr k (held_block q.one row.one r.one)) (front_is es)
+        (same_append final ((k.pat q.one ++ (k.expr row.one ++ [])) ++ []) (k.expr r.one) ((es ++ []) ++ []) []
+        (same_append final (k.pat q.one ++ (k.expr row.one ++ [])) [] (es ++ []) []
+        (same_append final (k.pat q.one) (k.expr row.one ++ []) [] (es ++ [])
+        (q.first.same d (omega (arith, le, r.before.nodes, r.before.entries)))
+        (same_append final (k.expr row.one) [] es []
+        (row.first.same d (omega (
+          arith,
+          le,
+          s.before.nodes,
+          s.before.entries,
+          q.before.nodes,
+          q.before.entries,
+          r.before.nodes,
+          r.before.entries,
+        ))) tt)) tt) (r.first.same d le))))
+      where
+        front_is : (es : Bodies) → ((es ++ []) ++ []) ++ [] ≡ es
+        front_is es = append-nil _ ∙ (append-nil _ ∙ append-nil es)
+
+    pub condition_held : (lets : Bool) {c : ExprSteps} → Correct c (Holds an_expr es)
+        → Correct (condition_form lets at c) (Holds an_expr es)
+    condition_held true h = h
+    condition_held false h = held_held h
 
   -- what ends a `try` holds what its tail does
   record Ended (tail : Option ExprId) (final : Stored) (ps : List Frame) (m m' : Mark) (i : ExprId) : Type 0 where

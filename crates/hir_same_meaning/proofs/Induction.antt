@@ -18,6 +18,7 @@ use Rattle.hir_lower_form.specs.Lower.{lower_target_fields, present_block}
 use Rattle.hir_lower_form.specs.Pats.{Elements, no_elements}
 use Rattle.hir_lower_form.specs.Lowering.{Lowering}
 use Rattle.hir_meaning.specs.Run.{Value}
+use Rattle.hir_env.specs.Conditions.{holds_let}
 use Rattle.hir_meaning.specs.Left.{is_kept, is_left, field_names}
 use Rattle.hir_meaning.specs.Syntax.{run_expr, run_block_part, run_or_unit, run_each, run_block, spread_form, run_fields, run_spread}
 use Rattle.hir_meaning.specs.Syntax.{run_present, run_arms, run_places, run_each_place, run_field_places}
@@ -59,7 +60,7 @@ mutual
   expr_fine (tree.call_expr at f has_list es) = Forms.call_fine at (part_fine f) (Forms.pushed_all (each_fine es []))
   expr_fine (tree.if_expr at c t e) = Forms.if_fine at (part_fine c) (block_part_fine t) (present_fine e)
   expr_fine (tree.loop_expr at label _ b) = Forms.loop_fine at _ label (block_part_fine b)
-  expr_fine (tree.while_expr at label _ c b) = Forms.while_fine at _ label (part_fine c) (block_part_fine b)
+  expr_fine (tree.while_expr at label _ c b) = Tries.while_fine at _ label (holds_let c) (part_fine c) (block_part_fine b)
   expr_fine (tree.for_expr at items label _ p h b) = Fors.for_fine at (head_pointer at h) items label p (part_fine h) (part_fine b)
   expr_fine (tree.question_expr at items e) = Questions.question_fine at items (part_fine e)
   expr_fine (tree.itemless_expr at) = Forms.missing_fine

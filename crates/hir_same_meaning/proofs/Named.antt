@@ -42,6 +42,7 @@ use Rattle.hir_steps.proofs.Keeping.{Any, any, args_any, arms_any, block_part_an
 use Rattle.hir_steps.proofs.Keeping.{for_loop_any, lower_path_any, one_type_any, part_any, present_any, spread_any, target_any, top_any}
 use Rattle.hir_steps.proofs.Barriers.{correct_closure, correct_coroutine, correct_yield}
 use Rattle.hir_steps.proofs.CoroutineClosures.{correct_coroutine_closure}
+use Rattle.hir_steps.proofs.Keeping.{condition_any}
 use Rattle.hir_steps.proofs.Keeping.{turn_any, type_any, constant_any, rooted_any, params_any, present_type_any, within_any, handed_any}
 use Rattle.hir_steps.proofs.MadeSteps.{correct_alloc_made, correct_made_bind, correct_made_number, correct_opened_try}
 use Rattle.hir_steps.proofs.Owning.{owning_keeps}
@@ -228,7 +229,7 @@ mutual
   expr_unnamed (tree.if_expr at c t e) = ends_unnamed (block_part_any t) (λ i. ends_unnamed (present_any e) (λ j. ends_unnamed (part_any c)
       (λ k. stored_unnamed _ (Some at) (λ final. refl))))
   expr_unnamed (tree.loop_expr at label _ b) = loop_unnamed at _ label (block_part_any b)
-  expr_unnamed (tree.while_expr at label _ c b) = loop_unnamed at _ label (turn_any at (part_any c) (block_part_any b))
+  expr_unnamed (tree.while_expr at label _ c b) = loop_unnamed at _ label (turn_any at (condition_any at c) (block_part_any b))
   expr_unnamed (tree.for_expr at items label w p h b) =
       for_unnamed at _ items label _ (part_any h) (top_any p) (λ n q. for_loop_any at items label w n q b)
   expr_unnamed (tree.question_expr at items e) = question_unnamed at items (part_any e)

@@ -12,6 +12,7 @@ use Rattle.hir_store.specs.declared.diagnostics.ExpressionStoreDiagnostics.TheVa
 use Rattle.hir_env.specs.Answered as tree
 use Rattle.hir_env.specs.Answered.{Expr, OptionExpr, Exprs, Fields, Field, Block, OptionBlock, Stmts, Arms, Arm, Guard, Target, Targets}
 use Rattle.hir_env.specs.Answered.{TargetFields, TargetField}
+use Rattle.hir_env.specs.Conditions.{holds_let}
 use Rattle.hir_env.specs.Targets.{head_pointer}
 use Rattle.hir_lower_form.specs.Lowering.{Lowering}
 use Rattle.hir_lower_form.specs.Lower.{push_some, lower, lower_part, present, kept_part, lower_each, lower_block, lower_block_part}
@@ -39,7 +40,7 @@ use Rattle.hir_same_meaning.proofs.Owning.{disabled_owns, each_more, fields_more
 use Rattle.hir_same_meaning.proofs.Owning.{fields_own_all, Filled, filled_end, filled_held, filled_none, filled_silent, filled_expr}
 use Rattle.hir_same_meaning.proofs.Owning.{block_owns, each_owns_all}
 use Rattle.hir_same_meaning.proofs.OwningFors.{for_owns}
-use Rattle.hir_same_meaning.proofs.OwningTries.{question_owns, try_owns, typed_try_owns}
+use Rattle.hir_same_meaning.proofs.OwningTries.{condition_owns, question_owns, try_owns, typed_try_owns}
 use Rattle.hir_same_meaning.proofs.Spread.{spread_none}
 
 arms_own_all : {p : Lowering (List MatchArm)} → Correct p (Pushed [] (OwnsAs of_arms)) → Correct p (OwnsAs of_arms)
@@ -56,7 +57,8 @@ mutual
   expr_owns (tree.call_expr at f has_list es) = call_owns at (part_owns f) (each_owns_all (each_owns es []))
   expr_owns (tree.if_expr at c t e) = if_owns at (part_owns c) (block_part_owns t) (present_owns e)
   expr_owns (tree.loop_expr at label _ b) = loop_owns at _ label (block_part_owns b)
-  expr_owns (tree.while_expr at label _ c b) = loop_owns at _ label (turn_owns at (part_owns c) (block_part_owns b))
+  expr_owns (tree.while_expr at label _ c b) =
+      loop_owns at _ label (turn_owns at (condition_owns at (holds_let c) (part_owns c)) (block_part_owns b))
   expr_owns (tree.for_expr at items label _ p h b) = for_owns at (head_pointer at h) items label p (part_owns h) (part_owns b)
   expr_owns (tree.question_expr at items e) = question_owns at items (part_owns e)
   expr_owns (tree.itemless_expr at) = missing_owns

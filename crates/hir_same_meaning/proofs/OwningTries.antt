@@ -1,5 +1,5 @@
 -- What `?` and `try` become holds: each number is reached in one way, and those of what is made up are new.
-use Rattle.std.proofs.Common.{◌≡◌, ◌⊎◌, inl, inr, ⊎_elim, refl, sym, subst, ℕ, ◌≤◌, Bool, false, List, [], ◌∷◌, ◌++◌, append-nil}
+use Rattle.std.proofs.Common.{◌≡◌, ◌⊎◌, inl, inr, ⊎_elim, refl, sym, subst, ℕ, ◌≤◌, Bool, true, false, List, [], ◌∷◌, ◌++◌, append-nil}
 use Rattle.std.proofs.Common.{Option, Some, None, arith}
 use Rattle.hir_binding.specs.declared.binding.BindingAnnotation.TheVariants.{Unannotated}
 use Rattle.hir_store.specs.Pointers.{Pointer}
@@ -17,7 +17,7 @@ use Rattle.hir_lower_form.specs.Lower.{lower_type}
 use Rattle.hir_lower_form.specs.Lowering.{Lowering, alloc_made}
 use Rattle.hir_lower_form.specs.Made.{bound_block, conversion, flow_arm_form, item_call_form, item_or_missing, item_pat, leaving_node}
 use Rattle.hir_lower_form.specs.Made.{made_call, made_path, made_path_form, question_form, residual_form, try_block_form, typed_try_form}
-use Rattle.hir_lower_form.specs.Made.{value_or_unit, wrapped_form}
+use Rattle.hir_lower_form.specs.Made.{condition_form, held_block, held_form, hold_form, value_or_unit, wrapped_form}
 use Rattle.hir_scope.specs.Ribs.{Try}
 use Rattle.hir_same_meaning.specs.Reached.{of_some, below, reached_to, Spread}
 use Rattle.hir_steps.proofs.Frames.{Frame}
@@ -178,3 +178,19 @@ module _ (at : Pointer) where
       rw (append-nil (f row.one ++ []), append-nil (f row.one)) (spread_append m.nodes r.middle.nodes (inl begun)
       (omega arith, omega (arith, row.before.nodes, begun), omega (arith, begun, r.before.nodes), omega arith)
       (row.first.spread d (omega (arith, le, begun, r.before.nodes))) (r.first.spread d le))))
+
+  -- a condition, where its temporaries end: it is stored before the name that it is bound by
+  held_owns : {c : ExprSteps} → Correct c Owns → Correct (held_form at c) Owns
+  unfolding held_form hold_form
+  held_owns hc = correct_as (correct_bind hc (λ c. correct_bind correct_made_number (λ n. correct_bind (correct_made_bind Unannotated n)
+      (λ p. correct_bind (name_owns n) (λ e. correct_alloc_made (held_block p c e) (Some at))))))
+      (λ final ps m m' i g row. let s = row.second in let q = s.second in let r = q.second in
+      let begun : row.middle.nodes ≤ q.middle.nodes = omega (arith, s.before.nodes, q.before.nodes) in
+      owns_at m r.second (omega (arith, row.before.nodes, begun, r.before.nodes)) (λ d le. let f = reached_to (store_of final) d in
+      rw (append-nil (f row.one ++ []), append-nil (f row.one)) (spread_append m.nodes r.middle.nodes (inl begun)
+      (omega arith, omega (arith, row.before.nodes, begun), omega (arith, begun, r.before.nodes), omega arith)
+      (row.first.spread d (omega (arith, le, begun, r.before.nodes))) (r.first.spread d le))))
+
+  pub condition_owns : (lets : Bool) {c : ExprSteps} → Correct c Owns → Correct (condition_form lets at c) Owns
+  condition_owns true h = h
+  condition_owns false h = held_owns h

@@ -11,7 +11,7 @@ use Rattle.hir_env.specs.NodeMap.{Site}
 use Rattle.hir_data.specs.Data.{PathData, path_data, item_path, OptionTypeData, PatData, pattern_site}
 use Rattle.hir_meaning.specs.Run.{Value, answered, unit, truth, Operation, enter, tuple, Test, test, Outcome, value, break, continue}
 use Rattle.hir_meaning.specs.Run.{Leave, leave, cut, World, ends, pure, after, ◌>>=◌, event, ask, tests, entering, made_tuple, lazily}
-use Rattle.hir_meaning.specs.Run.{item, read, matches, bound, assigned, tests_pattern, binds, assigns, read_path}
+use Rattle.hir_meaning.specs.Run.{item, read, matches, bound, assigned, temps, ends_temps, tests_pattern, binds, assigns, read_path}
 use Rattle.hir_meaning.specs.Catching.{Step, again, done, Outward, turn, turn_end, goes_on, loop, block, block_end}
 use Rattle.hir_scope.specs.Scopes.{Count, outward, continue_past_block}
 use Rattle.hir_meaning.specs.Syntax.{SyntaxRun}
@@ -113,6 +113,11 @@ module _ {names : ℕ} {ps : List Frame} where
 
   pub same_binds : (p : PatData) (t : OptionTypeData) (vs : List Value) → SameWhere names ps (binds p t vs) (binds p t vs)
   same_binds p t vs = same_bind (same_event (bound p t) vs (pattern_site p)) (λ a. same_pure a.yes)
+
+  -- where temporaries end
+  pub same_temps : {A : Type 0} {m : StoreRun A} {n : SyntaxRun A} → SameWhere names ps m n
+      → SameWhere names ps (ends_temps m) (ends_temps n)
+  same_temps h = same_bind (same_event temps [] None) (λ a. h)
 
   pub same_assigns : (p : PatData) (vs : List Value) (site : Option Site) → SameWhere names ps (assigns p vs site) (assigns p vs site)
   same_assigns p vs site = same_bind (same_event (assigned p) vs site) (λ a. same_pure unit)

@@ -19,7 +19,7 @@ use Rattle.hir_env.specs.Answered as tree
 use Rattle.hir_store.specs.declared.type_ref.ConstRef.{ConstRef}
 use Rattle.hir_env.specs.Answered.{Listing, Label, Jump, Expr}
 use Rattle.hir_store.specs.declared.ids.TypeRefId.{TypeRefId}
-use Rattle.hir_lower_form.specs.Lowering.{Lowering, ◌>>=◌, alloc_expr}
+use Rattle.hir_lower_form.specs.Lowering.{Lowering, ◌>>=◌, alloc_expr, alloc_made}
 use Rattle.hir_lower_form.specs.Lower.{ExprSteps, StoredContents, missing, some, if_form, loop_form, turn_form, call_form, continue_form}
 use Rattle.hir_lower_form.specs.Lower.{break_form, paren_form, path_form, operand_form, operands_form, value_form, list_form}
 use Rattle.hir_lower_form.specs.Types.{TypeSteps}
@@ -27,6 +27,7 @@ use Rattle.hir_lower_form.specs.Lower.{StoredFields, cast_form, offset_of_form, 
 use Rattle.hir_lower_form.specs.Lower.{method_call_form, await_form, block_form, labelled, kept}
 use Rattle.hir_lower_form.specs.Made.{item_call_form, made_path_form, residual_form, value_or_unit, wrapped_form}
 use Rattle.hir_lower_form.specs.Made.{conversion, flow_arm_form, question_form, try_block_form, typed_try_form}
+use Rattle.hir_lower_form.specs.Made.{condition_form, held_block, held_form, hold_form}
 use Rattle.hir_steps.proofs.Apart.{Apart, enter_block_apart, expr_apart, made_apart, named_apart}
 use Rattle.hir_steps.proofs.Apart.{opened_apart, opened_try_apart, point_apart, point_field_apart, pure_apart}
 use Rattle.hir_steps.proofs.Apart.{report_await_apart, stored_pat_apart, jump_apart, then_apart, try_target_apart}
@@ -236,6 +237,20 @@ module _ (at : Pointer) where
   unfolding typed_try_form
   typed_try_apart hb ht = then_apart hb (λ b. named_apart Unannotated ht
       (λ n t p. then_apart (made_path_apart n) (λ e. made_apart _ (Some at))))
+
+  hold_apart : (value : ExprId) → Correct (hold_form at value) Apart
+  unfolding hold_form
+  hold_apart value = named_apart Unannotated {A = Unit {0}} {p = pure tt}
+      {f = λ n u p. made_path_form at n >>= (λ e. alloc_made (held_block p value e) (Some at))}
+      (pure_apart tt) (λ n u p. then_apart (made_path_apart n) (λ e. made_apart _ (Some at)))
+
+  held_apart : {c : ExprSteps} → Correct c Apart → Correct (held_form at c) Apart
+  unfolding held_form
+  held_apart h = then_apart h hold_apart
+
+  pub condition_apart : (lets : Bool) {c : ExprSteps} → Correct c Apart → Correct (condition_form lets at c) Apart
+  condition_apart true h = h
+  condition_apart false h = held_apart h
 
 pub for_apart : (at head_at : Pointer) (items : ForItems) (label : Option Label) → IsWrittenLabel label → {h : ExprSteps}
     {p : Lowering PatId} {b : ExprSteps} → Correct h Apart → Correct p Apart → Correct b Apart

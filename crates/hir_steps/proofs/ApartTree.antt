@@ -13,6 +13,7 @@ use Rattle.hir_env.specs.Answered.{Stmts, Stmt, Arms, Arm, Guard, Pat, OptionPat
 use Rattle.hir_env.specs.Answered.{TypePat, TypePats, Limit, Param, Params, Target, Targets, TargetFields, TargetField}
 use Rattle.hir_env.specs.Answered.{Binder, Type_, OptionType, Parts, Path as TreePath, OptionPath, Segments, Segment, SegmentArgs}
 use Rattle.hir_env.specs.Answered.{OptionParens, OptionRet, OptionArgs, Args, Arg, Bounds, Bound, Constant}
+use Rattle.hir_env.specs.Conditions.{holds_let}
 use Rattle.hir_store.specs.declared.ids.TypeRefId.{TypeRefId}
 use Rattle.hir_store.specs.declared.type_ref.TypeBound.{TypeBound}
 use Rattle.hir_lower_form.specs.declared.args.ArgLists.{ArgLists}
@@ -60,6 +61,7 @@ use Rattle.hir_steps.proofs.Definitions.{behind_apart, define_apart}
 use Rattle.hir_steps.proofs.Noted.{correct_aliased}
 use Rattle.hir_steps.proofs.Steps.{Correct}
 use Rattle.hir_steps.proofs.ApartForms.{missing_apart, stored_apart, some_apart, if_apart, loop_apart, turn_apart, call_apart}
+use Rattle.hir_steps.proofs.ApartForms.{condition_apart}
 use Rattle.hir_steps.proofs.ApartForms.{continue_apart, break_apart, paren_apart, path_apart, operand_apart, operands_apart, value_apart}
 use Rattle.hir_steps.proofs.ApartForms.{list_apart, method_call_apart, cast_apart, offset_of_apart, record_apart, field_apart, await_apart}
 use Rattle.hir_steps.proofs.ApartForms.{block_form_apart, question_apart, try_apart, typed_try_apart, contents_apart, labelled_apart}
@@ -185,7 +187,8 @@ mutual
   node_apart (tree.if_expr at c t e) = if_apart at (part_apart c) (block_part_apart t) (present_apart e)
   node_apart (tree.block_expr b) = block_apart b
   node_apart (tree.loop_expr at label w b) = loop_apart at _ label w (block_part_apart b)
-  node_apart (tree.while_expr at label w c b) = loop_apart at _ label w (turn_apart at (part_apart c) (block_part_apart b))
+  node_apart (tree.while_expr at label w c b) =
+      loop_apart at _ label w (turn_apart at (condition_apart at (holds_let c) (part_apart c)) (block_part_apart b))
   node_apart (tree.for_expr at items label w p h b) =
       for_apart at _ items label w (part_apart h) (top_apart p) (part_apart b)
   node_apart (tree.question_expr at items e) = question_apart at items (part_apart e)

@@ -15,10 +15,11 @@ use Rattle.hir_store.specs.Pointers.{Pointer}
 use Rattle.hir_env.specs.Answered.{Arms, Binder, Constant, Exprs, Fields, OptionArgs, OptionBlock, OptionExpr, OptionPat, OptionPath}
 use Rattle.hir_store.specs.declared.ids.PatId.{PatId}
 use Rattle.hir_env.specs.Answered.{ForItems, IsWrittenLabel, Label, OptionType, Params, Spread, Stmts, Target, Type_}
+use Rattle.hir_env.specs.Conditions.{holds_let}
 use Rattle.hir_lower_form.specs.declared.closures.ClosureParams.{ClosureParams}
 use Rattle.hir_lower_form.specs.declared.preludes.Handed.{Handed}
 use Rattle.hir_lower_form.specs.declared.preludes.Prelude.{Prelude}
-use Rattle.hir_lower_form.specs.Made.{for_turn_form, made_loop_form}
+use Rattle.hir_lower_form.specs.Made.{condition_form, for_turn_form, made_loop_form}
 use Rattle.hir_lower_form.specs.Builder.{Builder}
 use Rattle.hir_lower_form.specs.Lower.{ExprSteps, args_part, kept_part, lower_arms, lower_block_part, lower_constant, lower_each}
 use Rattle.hir_lower_form.specs.Lower.{lower_fields, lower_params, lower_part, lower_path, lower_rooted, lower_spread, lower_stmts}
@@ -28,7 +29,7 @@ use Rattle.hir_lower_form.specs.Lowering.{Checked, Lowering}
 use Rattle.hir_lower_form.specs.Preludes.{let_params, lower_handed, made_coroutine_form, no_prelude, within_form}
 use Rattle.hir_steps.specs.Keeps.{Keeps, Keeping, KeepsApart, MadeApart, Paired, PathsKeep, TypesKeep}
 use Rattle.hir_steps.proofs.Apart.{Apart}
-use Rattle.hir_steps.proofs.ApartForms.{for_turn_apart, made_loop_apart}
+use Rattle.hir_steps.proofs.ApartForms.{condition_apart, for_turn_apart, made_loop_apart}
 use Rattle.hir_steps.proofs.ApartPreludes.{handed_hand_out, let_params_add, made_coroutine_apart}
 use Rattle.hir_steps.proofs.ApartTree as apart
 use Rattle.hir_steps.proofs.Formals.{apart_in, apart_now}
@@ -94,6 +95,10 @@ top_any p = any (apart.top_apart p)
 
 pub target_any : (t : Target) → Correct (lower_target t) Any
 target_any t = any (apart.target_apart t)
+
+-- the condition of a `while`
+pub condition_any : (at : Pointer) (e : OptionExpr) → Correct (condition_form (holds_let e) at (lower_part e)) Any
+condition_any at e = any (condition_apart at (holds_let e) (apart.part_apart e))
 
 -- the loop of a `for`
 pub for_loop_any : (at : Pointer) (items : ForItems) (label : Option Label) → IsWrittenLabel label → (n : ℕ) (p : PatId) (b : OptionExpr)

@@ -17,6 +17,7 @@ use Rattle.hir_env.specs.Answered.{OptionBlock, Stmts, Stmt, Arms, Arm, Guard, P
 use Rattle.hir_env.specs.Answered.{OptionTypePat, TypePats, Limit, Param, Params}
 use Rattle.hir_env.specs.Answered.{Target, Targets, TargetFields, TargetField, Label, Lifetime}
 use Rattle.hir_env.specs.Answered.{Listing, RangeForm, UseRead}
+use Rattle.hir_env.specs.Conditions.{holds_let}
 use Rattle.hir_data.specs.Data.{TypeData}
 use Rattle.hir_data.specs.Patterns.{is_dots}
 use Rattle.hir_data.specs.Uses.{FirstUses}
@@ -33,6 +34,7 @@ use Rattle.hir_told.specs.Grades as g
 use Rattle.hir_told.specs.Grading as p
 use Rattle.hir_told.specs.Laws.{blocks}
 use Rattle.hir_told.proofs.AsTelling.{exprs_enter}
+use Rattle.hir_told.proofs.ConditionsAgree.{blocks_of_condition}
 use Rattle.hir_told.proofs.PathsAgree.{read_alike}
 
 -- ---- small parts
@@ -443,7 +445,9 @@ mutual
   expr_is (tree.block_expr b) ss = block_is b ss
   expr_is (tree.loop_expr at label _ b) ss = block_part_is b (loop_scope label ∷ ss)
   expr_is (tree.while_expr at label _ c b) ss =
-      both (block_part_is b (loop_scope label ∷ ss)) (behind (expr_part_is c (loop_scope label ∷ ss)))
+      let inside = loop_scope label ∷ ss in
+      both (block_part_is b inside)
+      (behind (blocks_of_condition (holds_let c) (g.grade_expr_part blocks c) inside (expr_part_is c inside)))
   expr_is (tree.for_expr at items label _ q h b) ss =
       both (expr_part_is h ss) (both (top_is q ss) (behind (behind (expr_part_is b (loop_scope label ∷ ss)))))
   expr_is (tree.question_expr at items e) ss = behind (expr_part_is e ss)

@@ -15,6 +15,7 @@ use Rattle.hir_env.specs.Answered.{OptionArgs, Args, Arg, Bounds, Bound, Constan
 use Rattle.hir_env.specs.Answered.{OptionBlock, Stmts, Stmt, Arms, Arm, Guard, Pat, OptionPat, Pats, PatFields, PatField, Side, TypePat}
 use Rattle.hir_env.specs.Answered.{OptionTypePat, TypePats, Limit, Param, Params, Called}
 use Rattle.hir_env.specs.Answered.{Binder, Target, Targets, TargetFields, TargetField, Label, Lifetime, Listing, RangeForm, UseRead}
+use Rattle.hir_env.specs.Conditions.{holds_let}
 use Rattle.hir_data.specs.Data.{TypeData}
 use Rattle.hir_data.specs.Patterns.{is_dots}
 use Rattle.hir_data.specs.Uses.{FirstUses}
@@ -34,6 +35,7 @@ use Rattle.hir_told.specs.Grading as p
 use Rattle.hir_told.specs.Laws.{faults}
 use Rattle.hir_told.proofs.AsTelling.{exprs_report}
 use Rattle.hir_told.proofs.FaultLists.{Like, as_is, behind, behind_none, both, first, same, then_none, turned}
+use Rattle.hir_told.proofs.ConditionsAgree.{faults_of_condition, turned_two}
 use Rattle.hir_told.proofs.PathsAgree.{read_alike}
 
 -- ---- small parts
@@ -44,8 +46,6 @@ Told = List Scope → Faults
 abbrev none : Told
 none ss = []
 
-turned_two : (c b : Faults) {xs : Faults} → Like xs (b ++ c) → Like xs (c ++ b)
-turned_two c b {xs = xs} h = IsPermutation-trans (c ++ b) (b ++ c) xs (IsPermutation-append_comm c b) h
 
 none_if : (b : Bool) (ss : List Scope) → p.if_so faults b none ss ≡ []
 none_if true ss = refl
@@ -442,7 +442,8 @@ mutual
   expr_is (tree.while_expr at label _ c b) ss =
       let inside = loop_scope label ∷ ss in
       turned_two (now.part_diagnostics inside c) (now.block_part_diagnostics inside b)
-      (both (block_part_is b inside) (behind (expr_part_is c inside)))
+      (both (block_part_is b inside) (behind (faults_of_condition (holds_let c) (g.grade_expr_part faults c) inside
+      (now.part_diagnostics inside c) (expr_part_is c inside))))
   expr_is (tree.for_expr at items label _ q h b) ss =
       both (expr_part_is h ss) (both (top_is q ss) (behind (behind (expr_part_is b (loop_scope label ∷ ss)))))
   expr_is (tree.question_expr at items e) ss = behind (expr_part_is e ss)

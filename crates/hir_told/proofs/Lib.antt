@@ -11,6 +11,7 @@ pub mod CallForms
 pub mod Tree
 pub mod Bodies
 pub mod PathsAgree
+pub mod ConditionsAgree
 pub mod BlocksAgree
 pub mod FaultLists
 pub mod FaultsAgree

@@ -1,5 +1,5 @@
 -- What is done for `for`, `?` and `try`, by what is told of the parts: one lemma a form, for all claims.
-use Rattle.std.proofs.Common.{◌≡◌, ℕ, Bool, not, Option, Some, None, is_some}
+use Rattle.std.proofs.Common.{◌≡◌, ℕ, Bool, true, false, not, Option, Some, None, is_some}
 use Rattle.hir_binding.specs.declared.binding.BindingAnnotation.TheVariants.{Mutable, Unannotated}
 use Rattle.hir_store.specs.Pointers.{Pointer}
 use Rattle.hir_store.specs.declared.ids.BlockId.{BlockId}
@@ -11,7 +11,7 @@ use Rattle.hir_env.specs.Answered.{ForItems, IsWrittenLabel, Label, QuestionItem
 use Rattle.hir_lower_form.specs.Forms.{ExprSteps, StoredContents, settled}
 use Rattle.hir_lower_form.specs.Lowering.{Lowering}
 use Rattle.hir_lower_form.specs.Made as made
-use Rattle.hir_told.specs.Grading.{Grading, if_so, item_call, flow_arm, residual, for_turn, made_bind, wrapped}
+use Rattle.hir_told.specs.Grading.{Grading, if_so, condition, item_call, flow_arm, residual, for_turn, made_bind, wrapped}
 use Rattle.hir_told.proofs.Graded.{Graded, Told, next, made_next, map_is}
 
 module _ {ℓ} {S : Grading {ℓ}} (L : Graded S) where
@@ -73,6 +73,18 @@ module _ {ℓ} {S : Grading {ℓ}} (L : Graded S) where
     unfolding made.typed_try_form
     typed_try_graded hb ht = made_next L (L.made_is hb) (λ b. L.named_past_is Unannotated ht (λ n t p.
         made_next L (L.made_is (path_graded n)) (λ e. L.made_expr_is _ (Some at))))
+
+    -- ---- a condition, where its temporaries end
+
+    held_graded : {g : S.G} {c : ExprSteps} → L.Made g c → L.Made (condition S false g) (made.held_form at c)
+    unfolding made.held_form made.hold_form
+    held_graded h = made_next L (L.made_is h) (λ c. L.made_named_is Unannotated (λ n p.
+        made_next L (L.made_is (path_graded n)) (λ e. L.made_expr_is _ (Some at))))
+
+    pub condition_graded : (lets : Bool) {g : S.G} {c : ExprSteps} → L.Made g c
+        → L.Made (condition S lets g) (made.condition_form lets at c)
+    condition_graded true h = h
+    condition_graded false h = held_graded h
 
     -- ---- `for`
 

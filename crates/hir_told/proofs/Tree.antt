@@ -18,6 +18,7 @@ use Rattle.hir_env.specs.Answered.{OptionRet, OptionArgs, Args, Arg, Bounds, Bou
 use Rattle.hir_env.specs.Answered.{Pat, OptionPat, Pats, PatFields, PatField, Target, Targets, TargetFields, TargetField, Constant, Expr}
 use Rattle.hir_env.specs.Answered.{OptionExpr, Exprs, Fields, Field, Spread, Block, OptionBlock, Stmts, Stmt, Arms, Arm, Guard}
 use Rattle.hir_env.specs.Answered.{Param, Params}
+use Rattle.hir_env.specs.Conditions.{holds_let}
 use Rattle.hir_env.specs.Targets.{head_pointer}
 use Rattle.hir_data.specs.Data.{no_types}
 use Rattle.hir_data.specs.Patterns.{dots_among}
@@ -415,7 +416,8 @@ module _ {ℓ} {S : Grading {ℓ}} (L : Graded S) where
     expr_graded (tree.block_expr b) = block_graded b
     expr_graded (tree.loop_expr at label is b) = exprs.loop_graded L at _ label is (block_part_graded b)
     expr_graded (tree.while_expr at label is c b) =
-        exprs.loop_graded L at _ label is (exprs.turn_graded L at (expr_part_graded c) (block_part_graded b))
+        exprs.loop_graded L at _ label is
+        (exprs.turn_graded L at (made.condition_graded L at (holds_let c) (expr_part_graded c)) (block_part_graded b))
     expr_graded (tree.for_expr at items label is p h b) =
         made.for_graded L at (head_pointer at h) items label is (expr_part_graded h) (top_graded p) (expr_part_graded b)
     expr_graded (tree.question_expr at items e) = made.question_graded L at items (expr_part_graded e)

@@ -8,6 +8,7 @@ use Rattle.hir_env.specs.Answered.{OptionRet, OptionArgs, Args, Arg, Bounds, Bou
 use Rattle.hir_env.specs.Answered.{Pat, OptionPat, Pats, PatFields, PatField, Target, Targets, TargetFields, TargetField, Constant, Expr}
 use Rattle.hir_env.specs.Answered.{OptionExpr, Exprs, Fields, Field, Spread, Block, OptionBlock, Stmts, Stmt, Arms, Arm, Guard}
 use Rattle.hir_env.specs.Answered.{Param, Params}
+use Rattle.hir_env.specs.Conditions.{holds_let}
 use Rattle.hir_data.specs.Data.{no_types, tuple_shape, typed}
 use Rattle.hir_data.specs.Patterns.{is_dots, ellipsis_of}
 use Rattle.hir_data.specs.Targets.{target_dots}
@@ -18,7 +19,7 @@ use Rattle.hir_one_result.specs.PatRoom.{names_after, names_after_part, names_af
 use Rattle.hir_told.specs.Grading.{Grading, if_so, before, grade_lifetime, grade_uses, or_missing, grade_name, behind_comma, grade_or}
 use Rattle.hir_told.specs.Grading.{grade_name_side, grade_rest, grade_spread, kept_of, labelled_of, grade_front, record_of, grade_await}
 use Rattle.hir_told.specs.Grading.{grade_assigned, grade_behind, grade_uncalled_pat, grade_uncalled_type, or_missing_target}
-use Rattle.hir_told.specs.Grading.{grade_impl, grade_range, made_bind, item_call, flow_arm, residual, for_turn, grade_try}
+use Rattle.hir_told.specs.Grading.{grade_impl, grade_range, condition, made_bind, item_call, flow_arm, residual, for_turn, grade_try}
 
 module _ {ℓ} (S : Grading {ℓ}) where
   abbrev mutual
@@ -305,7 +306,7 @@ module _ {ℓ} (S : Grading {ℓ}) where
     grade_expr (tree.loop_expr at label _ b) = S.looped label (grade_block_part b)
     -- the body before the condition, then a break and the turn
     grade_expr (tree.while_expr at label _ c b) =
-        S.looped label (S.then' (grade_block_part b) (S.then' (grade_expr_part c) (S.then' S.expr S.expr)))
+        S.looped label (S.then' (grade_block_part b) (S.then' (condition S (holds_let c) (grade_expr_part c)) (S.then' S.expr S.expr)))
     -- a call on the head, the pattern, and a name that the call's value has; then the loop, and the match around it
     grade_expr (tree.for_expr at items label _ p h b) = S.then' (grade_expr_part h) (S.then' (item_call S) (S.then' (grade_top p)
         (S.then' S.made_name (S.then' (made_bind S)

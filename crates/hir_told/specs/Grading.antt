@@ -218,6 +218,11 @@ module _ {ℓ} (S : Grading {ℓ}) where
   abbrev pub item_call : S.G
   item_call = S.then' S.expr S.expr
 
+  -- the condition of a `while`, by whether it holds a `let`: where it holds none a name is bound to it, and stands behind that in a block
+  abbrev pub condition : Bool → S.G → S.G
+  condition true g = g
+  condition false g = S.then' g (S.then' S.made_name (S.then' made_bind (S.then' S.expr S.expr)))
+
   -- an arm for an item, with what is done with what the item holds
   abbrev pub flow_arm : S.G → S.G
   flow_arm g = S.then' S.made_name (S.then' made_bind (S.then' (S.pat_at None) g))

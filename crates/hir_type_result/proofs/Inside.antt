@@ -18,6 +18,7 @@ use Rattle.hir_env.specs.Answered.{Expr, OptionExpr, Exprs, Fields, Field, Sprea
 use Rattle.hir_env.specs.Answered.{Binder, Type_, Parts, Path as TreePath, Segments, Segment, SegmentArgs, OptionParens, OptionRet}
 use Rattle.hir_env.specs.Answered.{Args, Arg, Bounds, Bound, Constant, TypePat, OptionTypePat, TypePats, Limit, Target, Targets}
 use Rattle.hir_env.specs.Answered.{TargetFields, TargetField, Param, Params}
+use Rattle.hir_env.specs.Conditions.{holds_let}
 use Rattle.hir_env.specs.Targets.{head_pointer}
 use Rattle.hir_lower_form.specs.declared.args.ArgLists.{ArgLists}
 use Rattle.hir_lower_form.specs.declared.closures.ClosureParams.{ClosureParams}
@@ -239,7 +240,8 @@ mutual
   node_adds (tree.if_expr at c t e) = forms.if_adds at (body_adds c) (block_part_adds t) (present_expr_adds e)
   node_adds (tree.block_expr b) = block_adds b
   node_adds (tree.loop_expr at label _ b) = forms.loop_adds at _ label (block_part_adds b)
-  node_adds (tree.while_expr at label _ c b) = forms.loop_adds at _ label (forms.turn_adds at (body_adds c) (block_part_adds b))
+  node_adds (tree.while_expr at label _ c b) =
+      forms.loop_adds at _ label (forms.turn_adds at (made.condition_adds at (holds_let c) (body_adds c)) (block_part_adds b))
   node_adds (tree.for_expr at items label _ p h b) =
       for_adds at (head_pointer at h) items label (body_adds h) (top_adds p) (body_adds b)
   node_adds (tree.question_expr at items e) = made.question_adds at items (body_adds e)

@@ -21,6 +21,7 @@ use Rattle.hir_lower_form.specs.Lowering.{Lowering, ◌>>=◌, pure, alloc_made}
 use Rattle.hir_lower_form.specs.Made.{made_path_form, made_binding, made_bind_form, item_or_missing, made_call, item_call_form, item_pat}
 use Rattle.hir_lower_form.specs.Made.{conversion, leaving_node, flow_arm_form, residual_form, question_form, value_or_unit, wrapped_form}
 use Rattle.hir_lower_form.specs.Made.{try_block_form, bound, bound_block, typed_try_form}
+use Rattle.hir_lower_form.specs.Made.{condition_form, held, held_block, held_form, hold_form}
 use Rattle.hir_meaning.specs.Inner as inner
 use Rattle.hir_meaning.specs.Inner.{all_of}
 use Rattle.hir_steps.proofs.Frames.{Frame}
@@ -326,3 +327,22 @@ typed_try_adds at hb ht = adds_then hb (λ b. adds_then (adds_any correct_made_n
     (λ t. adds_then (adds_beside (beside (an_expr b) (a_type t)) (made_bind_adds _ n))
     (λ p. adds_then (adds_beside (beside (beside (an_expr b) (a_type t)) (a_pat p)) (made_path_adds at n))
     (λ e. adds_made (bound_block p t b e) (Some at) (bound_less p t b e))))))
+
+-- ---- a condition, where its temporaries end
+
+held_less : (p : PatId) (c e : ExprId) (v : View) → in_expr (held_block p c e) v ≤ (an_expr c v + a_pat p v) + an_expr e v
+held_less p c e v =
+    let x = block_less false None None (held p c ∷ []) (Some e) v in
+    let y = let_less p None (Some c) None v in omega (arith, x, y)
+
+held_adds : (at : Pointer) {c : ExprSteps} → Correct c (Adds free an_expr) → Correct (held_form at c) (Adds free an_expr)
+unfolding held_form hold_form
+held_adds at hc = adds_then hc (λ c. adds_then (adds_any correct_made_number)
+    (λ n. adds_then (adds_beside (an_expr c) (made_bind_adds _ n))
+    (λ p. adds_then (adds_beside (beside (an_expr c) (a_pat p)) (made_path_adds at n))
+    (λ e. adds_made (held_block p c e) (Some at) (held_less p c e)))))
+
+pub condition_adds : (at : Pointer) (lets : Bool) {c : ExprSteps} → Correct c (Adds free an_expr)
+    → Correct (condition_form lets at c) (Adds free an_expr)
+condition_adds at true h = h
+condition_adds at false h = held_adds at h

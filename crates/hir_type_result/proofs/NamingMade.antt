@@ -1,5 +1,5 @@
 -- What is made up for `?` and `try` names the patterns and types that are made up for them or are written there, each once.
-use Rattle.std.proofs.Common.{arith, ℕ, Bool, [], ◌∷◌, ◌++◌, Option, Some, None}
+use Rattle.std.proofs.Common.{arith, ℕ, Bool, true, false, [], ◌∷◌, ◌++◌, Option, Some, None}
 use Rattle.hir_binding.specs.declared.binding.BindingAnnotation.{BindingAnnotation}
 use Rattle.hir_store.specs.Pointers.{Pointer}
 use Rattle.hir_store.specs.declared.hir.Expr.TheVariants as hir
@@ -17,7 +17,7 @@ use Rattle.hir_lower_form.specs.Forms.{ExprSteps, StoredContents}
 use Rattle.hir_lower_form.specs.Lowering.{Lowering}
 use Rattle.hir_lower_form.specs.Made.{made_path_form, made_binding, made_bind_form, item_or_missing, made_call, item_call_form, item_pat}
 use Rattle.hir_lower_form.specs.Made.{conversion, leaving_node, flow_arm_form, residual_form, question_form, value_or_unit, wrapped_form}
-use Rattle.hir_lower_form.specs.Made.{try_block_form, bound_block, typed_try_form}
+use Rattle.hir_lower_form.specs.Made.{try_block_form, bound_block, typed_try_form, condition_form, held_block, held_form, hold_form}
 use Rattle.hir_steps.proofs.Steps.{Correct}
 use Rattle.hir_type_result.specs.Named.{Look, of_arm, of_expr}
 use Rattle.hir_type_result.proofs.Counted.{◌⊑◌, times_append}
@@ -106,3 +106,19 @@ module _ (at : Pointer) where
   typed_try_quiet hb ht = quiet_then hb (λ b. adds_then quiet_number (λ n. adds_then ht
       (λ t. adds_then (adds_beside (a_type t) (made_bind_names _ n))
       (λ p. adds_then (adds_quiet (made_path_quiet n)) (λ e. adds_made (bound_block p t b e) (Some at) (bound_named p t b e))))))
+
+  -- a condition, where its temporaries end
+
+  held_named : (p : PatId) (c e : ExprId) (l : Look) → of_expr l (held_block p c e) ⊑ a_pat p l
+  held_named p c e l k =
+      let x = times_append k (l.pats p ++ []) [] in
+      let y = times_append k (l.pats p) [] in omega arith
+
+  held_quiet : {c : ExprSteps} → Correct c Quiet → Correct (held_form at c) Quiet
+  unfolding held_form hold_form
+  held_quiet h = quiet_then h (λ c. adds_then quiet_number (λ n. adds_then (made_bind_names _ n)
+      (λ p. adds_then (adds_quiet (made_path_quiet n)) (λ e. adds_made (held_block p c e) (Some at) (held_named p c e)))))
+
+  pub condition_quiet : (lets : Bool) {c : ExprSteps} → Correct c Quiet → Correct (condition_form lets at c) Quiet
+  condition_quiet true h = h
+  condition_quiet false h = held_quiet h

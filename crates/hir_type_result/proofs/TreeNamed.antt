@@ -60,9 +60,10 @@ use Rattle.hir_type_result.proofs.Naming.{quiet_pure, quiet_then, quiet_some, qu
 use Rattle.hir_type_result.proofs.Naming.{called_names, called_type_names, quiet_only, quiet_settle}
 use Rattle.hir_type_result.proofs.NamingForms.{missing_quiet, leaf_quiet, unary_quiet, binary_quiet, leaving_quiet, if_quiet, loop_quiet}
 use Rattle.hir_type_result.proofs.NamingForms.{turn_quiet, repeat_quiet, const_quiet}
-use Rattle.hir_type_result.proofs.NamingMade.{question_quiet, try_block_quiet, typed_try_quiet}
+use Rattle.hir_type_result.proofs.NamingMade.{condition_quiet, question_quiet, try_block_quiet, typed_try_quiet}
 use Rattle.hir_type_result.proofs.NamingFors.{for_quiet}
 use Rattle.hir_type_result.proofs.DefNaming.{behind_named, define_named, told_named}
+use Rattle.hir_env.specs.Conditions.{holds_let}
 use Rattle.hir_env.specs.Targets.{head_pointer}
 use Rattle.hir_type_result.proofs.NamingForms.{call_quiet, continue_quiet, break_quiet, paren_quiet, operand_quiet, operands_quiet}
 use Rattle.hir_type_result.proofs.ClosureNaming.{closure_quiet, coroutine_block_quiet, coroutine_closure_quiet, coroutine_quiet}
@@ -252,7 +253,8 @@ mutual
   node_quiet (tree.if_expr at c t e) = if_quiet at (part_quiet c) (block_part_quiet t) (present_quiet e)
   node_quiet (tree.block_expr b) = block_quiet b
   node_quiet (tree.loop_expr at label _ b) = loop_quiet at _ label (block_part_quiet b)
-  node_quiet (tree.while_expr at label _ c b) = loop_quiet at _ label (turn_quiet at (part_quiet c) (block_part_quiet b))
+  node_quiet (tree.while_expr at label _ c b) =
+      loop_quiet at _ label (turn_quiet at (condition_quiet at (holds_let c) (part_quiet c)) (block_part_quiet b))
   node_quiet (tree.for_expr at items label _ p h b) =
       for_quiet at (head_pointer at h) items label (part_quiet h) (top_adds p) (part_quiet b)
   node_quiet (tree.question_expr at items e) = question_quiet at items (part_quiet e)

@@ -61,7 +61,7 @@ pub collect_block_inside-returns : goal.collect_block_inside-returns
 collect_block_inside-returns g t c =
     let env = g.E.LowerEnv.answers c.args.env.now in
     let node = out-BlockExpr c.args.node.now in
-    let found = rw (c.block_number-block.ensures, c.inside-inner.ensures, c.number-found.ensures) at c.block_node.ensures in
+    let found = rw (c.enter-block.ensures.number, c.enter-block.ensures.place) at c.block_node.ensures in
     rw (plain_is_level (spot_at env c.args.place) c.args.node.now)
     (rw (in_inside (numbered env c.args.place node.id) c.args.place (ptr node.id node.range)) at found)
 
@@ -69,14 +69,13 @@ pub collect_block_inside-block_node-requires-clause-parts : goal.collect_block_i
 collect_block_inside-block_node-requires-clause-parts g t c =
     let d = c.decreases in
     let env = g.E.LowerEnv.answers c.args.env.now in
-    let inner = rw c.number-found.ensures at c.inside-inner.ensures in
     let node = out-BlockExpr c.args.node.now in
     let level : Place → ℕ = λ q. let contents = contents_part (spot_at (complete env) q) node.stmts node.tail in
     suc (count_stmts contents.0 + count_option_expr contents.1) in
     let same : numbered (complete env) c.args.place node.id ≡ numbered env c.args.place node.id = same_number env c.args.place node.id in
-    let size : count_block (answered_plain (spot_at (complete env) c.args.place) c.args.node.now) ≡ level c.inside-inner.result =
+    let size : count_block (answered_plain (spot_at (complete env) c.args.place) c.args.node.now) ≡ level c.enter-block.new.place =
     ap count_block (plain_is_level (spot_at (complete env) c.args.place) c.args.node.now)
-    ∙ ap level (ap (λ x. inside x c.args.place) same ∙ sym inner) in
+    ∙ ap level (ap (λ x. inside x c.args.place) same ∙ sym c.enter-block.ensures.place) in
     kids_block env (HandlesExpr g.E.LowerEnv.answers _ _ c.args.env.now) (HandlesBlock g.E.LowerEnv.answers _ _ c.args.env.now)
     (HandlesPath g.E.LowerEnv.answers _ _ c.args.env.now) (HandlesType g.E.LowerEnv.answers _ _ c.args.env.now)
     (HandlesArgs g.E.LowerEnv.answers _ _ c.args.env.now) (HandlesConstant g.E.LowerEnv.answers _ _ c.args.env.now) t
@@ -105,7 +104,7 @@ collect_block_inside-block_node-requires-clause-parts g t c =
       lowers = λ alloc v old new b r same is q. rw (← is) (rw (← same) q.2);
     })
     (λ p. tt)
-    c.inside-inner.result c.args.node.now (omega (arith, d, size))
+    c.enter-block.new.place c.args.node.now (omega (arith, d, size))
 
 pub read_path_segments-returns : goal.read_path_segments-returns
 read_path_segments-returns g t c =

@@ -1,0 +1,219 @@
+-- Whether the condition of a `while` holds a `let`: by the kind of what is written, and through the calls of macros in it.
+use Rattle.std.proofs.Common.{◌≡◌, ◌∙◌, ap, refl, sym, ℕ, zero, suc, ◌+◌, ◌≤◌, arith, Bool, true, false, ◌||◌, List, Option, Some, None}
+use Rattle.std.proofs.Common.{Result, Ok, Err}
+use Rattle.hir_base.specs.declared.op.BinaryOp.{BinaryOp}
+use Rattle.hir_base.specs.declared.op.BinaryOp.TheVariants as op
+use Rattle.hir_base.specs.declared.op.LogicOp.TheVariants as logic
+use Rattle.hir_syntax.specs.declared.ast.BlockExpr.{out-BlockExpr}
+use Rattle.hir_syntax.specs.declared.ast.ElseBranch.TheOpen.{ExprKind-F}
+use Rattle.hir_syntax.specs.declared.ast.Expr.{Expr as AstExpr}
+use Rattle.hir_syntax.specs.declared.ast.ExprKind.{out-ExprKind, roll-ExprKind, roll-out-ExprKind}
+use Rattle.hir_syntax.specs.declared.ast.ExprKind.TheVariants as ast_kind
+use Rattle.hir_syntax.specs.declared.macros.Fragment.TheVariants as fragment
+use Rattle.hir_syntax.specs.declared.macros.MacroCall.{MacroCall as AstMacroCall}
+use Rattle.hir_syntax.specs.declared.pats.Pat.{Pat as AstPat}
+use Rattle.hir_store.specs.Pointers.{Pointer}
+use Rattle.hir_store.specs.declared.ids.CfgId.{CfgId}
+use Rattle.hir_env.specs.Answers.{Expanding, unresolved, no_expansion, expanded}
+use Rattle.hir_env.specs.Answered as tree
+use Rattle.hir_env.specs.Answered.{Called, Expr, OptionExpr}
+use Rattle.hir_env.specs.Answering.{asked, coroutine_kind, for_items, question_items}
+use Rattle.hir_env.specs.Calls.{around, around_if, asked_call, call_pointer, called, entered_expr, expr_in, gone_in, inside_file}
+use Rattle.hir_env.specs.Conditions.{holds_let, is_with_let}
+use Rattle.hir_env.specs.Count.{count_expr, count_option_expr}
+use Rattle.hir_env.specs.Layers.{ExprKindLayer}
+use Rattle.hir_env.specs.Spot.{Spot, site_of}
+use Rattle.hir_env.specs.Whole.{answered, entering, expr_part, into, kept_expr, pointer_at, written}
+use Rattle.hir_env.specs.declared.expand.FragmentKind.TheVariants as kind
+use Rattle.hir_env.proofs.Levels.{block_is_level, expr_is_level}
+use Rattle.hir_lower_form.specs.Calls.{found_in}
+use Rattle.hir_lower_form.specs.Methods.{at_place}
+use Rattle.hir_lower_pat.specs.Calls.{expr_there, written_expr}
+use Rattle.hir_lower_pat.specs.TargetLists.{behind_left, expr_behind}
+use Rattle.hir_lower_pat.proofs.AimLemmas.{enabled_is, level}
+use Rattle.hir_lower_pat.proofs.CallLemmas.{fresh}
+use Rattle.hir_lower_pat.proofs.OfKinds.{of_closure, of_for, of_own, of_question}
+use Rattle.hir_lower_expr.specs.Conditions.{let_there}
+
+-- ---- a call holds what it stands for does
+
+around_holds : (s : Pointer) (c : Called) (x : OptionExpr) → is_with_let (around s c x) ≡ holds_let x
+around_holds s c tree.no_expr = refl
+around_holds s c (tree.some_expr e) = by e
+  where
+    by : (e : Expr) → is_with_let (around_if (gone_in e) s c (tree.some_expr e)) ≡ is_with_let e
+    by (tree.disabled_expr why e) = refl
+    by _ = refl
+
+call_by : (at : Spot) (s c : Pointer) (n : ℕ) (x : Expanding)
+    → is_with_let (around s (called c x) (expr_in (fresh at.answers n) at.place x)) ≡ let_there at (expr_there (found_in n at.place x))
+call_by at s c n (unresolved y) = refl
+call_by at s c n no_expansion = refl
+call_by at s c n (expanded f None es) = refl
+call_by at s c n (expanded f (Some (fragment.Expr e)) es) =
+    around_holds s (tree.entered (record { call = c; file = f; eager = es }))
+    (tree.some_expr (answered (at_place at (inside_file f n at.place)) e))
+call_by at s c n (expanded f (Some (fragment.Stmts e)) es) = refl
+call_by at s c n (expanded f (Some (fragment.Pat e)) es) = refl
+call_by at s c n (expanded f (Some (fragment.Type_ e)) es) = refl
+
+call_on : (at : Spot) (s : Pointer) (c : AstMacroCall) → is_with_let (written_expr at s c) ≡ let_there at (expr_behind at c)
+call_on at s c = by at.place.left
+  where
+    by : (l : ℕ) → is_with_let (entered_expr at.answers (entering at.answers l) c at.place s)
+        ≡ let_there at (expr_there (behind_left at.answers c l at.place))
+    by zero = refl
+    by (suc n) = call_by at s (call_pointer at.place c) n (asked_call at.answers kind.Expr c at.place)
+
+-- ---- what is no `let`, no operator, and stands in no parentheses and for no call
+
+abbrev IsOther : ExprKindLayer written → Type 0
+IsOther (ExprKind-F.LetExpr x e) = ⊥
+IsOther (ExprKind-F.ParenExpr e) = ⊥
+IsOther (ExprKind-F.BinExpr o a b) = ⊥
+IsOther (ExprKind-F.MacroExpr c) = ⊥
+IsOther _ = Unit {0}
+
+other_at : (at : Spot) (k : ExprKindLayer written) (s : Pointer) → IsOther k → is_with_let (level at k s) ≡ false
+other_at at (ExprKind-F.BlockExpr b) s h =
+    ap is_with_let (block_is_level at b)
+    ∙ of_own is_with_let false (λ x. refl) (λ t item y number ss e. refl) (λ t c. refl) (λ t way moves number ss e. refl)
+    at (out-BlockExpr b).mod_ b
+other_at at (ExprKind-F.TryExpr e) s h = of_question is_with_let false s _ (λ items. refl) refl (question_items at.answers.lang_items)
+other_at at (ExprKind-F.RangeExpr o a b) s h = refl
+other_at at (ExprKind-F.IfExpr c t e) s h = refl
+other_at at (ExprKind-F.LoopExpr l b) s h = refl
+other_at at (ExprKind-F.WhileExpr l c b) s h = refl
+other_at at (ExprKind-F.ForExpr l q e b) s h =
+    of_for is_with_let false (λ t items x w p h y. refl) (λ t. refl) (for_items at.answers.lang_items) s _ _ _ _ _
+other_at at (ExprKind-F.CallExpr f es) s h = refl
+other_at at (ExprKind-F.PathExpr x) s h = refl
+other_at at (ExprKind-F.ContinueExpr l) s h = refl
+other_at at (ExprKind-F.BreakExpr l e) s h = refl
+other_at at (ExprKind-F.ParenExpr e) s h = absurd h
+other_at at (ExprKind-F.MacroExpr c) s h = absurd h
+other_at at (ExprKind-F.Literal l) s h = refl
+other_at at (ExprKind-F.MethodCallExpr e n as' es) s h = refl
+other_at at (ExprKind-F.FieldExpr e n) s h = refl
+other_at at (ExprKind-F.PrefixExpr None e) s h = refl
+other_at at (ExprKind-F.PrefixExpr (Some o) e) s h = refl
+other_at at (ExprKind-F.BinExpr o a b) s h = absurd h
+other_at at (ExprKind-F.IndexExpr a b) s h = refl
+other_at at (ExprKind-F.RefExpr r m e) s h = refl
+other_at at (ExprKind-F.TupleExpr comma es) s h = refl
+other_at at (ExprKind-F.ArrayExpr es) s h = refl
+other_at at (ExprKind-F.RepeatExpr e n) s h = refl
+other_at at (ExprKind-F.ClosureExpr ps r e is_async is_gen moves is_static) s h =
+    of_closure is_with_let false (λ t m st xs y b. refl) (λ t way m xs y b. refl) (coroutine_kind is_async is_gen) s moves is_static _ _ _
+other_at at (ExprKind-F.ReturnExpr e) s h = refl
+other_at at (ExprKind-F.BecomeExpr e) s h = refl
+other_at at (ExprKind-F.YieldExpr e) s h = refl
+other_at at (ExprKind-F.YeetExpr e) s h = refl
+other_at at (ExprKind-F.AwaitExpr e) s h = refl
+other_at at (ExprKind-F.CastExpr e t) s h = refl
+other_at at (ExprKind-F.RecordExpr x l) s h = refl
+other_at at (ExprKind-F.OffsetOfExpr t ns) s h = refl
+other_at at (ExprKind-F.CfgPredExpr pred) s h = refl
+other_at at (ExprKind-F.LetExpr x e) s h = absurd h
+other_at at (ExprKind-F.MatchExpr e as') s h = refl
+other_at at ExprKind-F.UnderscoreExpr s h = refl
+other_at at ExprKind-F.IncludeBytesExpr s h = refl
+other_at at ExprKind-F.AsmExpr s h = refl
+other_at at ExprKind-F.FormatArgsExpr s h = refl
+
+-- ---- operators
+
+abbrev pub IsNoAnd : Option BinaryOp → Type 0
+IsNoAnd (Some (op.LogicOp logic.And)) = ⊥
+IsNoAnd _ = Unit {0}
+
+operator_at : (at : Spot) (o : Option BinaryOp) (a b : Option AstExpr) (s : Pointer) → IsNoAnd o
+    → is_with_let (level at (ExprKind-F.BinExpr o a b) s) ≡ false
+operator_at at None a b s h = refl
+operator_at at (Some (op.LogicOp logic.And)) a b s h = absurd h
+operator_at at (Some (op.LogicOp logic.Or)) a b s h = refl
+operator_at at (Some (op.ArithOp o)) a b s h = refl
+operator_at at (Some (op.CmpOp o)) a b s h = refl
+operator_at at (Some (op.Assignment o)) a b s h = refl
+operator_at at (Some op.Assign) a b s h = refl
+
+-- any other than `&&`
+pub no_and : (o : Option BinaryOp) → (o ≡ Some (op.LogicOp logic.And) → ⊥) → IsNoAnd o
+no_and (Some (op.LogicOp logic.And)) h = h refl
+no_and None h = tt
+no_and (Some (op.LogicOp logic.Or)) h = tt
+no_and (Some (op.ArithOp o)) h = tt
+no_and (Some (op.CmpOp o)) h = tt
+no_and (Some (op.Assignment o)) h = tt
+no_and (Some op.Assign) h = tt
+
+-- ---- by the kind, where no condition disables it
+
+pub disabled_holds : (at : Spot) (e : AstExpr) (by : CfgId) → at.answers.cfg (site_of (pointer_at at e.id e.range)) ≡ Err by
+    → is_with_let (answered at e) ≡ false
+disabled_holds at e by h =
+    let s = pointer_at at e.id e.range in ap is_with_let (expr_is_level at e ∙ ap (λ r. asked s r (kept_expr at e)) h)
+
+module _ (at : Spot) (e : AstExpr) (enabled : at.answers.cfg (site_of (pointer_at at e.id e.range)) ≡ Ok tt) where
+  abbrev node : Pointer
+  node = pointer_at at e.id e.range
+
+  as_level : (k : ExprKindLayer written) → out-ExprKind e.kind ≡ k → answered at e ≡ level at k node
+  as_level k h = enabled_is at e enabled ∙ ap (λ l. level at l node) h
+
+  by_kind : (k : ExprKindLayer written) → out-ExprKind e.kind ≡ k → is_with_let (answered at e) ≡ is_with_let (level at k node)
+  by_kind k h = ap is_with_let (as_level k h)
+
+  pub let_holds : (x : Option AstPat) (v : Option AstExpr) → out-ExprKind e.kind ≡ ExprKind-F.LetExpr x v
+      → is_with_let (answered at e) ≡ true
+  let_holds x v h = by_kind _ h
+
+  pub paren_holds : (v : Option AstExpr) → out-ExprKind e.kind ≡ ExprKind-F.ParenExpr v
+      → is_with_let (answered at e) ≡ holds_let (expr_part at v)
+  paren_holds v h = by_kind _ h
+
+  pub and_holds : (a b : Option AstExpr) → out-ExprKind e.kind ≡ ExprKind-F.BinExpr (Some (op.LogicOp logic.And)) a b
+      → is_with_let (answered at e) ≡ (holds_let (expr_part at a) || holds_let (expr_part at b))
+  and_holds a b h = by_kind _ h
+
+  pub operator_holds : (o : Option BinaryOp) (a b : Option AstExpr) → IsNoAnd o → out-ExprKind e.kind ≡ ExprKind-F.BinExpr o a b
+      → is_with_let (answered at e) ≡ false
+  operator_holds o a b no h = by_kind _ h ∙ operator_at at o a b node no
+
+  pub call_holds : (c : AstMacroCall) → out-ExprKind e.kind ≡ ExprKind-F.MacroExpr (Some c)
+      → is_with_let (answered at e) ≡ let_there at (expr_behind at c)
+  call_holds c h = by_kind _ h ∙ call_on at node c
+
+  pub lacking_holds : out-ExprKind e.kind ≡ ExprKind-F.MacroExpr None → is_with_let (answered at e) ≡ false
+  lacking_holds h = by_kind _ h
+
+  made : (l : ExprKindLayer written) → out-ExprKind e.kind ≡ l → e.kind ≡ roll-ExprKind l
+  made l h = sym (roll-out-ExprKind e.kind) ∙ ap roll-ExprKind h
+
+  pub other_holds : ((x : Option AstPat) (v : Option AstExpr) → e.kind ≡ ast_kind.LetExpr x v → ⊥)
+      → ((v : Option AstExpr) → e.kind ≡ ast_kind.ParenExpr v → ⊥)
+      → ((o : Option BinaryOp) (a b : Option AstExpr) → e.kind ≡ ast_kind.BinExpr o a b → ⊥)
+      → ((c : Option AstMacroCall) → e.kind ≡ ast_kind.MacroExpr c → ⊥) → is_with_let (answered at e) ≡ false
+  other_holds no_let no_paren no_operator no_call = by_kind _ refl ∙ other_at at (out-ExprKind e.kind) node (by (out-ExprKind e.kind) refl)
+    where
+      by : (l : ExprKindLayer written) → out-ExprKind e.kind ≡ l → IsOther l
+      by (ExprKind-F.LetExpr x v) h = no_let x v (made _ h ∙ ast_kind.rolls-LetExpr x v)
+      by (ExprKind-F.ParenExpr v) h = no_paren v (made _ h ∙ ast_kind.rolls-ParenExpr v)
+      by (ExprKind-F.BinExpr o a b) h = no_operator o a b (made _ h ∙ ast_kind.rolls-BinExpr o a b)
+      by (ExprKind-F.MacroExpr c) h = no_call c (made _ h ∙ ast_kind.rolls-MacroExpr c)
+      by _ h = tt
+
+  -- ---- how much they count
+
+  pub paren_size : (v : Option AstExpr) → out-ExprKind e.kind ≡ ExprKind-F.ParenExpr v
+      → suc (count_option_expr (expr_part at v)) ≤ count_expr (answered at e)
+  paren_size v h =
+      let same : count_expr (answered at e) ≡ suc (count_option_expr (expr_part at v)) = ap count_expr (as_level _ h) in
+      omega (arith, same)
+
+  pub and_size : (a b : Option AstExpr) → out-ExprKind e.kind ≡ ExprKind-F.BinExpr (Some (op.LogicOp logic.And)) a b
+      → suc (count_option_expr (expr_part at a) + count_option_expr (expr_part at b)) ≤ count_expr (answered at e)
+  and_size a b h =
+      let same : count_expr (answered at e) ≡ suc (count_option_expr (expr_part at a) + count_option_expr (expr_part at b))
+      = ap count_expr (as_level _ h) in
+      omega (arith, same)
