@@ -62,7 +62,8 @@ unseen (true ∷ bs) = unseen bs
 unseen (false ∷ bs) = suc (unseen bs)
 
 -- What holds of the notes all the time: what is noted is reached, and is on the list or done. There are so many parameters.
-pub record Sound (types : List TypeRef) (lifetimes : List LifetimeRef) (find : Name → Option ℕ) (many : ℕ) (root : TypeRefId) (v : Notes) : Type 0 where
+pub record Sound (types : List TypeRef) (lifetimes : List LifetimeRef) (find : Name → Option ℕ) (many : ℕ) (root : TypeRefId) (v : Notes)
+    : Type 0 where
   pub types_noted : length v.noted ≡ length types
   pub places_noted : length v.named ≡ many
   pub reached : (n : TypeRefId) → slice_get v.noted n.0 ≡ Some true → Reached types root n

@@ -37,7 +37,8 @@ abbrev pub named_place : List LifetimeRef → (Name → Option ℕ) → Lifetime
 named_place lifetimes find l = place_by find (slice_get lifetimes l.0)
 
 -- A type that is reached has a lifetime among its parts that names the parameter at this place.
-pub record Named (types : List TypeRef) (lifetimes : List LifetimeRef) (find : Name → Option ℕ) (root : TypeRefId) (place : ℕ) : Type 0 where
+pub record Named (types : List TypeRef) (lifetimes : List LifetimeRef) (find : Name → Option ℕ) (root : TypeRefId) (place : ℕ)
+    : Type 0 where
   pub at : TypeRefId
   pub reached : Reached types root at
   pub form : TypeRef

@@ -73,5 +73,6 @@ module _ {A T : Type 0} (p : Lowering A) (made_of : Notes → GenericLists) (lim
   made_once_if law = from_if (λ g s m a. MadeOnce s [])
       (λ c a is. once_if c.names c.stored (law (fresh limit) c a (nothing_stored limit) is (apart_from_nothing limit)))
 
-pub item_too_large : {A : Type 0} (xs : List Part) (p : Lowering A) (limit : ℕ) → Refused xs p → RefusedAtEnd p limit → ItemTooLarge limit xs
+pub item_too_large : {A : Type 0} (xs : List Part) (p : Lowering A) (limit : ℕ) → Refused xs p → RefusedAtEnd p limit
+    → ItemTooLarge limit xs
 item_too_large xs p limit law h = law limit h.builder Full h.refused

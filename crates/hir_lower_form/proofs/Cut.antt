@@ -1,5 +1,6 @@
 -- What stays of the names in arguments, and what comes behind them.
-use Rattle.std.proofs.Common.{append-nil, arith, ◌≡◌, ◌∙◌, ◌≤◌, ◌<◌, refl, sym, ap, ℕ, zero, suc, Bool, true, false, List, [], ◌∷◌, ◌++◌, length, take, drop}
+use Rattle.std.proofs.Common.{append-nil, arith, ◌≡◌, ◌∙◌, ◌≤◌, ◌<◌, refl, sym, ap, ℕ, zero, suc}
+use Rattle.std.proofs.Common.{Bool, true, false, List, [], ◌∷◌, ◌++◌, length, take, drop}
 use Rattle.std.proofs.Common.{Option, Some, None}
 use Rattle.hir_store.specs.declared.name.Name.{Name}
 use Rattle.hir_store.specs.declared.path.GenericArg.{GenericArg}

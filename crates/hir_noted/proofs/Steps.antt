@@ -167,7 +167,8 @@ notes_count_def k = counted (nat_lt (suc k) (2 ^ 32))
 
 -- what leaves what is stored
 left_alone : {b c : Builder} → c.stored ≡ b.stored → c.notes ≡ b.notes → {A : Type 0} (a : A) → Paired b.stored → NotesTo none b (Ok a) c
-left_alone {b = b} e h a d = (subst Paired (sym e) d, noted_none (subst Paired (sym e)) (subst (Extends b.stored) (sym e) (extends_refl b.stored)) h)
+left_alone {b = b} e h a d =
+    (subst Paired (sym e) d, noted_none (subst Paired (sym e)) (subst (Extends b.stored) (sym e) (extends_refl b.stored)) h)
 
 pub notes_close : Notes none close
 unfolding close

@@ -227,7 +227,10 @@ ends_behind : (base : Base) (nodes : ℕ) (final : Stored) (turns d : ℕ) (out 
     → Ends base nodes final turns d out (frames_behind def ps) tail o
 ends_behind base nodes final turns d out o None ps tail k = k
 ends_behind base nodes final turns d out o (Some def) ps tail k = λ y goes. same_inside (Some def)
-    (k (λ turns qs. y turns (macro_scope def ∷ qs)) (record { same = λ turns d le f. same_outside (Some def) (goes.same turns d le f); jumps = goes.jumps }))
+    (k (λ turns qs. y turns (macro_scope def ∷ qs)) (record {
+      same = λ turns d le f. same_outside (Some def) (goes.same turns d le f);
+      jumps = goes.jumps;
+    }))
 
 module _ (final : Stored) (turns d : ℕ) (o : Option ExprId) where
   same_behind : {names : ℕ} (def : Option MacroDefId) (ps : List Frame) (new : List Statement) (n : List Scope → SyntaxRun Value)

@@ -139,7 +139,8 @@ told_places c h = correct_as (correct_bind (correct_told c) (λ u. h))
 pub called_places : (at : Option Pointer) (c : Called) {x : Placing} {p : Lowering PatId} → Correct p (PlacesAre x)
     → Correct (forms.called_target at c p) (PlacesAre x)
 called_places None c h = told_places c h
-called_places (Some at) c h = told_places c (correct_as (correct_bind h (λ i. correct_bind (correct_point_target at i) (λ u. correct_pure i)))
+called_places (Some at) c h =
+    told_places c (correct_as (correct_bind h (λ i. correct_bind (correct_point_target at i) (λ u. correct_pure i)))
     (λ final ps m m' i g row. rw row.second.second.is (record {
       put = λ c le. put_within (omega arith) row.after.nodes (row.first.put c (omega (le, row.after.pats, arith)));
     })))

@@ -15,7 +15,8 @@ use Rattle.hir_data.specs.Written.{type_data}
 use Rattle.hir_data.proofs.Trees.{type_made, path_made, segment_made, path_type_made, bound_made, arg_made, never_is, with_argument_is}
 use Rattle.hir_data.proofs.Trees.{segment_with, list_with}
 use Rattle.hir_sets.specs.Fold.{noted_in_type}
-use Rattle.hir_sets.specs.Places.{told, alone, answering, aliasing, counting, in_argument, in_front, named_by, of_impl, of_projection, path_of}
+use Rattle.hir_sets.specs.Places.{told, alone, answering, aliasing, counting, in_argument, in_front, named_by}
+use Rattle.hir_sets.specs.Places.{of_impl, of_projection, path_of}
 use Rattle.hir_sets.specs.Places.{projected, trait_a, unhidden, with_a}
 use Rattle.hir_sets.specs.Places.{AliasesCount, CountsInImpls, CountsInProjections, CountsWhereItStands, ImplsAreParameters}
 use Rattle.hir_sets.specs.Places.{PathsSayAliases}

@@ -17,7 +17,8 @@ use Rattle.hir_store.specs.declared.path.PathKind.{PathKind}
 use Rattle.hir_store.specs.declared.path.PathKind.TheVariants as kind
 use Rattle.hir_tables.proofs.First.{found_first, found_first_below}
 use Rattle.hir_tables.specs.Laws.{same_kind, same_path, PathsAsKeys, SamePathsAreOne, NamesAsKeys, PlacesAsKeys, said}
-use Rattle.hir_tables.specs.Laws.{FirstOfAlias, FirstOfCall, FirstOfDefinition, FirstOfLegacy, FirstOfPath, PathEntry, is_of, told, first_told}
+use Rattle.hir_tables.specs.Laws.{FirstOfAlias, FirstOfCall, FirstOfDefinition, FirstOfLegacy, FirstOfPath, PathEntry, is_of}
+use Rattle.hir_tables.specs.Laws.{told, first_told}
 use Rattle.hir_tables.specs.Tables.{Tables, place, place_cmp, found, alias_found, path_found, with_path, definition_found, legacy_found}
 
 -- ---- the same keys

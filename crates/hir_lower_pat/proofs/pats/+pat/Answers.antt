@@ -17,7 +17,8 @@ use Rattle.hir_lower_pat.specs.Handlers.{HandlesElement, HandlesPat}
 use Rattle.hir_lower_pat.specs.Bindings.{table_of}
 use Rattle.hir_lower_pat.specs.Methods.{element_steps}
 use Rattle.hir_lower_pat.proofs.CallLemmas.{call_is, lacking_is, pat_on, rest_is, was_entered}
-use Rattle.hir_lower_pat.proofs.ElementSteps.{inner_named, inner_refused, missing_named, missing_refused, part_named, refused_named, unasked}
+use Rattle.hir_lower_pat.proofs.ElementSteps.{inner_named, inner_refused, missing_named, missing_refused}
+use Rattle.hir_lower_pat.proofs.ElementSteps.{part_named, refused_named, unasked}
 use Rattle.hir_lower_pat.proofs.Elements.{part_left}
 use Rattle.hir_lower_pat.proofs.Kids.{kids}
 use Rattle.hir_lower_pat.proofs.KindLemmas.{no_call_left}
