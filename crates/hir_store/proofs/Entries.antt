@@ -84,10 +84,9 @@ module _ {K T : Type 0} (cmp : K → K → Ordering) (o : IsTotalOrder cmp) (eq 
           → (lookup (eq q) (e ∷ es) ≡ None) × ((t : T) → insert_entry eq (e ∷ es) q t ≡ e ∷ (es ++ (q, t) ∷ []))
       by behind true same g = absurd (none≢some n (sym g))
       by behind false other g =
-          let more = behind g in (
-            ap (λ c. cond c (Some e.1) (lookup (eq q) es)) other ∙ more.0,
-            λ t. ap (λ c. if c then (e.0, t) ∷ es else e ∷ insert_entry eq es q t) other ∙ ap (λ z. e ∷ z) (more.1 t),
-          )
+          let more = behind g in
+          (ap (λ c. cond c (Some e.1) (lookup (eq q) es)) other ∙ more.0,
+          λ t. ap (λ c. if c then (e.0, t) ∷ es else e ∷ insert_entry eq es q t) other ∙ ap (λ z. e ∷ z) (more.1 t))
 
   module _ (es : List (K × T)) (ps : List (K × ℕ)) (placed : Placed cmp es ps) (q : K) where
     pub nothing_found : lookup (is_at (cmp q)) ps ≡ None → lookup (eq q) es ≡ None
