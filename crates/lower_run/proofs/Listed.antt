@@ -16,4 +16,5 @@ listed_came mode text document (Err failure.Full) is h = (document, is)
 listed_came mode text document (Err failure.Memory) is h = tt
 listed_came mode text document (Err failure.Usage) is h = ⊎_elim (λ e. cc) (λ e. cc) h
 listed_came mode text document (Err failure.Input) is h = ⊎_elim (λ e. cc) (λ e. cc) h
+listed_came mode text document (Err failure.Output) is h = ⊎_elim (λ e. cc) (λ e. cc) h
 listed_came mode text document (Err (failure.Document f)) is h = ⊎_elim (λ e. cc) (λ e. cc) h

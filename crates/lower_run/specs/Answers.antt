@@ -21,6 +21,7 @@ CameOf mode text (Err failure.Full) = SaysSome mode text
 CameOf mode text (Err failure.Memory) = Unit {0}
 CameOf mode text (Err failure.Usage) = ⊥
 CameOf mode text (Err failure.Input) = ⊥
+CameOf mode text (Err failure.Output) = ⊥
 
 -- all that was left was read
 pub record ReadsAll (old new : Option (List ℕ)) (text : List ℕ) : Type 0 where
@@ -34,6 +35,7 @@ ReadsIn called old new holds = (mode : Mode) × (called ≡ Some mode) × ((text
 -- this came of all that was left, in the mode that was called for
 abbrev pub Answered : {T : Type 0} → Option Mode → Option (List ℕ) → Option (List ℕ) → Result T Failure → Type 0
 Answered called old new (Err failure.Input) = Unit {0}
+Answered called old new (Err failure.Output) = ⊥
 Answered called old new (Err failure.Memory) = Unit {0}
 Answered called old new (Err failure.Usage) = Unit {0}
 Answered called old new (Err failure.Full) = ReadsIn called old new SaysSome

@@ -5,12 +5,13 @@ use Rattle.hir_lower.specs.declared.error.LowerError.TheVariants as lower
 use Rattle.lower_json.specs.declared.fault.ReadError.{ReadError}
 use Rattle.lower_json.specs.declared.fault.ReadError.TheVariants as read
 use Rattle.lower_run.specs.declared.failure.Failure.{Failure}
-use Rattle.lower_run.specs.declared.failure.Failure.TheVariants.{Usage, Input, Document, Memory, Full}
+use Rattle.lower_run.specs.declared.failure.Failure.TheVariants.{Usage, Input, Output, Document, Memory, Full}
 
--- 2: the words, the input or the document are wrong; 3: memory or numbers ran out
+-- 2: the words, a stream or the document are wrong; 3: memory or numbers ran out
 abbrev pub status_of : Failure → ℕ
 status_of Usage = 2
 status_of Input = 2
+status_of Output = 2
 status_of (Document _) = 2
 status_of Memory = 3
 status_of Full = 3

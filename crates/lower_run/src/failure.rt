@@ -17,6 +17,9 @@ pub enum Failure {
     /// Standard input failed.
     #[error("fault: input")]
     Input,
+    /// Standard output didn't take all.
+    #[error("fault: output")]
+    Output,
     /// The document is bad.
     #[error("fault: {0}")]
     Document(Fault),
@@ -41,7 +44,7 @@ impl Failure {
     {
         let _ = writeln!(errors, "{}", self);
         match self {
-            Failure::Usage | Failure::Input | Failure::Document(_) => 2,
+            Failure::Usage | Failure::Input | Failure::Output | Failure::Document(_) => 2,
             Failure::Memory | Failure::Full => 3,
         }
     }

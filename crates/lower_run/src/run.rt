@@ -296,22 +296,23 @@ fn answer<W: AsStr, R: Read>(alloc: Global, words: &[W], input: &mut R) -> Resul
     listing(alloc, mode, text.as_slice())
 }
 
-/// Writes all of a text, and answers the status: 0, or 2 where the write failed.
-fn written<O: Write>(out: &mut O, text: &str) -> u8
+/// Writes all of a text, and answers the status: 0, or 2 where the write failed, which is said on `errors`.
+fn written<O: Write, X: Write>(out: &mut O, errors: &mut X, text: &str) -> u8
     ensures status { (result ≡ 0) ⊎ (result ≡ 2) }
     ensures listed { result ≡ 0 → Appends (O.contents out.old) (O.contents out.new) text.now }
+    ensures silent { result ≡ 0 → errors.new ≡ errors.old }
 {
     match out.write_all(text.as_bytes()) {
         Ok(()) => 0,
-        Err(_) => 2,
+        Err(_) => Failure::Output.report(errors),
     }
 }
 
 /// Reads a document from `input`, writes its listing to `out`, and answers the status: 0, or 2 where the words or the
 /// document are wrong or a read or a write failed, or 3 where memory was refused or an arena was full.
 ///
-/// A run without a listing says on `errors` why. A failing write to `out` ends with status 2 and no text, one to
-/// `errors` changes nothing.
+/// A run that doesn't end with status 0 says on `errors` why. Nothing is written to `out` before the whole listing is there; how much of
+/// it went out before a write failed is left open. A failing write to `errors` changes nothing.
 pub fn run<W: AsStr, R: Read, O: Write, X: Write>(
     alloc: Global,
     words: &[W],
@@ -325,10 +326,10 @@ pub fn run<W: AsStr, R: Read, O: Write, X: Write>(
     ensures listed { result ≡ 0 → (text : List ℕ) × Appends (O.contents out.old) (O.contents out.new) text }
     ensures refused { result ≡ 3 → out.new ≡ out.old }
     ensures silent { result ≡ 0 → errors.new ≡ errors.old }
-    ensures one_writer { (out.new ≡ out.old) ⊎ (errors.new ≡ errors.old) }
+    ensures unlisted { (out.new ≡ out.old) ⊎ ReadsIn (called W.text words.now) (R.remaining input.old) (R.remaining input.new) SaysSome }
 {
     match answer(alloc, words, input) {
-        Ok(text) => written(out, text.as_str()),
+        Ok(text) => written(out, errors, text.as_str()),
         Err(failure) => failure.report(errors),
     }
 }
