@@ -46,7 +46,6 @@ Told = List Scope → Faults
 abbrev none : Told
 none ss = []
 
-
 none_if : (b : Bool) (ss : List Scope) → p.if_so faults b none ss ≡ []
 none_if true ss = refl
 none_if false ss = refl
