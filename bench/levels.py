@@ -28,10 +28,26 @@ def path(*names):
     return {"k": "Path", "segs": [{"k": "PathSegment", "seg": "name", "name": name} for name in names]}
 
 
+def one_segment(**fields):
+    return {"k": "Path", "segs": [{"k": "PathSegment", "seg": "name", "name": "A", **fields}]}
+
+
 def generic(arg):
     """A path with an argument."""
-    args = {"k": "GenericArgList", "args": [arg]}
-    return {"k": "Path", "segs": [{"k": "PathSegment", "seg": "name", "name": "A", "generics": args}]}
+    return one_segment(generics={"k": "GenericArgList", "args": [arg]})
+
+
+def of_type(arg):
+    """A path with a type as its argument."""
+    return generic({"k": "TypeArg", "ty": arg})
+
+
+def path_type(path_of):
+    return {"k": "PathType", "path": path_of}
+
+
+def qualified(**fields):
+    return path_type({"k": "Path", "segs": [{"k": "PathSegment", "seg": "type", **fields}]})
 
 
 def block(tail):
@@ -46,7 +62,7 @@ ONE = {"k": "Literal", "lit": "int", "t": "1"}
 NAME = {"k": "IdentPat", "name": "x"}
 WILD = {"k": "WildcardPat"}
 PARAM = {"k": "Param", "pat": NAME}
-TYPE = {"k": "PathType", "path": path("T")}
+TYPE = path_type(path("T"))
 
 # Each form by the levels that it takes, and what it is around a part.
 EXPRS = {
@@ -114,12 +130,20 @@ TYPES = {
     "tuple type": (1, lambda t: {"k": "TupleType", "fields": [t]}),
     "array type": (1, lambda t: {"k": "ArrayType", "ty": t, "len": {"k": "ConstArg", "expr": ONE}}),
     "function pointer": (2, lambda t: {"k": "FnPtrType", "params": [{"k": "Param", "ty": t}]}),
-    "argument of a path": (5, lambda t: {"k": "PathType", "path": generic({"k": "TypeArg", "ty": t})}),
-    "binding of a path": (5, lambda t: {"k": "PathType", "path": generic({"k": "AssocTypeArg", "name": "B", "ty": t})}),
-    "qualified path": (
-        4,
-        lambda t: {"k": "PathType", "path": {"k": "Path", "segs": [{"k": "PathSegment", "seg": "type", "ty": t}]}},
-    ),
+    "slice type": (1, lambda t: {"k": "SliceType", "ty": t}),
+    "binder": (1, lambda t: {"k": "ForType", "ty": t}),
+    "result of a pointer": (2, lambda t: {"k": "FnPtrType", "ret": {"k": "RetType", "ty": t}}),
+    "pattern type": (1, lambda t: {"k": "PatternType", "ty": t, "pat": WILD}),
+    "bound": (7, lambda t: {"k": "DynTraitType", "bounds": [{"k": "TypeBound", "b": "path", "ty": path_type(of_type(t))}]}),
+    "bound of an impl": (7, lambda t: {"k": "ImplTraitType", "bounds": [{"k": "TypeBound", "b": "path", "ty": path_type(of_type(t))}]}),
+    "argument of a path": (5, lambda t: path_type(of_type(t))),
+    "binding of a path": (5, lambda t: path_type(generic({"k": "AssocTypeArg", "name": "B", "ty": t}))),
+    "path directly in a call": (5, lambda t: path_type({**of_type(t), "in_macro": True})),
+    "path of a use tree": (6, lambda t: path_type({**path("b"), "use": of_type(t)})),
+    "argument of Fn": (5, lambda t: path_type(one_segment(parens={"k": "ParenArgs", "args": [{"k": "TypeArg", "ty": t}]}))),
+    "result of Fn": (4, lambda t: path_type(one_segment(parens={"k": "ParenArgs", "args": []}, ret={"k": "RetType", "ty": t}))),
+    "qualified path": (3, lambda t: qualified(ty=t)),
+    "trait of a qualified path": (8, lambda t: qualified(ty=TYPE, trait=path_type(of_type(t)))),
 }
 # The place of a call, what stands at the end, and what the outermost tree stands in.
 SORTS = [
