@@ -1,305 +1,294 @@
 //! The kinds of nodes by their words.
 
 ghost use Rattle.std.specs.Prelude.{◌≡◌};
-ghost use Rattle.json_kinds.specs.Table.{kind_of, kind_with};
-ghost use Rattle.json_kinds.specs.Table as spec;
+ghost use Rattle.json_kinds.specs.Table.{kind_of};
+ghost use Rattle.json_kinds.specs.ByLength.{kind_of_length};
 
 use crate::kind::{ExprNode, ItemNode, Kind, PartNode, PatNode, PathNode, StmtNode, TypeNode};
 
-fn exprs(word: &str) -> Option<Kind>
-    ensures { result ≡ kind_with spec.exprs word.now }
+fn of_2(word: &str) -> Option<Kind>
+    ensures { result ≡ kind_of_length 2 word.now }
 {
     match word {
-        "IfExpr" => Some(Kind::IfExpr),
-        "BlockExpr" => Some(Kind::BlockExpr),
-        "LoopExpr" => Some(Kind::Expr(ExprNode::LoopExpr)),
-        "WhileExpr" => Some(Kind::Expr(ExprNode::WhileExpr)),
-        "ForExpr" => Some(Kind::Expr(ExprNode::ForExpr)),
-        "TryExpr" => Some(Kind::Expr(ExprNode::TryExpr)),
-        "CallExpr" => Some(Kind::Expr(ExprNode::CallExpr)),
-        "PathExpr" => Some(Kind::Expr(ExprNode::PathExpr)),
-        "ContinueExpr" => Some(Kind::Expr(ExprNode::ContinueExpr)),
-        "BreakExpr" => Some(Kind::Expr(ExprNode::BreakExpr)),
-        "ParenExpr" => Some(Kind::Expr(ExprNode::ParenExpr)),
-        "Literal" => Some(Kind::Literal),
+        "Fn" => Some(Kind::Item(ItemNode::Fn)),
         _ => None,
     }
 }
 
-fn operations(word: &str) -> Option<Kind>
-    ensures { result ≡ kind_with spec.operations word.now }
-{
-    match word {
-        "MethodCallExpr" => Some(Kind::Expr(ExprNode::MethodCallExpr)),
-        "FieldExpr" => Some(Kind::Expr(ExprNode::FieldExpr)),
-        "PrefixExpr" => Some(Kind::Expr(ExprNode::PrefixExpr)),
-        "BinExpr" => Some(Kind::Expr(ExprNode::BinExpr)),
-        "IndexExpr" => Some(Kind::Expr(ExprNode::IndexExpr)),
-        "RefExpr" => Some(Kind::Expr(ExprNode::RefExpr)),
-        "RangeExpr" => Some(Kind::Expr(ExprNode::RangeExpr)),
-        "TupleExpr" => Some(Kind::Expr(ExprNode::TupleExpr)),
-        "ArrayExpr" => Some(Kind::Expr(ExprNode::ArrayExpr)),
-        _ => None,
-    }
-}
-
-fn keywords(word: &str) -> Option<Kind>
-    ensures { result ≡ kind_with spec.keywords word.now }
-{
-    match word {
-        "ReturnExpr" => Some(Kind::Expr(ExprNode::ReturnExpr)),
-        "BecomeExpr" => Some(Kind::Expr(ExprNode::BecomeExpr)),
-        "YieldExpr" => Some(Kind::Expr(ExprNode::YieldExpr)),
-        "YeetExpr" => Some(Kind::Expr(ExprNode::YeetExpr)),
-        "AwaitExpr" => Some(Kind::Expr(ExprNode::AwaitExpr)),
-        "CfgPredExpr" => Some(Kind::Expr(ExprNode::CfgPredExpr)),
-        "UnderscoreExpr" => Some(Kind::Expr(ExprNode::UnderscoreExpr)),
-        "IncludeBytesExpr" => Some(Kind::Expr(ExprNode::IncludeBytesExpr)),
-        "AsmExpr" => Some(Kind::Expr(ExprNode::AsmExpr)),
-        "FormatArgsExpr" => Some(Kind::Expr(ExprNode::FormatArgsExpr)),
-        _ => None,
-    }
-}
-
-fn typed(word: &str) -> Option<Kind>
-    ensures { result ≡ kind_with spec.typed word.now }
-{
-    match word {
-        "CastExpr" => Some(Kind::Expr(ExprNode::CastExpr)),
-        "RecordExpr" => Some(Kind::Expr(ExprNode::RecordExpr)),
-        "OffsetOfExpr" => Some(Kind::Expr(ExprNode::OffsetOfExpr)),
-        "ClosureExpr" => Some(Kind::Expr(ExprNode::ClosureExpr)),
-        "RecordExprFieldList" => Some(Kind::Part(PartNode::RecordExprFieldList)),
-        "RecordExprField" => Some(Kind::Part(PartNode::RecordExprField)),
-        _ => None,
-    }
-}
-
-fn branches(word: &str) -> Option<Kind>
-    ensures { result ≡ kind_with spec.branches word.now }
-{
-    match word {
-        "LetExpr" => Some(Kind::Expr(ExprNode::LetExpr)),
-        "MatchExpr" => Some(Kind::Expr(ExprNode::MatchExpr)),
-        "MatchArm" => Some(Kind::Part(PartNode::MatchArm)),
-        "Guard" => Some(Kind::Part(PartNode::Guard)),
-        "LetStmt" => Some(Kind::Stmt(StmtNode::LetStmt)),
-        "LetElse" => Some(Kind::Part(PartNode::LetElse)),
-        _ => None,
-    }
-}
-
-fn pats(word: &str) -> Option<Kind>
-    ensures { result ≡ kind_with spec.pats word.now }
-{
-    match word {
-        "IdentPat" => Some(Kind::Pat(PatNode::IdentPat)),
-        "TupleStructPat" => Some(Kind::Pat(PatNode::TupleStructPat)),
-        "TuplePat" => Some(Kind::Pat(PatNode::TuplePat)),
-        "RefPat" => Some(Kind::Pat(PatNode::RefPat)),
-        "PathPat" => Some(Kind::Pat(PatNode::PathPat)),
-        "OrPat" => Some(Kind::Pat(PatNode::OrPat)),
-        "ParenPat" => Some(Kind::Pat(PatNode::ParenPat)),
-        "BoxPat" => Some(Kind::Pat(PatNode::BoxPat)),
-        "DerefPat" => Some(Kind::Pat(PatNode::DerefPat)),
-        _ => None,
-    }
-}
-
-fn other_pats(word: &str) -> Option<Kind>
-    ensures { result ≡ kind_with spec.other_pats word.now }
-{
-    match word {
-        "RecordPat" => Some(Kind::Pat(PatNode::RecordPat)),
-        "RecordPatField" => Some(Kind::Part(PartNode::RecordPatField)),
-        "SlicePat" => Some(Kind::Pat(PatNode::SlicePat)),
-        "LiteralPat" => Some(Kind::Pat(PatNode::LiteralPat)),
-        "RangePat" => Some(Kind::Pat(PatNode::RangePat)),
-        "CfgPredPat" => Some(Kind::Pat(PatNode::CfgPredPat)),
-        "WildcardPat" => Some(Kind::Pat(PatNode::WildcardPat)),
-        "RestPat" => Some(Kind::Pat(PatNode::RestPat)),
-        "NotNullPat" => Some(Kind::Pat(PatNode::NotNullPat)),
-        "ConstBlockPat" => Some(Kind::Pat(PatNode::ConstBlockPat)),
-        _ => None,
-    }
-}
-
-/// Calls of macros, definitions of macros, and what a call may be expanded to.
-fn macros(word: &str) -> Option<Kind>
-    ensures { result ≡ kind_with spec.macros word.now }
-{
-    match word {
-        "MacroExpr" => Some(Kind::Expr(ExprNode::MacroExpr)),
-        "MacroPat" => Some(Kind::Pat(PatNode::MacroPat)),
-        "MacroType" => Some(Kind::Type_(TypeNode::MacroType)),
-        "MacroCall" => Some(Kind::Part(PartNode::MacroCall)),
-        "MacroStmts" => Some(Kind::Part(PartNode::MacroStmts)),
-        "MacroRules" => Some(Kind::Stmt(StmtNode::MacroRules)),
-        "MacroDef" => Some(Kind::Stmt(StmtNode::MacroDef)),
-        _ => None,
-    }
-}
-
-fn types(word: &str) -> Option<Kind>
-    ensures { result ≡ kind_with spec.types word.now }
-{
-    match word {
-        "ParenType" => Some(Kind::Type_(TypeNode::ParenType)),
-        "SliceType" => Some(Kind::Type_(TypeNode::SliceType)),
-        "TupleType" => Some(Kind::Type_(TypeNode::TupleType)),
-        "PathType" => Some(Kind::PathType),
-        "PtrType" => Some(Kind::Type_(TypeNode::PtrType)),
-        "RefType" => Some(Kind::Type_(TypeNode::RefType)),
-        "ArrayType" => Some(Kind::Type_(TypeNode::ArrayType)),
-        _ => None,
-    }
-}
-
-fn other_types(word: &str) -> Option<Kind>
-    ensures { result ≡ kind_with spec.other_types word.now }
-{
-    match word {
-        "FnPtrType" => Some(Kind::Type_(TypeNode::FnPtrType)),
-        "ForType" => Some(Kind::Type_(TypeNode::ForType)),
-        "ImplTraitType" => Some(Kind::Type_(TypeNode::ImplTraitType)),
-        "DynTraitType" => Some(Kind::Type_(TypeNode::DynTraitType)),
-        "PatternType" => Some(Kind::Type_(TypeNode::PatternType)),
-        "NeverType" => Some(Kind::Type_(TypeNode::NeverType)),
-        "InferType" => Some(Kind::Type_(TypeNode::InferType)),
-        _ => None,
-    }
-}
-
-fn paths(word: &str) -> Option<Kind>
-    ensures { result ≡ kind_with spec.paths word.now }
+fn of_4(word: &str) -> Option<Kind>
+    ensures { result ≡ kind_of_length 4 word.now }
 {
     match word {
         "Path" => Some(Kind::Path(PathNode::Path)),
-        "PathSegment" => Some(Kind::Path(PathNode::PathSegment)),
-        "GenericArgList" => Some(Kind::Path(PathNode::GenericArgList)),
+        "Name" => Some(Kind::Part(PartNode::Name)),
+        "Item" => Some(Kind::Stmt(StmtNode::Item)),
+        "Impl" => Some(Kind::Item(ItemNode::Impl)),
+        _ => None,
+    }
+}
+
+fn of_5(word: &str) -> Option<Kind>
+    ensures { result ≡ kind_of_length 5 word.now }
+{
+    match word {
+        "Param" => Some(Kind::Part(PartNode::Param)),
+        "Guard" => Some(Kind::Part(PartNode::Guard)),
+        "OrPat" => Some(Kind::Pat(PatNode::OrPat)),
+        "Label" => Some(Kind::Part(PartNode::Label)),
+        "Trait" => Some(Kind::Item(ItemNode::Trait)),
+        _ => None,
+    }
+}
+
+fn of_6(word: &str) -> Option<Kind>
+    ensures { result ≡ kind_of_length 6 word.now }
+{
+    match word {
+        "IfExpr" => Some(Kind::IfExpr),
+        "RefPat" => Some(Kind::Pat(PatNode::RefPat)),
+        "BoxPat" => Some(Kind::Pat(PatNode::BoxPat)),
+        _ => None,
+    }
+}
+
+fn of_7(word: &str) -> Option<Kind>
+    ensures { result ≡ kind_of_length 7 word.now }
+{
+    match word {
+        "Literal" => Some(Kind::Literal),
+        "BinExpr" => Some(Kind::Expr(ExprNode::BinExpr)),
+        "LetStmt" => Some(Kind::Stmt(StmtNode::LetStmt)),
+        "RefExpr" => Some(Kind::Expr(ExprNode::RefExpr)),
+        "RefType" => Some(Kind::Type_(TypeNode::RefType)),
         "TypeArg" => Some(Kind::Path(PathNode::TypeArg)),
-        "AssocTypeArg" => Some(Kind::Path(PathNode::AssocTypeArg)),
-        "LifetimeArg" => Some(Kind::Path(PathNode::LifetimeArg)),
+        "RetType" => Some(Kind::Part(PartNode::RetType)),
+        "ForExpr" => Some(Kind::Expr(ExprNode::ForExpr)),
+        "TryExpr" => Some(Kind::Expr(ExprNode::TryExpr)),
+        "AsmExpr" => Some(Kind::Expr(ExprNode::AsmExpr)),
+        "LetExpr" => Some(Kind::Expr(ExprNode::LetExpr)),
+        "LetElse" => Some(Kind::Part(PartNode::LetElse)),
+        "PathPat" => Some(Kind::Pat(PatNode::PathPat)),
+        "RestPat" => Some(Kind::Pat(PatNode::RestPat)),
+        "PtrType" => Some(Kind::Type_(TypeNode::PtrType)),
+        "ForType" => Some(Kind::Type_(TypeNode::ForType)),
+        _ => None,
+    }
+}
+
+fn of_8(word: &str) -> Option<Kind>
+    ensures { result ≡ kind_of_length 8 word.now }
+{
+    match word {
+        "ExprStmt" => Some(Kind::Stmt(StmtNode::ExprStmt)),
+        "PathExpr" => Some(Kind::Expr(ExprNode::PathExpr)),
+        "CallExpr" => Some(Kind::Expr(ExprNode::CallExpr)),
+        "IdentPat" => Some(Kind::Pat(PatNode::IdentPat)),
+        "MatchArm" => Some(Kind::Part(PartNode::MatchArm)),
+        "PathType" => Some(Kind::PathType),
+        "Lifetime" => Some(Kind::Part(PartNode::Lifetime)),
+        "TuplePat" => Some(Kind::Pat(PatNode::TuplePat)),
+        "LoopExpr" => Some(Kind::Expr(ExprNode::LoopExpr)),
+        "YeetExpr" => Some(Kind::Expr(ExprNode::YeetExpr)),
+        "CastExpr" => Some(Kind::Expr(ExprNode::CastExpr)),
+        "ParenPat" => Some(Kind::Pat(PatNode::ParenPat)),
+        "DerefPat" => Some(Kind::Pat(PatNode::DerefPat)),
+        "SlicePat" => Some(Kind::Pat(PatNode::SlicePat)),
+        "RangePat" => Some(Kind::Pat(PatNode::RangePat)),
+        "MacroPat" => Some(Kind::Pat(PatNode::MacroPat)),
+        "MacroDef" => Some(Kind::Stmt(StmtNode::MacroDef)),
         "ConstArg" => Some(Kind::Path(PathNode::ConstArg)),
         _ => None,
     }
 }
 
-fn type_parts(word: &str) -> Option<Kind>
-    ensures { result ≡ kind_with spec.type_parts word.now }
+fn of_9(word: &str) -> Option<Kind>
+    ensures { result ≡ kind_of_length 9 word.now }
 {
     match word {
-        "ParenArgs" => Some(Kind::Path(PathNode::ParenArgs)),
-        "TypeBound" => Some(Kind::Part(PartNode::TypeBound)),
-        "ForBinder" => Some(Kind::Part(PartNode::ForBinder)),
-        "RetType" => Some(Kind::Part(PartNode::RetType)),
-        "Param" => Some(Kind::Part(PartNode::Param)),
-        _ => None,
-    }
-}
-
-fn others(word: &str) -> Option<Kind>
-    ensures { result ≡ kind_with spec.others word.now }
-{
-    match word {
-        "ExprStmt" => Some(Kind::Stmt(StmtNode::ExprStmt)),
-        "Item" => Some(Kind::Stmt(StmtNode::Item)),
-        "SelfParam" => Some(Kind::Part(PartNode::SelfParam)),
+        "BlockExpr" => Some(Kind::BlockExpr),
+        "FieldExpr" => Some(Kind::Expr(ExprNode::FieldExpr)),
+        "ParenExpr" => Some(Kind::Expr(ExprNode::ParenExpr)),
         "ParamList" => Some(Kind::Part(PartNode::ParamList)),
-        "Label" => Some(Kind::Part(PartNode::Label)),
-        "Lifetime" => Some(Kind::Part(PartNode::Lifetime)),
-        "Name" => Some(Kind::Part(PartNode::Name)),
-        _ => None,
-    }
-}
-
-/// Items, and what is generic in them.
-fn items(word: &str) -> Option<Kind>
-    ensures { result ≡ kind_with spec.items word.now }
-{
-    match word {
+        "TupleType" => Some(Kind::Type_(TypeNode::TupleType)),
+        "TypeBound" => Some(Kind::Part(PartNode::TypeBound)),
+        "MatchExpr" => Some(Kind::Expr(ExprNode::MatchExpr)),
+        "WhileExpr" => Some(Kind::Expr(ExprNode::WhileExpr)),
+        "BreakExpr" => Some(Kind::Expr(ExprNode::BreakExpr)),
+        "IndexExpr" => Some(Kind::Expr(ExprNode::IndexExpr)),
+        "RangeExpr" => Some(Kind::Expr(ExprNode::RangeExpr)),
+        "TupleExpr" => Some(Kind::Expr(ExprNode::TupleExpr)),
+        "ArrayExpr" => Some(Kind::Expr(ExprNode::ArrayExpr)),
+        "YieldExpr" => Some(Kind::Expr(ExprNode::YieldExpr)),
+        "AwaitExpr" => Some(Kind::Expr(ExprNode::AwaitExpr)),
+        "RecordPat" => Some(Kind::Pat(PatNode::RecordPat)),
+        "MacroExpr" => Some(Kind::Expr(ExprNode::MacroExpr)),
+        "MacroType" => Some(Kind::Type_(TypeNode::MacroType)),
+        "MacroCall" => Some(Kind::Part(PartNode::MacroCall)),
+        "ParenType" => Some(Kind::Type_(TypeNode::ParenType)),
+        "SliceType" => Some(Kind::Type_(TypeNode::SliceType)),
+        "ArrayType" => Some(Kind::Type_(TypeNode::ArrayType)),
+        "FnPtrType" => Some(Kind::Type_(TypeNode::FnPtrType)),
+        "NeverType" => Some(Kind::Type_(TypeNode::NeverType)),
+        "InferType" => Some(Kind::Type_(TypeNode::InferType)),
+        "ParenArgs" => Some(Kind::Path(PathNode::ParenArgs)),
+        "ForBinder" => Some(Kind::Part(PartNode::ForBinder)),
+        "SelfParam" => Some(Kind::Part(PartNode::SelfParam)),
         "TypeParam" => Some(Kind::Item(ItemNode::TypeParam)),
-        "ConstParam" => Some(Kind::Item(ItemNode::ConstParam)),
-        "LifetimeParam" => Some(Kind::Item(ItemNode::LifetimeParam)),
-        "GenericParamList" => Some(Kind::Item(ItemNode::GenericParamList)),
         "WherePred" => Some(Kind::Item(ItemNode::WherePred)),
-        "WhereClause" => Some(Kind::Item(ItemNode::WhereClause)),
-        "Fn" => Some(Kind::Item(ItemNode::Fn)),
-        "Impl" => Some(Kind::Item(ItemNode::Impl)),
-        "Trait" => Some(Kind::Item(ItemNode::Trait)),
         "TypeAlias" => Some(Kind::Item(ItemNode::TypeAlias)),
         _ => None,
     }
 }
 
-fn code(word: &str) -> Option<Kind>
-    ensures { result ≡ spec.code_of word.now }
+fn of_10(word: &str) -> Option<Kind>
+    ensures { result ≡ kind_of_length 10 word.now }
 {
-    if let Some(kind) = exprs(word) {
-        return Some(kind);
+    match word {
+        "PrefixExpr" => Some(Kind::Expr(ExprNode::PrefixExpr)),
+        "ReturnExpr" => Some(Kind::Expr(ExprNode::ReturnExpr)),
+        "BecomeExpr" => Some(Kind::Expr(ExprNode::BecomeExpr)),
+        "RecordExpr" => Some(Kind::Expr(ExprNode::RecordExpr)),
+        "LiteralPat" => Some(Kind::Pat(PatNode::LiteralPat)),
+        "CfgPredPat" => Some(Kind::Pat(PatNode::CfgPredPat)),
+        "NotNullPat" => Some(Kind::Pat(PatNode::NotNullPat)),
+        "MacroStmts" => Some(Kind::Part(PartNode::MacroStmts)),
+        "MacroRules" => Some(Kind::Stmt(StmtNode::MacroRules)),
+        "ConstParam" => Some(Kind::Item(ItemNode::ConstParam)),
+        _ => None,
     }
-    if let Some(kind) = operations(word) {
-        return Some(kind);
-    }
-    if let Some(kind) = keywords(word) {
-        return Some(kind);
-    }
-    if let Some(kind) = typed(word) {
-        return Some(kind);
-    }
-    branches(word)
 }
 
-fn pat(word: &str) -> Option<Kind>
-    ensures { result ≡ spec.pat_of word.now }
+fn of_11(word: &str) -> Option<Kind>
+    ensures { result ≡ kind_of_length 11 word.now }
 {
-    if let Some(kind) = pats(word) {
-        return Some(kind);
+    match word {
+        "PathSegment" => Some(Kind::Path(PathNode::PathSegment)),
+        "ClosureExpr" => Some(Kind::Expr(ExprNode::ClosureExpr)),
+        "CfgPredExpr" => Some(Kind::Expr(ExprNode::CfgPredExpr)),
+        "WildcardPat" => Some(Kind::Pat(PatNode::WildcardPat)),
+        "PatternType" => Some(Kind::Type_(TypeNode::PatternType)),
+        "LifetimeArg" => Some(Kind::Path(PathNode::LifetimeArg)),
+        "WhereClause" => Some(Kind::Item(ItemNode::WhereClause)),
+        _ => None,
     }
-    other_pats(word)
 }
 
-fn type_(word: &str) -> Option<Kind>
-    ensures { result ≡ spec.type_of word.now }
+fn of_12(word: &str) -> Option<Kind>
+    ensures { result ≡ kind_of_length 12 word.now }
 {
-    if let Some(kind) = types(word) {
-        return Some(kind);
+    match word {
+        "ContinueExpr" => Some(Kind::Expr(ExprNode::ContinueExpr)),
+        "OffsetOfExpr" => Some(Kind::Expr(ExprNode::OffsetOfExpr)),
+        "DynTraitType" => Some(Kind::Type_(TypeNode::DynTraitType)),
+        "AssocTypeArg" => Some(Kind::Path(PathNode::AssocTypeArg)),
+        _ => None,
     }
-    other_types(word)
 }
 
-fn other(word: &str) -> Option<Kind>
-    ensures { result ≡ spec.other_of word.now }
+fn of_13(word: &str) -> Option<Kind>
+    ensures { result ≡ kind_of_length 13 word.now }
 {
-    if let Some(kind) = paths(word) {
-        return Some(kind);
+    match word {
+        "ConstBlockPat" => Some(Kind::Pat(PatNode::ConstBlockPat)),
+        "ImplTraitType" => Some(Kind::Type_(TypeNode::ImplTraitType)),
+        "LifetimeParam" => Some(Kind::Item(ItemNode::LifetimeParam)),
+        _ => None,
     }
-    if let Some(kind) = type_parts(word) {
-        return Some(kind);
+}
+
+fn of_14(word: &str) -> Option<Kind>
+    ensures { result ≡ kind_of_length 14 word.now }
+{
+    match word {
+        "GenericArgList" => Some(Kind::Path(PathNode::GenericArgList)),
+        "MethodCallExpr" => Some(Kind::Expr(ExprNode::MethodCallExpr)),
+        "RecordPatField" => Some(Kind::Part(PartNode::RecordPatField)),
+        "TupleStructPat" => Some(Kind::Pat(PatNode::TupleStructPat)),
+        "UnderscoreExpr" => Some(Kind::Expr(ExprNode::UnderscoreExpr)),
+        "FormatArgsExpr" => Some(Kind::Expr(ExprNode::FormatArgsExpr)),
+        _ => None,
     }
-    if let Some(kind) = macros(word) {
-        return Some(kind);
+}
+
+fn of_15(word: &str) -> Option<Kind>
+    ensures { result ≡ kind_of_length 15 word.now }
+{
+    match word {
+        "RecordExprField" => Some(Kind::Part(PartNode::RecordExprField)),
+        _ => None,
     }
-    if let Some(kind) = items(word) {
-        return Some(kind);
+}
+
+fn of_16(word: &str) -> Option<Kind>
+    ensures { result ≡ kind_of_length 16 word.now }
+{
+    match word {
+        "IncludeBytesExpr" => Some(Kind::Expr(ExprNode::IncludeBytesExpr)),
+        "GenericParamList" => Some(Kind::Item(ItemNode::GenericParamList)),
+        _ => None,
     }
-    others(word)
+}
+
+fn of_19(word: &str) -> Option<Kind>
+    ensures { result ≡ kind_of_length 19 word.now }
+{
+    match word {
+        "RecordExprFieldList" => Some(Kind::Part(PartNode::RecordExprFieldList)),
+        _ => None,
+    }
 }
 
 impl Kind {
-    /// The kind with that word.
+    /// The kind with that word. It is sought among those of its length, since a word costs less to compare with one of
+    /// another length than with one of its own.
     pub fn from_word(word: &str) -> Option<Kind>
         ensures { result ≡ kind_of word.now }
     {
-        if let Some(kind) = code(word) {
-            return Some(kind);
+        if word.len() == 2 {
+            return of_2(word);
         }
-        if let Some(kind) = pat(word) {
-            return Some(kind);
+        if word.len() == 4 {
+            return of_4(word);
         }
-        if let Some(kind) = type_(word) {
-            return Some(kind);
+        if word.len() == 5 {
+            return of_5(word);
         }
-        other(word)
+        if word.len() == 6 {
+            return of_6(word);
+        }
+        if word.len() == 7 {
+            return of_7(word);
+        }
+        if word.len() == 8 {
+            return of_8(word);
+        }
+        if word.len() == 9 {
+            return of_9(word);
+        }
+        if word.len() == 10 {
+            return of_10(word);
+        }
+        if word.len() == 11 {
+            return of_11(word);
+        }
+        if word.len() == 12 {
+            return of_12(word);
+        }
+        if word.len() == 13 {
+            return of_13(word);
+        }
+        if word.len() == 14 {
+            return of_14(word);
+        }
+        if word.len() == 15 {
+            return of_15(word);
+        }
+        if word.len() == 16 {
+            return of_16(word);
+        }
+        if word.len() == 19 {
+            return of_19(word);
+        }
+        None
     }
 }
