@@ -38,6 +38,7 @@ use Rattle.hir_lower_form.specs.Preludes.{handed_in, handed_own, let_form, let_p
 use Rattle.hir_lower_form.specs.Preludes.{made_coroutine_form, name_form, own_name_of, pat_source, rebind_form, rebound, two_lets_form}
 use Rattle.hir_lower_form.specs.Preludes.{no_prelude, within_form}
 use Rattle.hir_lower_form.specs.Ranges.{inner_form}
+use Rattle.hir_lower_form.specs.Forms.{coroutine_around_form}
 use Rattle.hir_one_result.proofs.NoteRooms.{cut_keeps}
 use Rattle.hir_item_result.proofs.Limits.{Limited, limited_add_param, limited_binding, limited_block, limited_close, limited_close_barrier}
 use Rattle.hir_item_result.proofs.Limits.{limited_count_out, limited_define, limited_enter_root, limited_expr, limited_leave_root}
@@ -65,7 +66,7 @@ limited_closure at moves is_static hp ht he = limited_then limited_open_barrier 
 
 pub limited_coroutine : (at : Pointer) (kind : CoroutineKind) (moves : Bool) (number : Option BlockId) {c : Lowering StoredContents}
     → Limited c → Limited (coroutine_form (coroutine_block_form at kind moves number c))
-unfolding coroutine_form coroutine_block_form
+unfolding coroutine_form coroutine_block_form coroutine_around_form
 limited_coroutine at kind moves number h = limited_then limited_open_barrier (λ outside.
     limited_then (limited_then (limited_block number) (λ u. limited_then h (λ r.
     limited_then (limited_expr _ None) (λ b. limited_expr _ _))))

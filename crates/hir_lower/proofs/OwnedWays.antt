@@ -13,6 +13,7 @@ use Rattle.hir_store.proofs.OwnerLemmas.{length_owned}
 use Rattle.hir_lower_form.specs.Builder.{Builder}
 use Rattle.hir_lower_form.specs.Forms.{ExprSteps, StoredContents, coroutine_block_form, coroutine_form}
 use Rattle.hir_lower_form.specs.Lowering.{Checked, Lowering, ◌>>=◌, bindings_end, close_barrier, go_on, own, owning, pure}
+use Rattle.hir_lower_form.specs.Forms.{coroutine_around_form}
 use Rattle.hir_steps.proofs.Owning.{with_owned}
 use Rattle.hir_lower.proofs.Onward.{Goes, Leading, Low, OwnersStay, Went, any, makes, since}
 use Rattle.hir_lower.proofs.Ways.{leading_alloc, leading_barrier, leading_block}
@@ -76,6 +77,6 @@ coroutine_leads h = makes leading_barrier (λ outside. leading_behind outside h)
 
 pub coroutine_block_leads : (at : Pointer) (kind : CoroutineKind) (moves : Bool) (number : Option BlockId) {c : Lowering StoredContents}
     → Leading any c → Leading since (coroutine_block_form at kind moves number c)
-unfolding coroutine_block_form
+unfolding coroutine_block_form coroutine_around_form
 coroutine_block_leads at kind moves number h = makes (leading_block number)
     (λ u. makes h (λ r. makes (leading_alloc _ None) (λ b. leading_alloc _ (Some at))))

@@ -21,6 +21,7 @@ use Rattle.hir_store.specs.declared.ids.MacroDefId.{MacroDefId}
 use Rattle.hir_env.specs.Answered.{Stmt}
 use Rattle.hir_lower_form.specs.Calls.{behind, define_form, inside_macro}
 use Rattle.hir_lower_form.specs.Lowering.{Lowering}
+use Rattle.hir_lower_form.specs.Forms.{coroutine_around_form}
 use Rattle.hir_sets.specs.Noting.{Noting, none, ◌⊕◌}
 use Rattle.hir_noted.proofs.Forms.{paren_notes}
 use Rattle.hir_noted.proofs.Logic.{Notes, notes_begin, notes_end, notes_pure, notes_then}
@@ -78,7 +79,7 @@ closure_notes at moves is_static hp ht he = notes_owning (λ i. i) (notes_begin 
 coroutine_block_notes : (at : Pointer) (kind : CoroutineKind) (moves : Bool) (number : Option BlockId) {D : Noting}
     {c : Lowering StoredContents} → Notes D c
     → Notes D (coroutine_block_form at kind moves number c)
-unfolding coroutine_block_form
+unfolding coroutine_block_form coroutine_around_form
 coroutine_block_notes at kind moves number h = notes_then (notes_enter_block number)
     (λ u. notes_end h (λ r. notes_end (notes_expr _ None) (λ b. notes_expr _ (Some at))))
 

@@ -15,6 +15,7 @@ use Rattle.hir_lower_form.specs.declared.closures.ClosureParams.{ClosureParams}
 use Rattle.hir_lower_form.specs.Lower.{ExprSteps, StoredContents, closure_form, const_form, constant_form, coroutine_block_form}
 use Rattle.hir_lower_form.specs.Lower.{coroutine_form, param_form, yield_form}
 use Rattle.hir_lower_form.specs.Lowering.{Checked, go_on, Lowering, bindings_end, own, owning}
+use Rattle.hir_lower_form.specs.Forms.{coroutine_around_form}
 use Rattle.hir_meaning.specs.InnerWritten.{InnerBody}
 use Rattle.hir_one_result.specs.Size.{Size, a_body, an_expr, owned, ◌∪◌}
 use Rattle.hir_one_result.proofs.ExprRooms.{const_takes}
@@ -106,7 +107,7 @@ module _ (at : Pointer) where
 
   coroutine_block_takes : (kind : CoroutineKind) (moves : Bool) (number : Option BlockId) {n : Size} {c : Lowering StoredContents}
       → Takes n c → Takes (n ∪ (an_expr ∪ an_expr)) (coroutine_block_form at kind moves number c)
-  unfolding coroutine_block_form
+  unfolding coroutine_block_form coroutine_around_form
   coroutine_block_takes kind moves number h = takes_begin (takes_block number) (λ u. takes_then h (λ r.
       takes_then (takes_alloc _ None) (λ b. takes_alloc _ (Some at))))
 

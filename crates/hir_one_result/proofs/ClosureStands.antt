@@ -24,6 +24,7 @@ use Rattle.hir_lower_form.specs.Forms.{StoredContents, add_param, settled, settl
 use Rattle.hir_lower_form.specs.Lower.{closure_form, coroutine_block_form, coroutine_form, kept_part, lower_params, lower_part, lower_stmts}
 use Rattle.hir_lower_form.specs.Lower.{no_closure_params, param_form, present_type, push_some}
 use Rattle.hir_lower_form.specs.Lowering.{Lowering, ◌>>=◌, ◌>>◌, owning, pure, report}
+use Rattle.hir_lower_form.specs.Forms.{coroutine_around_form}
 use Rattle.hir_meaning.specs.Left.{is_left, gives_value}
 use Rattle.hir_read_back.proofs.ClosureKinds.{captures_as, kind_as}
 use Rattle.hir_read_back.proofs.YieldTree.{part_raises}
@@ -159,7 +160,7 @@ Inside at kind moves number C final rs i = λ ws. (r : StoredContents) × (body 
 coroutine_block_stands : (at : Pointer) (kind : CoroutineKind) (moves : Bool) (number : Option BlockId) {c : Lowering StoredContents}
     {C : Of StoredContents} → Correct c (Shows C)
     → Correct (coroutine_block_form at kind moves number c) (Shows (Inside at kind moves number C))
-unfolding coroutine_block_form
+unfolding coroutine_block_form coroutine_around_form
 coroutine_block_stands at kind moves number h = correct_as
     (correct_bind (correct_enter_block number) (λ u. correct_bind h (λ r.
     correct_bind (correct_alloc (settled_block false None number (settled r.0 r.1)) None)

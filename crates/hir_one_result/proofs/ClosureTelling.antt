@@ -13,6 +13,7 @@ use Rattle.hir_lower_form.specs.Forms.{stored_closure}
 use Rattle.hir_lower_form.specs.Lower.{ExprSteps, StoredContents, closure_form, coroutine_block_form, coroutine_form, param_form}
 use Rattle.hir_lower_form.specs.Lower.{yield_form}
 use Rattle.hir_lower_form.specs.Lowering.{Lowering, owning}
+use Rattle.hir_lower_form.specs.Forms.{coroutine_around_form}
 use Rattle.hir_store.specs.declared.hir.Expr.TheVariants as hir
 use Rattle.hir_steps.proofs.Barriers.{correct_closure, correct_coroutine, correct_yield}
 use Rattle.hir_steps.proofs.Steps.{Correct, correct_as}
@@ -36,7 +37,7 @@ module _ {X : Type 0} (L : Listing X) where
   coroutine_block_tells : (at : Pointer) (kind : CoroutineKind) (moves : Bool) (number : Option BlockId) {D : List Scope → List X}
       {c : Lowering StoredContents} → Correct c (Tells L D)
       → Correct (coroutine_block_form at kind moves number c) (Tells L (λ ss. L.of_block number ++ D ss))
-  unfolding coroutine_block_form
+  unfolding coroutine_block_form coroutine_around_form
   coroutine_block_tells at kind moves number h = tells_bind L (tells_enter_block L number)
       (λ u. tells_end L h (λ r. tells_end L (tells_alloc L _ None) (λ b. tells_alloc L _ (Some at))))
 

@@ -33,6 +33,7 @@ use Rattle.hir_lower_form.specs.Made.{flow_arm_form, for_form, for_turn_form, it
 use Rattle.hir_lower_form.specs.Made.{made_path_form, question_form, residual_form, try_block_form, typed_try_form, wrapped_form}
 use Rattle.hir_lower_form.specs.Ranges.{made_range, range_form}
 use Rattle.hir_lower_form.specs.Types.{TypeSteps}
+use Rattle.hir_lower_form.specs.Forms.{coroutine_around_form}
 use Rattle.hir_one_result.proofs.Last.{IsLast, coroutine_last, hands_pure, hands_then, last_alloc, last_hands, last_made, last_then}
 use Rattle.hir_one_result.proofs.Last.{called_last, missing_last, owning_last, paren_last, quiet_close, uncalled_last}
 
@@ -110,7 +111,7 @@ module _ (at : Pointer) where
 
   pub coroutine_block_last : (kind : CoroutineKind) (moves : Bool) (number : Option BlockId) (c : Lowering StoredContents)
       → IsLast (coroutine_block_form at kind moves number c)
-  unfolding coroutine_block_form
+  unfolding coroutine_block_form coroutine_around_form
   coroutine_block_last kind moves number c =
       last_then (enter_block number) (λ u. last_then c (λ r. last_then (alloc_expr _ None) (λ b. stored_last _)))
 

@@ -35,6 +35,7 @@ use Rattle.hir_lower_form.specs.Forms.{labelled, constant_form, let_form, match_
 use Rattle.hir_lower_form.specs.Forms.{closure_form, coroutine_block_form, coroutine_form, yield_form}
 use Rattle.hir_lower_form.specs.Preludes.{coroutine_closure_form}
 use Rattle.hir_lower_form.specs.Ranges.{made_range, range_form}
+use Rattle.hir_lower_form.specs.Forms.{coroutine_around_form}
 use Rattle.hir_steps.proofs.Frames.{Frame, loop_at, block_at}
 use Rattle.hir_steps.proofs.Steps.{Mark, Rel, Correct, correct_bind, correct_as, correct_pure, correct_alloc, correct_point}
 use Rattle.hir_steps.proofs.Steps.{correct_enter_block, correct_opened, correct_report_await, correct_target}
@@ -165,7 +166,7 @@ module _ (at : Pointer) where
 
   pub coroutine_block_from : (kind : CoroutineKind) (moves : Bool) (number : Option BlockId) {c : Lowering StoredContents} → Correct c Any
       → From here (coroutine_block_form at kind moves number c)
-  unfolding coroutine_block_form
+  unfolding coroutine_block_form coroutine_around_form
   coroutine_block_from kind moves number h =
       ends_from (correct_enter_block number) (λ u. ends_from h (λ r. ends_from (alloc_from _ None) (λ b. stored_from _)))
 

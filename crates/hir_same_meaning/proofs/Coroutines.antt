@@ -12,6 +12,7 @@ use Rattle.hir_env.specs.Answering.{site_of}
 use Rattle.hir_lower_form.specs.Forms.{StoredContents, capture_by, settled, settled_block, stored_coroutine}
 use Rattle.hir_lower_form.specs.Lower.{coroutine_block_form, coroutine_form}
 use Rattle.hir_lower_form.specs.Lowering.{Lowering}
+use Rattle.hir_lower_form.specs.Forms.{coroutine_around_form}
 use Rattle.hir_data.specs.Data.{no_type}
 use Rattle.hir_data.specs.Reading.{stored_option_type}
 use Rattle.hir_read_back.proofs.ClosureKinds.{captures_as}
@@ -46,7 +47,7 @@ event_with kind c = closure (closure_kind.Coroutine kind source.Block) c [] [] n
 module _ (at : Pointer) (kind : CoroutineKind) (moves : Bool) (number : Option BlockId) where
   pub coroutine_is : {p : Lowering StoredContents} {R : Rel StoredContents} → Correct p R
       → Correct (coroutine_block_form at kind moves number p) (CoroutineIs at kind moves number R)
-  unfolding coroutine_block_form
+  unfolding coroutine_block_form coroutine_around_form
   coroutine_is h = correct_as
       (correct_bind (correct_enter_block number) (λ u. correct_bind h (λ r.
       correct_bind (correct_alloc (settled_block false None number (settled r.0 r.1)) None)

@@ -45,6 +45,7 @@ use Rattle.hir_lower_form.specs.declared.closures.ClosureParams.{ClosureParams}
 use Rattle.hir_lower_form.specs.Lower.{settled, repeat_form, const_form, coroutine_block_form, param_form, yield_form}
 use Rattle.hir_lower_form.specs.Lowering.{pure, alloc_pat}
 use Rattle.hir_lower_form.specs.Made.{item_pat}
+use Rattle.hir_lower_form.specs.Forms.{coroutine_around_form}
 
 pub missing_apart : Correct missing Apart
 unfolding missing
@@ -167,7 +168,7 @@ module _ (at : Pointer) where
 
   pub coroutine_block_apart : (kind : CoroutineKind) (moves : Bool) (number : Option BlockId) {c : Lowering StoredContents}
       → Correct c Apart → Correct (coroutine_block_form at kind moves number c) Apart
-  unfolding coroutine_block_form
+  unfolding coroutine_block_form coroutine_around_form
   coroutine_block_apart kind moves number h = then_apart (enter_block_apart number)
       (λ u. then_apart h (λ r. then_apart (expr_apart _ None) (λ b. stored_apart _ at)))
 

@@ -31,6 +31,7 @@ use Rattle.hir_lower_form.specs.Pats.{Key, Notes, Table, counted_dots, counted_p
 use Rattle.hir_lower_form.specs.Paths.{counted}
 use Rattle.hir_lower_form.specs.Ranges.{inner_form}
 use Rattle.hir_lower_form.specs.declared.walk.Reading.{Reading}
+use Rattle.hir_lower_form.specs.Forms.{coroutine_around_form}
 use Rattle.hir_steps.proofs.Barriers.{correct_closure, correct_coroutine}
 use Rattle.hir_steps.proofs.Constants.{correct_constant, correct_inner, with_root}
 use Rattle.hir_steps.proofs.Frames.{Frame, rib, ribs}
@@ -255,7 +256,7 @@ closure_stores at moves is_static hp ht hb = owning_stores (λ i. i) (correct_as
 
 coroutine_block_stores : (at : Pointer) (kind : CoroutineKind) (moves : Bool) (number : Option BlockId) {d : StoredData}
     {c : Lowering StoredContents} → Correct c (Stores d) → Correct (coroutine_block_form at kind moves number c) (Stores d)
-unfolding coroutine_block_form
+unfolding coroutine_block_form coroutine_around_form
 coroutine_block_stores at kind moves number h = stores_begin (block_stores number)
     (λ u. stores_end h (λ r. stores_end (expr_stores _ None) (λ b. expr_stores _ (Some at))))
 

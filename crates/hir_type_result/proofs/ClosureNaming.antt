@@ -17,6 +17,7 @@ use Rattle.hir_lower_form.specs.Forms.{ExprSteps, StoredContents, add_param, sto
 use Rattle.hir_lower_form.specs.Lower.{closure_form, coroutine_block_form, coroutine_form, param_form, yield_form}
 use Rattle.hir_lower_form.specs.Lowering.{Lowering}
 use Rattle.hir_lower_form.specs.Preludes.{coroutine_closure_form, no_prelude, stored_coroutine_closure, within_form}
+use Rattle.hir_lower_form.specs.Forms.{coroutine_around_form}
 use Rattle.hir_steps.proofs.Barriers.{correct_closure, correct_coroutine, correct_yield}
 use Rattle.hir_steps.proofs.CoroutineClosures.{correct_coroutine_closure}
 use Rattle.hir_steps.proofs.Frames.{Frame, barrier_at}
@@ -128,7 +129,7 @@ module _ (at : Pointer) where
 module _ (at : Pointer) where
   pub coroutine_block_quiet : (kind : CoroutineKind) (moves : Bool) (number : Option BlockId) {c : Lowering StoredContents}
       → Correct c (Adds none contents) → Correct (coroutine_block_form at kind moves number c) Quiet
-  unfolding coroutine_block_form
+  unfolding coroutine_block_form coroutine_around_form
   coroutine_block_quiet kind moves number h = quiet_then (quiet_enter_block number)
       (λ u. adds_then h (λ r. adds_then (adds_expr _ None (settled_less r.0 r.1))
       (λ b. adds_expr (stored_coroutine kind moves b) (Some at) (λ l k. omega arith))))

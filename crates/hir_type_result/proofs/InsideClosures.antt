@@ -17,6 +17,7 @@ use Rattle.hir_lower_form.specs.Forms.{ExprSteps, StoredContents, add_param, sto
 use Rattle.hir_lower_form.specs.Lower.{closure_form, coroutine_block_form, coroutine_form, no_closure_params, param_form, yield_form}
 use Rattle.hir_lower_form.specs.Lowering.{Lowering, ◌>>=◌, pure}
 use Rattle.hir_lower_form.specs.Preludes.{coroutine_closure_form, no_prelude, stored_coroutine_closure, within_form}
+use Rattle.hir_lower_form.specs.Forms.{coroutine_around_form}
 use Rattle.hir_meaning.specs.Inner.{Inners, all_of, by_itself, handed_to, of_params, of_present}
 use Rattle.hir_steps.proofs.Barriers.{correct_closure, correct_coroutine, correct_yield}
 use Rattle.hir_steps.proofs.CoroutineClosures.{correct_coroutine_closure}
@@ -163,7 +164,7 @@ coroutine_less kind moves body v = omega arith
 
 pub coroutine_block_adds : (at : Pointer) (kind : CoroutineKind) (moves : Bool) (number : Option BlockId) {c : Lowering StoredContents}
     → Correct c (Adds free contents) → Correct (coroutine_block_form at kind moves number c) (Adds free an_expr)
-unfolding coroutine_block_form
+unfolding coroutine_block_form coroutine_around_form
 coroutine_block_adds at kind moves number h = adds_then (adds_any (correct_enter_block number)) (λ u. adds_then h
     (λ r. adds_then (adds_aside {held = a_limit} body_aside (adds_expr {was = contents r} _ None (settled_block_less false None number r)))
     (λ b. adds_expr _ (Some at) (coroutine_less kind moves b))))
