@@ -1,5 +1,5 @@
 //! Listings of stores made by hand: paths of several generated names, nodes of other files, and faults behind a border or
-//! outside of a body; and a minus in front of an integer.
+//! in a constant alone; and a minus in front of an integer.
 
 use crate::collectors::{collector, of_both, table, with_store};
 use crate::documents::{length_in, with_document};
@@ -173,9 +173,9 @@ fn length_in_no_body(
 }
 
 #[test]
-fn an_await_in_no_body_stands_in_the_unknown(rt: HostRuntime) -> Result<(), Fail> {
+fn an_await_in_a_constant_alone_stands_in_a_constant(rt: HostRuntime) -> Result<(), Fail> {
     let listed = with_document(rt.alloc(), Root::Type_, AWAIT, &length_in_no_body)?;
-    let text = "body r0=(Await@2 (Missing))\ndiag AwaitOutsideOfAsync unknown @2\n";
+    let text = "body r0=(Await@2 (Missing))\ndiag AwaitOutsideOfAsync constant @2\n";
     assert!(rt; matches!(&listed, Some(Ok(Ok(found))) if found.as_str() == text));
     Ok(())
 }
