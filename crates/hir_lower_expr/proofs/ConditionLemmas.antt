@@ -1,6 +1,6 @@
 -- Whether the condition of a `while` holds a `let`: by the kind of what is written, and through the calls of macros in it.
-use Rattle.std.proofs.Common.{◌≡◌, ◌∙◌, ap, refl, sym, ℕ, zero, suc, ◌+◌, ◌≤◌, arith, Bool, true, false, ◌||◌, List, Option, Some, None}
-use Rattle.std.proofs.Common.{Result, Ok, Err}
+use Rattle.std.proofs.Common.{◌≡◌, ◌∙◌, ap, refl, sym, ℕ, zero, suc, ◌+◌, ◌≤◌, arith, Bool, true, false, ◌&&◌, ◌||◌, Option, Some, None}
+use Rattle.std.proofs.Common.{Err}
 use Rattle.hir_base.specs.declared.op.BinaryOp.{BinaryOp}
 use Rattle.hir_base.specs.declared.op.BinaryOp.TheVariants as op
 use Rattle.hir_base.specs.declared.op.LogicOp.TheVariants as logic
@@ -23,17 +23,18 @@ use Rattle.hir_env.specs.Conditions.{holds_let, is_with_let}
 use Rattle.hir_env.specs.Count.{count_expr, count_option_expr}
 use Rattle.hir_env.specs.Layers.{ExprKindLayer}
 use Rattle.hir_env.specs.Spot.{Spot, site_of}
-use Rattle.hir_env.specs.Whole.{answered, entering, expr_part, into, kept_expr, pointer_at, written}
+use Rattle.hir_env.specs.Whole.{answered, entering, expr_part, kept_expr, pointer_at, written}
 use Rattle.hir_env.specs.declared.expand.FragmentKind.TheVariants as kind
 use Rattle.hir_env.proofs.Levels.{block_is_level, expr_is_level}
 use Rattle.hir_lower_form.specs.Calls.{found_in}
 use Rattle.hir_lower_form.specs.Methods.{at_place}
 use Rattle.hir_lower_pat.specs.Calls.{expr_there, written_expr}
 use Rattle.hir_lower_pat.specs.TargetLists.{behind_left, expr_behind}
-use Rattle.hir_lower_pat.proofs.AimLemmas.{enabled_is, level}
+use Rattle.hir_lower_pat.proofs.AimLemmas.{kept_below, level}
 use Rattle.hir_lower_pat.proofs.CallLemmas.{fresh}
 use Rattle.hir_lower_pat.proofs.OfKinds.{of_closure, of_for, of_own, of_question}
-use Rattle.hir_lower_expr.specs.Conditions.{let_there}
+use Rattle.hir_lower_pat.proofs.TargetCalls.{expr_call_is, lacking_expr_is}
+use Rattle.hir_lower_expr.specs.Conditions.{is_and, let_there}
 
 -- ---- a call holds what it stands for does
 
@@ -123,69 +124,80 @@ other_at at ExprKind-F.FormatArgsExpr s h = refl
 
 -- ---- operators
 
-abbrev pub IsNoAnd : Option BinaryOp → Type 0
-IsNoAnd (Some (op.LogicOp logic.And)) = ⊥
-IsNoAnd _ = Unit {0}
+and_at : (at : Spot) (o : Option BinaryOp) (a b : Option AstExpr) (s : Pointer)
+    → is_with_let (level at (ExprKind-F.BinExpr o a b) s) ≡ (is_and o && (holds_let (expr_part at a) || holds_let (expr_part at b)))
+and_at at None a b s = refl
+and_at at (Some (op.LogicOp logic.And)) a b s = refl
+and_at at (Some (op.LogicOp logic.Or)) a b s = refl
+and_at at (Some (op.ArithOp o)) a b s = refl
+and_at at (Some (op.CmpOp o)) a b s = refl
+and_at at (Some (op.Assignment o)) a b s = refl
+and_at at (Some op.Assign) a b s = refl
 
-operator_at : (at : Spot) (o : Option BinaryOp) (a b : Option AstExpr) (s : Pointer) → IsNoAnd o
-    → is_with_let (level at (ExprKind-F.BinExpr o a b) s) ≡ false
-operator_at at None a b s h = refl
-operator_at at (Some (op.LogicOp logic.And)) a b s h = absurd h
-operator_at at (Some (op.LogicOp logic.Or)) a b s h = refl
-operator_at at (Some (op.ArithOp o)) a b s h = refl
-operator_at at (Some (op.CmpOp o)) a b s h = refl
-operator_at at (Some (op.Assignment o)) a b s h = refl
-operator_at at (Some op.Assign) a b s h = refl
+operands_at : (at : Spot) (o : Option BinaryOp) (a b : Option AstExpr) (s : Pointer)
+    → count_expr (level at (ExprKind-F.BinExpr o a b) s) ≡ suc (count_option_expr (expr_part at a) + count_option_expr (expr_part at b))
+operands_at at None a b s = refl
+operands_at at (Some (op.LogicOp o)) a b s = refl
+operands_at at (Some (op.ArithOp o)) a b s = refl
+operands_at at (Some (op.CmpOp o)) a b s = refl
+operands_at at (Some (op.Assignment o)) a b s = refl
+operands_at at (Some op.Assign) a b s = refl
 
--- any other than `&&`
-pub no_and : (o : Option BinaryOp) → (o ≡ Some (op.LogicOp logic.And) → ⊥) → IsNoAnd o
-no_and (Some (op.LogicOp logic.And)) h = h refl
-no_and None h = tt
-no_and (Some (op.LogicOp logic.Or)) h = tt
-no_and (Some (op.ArithOp o)) h = tt
-no_and (Some (op.CmpOp o)) h = tt
-no_and (Some (op.Assignment o)) h = tt
-no_and (Some op.Assign) h = tt
+-- what comes of `&&` and its operands
+pub by_left : (o a b r : Bool) → true ≡ o → true ≡ a → r ≡ true → r ≡ (o && (a || b))
+by_left o a b r h k e = e ∙ (λ i. h i && (k i || b))
 
--- ---- by the kind, where no condition disables it
+pub by_right : (o a b r : Bool) → true ≡ o → false ≡ a → r ≡ b → r ≡ (o && (a || b))
+by_right o a b r h k e = e ∙ (λ i. h i && (k i || b))
+
+pub by_none : (o a b r : Bool) → false ≡ o → r ≡ false → r ≡ (o && (a || b))
+by_none o a b r h e = e ∙ (λ i. h i && (a || b))
+
+-- ---- one that is disabled, and an operand
 
 pub disabled_holds : (at : Spot) (e : AstExpr) (by : CfgId) → at.answers.cfg (site_of (pointer_at at e.id e.range)) ≡ Err by
     → is_with_let (answered at e) ≡ false
 disabled_holds at e by h =
     let s = pointer_at at e.id e.range in ap is_with_let (expr_is_level at e ∙ ap (λ r. asked s r (kept_expr at e)) h)
 
-module _ (at : Spot) (e : AstExpr) (enabled : at.answers.cfg (site_of (pointer_at at e.id e.range)) ≡ Ok tt) where
+-- one that is there
+module _ (at : Spot) (part : Option AstExpr) (x y : AstExpr) (there : part ≡ Some x) (got : y ≡ x) where
+  pub part_holds : is_with_let (answered at y) ≡ holds_let (expr_part at part)
+  part_holds = ap (λ e. is_with_let (answered at e)) got ∙ ap (λ o. holds_let (expr_part at o)) (sym there)
+
+  pub part_size : count_expr (answered at y) ≡ count_option_expr (expr_part at part)
+  part_size = ap (λ e. count_expr (answered at e)) got ∙ ap (λ o. count_option_expr (expr_part at o)) (sym there)
+
+pub absent_holds : (at : Spot) (part : Option AstExpr) → part ≡ None → holds_let (expr_part at part) ≡ false
+absent_holds at part h = ap (λ o. holds_let (expr_part at o)) h
+
+-- ---- by its kind, whatever disables it
+
+module _ (at : Spot) (e : AstExpr) where
   abbrev node : Pointer
   node = pointer_at at e.id e.range
 
-  as_level : (k : ExprKindLayer written) → out-ExprKind e.kind ≡ k → answered at e ≡ level at k node
-  as_level k h = enabled_is at e enabled ∙ ap (λ l. level at l node) h
-
-  by_kind : (k : ExprKindLayer written) → out-ExprKind e.kind ≡ k → is_with_let (answered at e) ≡ is_with_let (level at k node)
-  by_kind k h = ap is_with_let (as_level k h)
+  as_level : (k : ExprKindLayer written) → out-ExprKind e.kind ≡ k → kept_expr at e ≡ level at k node
+  as_level k h = ap (λ l. level at l node) h
 
   pub let_holds : (x : Option AstPat) (v : Option AstExpr) → out-ExprKind e.kind ≡ ExprKind-F.LetExpr x v
-      → is_with_let (answered at e) ≡ true
-  let_holds x v h = by_kind _ h
+      → is_with_let (kept_expr at e) ≡ true
+  let_holds x v h = ap is_with_let (as_level (ExprKind-F.LetExpr x v) h)
 
   pub paren_holds : (v : Option AstExpr) → out-ExprKind e.kind ≡ ExprKind-F.ParenExpr v
-      → is_with_let (answered at e) ≡ holds_let (expr_part at v)
-  paren_holds v h = by_kind _ h
+      → is_with_let (kept_expr at e) ≡ holds_let (expr_part at v)
+  paren_holds v h = ap is_with_let (as_level (ExprKind-F.ParenExpr v) h)
 
-  pub and_holds : (a b : Option AstExpr) → out-ExprKind e.kind ≡ ExprKind-F.BinExpr (Some (op.LogicOp logic.And)) a b
-      → is_with_let (answered at e) ≡ (holds_let (expr_part at a) || holds_let (expr_part at b))
-  and_holds a b h = by_kind _ h
-
-  pub operator_holds : (o : Option BinaryOp) (a b : Option AstExpr) → IsNoAnd o → out-ExprKind e.kind ≡ ExprKind-F.BinExpr o a b
-      → is_with_let (answered at e) ≡ false
-  operator_holds o a b no h = by_kind _ h ∙ operator_at at o a b node no
+  pub and_holds : (o : Option BinaryOp) (a b : Option AstExpr) → out-ExprKind e.kind ≡ ExprKind-F.BinExpr o a b
+      → is_with_let (kept_expr at e) ≡ (is_and o && (holds_let (expr_part at a) || holds_let (expr_part at b)))
+  and_holds o a b h = ap is_with_let (as_level (ExprKind-F.BinExpr o a b) h) ∙ and_at at o a b node
 
   pub call_holds : (c : AstMacroCall) → out-ExprKind e.kind ≡ ExprKind-F.MacroExpr (Some c)
-      → is_with_let (answered at e) ≡ let_there at (expr_behind at c)
-  call_holds c h = by_kind _ h ∙ call_on at node c
+      → is_with_let (kept_expr at e) ≡ let_there at (expr_behind at c)
+  call_holds c h = ap is_with_let (expr_call_is at e c h) ∙ call_on at node c
 
-  pub lacking_holds : out-ExprKind e.kind ≡ ExprKind-F.MacroExpr None → is_with_let (answered at e) ≡ false
-  lacking_holds h = by_kind _ h
+  pub lacking_holds : out-ExprKind e.kind ≡ ExprKind-F.MacroExpr None → is_with_let (kept_expr at e) ≡ false
+  lacking_holds h = ap is_with_let (lacking_expr_is at e h)
 
   made : (l : ExprKindLayer written) → out-ExprKind e.kind ≡ l → e.kind ≡ roll-ExprKind l
   made l h = sym (roll-out-ExprKind e.kind) ∙ ap roll-ExprKind h
@@ -193,8 +205,8 @@ module _ (at : Spot) (e : AstExpr) (enabled : at.answers.cfg (site_of (pointer_a
   pub other_holds : ((x : Option AstPat) (v : Option AstExpr) → e.kind ≡ ast_kind.LetExpr x v → ⊥)
       → ((v : Option AstExpr) → e.kind ≡ ast_kind.ParenExpr v → ⊥)
       → ((o : Option BinaryOp) (a b : Option AstExpr) → e.kind ≡ ast_kind.BinExpr o a b → ⊥)
-      → ((c : Option AstMacroCall) → e.kind ≡ ast_kind.MacroExpr c → ⊥) → is_with_let (answered at e) ≡ false
-  other_holds no_let no_paren no_operator no_call = by_kind _ refl ∙ other_at at (out-ExprKind e.kind) node (by (out-ExprKind e.kind) refl)
+      → ((c : Option AstMacroCall) → e.kind ≡ ast_kind.MacroExpr c → ⊥) → is_with_let (kept_expr at e) ≡ false
+  other_holds no_let no_paren no_operator no_call = other_at at (out-ExprKind e.kind) node (by (out-ExprKind e.kind) refl)
     where
       by : (l : ExprKindLayer written) → out-ExprKind e.kind ≡ l → IsOther l
       by (ExprKind-F.LetExpr x v) h = no_let x v (made _ h ∙ ast_kind.rolls-LetExpr x v)
@@ -208,12 +220,15 @@ module _ (at : Spot) (e : AstExpr) (enabled : at.answers.cfg (site_of (pointer_a
   pub paren_size : (v : Option AstExpr) → out-ExprKind e.kind ≡ ExprKind-F.ParenExpr v
       → suc (count_option_expr (expr_part at v)) ≤ count_expr (answered at e)
   paren_size v h =
-      let same : count_expr (answered at e) ≡ suc (count_option_expr (expr_part at v)) = ap count_expr (as_level _ h) in
-      omega (arith, same)
+      let same : count_expr (kept_expr at e) ≡ suc (count_option_expr (expr_part at v))
+      = ap count_expr (as_level (ExprKind-F.ParenExpr v) h) in
+      let kept = kept_below at e in
+      omega (arith, same, kept)
 
-  pub and_size : (a b : Option AstExpr) → out-ExprKind e.kind ≡ ExprKind-F.BinExpr (Some (op.LogicOp logic.And)) a b
+  pub and_size : (o : Option BinaryOp) (a b : Option AstExpr) → out-ExprKind e.kind ≡ ExprKind-F.BinExpr o a b
       → suc (count_option_expr (expr_part at a) + count_option_expr (expr_part at b)) ≤ count_expr (answered at e)
-  and_size a b h =
-      let same : count_expr (answered at e) ≡ suc (count_option_expr (expr_part at a) + count_option_expr (expr_part at b))
-      = ap count_expr (as_level _ h) in
-      omega (arith, same)
+  and_size o a b h =
+      let same : count_expr (kept_expr at e) ≡ suc (count_option_expr (expr_part at a) + count_option_expr (expr_part at b))
+      = ap count_expr (as_level (ExprKind-F.BinExpr o a b) h) ∙ operands_at at o a b node in
+      let kept = kept_below at e in
+      omega (arith, same, kept)

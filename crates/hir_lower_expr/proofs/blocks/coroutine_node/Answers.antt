@@ -1,24 +1,8 @@
-use Rattle.std.proofs.lemmas.Grind.{common_steps}
-use Rattle.std.proofs.Common.{arith, rules}
+use Rattle.std.proofs.Common.{rules}
 use Rattle.hir_lower_form.specs.Forms.{coroutine_block_form}
-use Rattle.hir_lower_form.proofs.BlockLemmas.{settled_in_range}
 use Rattle.hir_lower_form.specs.Lower.{coroutine_block_form}
 use Rattle.hir_lower_expr.proofs.blocks.coroutine_node.Goals as goal
-
-pub store_block-requires-clause-statements : goal.store_block-requires-clause-statements
-store_block-requires-clause-statements g c =
-    let inner = c.in_ok-statements.ensures in
-    (settled_in_range c.contents.new.state.stored _ _ _ _ c.settle-tail.ensures inner.2.0 inner.2.1).0
-
-pub store_block-requires-clause-tail : goal.store_block-requires-clause-tail
-store_block-requires-clause-tail g c =
-    let inner = c.in_ok-statements.ensures in
-    (settled_in_range c.contents.new.state.stored _ _ _ _ c.settle-tail.ensures inner.2.0 inner.2.1).1
 
 pub returns : goal.returns
 unfolding coroutine_block_form
 returns g c = search rules
-
-pub store_coroutine-requires : goal.store_coroutine-requires
-unfolding coroutine_block_form
-store_coroutine-requires g c = grind (arith, common_steps)
