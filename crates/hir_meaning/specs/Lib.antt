@@ -37,5 +37,6 @@ pub mod Reading
 pub mod ReadCalls
 pub mod ReadBlocks
 pub mod ReadParts
+pub mod ReadAwaits
 pub mod ReadTargets
 pub mod FormRows

@@ -1,9 +1,10 @@
-//! Laws of small written trees with calls and definitions of macros: what they are read as, with the answers written into them.
+//! Laws of small written trees, most with calls or definitions of macros: what they are read as, with the answers written into them.
 
 ghost use Rattle.hir_meaning.specs.ReadCalls.{NothingAtTheLimit, EntersBelowTheLimit, StandsForNothing, LeavesOtherKinds};
 ghost use Rattle.hir_meaning.specs.ReadCalls.{GoneAtAnyDepth, DotsThroughCalls, LacksItsElement};
 ghost use Rattle.hir_meaning.specs.ReadBlocks.{SplicesStatements, SplicesWhatIsGone, NothingIsSpliced, SplicesNoOtherKinds};
 ghost use Rattle.hir_meaning.specs.ReadParts.{BeginsAtTheLocalRoot, BarsThroughCalls};
+ghost use Rattle.hir_meaning.specs.ReadAwaits.{AwaitsInConstants};
 ghost use Rattle.hir_meaning.specs.ReadBlocks.{DisabledIsUnspliced, CountsDefinitions, CountsInsideOfCalls, CountsByBlock, AsksInItsModule};
 
 /// Where no call may be entered one is missing, whatever it would stand for, as an expression, a pattern and a type.
@@ -94,4 +95,9 @@ pub fn begins_at_the_local_root()
 /// Where only a plain name or `_` may stand a call is what it stands for, and what isn't allowed is told where that stands.
 pub fn bars_through_calls()
     ensures { BarsThroughCalls }
+{}
+
+/// An `await` that is a length or an argument stands in a constant, and one in a `const` block, a closure or a coroutine there in that.
+pub fn awaits_stand_in_constants()
+    ensures { AwaitsInConstants }
 {}
