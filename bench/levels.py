@@ -1,13 +1,17 @@
 #!/usr/bin/env python3
 """Measures how much stack lowering takes a level, for each form that nests.
 
-    bench/levels.py [--program PATH] [--form NAME]
+    bench/levels.py [--program PATH] [--form NAME] [--within KILOBYTES]
 
 A document holds one tree in which a form nests as deep as a tree may be, and at
 the end a call of a macro that stands for another such tree, and so on. Of two
 documents with more and fewer such trees the least limit of stack is sought under
 which the program lowers them; what lies between, by the levels between, is what
 a level takes. What reading takes doesn't count so: one tree is read at a time.
+
+With --within nothing is measured. Of each form a tree of 256 levels, in which 64
+calls of macros stand one in the other at the end, has to be lowered under that
+limit of stack, and those are told that aren't.
 """
 
 import argparse
@@ -15,11 +19,14 @@ import json
 import os
 import resource
 import subprocess
+import sys
 
 TOP = os.path.dirname(os.path.dirname(os.path.abspath(__file__)))
 BUILT = os.path.join(TOP, "crates", "lower_tool", "out", "lower_tool")
 # The levels that are nested in a tree: 256 without the function, the call with its node, and some room.
 LEVELS = 250
+# The levels that a tree may have, and how many calls may be entered one in the other.
+MOST_LEVELS, MOST_CALLS = 256, 64
 # So many trees that what is taken to read one of them is less.
 FEW, MANY = 32, 64
 
@@ -192,10 +199,40 @@ def nested(sort, form, trees):
     return text.encode(), trees * (LEVELS // levels) * levels
 
 
+def depth(tree):
+    """How many levels a tree has."""
+    if isinstance(tree, list):
+        return max(map(depth, tree), default=0)
+    return 1 + max(map(depth, tree.values()), default=0) if isinstance(tree, dict) else 0
+
+
+def deepest(sort, form):
+    """A document with the form in as many levels as a tree may have, and at the end of it as many calls as may be entered."""
+    forms, place, leaf, whole = sort
+    around = forms[form][1]
+    call = {"k": place, "call": {"k": "MacroCall"}}
+    if place == "MacroExpr":
+        call = {"k": "ParenExpr", "expr": call}
+    tree = call
+    # The function is a level, too.
+    while depth(whole(around(tree))) < MOST_LEVELS:
+        tree = around(tree)
+    body = whole(tree)
+    for _ in range(MOST_LEVELS - 1 - depth(body)):
+        body = {"k": "ParenExpr", "expr": body}
+    document, macros = Document(), []
+    document.put({"k": "Fn", "body": body})
+    for number in range(MOST_CALLS):
+        called = next(i for i in reversed(range(len(document.nodes))) if document.nodes[i]["k"] == "MacroCall")
+        root = document.put(call if number + 1 < MOST_CALLS else leaf)
+        macros.append([number, called, "file", number + 1, root])
+    return json.dumps({"owner": "const", "nodes": document.nodes, "env": {"limit": MOST_CALLS, "macros": macros}}).encode()
+
+
 def is_enough(program, document, kilobytes):
     """Whether the program lowers the document under the limit of stack."""
-    hard = resource.getrlimit(resource.RLIMIT_STACK)[1]
-    limit = (kilobytes << 10, hard)
+    # The hard limit too, since ./run raises the soft one as far as that.
+    limit = (kilobytes << 10, kilobytes << 10)
     ran = subprocess.run(
         [program, "body"], input=document, capture_output=True, preexec_fn=lambda: resource.setrlimit(resource.RLIMIT_STACK, limit)
     )
@@ -222,16 +259,29 @@ def main():
     parser = argparse.ArgumentParser(description=__doc__, formatter_class=argparse.RawDescriptionHelpFormatter)
     parser.add_argument("--program", default=BUILT)
     parser.add_argument("--form", help="one form alone")
+    parser.add_argument("--within", type=int, help="try this limit of stack alone, in kilobytes")
     options = parser.parse_args()
+    # Trees are as deep as documents.
+    sys.setrecursionlimit(100 * MOST_LEVELS)
     program = os.path.abspath(options.program)
+    tried, failed = 0, 0
     for sort in SORTS:
         for form in sort[0]:
             if options.form not in (None, form):
+                continue
+            if options.within is not None:
+                tried += 1
+                if not is_enough(program, deepest(sort, form), options.within):
+                    failed += 1
+                    print(f"FAILED {form}: {MOST_LEVELS} levels aren't lowered in {options.within} kilobytes of stack")
                 continue
             few, few_levels = nested(sort, form, FEW)
             many, many_levels = nested(sort, form, MANY)
             taken = (least(program, many) - least(program, few)) * 1024 / (many_levels - few_levels)
             print(f"{form:24} {taken:6.0f} bytes a level", flush=True)
+    if options.within is not None:
+        print(f"{tried} forms in {options.within} kilobytes of stack, {failed} of them not lowered")
+        raise SystemExit(1 if failed else 0)
 
 
 if __name__ == "__main__":
