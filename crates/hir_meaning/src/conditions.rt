@@ -13,7 +13,8 @@ pub fn keeps_its_temporaries()
     ensures { KeepsItsTemporaries }
 {}
 
-/// A `let` holds one, in parentheses too, as an operand of `&&` and behind a call; as one of `||`, under `!` or disabled it doesn't.
+/// A `let` holds one, in parentheses too, as an operand of `&&` and behind a call; as one of `||`, under `!` or disabled it doesn't,
+/// nor does a condition that is missing.
 pub fn holds_a_let()
     ensures { WhatHoldsALet }
 {}
