@@ -59,7 +59,7 @@ abbrev pub formals_if : Bool → Formals → Formals
 formals_if true f = f
 formals_if false f = no_formals
 
--- An `await` in a parameter stands outside of the body.
+-- A parameter is read outside of the body, so an `await` in it stands in a constant.
 abbrev pub outside_place : Place → Place
 outside_place p = record p { await_location = Some location.Unknown }
 

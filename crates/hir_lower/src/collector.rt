@@ -61,8 +61,8 @@ fn unboxed(expr: &Option<Boxed<ast::Expr>>) -> Option<&ast::Expr>
     }
 }
 
-/// Where the expression of a constant is read that stands alone: inside of the constant.
-fn constant_place(place: Place) -> Place
+/// Where the expression of a constant is read that stands at this place.
+fn inside_constant(place: Place) -> Place
     ensures { result ≡ inside_constant place }
 {
     Place {
@@ -363,7 +363,7 @@ impl<'db, E: LowerEnv> ExprCollector<'db, E> {
         }
     }
 
-    /// Lowers a constant as a root of its own.
+    /// Lowers a constant as a root of its own. It is read inside of a constant, which is what an `await` in it stands in.
     ///
     /// In each later store that keeps the problems of its bindings its expression does what the constant does, for every answerer and every
     /// number of turns that a loop may take; what is stored stands for the tree, and faults, blocks, calls of macros and ways of the source
@@ -397,7 +397,7 @@ impl<'db, E: LowerEnv> ExprCollector<'db, E> {
         let expr = lower_root(
             self.alloc,
             self.db,
-            constant_place(self.place),
+            inside_constant(self.place),
             &mut self.state,
             unboxed(arg),
         )?;

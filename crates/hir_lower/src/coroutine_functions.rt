@@ -26,7 +26,7 @@ use std::alloc::Global;
 /// What is in such a function: what was written of its parameters, how each but `self` is handed in, and the coroutine.
 type InFunction = (Received, (Seq<Handed>, ExprId));
 
-/// The place around a body: there no `await` stands in what is async.
+/// The place around a body, where parameters are read. Nothing async is around an `await` there, which stands in a constant.
 pub(crate) fn around(place: Place) -> Place
     ensures { result ≡ outside_place place }
 {
