@@ -153,8 +153,17 @@ pub(crate) fn projected_form<P: LowerParts>(
     Ok(walk.projected(lowerer.alloc, ty, path)?)
 }
 
+/// `<T>`.
+#[inline(never)]
+fn anchored(walk: PathWalk, ty: TypeRefId) -> Result<Reading, StoreFault>
+    ensures { result ≡ Ok (walks.anchored ty walk) }
+{
+    Ok(walk.anchored(ty))
+}
+
 /// `<T as Trait>`.
 #[tactic(auto, unfolding(hir_lower_form::specs::Paths::with_trait))]
+#[inline(never)]
 fn trait_form<P: LowerParts>(
     lowerer: &Lowerer<P>,
     state: &mut BodyBuilder,
@@ -198,7 +207,7 @@ fn qualified_form<P: LowerParts>(
     let place = inside_projection(lowerer.parts.place());
     let id = lowerer.parts.lower_type(state, place, &None, ty.get())?;
     match trait_ {
-        None => Ok(walk.anchored(id)),
+        None => anchored(walk, id),
         Some(node) => trait_form(lowerer, state, place, walk, id, node),
     }
 }
