@@ -142,7 +142,6 @@ TYPES = {
     "result of a pointer": (2, lambda t: {"k": "FnPtrType", "ret": {"k": "RetType", "ty": t}}),
     "pattern type": (1, lambda t: {"k": "PatternType", "ty": t, "pat": WILD}),
     "bound": (7, lambda t: {"k": "DynTraitType", "bounds": [{"k": "TypeBound", "b": "path", "ty": path_type(of_type(t))}]}),
-    "bound of an impl": (7, lambda t: {"k": "ImplTraitType", "bounds": [{"k": "TypeBound", "b": "path", "ty": path_type(of_type(t))}]}),
     "argument of a path": (5, lambda t: path_type(of_type(t))),
     "binding of a path": (5, lambda t: path_type(generic({"k": "AssocTypeArg", "name": "B", "ty": t}))),
     "path directly in a call": (5, lambda t: path_type({**of_type(t), "in_macro": True})),
