@@ -28,7 +28,7 @@ use Rattle.hir_one_result.specs.WorkedPreludes.{coroutine_closure_of, only, plai
 use Rattle.hir_one_result.proofs.PreludeRows.{single}
 
 -- those of the one, and those of the other
-both : {ws ls rs us vs : List Way} → ws ≡ ls ++ rs → ls ≡ us → rs ≡ vs → ws ≡ us ++ vs
+pub both : {ws ls rs us vs : List Way} → ws ≡ ls ++ rs → ls ≡ us → rs ≡ vs → ws ≡ us ++ vs
 both is e f = is ∙ (λ j. e j ++ f j)
 
 -- the same where an expression owns what nothing in it owns

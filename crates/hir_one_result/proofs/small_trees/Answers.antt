@@ -5,6 +5,7 @@ use Rattle.hir_one_result.proofs.Rows.{jumps, statements, enters_in_order, leave
 use Rattle.hir_one_result.proofs.Rows.{coroutines, owners}
 use Rattle.hir_one_result.proofs.PreludeRows.{coroutine_closures, owners_of_coroutines}
 use Rattle.hir_one_result.proofs.OwnerRows.{owners_stand}
+use Rattle.hir_one_result.proofs.WhileRows.{whiles}
 use Rattle.hir_one_result.proofs.small_trees.Goals as goal
 
 pub returns-clause-jumps : goal.returns-clause-jumps
@@ -30,6 +31,9 @@ returns-clause-tries c = tries
 
 pub returns-clause-fors : goal.returns-clause-fors
 returns-clause-fors c = fors
+
+pub returns-clause-whiles : goal.returns-clause-whiles
+returns-clause-whiles c = whiles
 
 pub returns-clause-consts : goal.returns-clause-consts
 returns-clause-consts c = consts
