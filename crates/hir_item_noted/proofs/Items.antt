@@ -1,5 +1,5 @@
 -- What the parts of an item note, and the items.
-use Rattle.std.proofs.Common.{◌≡◌, refl, ℕ, Bool, List, [], ◌∷◌, Option, Some, None, Ok}
+use Rattle.std.proofs.Common.{◌≡◌, ◌∙◌, refl, ap, ℕ, nat_lt, slice_get, Bool, true, false, List, [], ◌∷◌, Option, Some, None, Ok, Err}
 use Rattle.hir_store.specs.Pointers.{Pointer}
 use Rattle.hir_store.specs.Stored.{Stored, map_of, store_of}
 use Rattle.hir_store.specs.Storing as storing
@@ -29,7 +29,9 @@ use Rattle.hir_env.specs.Answered as tree
 use Rattle.hir_env.specs.Answered.{Binder, Bounds, Constant, Lifetime, OptionRet, OptionType}
 use Rattle.hir_env.specs.TypeLayers.{PathTypeReading}
 use Rattle.hir_lower_form.specs.Builder.{Builder}
-use Rattle.hir_lower_form.specs.Lowering.{Lowering, ◌>>=◌, ◌>>◌, add_param, alloc_lifetime, alloc_type, param_type, pure, report}
+use Rattle.hir_lower_form.specs.Generics.{with_param}
+use Rattle.hir_lower_form.specs.Lowering.{Checked, Lowering, ◌>>=◌, ◌>>◌, add_param, alloc_lifetime, alloc_type, count_out, note_down}
+use Rattle.hir_lower_form.specs.Lowering.{param_numbered, param_type, pure, report, with_notes}
 use Rattle.hir_lower_form.specs.Lower.{lower_path, present_type, push_some, type_part}
 use Rattle.hir_lower_form.specs.Types.{path_bound_form, path_bound_of, stored_path_bound}
 use Rattle.hir_data.specs.Data.{no_type}
@@ -37,7 +39,7 @@ use Rattle.hir_data.specs.Reading.{stored_option_type, stored_type}
 use Rattle.hir_meaning.specs.Inner.{part_bodies, type_inner_bodies}
 use Rattle.hir_data.specs.Written.{written_type}
 use Rattle.hir_steps.specs.Keeps.{Paired}
-use Rattle.hir_steps.proofs.TypeSteps.{correct_alloc_lifetime}
+use Rattle.hir_steps.proofs.TypeSteps.{correct_alloc_lifetime, correct_alloc_type}
 use Rattle.hir_read_back.proofs.Now.{answered, option_type_now, type_now}
 use Rattle.hir_same_meaning.proofs.HeldTree.{part_holds}
 use Rattle.hir_same_meaning.proofs.Holding.{SameIn}
@@ -58,8 +60,9 @@ use Rattle.hir_item_noted.specs.Fold.{noted_in_bounds_of, noted_in_each, noted_i
 use Rattle.hir_item_noted.specs.Fold.{noted_in_param}
 use Rattle.hir_item_noted.specs.Fold.{noted_in_params, noted_in_predicate, noted_in_predicates, noted_in_receiver, noted_in_trait}
 use Rattle.hir_item_noted.specs.Fold.{nothing, of_part, one_param, self_param, typed, ◌⊞◌, noted_in_default, noted_in_trait_path}
+use Rattle.hir_item_noted.specs.Noted.{ItsType, ParamIs, count}
 use Rattle.hir_item_noted.proofs.Held.{default_holds, default_read, present_holds}
-use Rattle.hir_item_noted.proofs.Logic.{Gives, IsFrom, Steps, StepsTo, by_at, gives_pure, gives_then, param_at, steps_begin}
+use Rattle.hir_item_noted.proofs.Logic.{Gives, Steps, StepsTo, by_at, gives_pure, gives_then, param_at, param_with, steps_begin}
 use Rattle.hir_item_noted.proofs.Logic.{steps_by, steps_end, steps_given, steps_lifetime_param, steps_part, steps_predicate, steps_pure}
 use Rattle.hir_item_noted.proofs.Logic.{steps_then, then_at}
 
@@ -166,21 +169,54 @@ behind_param def bs k = alloc_type (param_type def k) None >>= (λ id. steps.ask
 abbrev type_of : Name → Option TypeRefId → TypeParamProvenance → TypeOrConstParamData
 type_of n default from = param.TypeParamData (record { name = Some n; default = default; provenance = from })
 
+-- one that is this from here on where the type that it is is stored, whatever its number
+abbrev IsWithType : Builder → GenericDefId → TypeOrConstParamData → fold.Param → Type 0
+IsWithType b def x y = (final : Stored) → Extends b.stored final → (k : ℕ) → ItsType (store_of final) (map_of final) def k None
+    → ParamIs (store_of final) (map_of final) k x y
+
+abbrev with_one : TypeOrConstParamData → Builder → Builder
+with_one x b = record b { notes = with_param x b.notes }
+
+-- the type that it is
+its_type_at : (def : GenericDefId) (x : TypeOrConstParamData) (y : fold.Param) (b : Builder) → Paired b.stored → IsWithType b def x y
+    → (o : Checked TypeRefId) (c : Builder) → alloc_type (param_type def (count b)) None (with_one x b) ≡ (o, c)
+    → StepsTo nothing (with_one x b) o c → StepsTo (one_param y) b o c
+its_type_at def x y b d h (Ok id) c is g = (
+  g.0,
+  param_with x y b c g.1 (λ final e. h final (extends_trans g.1.stays e) (count b)
+      (let row = answered (correct_alloc_type (param_type def (count b)) None) (with_one x b) c id d is final e in record {
+        id = id;
+        stands = ap (λ i. slice_get final.types.entries i) row.number ∙ row.here;
+        from = ap (λ i. slice_get final.types.sources i) row.number ∙ row.from;
+      })),
+)
+its_type_at def x y b d h (Err f) c is g = tt
+
 type_param_at : (def : GenericDefId) (n : Name) (default : Option TypeRefId) (from : TypeParamProvenance) (bs : Bounds) (y : fold.Param)
-    (b : Builder) → Paired b.stored → IsFrom b (type_of n default from) y
+    (b : Builder) → Paired b.stored → IsWithType b def (type_of n default from) y
     → let p = steps.type_param_form def n default from bs in StepsTo (one_param y ⊞ noted_in_each bs) b (p b).0 (p b).1
-type_param_at def n default from bs y b d h = then_at (one_param y) (noted_in_each bs) (add_param (type_of n default from))
-    (behind_param def bs) b
-    (param_at (type_of n default from) y b d h) (λ k. steps_begin (type_stored _ None) (λ id. each_asked None id bs))
+unfolding add_param with_notes note_down count_out
+type_param_at def n default from bs y b d h = by (nat_lt (count b) 4294967295)
+  where
+    its : Lowering TypeRefId
+    its c = alloc_type (param_type def (count b)) None (with_one (type_of n default from) b)
+
+    by : (room : Bool) → let p = param_numbered (type_of n default from) (count b) room >>= behind_param def bs in
+        StepsTo (one_param y ⊞ noted_in_each bs) b (p b).0 (p b).1
+    by true = then_at (one_param y) (noted_in_each bs) its (λ id. steps.ask_each None (bounded_by.Type_ id) bs) b
+        (its_type_at def (type_of n default from) y b d h (its b).0 (its b).1 refl
+        ((type_stored (param_type def (count b)) None).at (with_one (type_of n default from) b) d))
+        (λ id. each_asked None id bs)
+    by false = tt
 
 absent_read : (final : Stored) → stored_option_type (store_of final) (map_of final) None ≡ no_type
 unfolding stored_option_type
 absent_read final = refl
 
-self_noted : (def : GenericDefId) (bs : Bounds) → Steps (one_param self_param ⊞ noted_in_each bs) (steps.self_param def bs)
+self_noted : (def : GenericDefId) (bs : Bounds) → Steps (one_param (self_param def) ⊞ noted_in_each bs) (steps.self_param def bs)
 self_noted def bs = record {
-  at = λ b d. type_param_at def steps.self_text None provenance.TraitSelf bs self_param b d
-      (λ final e k. (refl, refl, absent_read final, tt));
+  at = λ b d. type_param_at def steps.self_text None provenance.TraitSelf bs (self_param def) b d
+      (λ final e k its. (refl, refl, absent_read final, tt, its));
 }
 
 default_noted : (c : Option Constant) → Steps (noted_in_default c) (steps.present_constant c)
@@ -218,14 +254,15 @@ const_at n t default i b d h =
     (λ k. steps_pure tt))
 
 -- what is answered for a type that may stay absent
-typed_from : (n : Name) (default : OptionType) (b c : Builder) (i : Option TypeRefId) → Paired b.stored
-    → present_type default b ≡ (Ok i, c) → IsFrom c (type_of n i provenance.TypeParamList) (typed n default)
+typed_from : (def : GenericDefId) (n : Name) (default : OptionType) (b c : Builder) (i : Option TypeRefId) → Paired b.stored
+    → present_type default b ≡ (Ok i, c) → IsWithType c def (type_of n i provenance.TypeParamList) (typed def n default)
 unfolding type_inner_bodies
-typed_from n default b c i d is = λ final x k. (
+typed_from def n default b c i d is = λ final x k its. (
   refl,
   refl,
   (answered (option_type_now default) b c i d is final x).is,
   held_here (present_holds default) b c i d is final x,
+  its,
 )
 
 type_from : (t : OptionType) (b c : Builder) (i : TypeRefId) → Paired b.stored → type_part None t b ≡ (Ok i, c) → (final : Stored)
@@ -233,13 +270,13 @@ type_from : (t : OptionType) (b c : Builder) (i : TypeRefId) → Paired b.stored
 unfolding type_inner_bodies
 type_from t b c i d is final x = ((answered (type_now t) b c i d is final x).is, held_here (part_holds None t) b c i d is final x)
 
-one_noted : (def : GenericDefId) (x : Param) → Steps (noted_in_param x) (steps.lower_param def x)
+one_noted : (def : GenericDefId) (x : Param) → Steps (noted_in_param def x) (steps.lower_param def x)
 one_noted def (item.disabled_param at by) = reported _
 one_noted def (item.type_param n default bs) =
-    let y = typed n default in
+    let y = typed def n default in
     steps_by (one_param y ⊞ noted_in_each bs) (λ i. steps.type_param_form def n i provenance.TypeParamList bs)
     (steps_part (present_type_noted default)) (λ b i c d is e paired.
-    type_param_at def n i provenance.TypeParamList bs y c paired (typed_from n default b c i d is))
+    type_param_at def n i provenance.TypeParamList bs y c paired (typed_from def n default b c i d is))
 one_noted def (item.const_param n t default) =
     steps_by (noted_in_default default ⊞ one_param (constant n t default)) (λ i. steps.present_constant default >>= behind_default n i)
     (steps_part (type_noted None t)) (λ b i c d is e paired. const_at n t default i c paired (type_from t b c i d is))
@@ -247,7 +284,7 @@ one_noted def (item.lifetime_param n l bs) = steps_then (steps_part (lifetime_no
     steps_then (steps_lifetime_param n) (λ u. bounds_asked None l.lifetime id bs))
 one_noted def (item.nameless_param l) = steps_end (placeholder_noted l) (λ i. steps_pure tt)
 
-all_noted : (def : GenericDefId) (xs : List Param) → Steps (noted_in_params xs) (steps.lower_params def xs)
+all_noted : (def : GenericDefId) (xs : List Param) → Steps (noted_in_params def xs) (steps.lower_params def xs)
 all_noted def [] = steps_pure tt
 all_noted def (x ∷ xs) = steps_then (one_noted def x) (λ u. all_noted def xs)
 
@@ -260,12 +297,12 @@ predicates_noted : (xs : List Predicate) → Steps (noted_in_predicates xs) (ste
 predicates_noted [] = steps_pure tt
 predicates_noted (x ∷ xs) = steps_then (predicate_noted x) (λ u. predicates_noted xs)
 
-pub generics_noted : (def : GenericDefId) (g : Generics) → Steps (noted_in_generics g) (steps.lower_generics def g)
+pub generics_noted : (def : GenericDefId) (g : Generics) → Steps (noted_in_generics def g) (steps.lower_generics def g)
 generics_noted def g = steps_then (all_noted def g.params) (λ u. predicates_noted g.predicates)
 
 -- ---- traits, implementations and aliases
 
-pub trait_noted : (def : GenericDefId) (x : Trait) → Steps (noted_in_trait x) (steps.lower_trait def x)
+pub trait_noted : (def : GenericDefId) (x : Trait) → Steps (noted_in_trait def x) (steps.lower_trait def x)
 trait_noted def x = steps_then (self_noted def x.bounds) (λ u. generics_noted def x.generics)
 
 trait_stored : (at : Pointer) (p : Option HirPath) → Steps nothing (steps.stored_trait at p)
@@ -276,7 +313,7 @@ trait_path_noted : (x : Option PathTypeReading) → Steps (noted_in_trait_path x
 trait_path_noted None = steps_pure None
 trait_path_noted (Some x) = steps_end (steps_part (whole_noted x.path)) (λ p. trait_stored x.pointer p)
 
-pub impl_noted : (def : GenericDefId) (x : Impl) → Steps (noted_in_impl x) (steps.lower_impl def x)
+pub impl_noted : (def : GenericDefId) (x : Impl) → Steps (noted_in_impl def x) (steps.lower_impl def x)
 impl_noted def x = steps_then (steps_part (type_noted None x.self_type)) (λ self.
     steps_then (trait_path_noted x.trait_) (λ t. steps_end (generics_noted def x.generics) (λ u. steps_pure _)))
 
@@ -284,7 +321,7 @@ missing_reported : (f : Option (Pointer × MissingBodyItemKind)) → Steps nothi
 missing_reported None = steps_pure tt
 missing_reported (Some f) = reported _
 
-pub alias_noted : (def : GenericDefId) (x : Alias) → Steps (noted_in_alias x) (steps.lower_alias def x)
+pub alias_noted : (def : GenericDefId) (x : Alias) → Steps (noted_in_alias def x) (steps.lower_alias def x)
 alias_noted def x = steps_then (steps_part (bounds_noted [] x.bounds)) (λ bs.
     steps_then (generics_noted def x.generics) (λ u.
     steps_end (steps_part (present_type_noted x.type_)) (λ t. steps_begin (missing_reported x.missing) (λ v. steps_pure _))))
@@ -342,6 +379,6 @@ answer_noted (Some k) t = steps_begin (coroutine_noted k t) (λ i. steps_pure (S
 output_of : (k : Option CoroutineKind) (r : OptionRet) → Steps (of_part (noted_in_output r)) (steps.output_type k r)
 output_of k r = steps_end (ret_noted r) (answer_noted k)
 
-pub function_noted : (def : GenericDefId) (x : Function) → Steps (noted_in_function x) (steps.lower_function def x)
+pub function_noted : (def : GenericDefId) (x : Function) → Steps (noted_in_function def x) (steps.lower_function def x)
 function_noted def x = steps_then (generics_noted def x.generics) (λ u.
     steps_then (input_noted x.receiver x.arguments) (λ args. steps_end (output_of x.kind x.ret) (λ ret. steps_pure _)))

@@ -80,9 +80,9 @@ kinds_are s (n ∷ ns) = ap (λ l. given (named_sets s) n ∷ l) (kinds_are s ns
 
 function_makes : (def : GenericDefId) (x : Function) (limit : ℕ) (c : Builder) (s : Signature)
     → lower_function def x (fresh limit) ≡ (Ok s, c)
-    → Made (noted_in_function x) (by_kind (noted_in_function x)) c.stored (finished (of_kinds c.notes))
+    → Made (noted_in_function def x) (by_kind (noted_in_function def x)) c.stored (finished (of_kinds c.notes))
 function_makes def x limit c s is =
-    let n = noted_in_function x in
+    let n = noted_in_function def x in
     let g = noted_by (function_noted def x) (fresh limit) c s (nothing_stored limit) is in
     let sets : named_sets c.notes.named ≡ sets_of_item n = λ j. record { bounds = g.bounds j; input = g.input j; output = g.output j } in
     record {

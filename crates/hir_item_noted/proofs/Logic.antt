@@ -246,6 +246,32 @@ param_at x y b d h = by (nat_lt (length b.notes.generics.type_or_consts) 4294967
     by true = (d, noted_param x y b h)
     by false = tt
 
+-- with what is stored behind it, where of what is noted nothing else changes
+pub param_with : (x : TypeOrConstParamData) (y : Param) (b c : Builder) → ItemNoted nothing (record b { notes = with_param x b.notes }) c
+    → ((final : Stored) → Extends c.stored final → ParamIs (store_of final) (map_of final) (count b) x y) → ItemNoted (one_param y) b c
+param_with x y b c g h = by g.added g.adds g.params
+  where
+    one : List TypeOrConstParamData
+    one = x ∷ []
+
+    by : (zs : List TypeOrConstParamData)
+        → c.notes.generics.type_or_consts ≡ (b.notes.generics.type_or_consts ++ one) ++ zs
+        → ((final : Stored) → Extends c.stored final
+        → ParamsFrom (store_of final) (map_of final) (length (b.notes.generics.type_or_consts ++ one)) zs [])
+        → ItemNoted (one_param y) b c
+    by [] adds ps = record {
+      stays = g.stays;
+      added = one;
+      adds = adds ∙ append-nil (b.notes.generics.type_or_consts ++ one);
+      params = λ final e. (h final e, tt);
+      fits = g.fits;
+      lifetimes = g.lifetimes;
+      bounds = g.bounds;
+      input = g.input;
+      output = g.output;
+    }
+    by (z ∷ zs) adds ps = absurd (ps c.stored (extends_refl c.stored))
+
 one_more_fits : (k : ℕ) → nat_lt k 4294967295 ≡ true → k + 1 ≤ 4294967295
 one_more_fits k h = grind arith
 

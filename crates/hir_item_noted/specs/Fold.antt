@@ -24,8 +24,8 @@ use Rattle.hir_lower_item.specs.Items.{Alias, Argument, Function, Generics, Impl
 
 -- a parameter that is a type or a constant
 pub data Param : Type 0 where
-  -- its name, what it is, and its default, with the bodies inside that
-  type_param : Name → TypeParamProvenance → OptionTypeData → Bodies → Param
+  -- of which definition, its name, what it is, and its default, with the bodies inside that
+  type_param : GenericDefId → Name → TypeParamProvenance → OptionTypeData → Bodies → Param
   -- its name, its type, with the bodies inside that, and its default: the node that it came from, and the bodies that it is
   const_param : Name → TypeData → Bodies → Option (Option Site) → Bodies → Param
   -- one that an `impl` became: of which definition, and at which node
@@ -104,24 +104,24 @@ abbrev pub default_bodies : Option Constant → Bodies
 default_bodies None = []
 default_bodies (Some c) = constant_bodies c
 
-abbrev pub typed : Name → OptionType → Param
-typed n default = type_param n provenance.TypeParamList (written_option_type default) (part_bodies default)
+abbrev pub typed : GenericDefId → Name → OptionType → Param
+typed def n default = type_param def n provenance.TypeParamList (written_option_type default) (part_bodies default)
 
 abbrev pub constant : Name → OptionType → Option Constant → Param
 constant n t default = const_param n (written_type t) (part_bodies t) (default_site default) (default_bodies default)
 
-abbrev pub noted_in_param : item.Param → ItemNoting
-noted_in_param (item.disabled_param at by) = nothing
-noted_in_param (item.type_param n default bs) =
-    of_part (noted_in_present_type default) ⊞ (one_param (typed n default) ⊞ noted_in_each bs)
-noted_in_param (item.const_param n t default) =
+abbrev pub noted_in_param : GenericDefId → item.Param → ItemNoting
+noted_in_param def (item.disabled_param at by) = nothing
+noted_in_param def (item.type_param n default bs) =
+    of_part (noted_in_present_type default) ⊞ (one_param (typed def n default) ⊞ noted_in_each bs)
+noted_in_param def (item.const_param n t default) =
     of_part (noted_in_type_part t) ⊞ (noted_in_default default ⊞ one_param (constant n t default))
-noted_in_param (item.lifetime_param n l bs) = of_part (of_lifetime l) ⊞ (one_lifetime n ⊞ noted_in_bounds_of l.lifetime bs)
-noted_in_param (item.nameless_param l) = of_part (of_lifetime_option l)
+noted_in_param def (item.lifetime_param n l bs) = of_part (of_lifetime l) ⊞ (one_lifetime n ⊞ noted_in_bounds_of l.lifetime bs)
+noted_in_param def (item.nameless_param l) = of_part (of_lifetime_option l)
 
-abbrev pub noted_in_params : List item.Param → ItemNoting
-noted_in_params [] = nothing
-noted_in_params (x ∷ xs) = noted_in_param x ⊞ noted_in_params xs
+abbrev pub noted_in_params : GenericDefId → List item.Param → ItemNoting
+noted_in_params def [] = nothing
+noted_in_params def (x ∷ xs) = noted_in_param def x ⊞ noted_in_params def xs
 
 abbrev pub noted_in_predicate : Predicate → ItemNoting
 noted_in_predicate (item.of_type t binder bs) = of_part (noted_in_type t) ⊞ noted_in_each bs
@@ -133,31 +133,31 @@ noted_in_predicates [] = nothing
 noted_in_predicates (x ∷ xs) = noted_in_predicate x ⊞ noted_in_predicates xs
 
 -- the parameters, then the where clause
-abbrev pub noted_in_generics : Generics → ItemNoting
-noted_in_generics g = noted_in_params g.params ⊞ noted_in_predicates g.predicates
+abbrev pub noted_in_generics : GenericDefId → Generics → ItemNoting
+noted_in_generics def g = noted_in_params def g.params ⊞ noted_in_predicates g.predicates
 
 -- ---- items
 
 abbrev pub self_name : Name
 self_name = name.Text (codes "Self")
 
-abbrev pub self_param : Param
-self_param = type_param self_name provenance.TraitSelf no_type []
+abbrev pub self_param : GenericDefId → Param
+self_param def = type_param def self_name provenance.TraitSelf no_type []
 
 -- `Self` is the first parameter of a trait
-abbrev pub noted_in_trait : Trait → ItemNoting
-noted_in_trait x = (one_param self_param ⊞ noted_in_each x.bounds) ⊞ noted_in_generics x.generics
+abbrev pub noted_in_trait : GenericDefId → Trait → ItemNoting
+noted_in_trait def x = (one_param (self_param def) ⊞ noted_in_each x.bounds) ⊞ noted_in_generics def x.generics
 
 abbrev pub noted_in_trait_path : Option PathTypeReading → ItemNoting
 noted_in_trait_path None = nothing
 noted_in_trait_path (Some t) = of_part (noted_in_whole t.path)
 
-abbrev pub noted_in_impl : Impl → ItemNoting
-noted_in_impl x = of_part (noted_in_type_part x.self_type) ⊞ (noted_in_trait_path x.trait_ ⊞ noted_in_generics x.generics)
+abbrev pub noted_in_impl : GenericDefId → Impl → ItemNoting
+noted_in_impl def x = of_part (noted_in_type_part x.self_type) ⊞ (noted_in_trait_path x.trait_ ⊞ noted_in_generics def x.generics)
 
 -- its type last
-abbrev pub noted_in_alias : Alias → ItemNoting
-noted_in_alias x = of_part (noted_in_bounds x.bounds) ⊞ (noted_in_generics x.generics ⊞ of_part (noted_in_present_type x.type_))
+abbrev pub noted_in_alias : GenericDefId → Alias → ItemNoting
+noted_in_alias def x = of_part (noted_in_bounds x.bounds) ⊞ (noted_in_generics def x.generics ⊞ of_part (noted_in_present_type x.type_))
 
 abbrev pub noted_in_receiver : Receiver → ItemNoting
 noted_in_receiver item.no_receiver = nothing
@@ -176,6 +176,6 @@ noted_in_arguments [] = nothing
 noted_in_arguments (x ∷ xs) = noted_in_argument x ⊞ noted_in_arguments xs
 
 -- what it returns last
-abbrev pub noted_in_function : Function → ItemNoting
-noted_in_function x = noted_in_generics x.generics
+abbrev pub noted_in_function : GenericDefId → Function → ItemNoting
+noted_in_function def x = noted_in_generics def x.generics
     ⊞ ((noted_in_receiver x.receiver ⊞ noted_in_arguments x.arguments) ⊞ of_part (noted_in_output x.ret))

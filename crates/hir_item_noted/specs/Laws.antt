@@ -24,11 +24,11 @@ Notes {A} n p = (b c : Builder) (a : A) → Paired b.stored → p b ≡ (Ok a, c
 
 abbrev pub ItemsNote : Type 0
 ItemsNote = (def : GenericDefId)
-    → ((g : Generics) → Notes (noted_in_generics g) (lower_generics def g))
-    × ((x : Trait) → Notes (noted_in_trait x) (lower_trait def x))
-    × ((x : Impl) → Notes (noted_in_impl x) (lower_impl def x))
-    × ((x : Alias) → Notes (noted_in_alias x) (lower_alias def x))
-    × ((x : Function) → Notes (noted_in_function x) (lower_function def x))
+    → ((g : Generics) → Notes (noted_in_generics def g) (lower_generics def g))
+    × ((x : Trait) → Notes (noted_in_trait def x) (lower_trait def x))
+    × ((x : Impl) → Notes (noted_in_impl def x) (lower_impl def x))
+    × ((x : Alias) → Notes (noted_in_alias def x) (lower_alias def x))
+    × ((x : Function) → Notes (noted_in_function def x) (lower_function def x))
 
 -- ---- from nothing
 
@@ -45,9 +45,9 @@ MakesEarly {A} n p = (limit : ℕ) (c : Builder) (a : A) → p (fresh limit) ≡
 -- Each lifetime parameter is early bound, but for those of a function, which are so by the sets of all that names lifetimes in it.
 abbrev pub ItemsMake : Type 0
 ItemsMake = (def : GenericDefId)
-    → ((g : Generics) → MakesEarly (noted_in_generics g) (lower_generics def g))
-    × ((x : Trait) → MakesEarly (noted_in_trait x) (lower_trait def x))
-    × ((x : Impl) → MakesEarly (noted_in_impl x) (lower_impl def x))
-    × ((x : Alias) → MakesEarly (noted_in_alias x) (lower_alias def x))
+    → ((g : Generics) → MakesEarly (noted_in_generics def g) (lower_generics def g))
+    × ((x : Trait) → MakesEarly (noted_in_trait def x) (lower_trait def x))
+    × ((x : Impl) → MakesEarly (noted_in_impl def x) (lower_impl def x))
+    × ((x : Alias) → MakesEarly (noted_in_alias def x) (lower_alias def x))
     × ((x : Function) (limit : ℕ) (c : Builder) (s : Signature) → lower_function def x (fresh limit) ≡ (Ok s, c)
-    → Made (noted_in_function x) (by_kind (noted_in_function x)) c.stored (finished (of_kinds c.notes)))
+    → Made (noted_in_function def x) (by_kind (noted_in_function def x)) c.stored (finished (of_kinds c.notes)))

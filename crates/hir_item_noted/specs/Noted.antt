@@ -1,5 +1,5 @@
 -- What becomes of the parameters where an item notes this, and the kinds of its lifetime parameters.
-use Rattle.std.specs.Prelude.{◌≡◌, ◌≤◌, ℕ, suc, List, [], ◌∷◌, ◌++◌, length, map, slice_get, Some, None, option_map}
+use Rattle.std.specs.Prelude.{◌≡◌, ◌≤◌, ℕ, suc, List, [], ◌∷◌, ◌++◌, length, map, slice_get, Option, Some, None, option_map}
 use Rattle.hir_store.specs.Pointers.{Pointer}
 use Rattle.hir_store.specs.Stored.{Store, SourceMap, Stored, map_of, store_of}
 use Rattle.hir_store.specs.Storing.{Extends}
@@ -25,26 +25,27 @@ abbrev pub parameter_type : GenericDefId → ℕ → TypeRef
 parameter_type def k = type.TypeParam (record { parent = def; local_id = record { 0 = k } })
 
 module _ (store : Store) (source_map : SourceMap) where
-  -- that type, which is stored from the node
-  pub record ItsType (def : GenericDefId) (k : ℕ) (at : Pointer) : Type 0 where
+  -- that type, which is stored from the node, where it came from one
+  pub record ItsType (def : GenericDefId) (k : ℕ) (at : Option Pointer) : Type 0 where
     pub id : TypeRefId
     pub stands : slice_get store.types id.0 ≡ Some (parameter_type def k)
-    pub from : slice_get source_map.type_sources id.0 ≡ Some (Some at)
+    pub from : slice_get source_map.type_sources id.0 ≡ Some at
 
-  -- The parameter with this number is this one: its types read back, a default that is a constant came from the node of the written
-  -- one, and the bodies inside them do what the written ones do.
+  -- The parameter with this number is this one: the type that it is is stored, of one that is written from no node; its other types read
+  -- back, a default that is a constant came from the node of the written one, and the bodies inside them do what the written ones do.
   abbrev pub ParamIs : ℕ → TypeOrConstParamData → Param → Type 0
-  ParamIs k (param.TypeParamData x) (type_param n from t bs) = (x.name ≡ Some n) × (x.provenance ≡ from)
+  ParamIs k (param.TypeParamData x) (type_param def n from t bs) = (x.name ≡ Some n) × (x.provenance ≡ from)
       × (stored_option_type store source_map x.default ≡ t)
       × SameBodies store source_map (of_present (type_inner_bodies store) x.default) bs
+      × ItsType def k None
   ParamIs k (param.TypeParamData x) (impl_param def at) = (x.name ≡ None) × (x.provenance ≡ ArgumentImplTrait) × (x.default ≡ None)
-      × ItsType def k at
+      × ItsType def k (Some at)
   ParamIs k (param.TypeParamData x) (const_param n t bs c cs) = ⊥
   ParamIs k (param.ConstParamData x) (const_param n t bs c cs) = (x.name ≡ n) × (stored_type store source_map x.ty ≡ t)
       × SameBodies store source_map (type_inner_bodies store x.ty) bs
       × (option_map (stored_constant store source_map) x.default ≡ c)
       × SameBodies store source_map (of_present (of_constant (all_inners store)) x.default) cs
-  ParamIs k (param.ConstParamData x) (type_param n from t bs) = ⊥
+  ParamIs k (param.ConstParamData x) (type_param def n from t bs) = ⊥
   ParamIs k (param.ConstParamData x) (impl_param def at) = ⊥
 
   -- one for each, by their numbers, from this one on

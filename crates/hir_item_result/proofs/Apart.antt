@@ -54,7 +54,7 @@ apart = record {
   one_is = λ h k. record { apart = then_apart h.apart (λ a. (k a).apart) };
   noted_is = λ f h k. beside f k;
   type_is = λ t. record { apart = one_type_apart None t };
-  made_is = λ t h. record { apart = stored_type_apart t None };
+  made_is = λ t shape h. record { apart = stored_type_apart t None };
   bound_is = λ b. record { apart = bound_apart b };
   trait_is = λ at p. record { apart = trait_apart at p };
   constant_is = λ c. record { apart = a_constant_apart c };

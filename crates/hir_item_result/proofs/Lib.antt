@@ -1,4 +1,5 @@
 pub mod Reading
+pub mod Walk
 pub mod Items
 pub mod Steps
 pub mod Roots
@@ -13,8 +14,11 @@ pub mod Fitting
 pub mod Whole
 pub mod Words
 pub mod ReadsBack
+pub mod Data
 pub mod Held
 pub mod Answered
 pub mod Later
+pub mod Counting
+pub mod NamedSteps
 pub mod Once
 pub mod Apart

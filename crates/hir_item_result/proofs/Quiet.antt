@@ -81,7 +81,7 @@ quiet = record {
   one_is = λ h k. record { quiet = quiet_then h.quiet (λ a. (k a).quiet) };
   noted_is = λ f h k. beside f k;
   type_is = λ t. record { quiet = forgotten (part_adds None (tree.some_type t)) };
-  made_is = λ t h. record { quiet = made_quiet t h };
+  made_is = λ t shape h. record { quiet = made_quiet t h };
   bound_is = λ b. record { quiet = bound_quiet b };
   trait_is = λ at p. record { quiet = trait_quiet at p };
   constant_is = λ c. record { quiet = constant_quiet c };

@@ -12,6 +12,7 @@ use Rattle.hir_store.specs.declared.type_ref.TypeRef.{TypeRef}
 use Rattle.hir_store.specs.declared.type_ref.TypeRef.TheVariants as type
 use Rattle.hir_env.specs.declared.place.LifetimeScope.TheVariants as scope
 use Rattle.hir_env.specs.Answered.{Bound, Constant, Lifetime, OptionPath, Type_}
+use Rattle.hir_data.specs.Data.{Shape}
 use Rattle.hir_lower_form.specs.Builder.{Builder, fresh}
 use Rattle.hir_lower_form.specs.Generics.{naming, with_predicate}
 use Rattle.hir_lower_form.specs.declared.generics.Notes.{Notes}
@@ -47,12 +48,12 @@ pub record Reading : Type 1 where
   pub noted_is : {B : Type 0} {ys : List Part} (f : Notes → Notes) → Beside f → {k : Unit {0} → Lowering B}
       → ((u : Unit {0}) → Claim ys (k u)) → Claim ys (note_down f >>= k)
   pub type_is : (t : Type_) → One (part.type_read t) (lower_type None t)
-  pub made_is : (t : TypeRef) → Patternless t → One part.type_made (alloc_type t None)
+  pub made_is : (t : TypeRef) (shape : Shape) → Patternless t → One (part.type_made shape) (alloc_type t None)
   pub bound_is : (b : Bound) → One (part.bound_read b) (lower_bound b)
   pub trait_is : (at : Pointer) (p : OptionPath) → One (part.trait_read at p) (lower_path p >>= stored_trait at)
   pub constant_is : (c : Constant) → One (part.constant_read c) (lower_constant c)
   pub lifetime_is : (l : Lifetime) → One (part.lifetime_read l) (lower_lifetime l)
-  pub made_lifetime_is : (l : LifetimeRef) → One part.lifetime_made (alloc_lifetime l None)
+  pub made_lifetime_is : (l : LifetimeRef) → One (part.lifetime_made l) (alloc_lifetime l None)
   pub fault_is : (d : ExpressionStoreDiagnostics) → One (part.fault_told d) (report d)
   pub param_is : (x : TypeOrConstParamData) → One part.param_made (add_param x)
   pub lifetime_param_is : (x : LifetimeParamData) → One part.lifetime_param_made (add_lifetime_param x)
@@ -115,20 +116,6 @@ module _ (R : Reading) where
         (subst (λ q. R.Claim (xs ++ (ys ++ zs)) q) (sym (bind_assoc p f g))
         (h.reads (ys ++ zs) (λ a. f a >>= g) (λ a. (k a).reads zs g more)));
   }
-
-  -- nothing is read in what comes after
-  pub ends : {A B : Type 0} {xs : List Part} {p : Lowering A} {f : A → Lowering B} → Reads xs p → ((a : A) → Reads [] (f a))
-      → Reads xs (p >>= f)
-  ends {xs = xs} {p = p} {f = f} h k = subst (λ ys. Reads ys (p >>= f)) (append-nil xs) (next h k)
-
-  -- so it is of what comes of an answer by itself
-  pub maps : {A B : Type 0} {xs : List Part} {p : Lowering A} (f : A → B) → Reads xs p → Reads xs (p >>= (λ a. pure (f a)))
-  maps f h = ends h (λ a. none (f a))
-
-  pub mapped_then : {A B C : Type 0} {xs ys : List Part} {p : Lowering A} (f : A → B) (g : B → Lowering C) → Reads xs p
-      → ((a : A) → Reads ys (g (f a))) → Reads (xs ++ ys) ((p >>= (λ a. pure (f a))) >>= g)
-  mapped_then {xs = xs} {ys = ys} {p = p} f g h k =
-      subst (λ q. Reads (xs ++ ys) q) (sym (bind_assoc p (λ a. pure (f a)) g)) (next h k)
 
 -- nothing is stored yet
 pub nothing_paired : (limit : ℕ) → Paired (fresh limit).stored

@@ -134,7 +134,7 @@ alias_reads def x = correct_as (correct_bind (pushed_all (bounds_read x.bounds [
 self_stored : Correct (alloc_type steps.self_path None) (Reads a_type self_data)
 self_stored = type0 steps.self_path None (λ final r. refl)
 
-self_reads : (borrow : Option Mutability) (l : Option Lifetime)
+pub self_reads : (borrow : Option Mutability) (l : Option Lifetime)
     → Correct (steps.self_form borrow l) (Reads a_type (borrowed_data borrow (option_map lifetime_data l)))
 self_reads None l = correct_as (correct_bind self_stored (λ self. correct_bind (lifetime_option_reads l) (λ id. correct_pure self)))
     (λ final ps m m' a g row. let s = row.second in rw (s.second.is, s.second.still) (record {
@@ -219,7 +219,16 @@ coroutine_path_reads store source_map r k given x e =
     ∙ ap (λ t. datum.binding_data (steps.given_name k) datum.no_args (datum.some_type t) datum.no_bounds) e))
     ∙ same_path k x
 
-coroutine_reads : {x : TypeData} {p : Lowering TypeRefId} (k : CoroutineKind) → Correct p (Reads a_type x)
+-- the path of its trait, with what it gives
+pub given_path_reads : {x : TypeData} {p : Lowering TypeRefId} (k : CoroutineKind) → Correct p (Reads a_type x)
+    → Correct (p >>= (λ given. alloc_type (ty.Path (steps.coroutine_path k given)) None))
+    (Reads a_type (typed None (datum.path_shape (coroutine_path_data k x))))
+given_path_reads {x = x} k h =
+    correct_as (correct_bind h (λ given. correct_alloc_type (ty.Path (steps.coroutine_path k given)) None))
+    (λ final ps m m' i g row. type_at row.second (λ n ge. ap datum.path_shape
+    (coroutine_path_reads (store_of final) (map_of final) (within final n) k row.one x (row.first.is n ge))))
+
+pub coroutine_reads : {x : TypeData} {p : Lowering TypeRefId} (k : CoroutineKind) → Correct p (Reads a_type x)
     → Correct (p >>= (λ given. alloc_type (ty.Path (steps.coroutine_path k given)) None
     >>= (λ i. alloc_type (ty.ImplTrait (bound.Path i modifier.None ∷ [])) None))) (Reads a_type (coroutine_data k x))
 coroutine_reads {x = x} k h = correct_as (correct_bind h (λ given. correct_bind

@@ -113,7 +113,7 @@ records = record {
   one_is = λ h k. record { notes = notes_then h.notes (λ a. (k a).notes) };
   noted_is = λ f h k. beside f k;
   type_is = λ t. record { notes = one_type_notes t };
-  made_is = λ t h. record { notes = notes_type t None };
+  made_is = λ t shape h. record { notes = notes_type t None };
   bound_is = λ b. record { notes = bound_notes b };
   trait_is = λ at p. record { notes = trait_notes at p };
   constant_is = λ c. record { notes = constant_notes c };

@@ -76,7 +76,7 @@ leaving = record {
   one_is = λ h k. record { leaves = ways_bind h.leaves (λ a. (k a).leaves) };
   noted_is = λ f h k. beside f k;
   type_is = λ t. record { leaves = type_left None (tree.some_type t) };
-  made_is = λ t h. record { leaves = type_leaves t None };
+  made_is = λ t shape h. record { leaves = type_leaves t None };
   bound_is = λ b. record { leaves = bound_left b };
   trait_is = λ at p. record { leaves = trait_left at p };
   constant_is = λ c. record { leaves = constant_left c };

@@ -20,7 +20,7 @@ use Rattle.hir_env.specs.Answered as tree
 use Rattle.hir_env.specs.Answered.{OptionRet}
 use Rattle.hir_env.specs.TypeLayers.{PathTypeReading}
 use Rattle.hir_data.specs.Data as datum
-use Rattle.hir_data.specs.Data.{LifetimeData, OptionTypeData, PathData, TypeData, TypesData, typed}
+use Rattle.hir_data.specs.Data.{LifetimeData, OptionTypeData, PathData, Shape, TypeData, TypesData, typed}
 use Rattle.hir_data.specs.Reading.{Readers, bounds_layer, entries, names_beside, readers, stored_option_type, stored_type, types_layer}
 use Rattle.hir_data.specs.Written.{bounds_data, lifetime_data, type_data, unit_data, written_option_type, written_path, written_type}
 use Rattle.hir_meaning.specs.Inner.{Bodies, all_inners, all_of, bounds_bodies, of_bound, of_present, part_bodies, path_bodies}
@@ -80,9 +80,11 @@ trait_bodies None = []
 trait_bodies (Some x) = path_bodies x.path
 
 -- `Self`, which comes from no node
+abbrev pub self_shape : Shape
+self_shape = datum.path_shape (datum.path_data kind.Plain datum.no_type (datum.more_names self_name datum.no_args datum.no_names) true)
+
 abbrev pub self_data : TypeData
-self_data = typed None (datum.path_shape (datum.path_data kind.Plain datum.no_type
-    (datum.more_names self_name datum.no_args datum.no_names) true))
+self_data = typed None self_shape
 
 -- or a reference to it, which comes from no node either
 abbrev pub borrowed_data : Option Mutability → Option LifetimeData → TypeData
@@ -124,9 +126,12 @@ coroutine_path_data k given =
     datum.path_data kind.Abs datum.no_type (names_beside (coroutine_trait k) beside) false
 
 -- an `impl` of it
+abbrev pub coroutine_shape : CoroutineKind → TypeData → Shape
+coroutine_shape k given = datum.impl_shape
+    (datum.more_bounds (datum.path_bound (typed None (datum.path_shape (coroutine_path_data k given))) modifier.None) datum.no_bounds)
+
 abbrev pub coroutine_data : CoroutineKind → TypeData → TypeData
-coroutine_data k given = typed None (datum.impl_shape
-    (datum.more_bounds (datum.path_bound (typed None (datum.path_shape (coroutine_path_data k given))) modifier.None) datum.no_bounds))
+coroutine_data k given = typed None (coroutine_shape k given)
 
 -- what is returned; a coroutine gives `()` where nothing is written
 abbrev pub output_data : Option CoroutineKind → OptionRet → OptionTypeData

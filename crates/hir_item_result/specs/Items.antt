@@ -9,8 +9,8 @@ use Rattle.hir_item_result.specs.Parts.{Part, alias_parts, function_parts, gener
 -- What is claimed of steps that read some parts is so of each of them.
 abbrev pub OfItems : ((A : Type 0) → List Part → Lowering A → Type 0) → Type 0
 OfItems Claim = (def : GenericDefId)
-    → ((g : Generics) → Claim _ (generics_parts g) (lower_generics def g))
-    × ((x : Trait) → Claim _ (trait_parts x) (lower_trait def x))
-    × ((x : Impl) → Claim _ (impl_parts x) (lower_impl def x))
-    × ((x : Alias) → Claim _ (alias_parts x) (lower_alias def x))
-    × ((x : Function) → Claim _ (function_parts x) (lower_function def x))
+    → ((g : Generics) → Claim _ (generics_parts def g) (lower_generics def g))
+    × ((x : Trait) → Claim _ (trait_parts def x) (lower_trait def x))
+    × ((x : Impl) → Claim _ (impl_parts def x) (lower_impl def x))
+    × ((x : Alias) → Claim _ (alias_parts def x) (lower_alias def x))
+    × ((x : Function) → Claim _ (function_parts def x) (lower_function def x))

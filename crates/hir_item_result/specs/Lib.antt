@@ -5,6 +5,7 @@ pub mod Sizes
 pub mod Fits
 pub mod Roots
 pub mod Told
+pub mod Stored
 pub mod ItemResult
 pub mod Answers
 pub mod Words

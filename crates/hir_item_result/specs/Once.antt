@@ -1,14 +1,23 @@
--- What an item is answered with reaches each type in one way only, together with what expressions and patterns name.
-use Rattle.std.specs.Prelude.{◌≡◌, ℕ, ◌≤◌, List, ◌++◌, length, Option, Ok}
-use Rattle.hir_store.specs.Stored.{Store, store_of}
+-- What an item is answered with, and its parameters and predicates, reach each type in one way only, together with what expressions and
+-- patterns name.
+use Rattle.std.specs.Prelude.{◌≡◌, ℕ, ◌≤◌, Bool, true, false, ◌||◌, if◌then◌else◌, nat_eq, List, [], ◌∷◌, ◌++◌, length, slice_get}
+use Rattle.std.specs.Prelude.{Option, Some, None, Ok}
+use Rattle.hir_store.specs.Pointers.{Pointer}
+use Rattle.hir_store.specs.Stored.{SourceMap, Store, map_of, store_of}
+use Rattle.hir_store.specs.declared.generics.TypeOrConstParamData.{TypeOrConstParamData}
+use Rattle.hir_store.specs.declared.generics.TypeOrConstParamData.TheVariants as param
+use Rattle.hir_store.specs.declared.generics.WherePredicate.{WherePredicate}
+use Rattle.hir_store.specs.declared.generics.WherePredicate.TheVariants as predicate
 use Rattle.hir_store.specs.declared.ids.GenericDefId.{GenericDefId}
 use Rattle.hir_store.specs.declared.ids.TypeRefId.{TypeRefId}
 use Rattle.hir_store.specs.declared.type_ref.TraitRef.{TraitRef}
 use Rattle.hir_store.specs.declared.type_ref.TypeBound.{TypeBound}
+use Rattle.hir_store.specs.declared.type_ref.TypeRef.{TypeRef}
+use Rattle.hir_store.specs.declared.type_ref.TypeRef.TheVariants as type
 use Rattle.hir_lower_form.specs.Builder.{Builder, fresh}
 use Rattle.hir_lower_form.specs.Lowering.{Lowering}
-use Rattle.hir_lower_item.specs.Items.{Alias, Function, Impl}
-use Rattle.hir_lower_item.specs.Lower.{lower_alias, lower_function, lower_impl}
+use Rattle.hir_lower_item.specs.Items.{Alias, Function, Generics, Impl, Trait}
+use Rattle.hir_lower_item.specs.Lower.{lower_alias, lower_function, lower_generics, lower_impl, lower_trait}
 use Rattle.hir_same_meaning.specs.Reached.{Spread}
 use Rattle.hir_type_result.specs.Named.{of_exprs, of_pats, of_types_alone}
 use Rattle.hir_type_result.specs.Reached.{of_bound, of_each, of_present, types_reached}
@@ -30,6 +39,41 @@ named_by_alias bounds ty f = of_each (of_bound f) bounds ++ of_present f ty
 abbrev pub named_by_function : List TypeRefId → Option TypeRefId → Naming
 named_by_function args ret f = of_each f args ++ of_present f ret
 
+-- ---- what is named by parameters and predicates
+
+-- the default of a type, or the type of a constant
+abbrev pub named_by_param : TypeOrConstParamData → Naming
+named_by_param (param.TypeParamData x) f = of_present f x.default
+named_by_param (param.ConstParamData x) f = f x.ty
+
+abbrev pub among : TypeRefId → List TypeRefId → Bool
+among t [] = false
+among t (u ∷ us) = nat_eq t.0 u.0 || among t us
+
+-- what one is of, unless one before was of it too, and its bound
+abbrev pub named_by_bound : List TypeRefId → TypeRefId → TypeBound → Naming
+named_by_bound before t b f = (if among t before then [] else f t) ++ of_bound f b
+
+-- whether an `impl` became it: it is a parameter that comes from a node
+abbrev pub impl_became : Option TypeRef → Option (Option Pointer) → Bool
+impl_became (Some (type.TypeParam p)) (Some (Some at)) = true
+impl_became t from = false
+
+module _ (store : Store) (source_map : SourceMap) where
+  abbrev pub is_of_impl : TypeRefId → Bool
+  is_of_impl t = impl_became (slice_get store.types t.0) (slice_get source_map.type_sources t.0)
+
+  -- What predicates are of is named once, by the first that is of it. Those of what an `impl` became aren't counted: it is named where it
+  -- stands.
+  abbrev pub named_by_predicates : List TypeRefId → List WherePredicate → Naming
+  named_by_predicates before [] f = []
+  named_by_predicates before (predicate.TypeBound binder t b ∷ ps) f =
+      (if is_of_impl t then [] else named_by_bound before t b f) ++ named_by_predicates (t ∷ before) ps f
+  named_by_predicates before (predicate.Lifetime l m ∷ ps) f = named_by_predicates before ps f
+
+  abbrev pub named_by_params : List TypeOrConstParamData → List WherePredicate → Naming
+  named_by_params xs ps f = of_each (λ x. named_by_param x f) xs ++ named_by_predicates [] ps f
+
 -- however deep one looks
 abbrev pub ReachesOnce : Store → Naming → Type 0
 ReachesOnce store named = (depth : ℕ) → length store.types ≤ depth → let f = types_reached store.types depth in let l = of_types_alone f in
@@ -38,7 +82,19 @@ ReachesOnce store named = (depth : ℕ) → length store.types ≤ depth → let
 -- ---- laws, where an item is lowered first
 
 abbrev pub AnswersOnce : {A : Type 0} → (A → Naming) → Lowering A → Type 0
-AnswersOnce {A} named p = (limit : ℕ) (new : Builder) (a : A) → p (fresh limit) ≡ (Ok a, new) → ReachesOnce (store_of new.stored) (named a)
+AnswersOnce {A} named p = (limit : ℕ) (new : Builder) (a : A) → p (fresh limit) ≡ (Ok a, new)
+    → let s = store_of new.stored in let g = new.notes.generics in
+    ReachesOnce s (λ f. named a f ++ named_by_params s (map_of new.stored) g.type_or_consts g.where_predicates f)
+
+-- parameters are all that there is
+abbrev pub none_named : Naming
+none_named f = []
+
+abbrev pub GenericsOnce : Type 0
+GenericsOnce = (def : GenericDefId) (g : Generics) → AnswersOnce (λ a. none_named) (lower_generics def g)
+
+abbrev pub TraitsOnce : Type 0
+TraitsOnce = (def : GenericDefId) (x : Trait) → AnswersOnce (λ a. none_named) (lower_trait def x)
 
 abbrev pub ImplsOnce : Type 0
 ImplsOnce = (def : GenericDefId) (x : Impl) → AnswersOnce (λ a. named_by_impl a.0 a.1) (lower_impl def x)

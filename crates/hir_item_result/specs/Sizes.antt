@@ -10,12 +10,12 @@ use Rattle.hir_item_result.specs.Parts.{Part}
 
 abbrev pub part_size : Part → Size
 part_size (part.type_read t) = type_size t
-part_size part.type_made = a_type None
+part_size (part.type_made shape) = a_type None
 part_size (part.bound_read b) = bound_size b
 part_size (part.trait_read at p) = whole_size p ∪ if_so (is_some (whole_read p)) (a_type (Some at))
 part_size (part.constant_read c) = constant_size c
 part_size (part.lifetime_read l) = a_lifetime (Some l.pointer)
-part_size part.lifetime_made = a_lifetime None
+part_size (part.lifetime_made l) = a_lifetime None
 part_size (part.fault_told d) = nothing
 part_size part.param_made = a_param
 part_size part.lifetime_param_made = nothing

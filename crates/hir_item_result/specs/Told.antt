@@ -1,9 +1,11 @@
--- What is told of the parts of an item, one after another: their faults, the blocks that are entered in them, and the calls of macros.
+-- What is told of the parts of an item, one after another: their faults, the blocks that are entered in them, the calls of macros, and what
+-- the types and lifetimes read back as that are stored.
 -- What they leave in a store.
 use Rattle.std.specs.Prelude.{List, [], ◌∷◌, Some, None, is_some}
 use Rattle.hir_store.specs.Stored.{Store, SourceMap}
 use Rattle.hir_env.specs.Answered as tree
-use Rattle.hir_data.specs.Written.{lifetime_data}
+use Rattle.hir_data.specs.Data.{typed}
+use Rattle.hir_data.specs.Written.{lifetime_data, type_data}
 use Rattle.hir_one_result.specs.PathRoom.{whole_read}
 use Rattle.hir_one_result.specs.Leads.{Ways, No, ◌&◌}
 use Rattle.hir_one_result.specs.Stands.{BoundWays, Open, TypePartWays, WholeWays}
@@ -16,12 +18,12 @@ use Rattle.hir_item_result.specs.Parts.{Part}
 module _ {ℓ} (S : Grading {ℓ}) where
   abbrev pub grade_item_part : Part → S.G
   grade_item_part (part.type_read t) = grade_type S t
-  grade_item_part part.type_made = S.type_at None
+  grade_item_part (part.type_made shape) = S.type_as (typed None shape)
   grade_item_part (part.bound_read b) = grade_bound S b
-  grade_item_part (part.trait_read at p) = S.then' (grade_whole S p) (if_so S (is_some (whole_read p)) (S.type_at (Some at)))
+  grade_item_part (part.trait_read at p) = S.then' (grade_whole S p) (if_so S (is_some (whole_read p)) (S.type_as (type_data None (tree.path_type at p))))
   grade_item_part (part.constant_read c) = grade_constant S c
   grade_item_part (part.lifetime_read l) = S.lifetime_as (lifetime_data l)
-  grade_item_part part.lifetime_made = S.lifetime_at None
+  grade_item_part (part.lifetime_made l) = S.lifetime_as (record { lifetime = l; from = None })
   grade_item_part (part.fault_told d) = S.fault d
   grade_item_part part.param_made = S.param
   grade_item_part part.lifetime_param_made = S.none

@@ -7,8 +7,9 @@ ghost use Rattle.hir_item_result.specs.Apart.{ItemsApart};
 ghost use Rattle.hir_item_result.specs.Exceeding.{RoomIsThere};
 ghost use Rattle.hir_item_result.specs.Fits.{FittingItems, ItemsFit, RefusedItems};
 ghost use Rattle.hir_item_result.specs.ItemResult.{ItemResults};
-ghost use Rattle.hir_item_result.specs.Once.{AliasesOnce, FunctionsOnce, ImplsOnce};
+ghost use Rattle.hir_item_result.specs.Once.{AliasesOnce, FunctionsOnce, GenericsOnce, ImplsOnce, TraitsOnce};
 ghost use Rattle.hir_item_result.specs.Roots.{FirstItemRoots, ItemRoots};
+ghost use Rattle.hir_item_result.specs.Stored.{FirstItemsStore, ItemsStore};
 ghost use Rattle.hir_item_result.specs.Words.{SameWords};
 
 /// Where no root is being lowered, each constant in an item is recorded as one, in the order in which its parts are read, and does what
@@ -50,9 +51,20 @@ pub fn items_read_back()
     ensures functions { FunctionsRead }
 {}
 
-/// What an item is answered with names types, and reaches through them others, each in one way only, and none that an expression or a
-/// pattern names.
+/// All types and lifetimes that lowering an item stores read back, in their order, as its parts say, in each later store: what is written, or
+/// what is made. So do those that nothing reaches: of each parameter the type that it is, and of each lifetime parameter its lifetime, which
+/// bears its name.
+pub fn items_store()
+    ensures from_any { ItemsStore }
+    ensures first { FirstItemsStore }
+{}
+
+/// What an item is answered with names types, its parameters and predicates do, and they reach through them others, each in one way only,
+/// and none that an expression or a pattern names: the default of a parameter, the type of a constant one, what a predicate is of, once
+/// for all that are of it, and its bound. Of what is asked of a parameter that an `impl` became nothing is said.
 pub fn answers_reach_once()
+    ensures generics { GenericsOnce }
+    ensures traits { TraitsOnce }
     ensures impls { ImplsOnce }
     ensures aliases { AliasesOnce }
     ensures functions { FunctionsOnce }

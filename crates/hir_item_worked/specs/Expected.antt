@@ -26,7 +26,7 @@ use Rattle.hir_meaning.specs.InnerWritten.{constant_body}
 use Rattle.hir_item_noted.specs.Fold.{Param, const_param, impl_param, type_param}
 use Rattle.hir_item_asked.specs.Fold as asked
 use Rattle.hir_item_asked.specs.Fold.{Asked, Asking, Target}
-use Rattle.hir_item_worked.specs.Read.{Read, Seen, a_fault}
+use Rattle.hir_item_worked.specs.Read.{Read, Seen, a_fault, type_made}
 
 abbrev pub text : List ℕ → Name
 text t = name.Text t
@@ -62,6 +62,10 @@ one_bound b = datum.more_bounds b datum.no_bounds
 abbrev pub parameter_from : Spot → ℕ → GenericDefId → TypeData
 parameter_from at n def = typed (Some (pointer at n)) (datum.parameter_shape def)
 
+-- the parameter that a written one is, which comes from no node
+abbrev pub parameter_made : GenericDefId → Seen
+parameter_made def = type_made (typed None (datum.parameter_shape def))
+
 -- an error from no node
 abbrev pub absent : TypeData
 absent = typed None datum.error_shape
@@ -71,21 +75,21 @@ only t = datum.more_types t datum.no_types
 
 -- ---- parameters
 
-abbrev pub plain_param : List ℕ → Param
-plain_param t = type_param (text t) provenance.TypeParamList datum.no_type []
+abbrev pub plain_param : GenericDefId → List ℕ → Param
+plain_param def t = type_param def (text t) provenance.TypeParamList datum.no_type []
 
-abbrev pub nameless_param : Param
-nameless_param = type_param name.Missing provenance.TypeParamList datum.no_type []
+abbrev pub nameless_param : GenericDefId → Param
+nameless_param def = type_param def name.Missing provenance.TypeParamList datum.no_type []
 
-abbrev pub default_param : List ℕ → TypeData → Param
-default_param t d = type_param (text t) provenance.TypeParamList (datum.some_type d) []
+abbrev pub default_param : GenericDefId → List ℕ → TypeData → Param
+default_param def t d = type_param def (text t) provenance.TypeParamList (datum.some_type d) []
 
 -- one that the `impl` at this node became, of this definition
 abbrev pub from_impl : GenericDefId → Pointer → Param
 from_impl def at = impl_param def at
 
-abbrev pub self_param : Param
-self_param = type_param (text (codes "Self")) provenance.TraitSelf datum.no_type []
+abbrev pub self_param : GenericDefId → Param
+self_param def = type_param def (text (codes "Self")) provenance.TraitSelf datum.no_type []
 
 abbrev pub const_alone : Name → TypeData → Param
 const_alone n t = const_param n t [] None []

@@ -24,7 +24,7 @@ use Rattle.hir_item_worked.specs.Trees.{disabling, dots_at, enabled, impl_by, li
 use Rattle.hir_item_worked.specs.Trees.{with_impl}
 use Rattle.hir_item_worked.specs.Read.{Read, Seen, Signed, a_bound, a_lifetime, a_param, a_type, function_seen, type_made}
 use Rattle.hir_item_worked.specs.Expected.{absent, args_of, bounded_by, data_with, from_impl, inactive, lifetime_from, named_data, of_impl}
-use Rattle.hir_item_worked.specs.Expected.{of_parameter, of_written, one_bound, only, parameter_from, plain_param, text}
+use Rattle.hir_item_worked.specs.Expected.{of_parameter, of_written, one_bound, only, parameter_from, parameter_made, plain_param, text}
 use Rattle.hir_item_worked.specs.ParamRows.{all_bounds, all_data}
 use Rattle.hir_item_worked.specs.ItemRows.{a_bound_at, b_of_never, never_of_b, t_of_a}
 
@@ -88,16 +88,17 @@ module _ (at : Spot) (def : GenericDefId) where
 
   -- `self`, `mut self`, `&self`, `&mut self`, `&'a self`, `&'a mut self`, `'a self`, `self: !`, and `&'a mut self: !`
   pub record ReadsReceivers : Type 0 where
-    pub plain : Receives (self_at 1 false false None None) self_type (type_made ∷ [])
-    pub mutable : Receives (self_at 1 false true None None) self_type (type_made ∷ [])
-    pub borrowed : Receives (self_at 1 true false None None) (self_behind None Shared) (type_made ∷ type_made ∷ [])
-    pub borrowed_mutable : Receives (self_at 1 true true None None) (self_behind None Mut) (type_made ∷ type_made ∷ [])
+    pub plain : Receives (self_at 1 false false None None) self_type (type_made self_type ∷ [])
+    pub mutable : Receives (self_at 1 false true None None) self_type (type_made self_type ∷ [])
+    pub borrowed : Receives (self_at 1 true false None None) (self_behind None Shared) (type_made self_type ∷ type_made (self_behind None Shared) ∷ [])
+    pub borrowed_mutable : Receives (self_at 1 true true None None) (self_behind None Mut)
+        (type_made self_type ∷ type_made (self_behind None Mut) ∷ [])
     pub named : Receives (self_at 1 true false behind_a None) (self_behind a_there Shared)
-        (type_made ∷ a_lifetime (lifetime_from at 2 (codes "'a")) ∷ type_made ∷ [])
+        (type_made self_type ∷ a_lifetime (lifetime_from at 2 (codes "'a")) ∷ type_made (self_behind a_there Shared) ∷ [])
     pub named_mutable : Receives (self_at 1 true true behind_a None) (self_behind a_there Mut)
-        (type_made ∷ a_lifetime (lifetime_from at 2 (codes "'a")) ∷ type_made ∷ [])
+        (type_made self_type ∷ a_lifetime (lifetime_from at 2 (codes "'a")) ∷ type_made (self_behind a_there Mut) ∷ [])
     pub unborrowed : Receives (self_at 1 false false behind_a None) self_type
-        (type_made ∷ a_lifetime (lifetime_from at 2 (codes "'a")) ∷ [])
+        (type_made self_type ∷ a_lifetime (lifetime_from at 2 (codes "'a")) ∷ [])
     pub with_type : Receives (self_at 1 false false None (Some (never_at 3))) (never_data at 3) (a_type (never_data at 3) ∷ [])
     pub all : Receives (self_at 1 true true behind_a (Some (never_at 3))) (never_data at 3) (a_type (never_data at 3) ∷ [])
 
@@ -117,7 +118,7 @@ module _ (at : Spot) (def : GenericDefId) where
   pub record ReadsArguments (by : CfgId) : Type 0 where
     pub variadic : FunctionReads def (enabled at)
         (given None (param_at 2 (Some (never_at 3)) ∷ param_at 4 None ∷ dots_at 5 (Some (impl_at 6 (bare (codes "B")))) ∷ []))
-        (of_parts (a_type (never_data at 3) ∷ type_made ∷ []))
+        (of_parts (a_type (never_data at 3) ∷ type_made absent ∷ []))
         (taking (datum.more_types (never_data at 3) (only absent)) false true)
     pub self_disabled : Disabled by
         (given (Some (self_at 1 false false None (Some (impl_at 6 (bare (codes "B")))))) (param_at 2 (Some (never_at 3)) ∷ []))
@@ -125,7 +126,7 @@ module _ (at : Spot) (def : GenericDefId) where
     pub one_disabled : Disabled by
         (given None (param_at 2 (Some (never_at 3)) ∷ param_at 1 (Some (impl_at 6 (bare (codes "B")))) ∷ param_at 4 None
         ∷ dots_at 5 None ∷ []))
-        (of_parts (inactive at 1 by ∷ a_type (never_data at 3) ∷ type_made ∷ []))
+        (of_parts (inactive at 1 by ∷ a_type (never_data at 3) ∷ type_made absent ∷ []))
         (taking (datum.more_types (never_data at 3) (only absent)) false true)
     pub behind_self : Disabled by
         (given (Some (self_at 2 false false None (Some (never_at 3))))
@@ -179,11 +180,11 @@ module _ (at : Spot) (def : GenericDefId) where
         (Some (param_list (Some (self_at 2 false false None (Some (impl_at 3 (bare (codes "B"))))))
         (param_at 4 (Some (impl_at 5 (bare (codes "B")))) ∷ []))) None false false)
         (record {
-          params = plain_param (codes "T") ∷ from_impl def (pointer at 3) ∷ from_impl def (pointer at 5) ∷ [];
+          params = plain_param def (codes "T") ∷ from_impl def (pointer at 3) ∷ from_impl def (pointer at 5) ∷ [];
           lifetimes = [];
           asks = of_impl def 1 (pointer at 3) (bounded_by (named_data at 9 (codes "B")))
               ∷ of_impl def 2 (pointer at 5) (bounded_by (named_data at 9 (codes "B"))) ∷ [];
-          parts = a_param ∷ type_made ∷ a_type (parameter_from at 3 def) ∷ a_type (parameter_from at 5 def) ∷ [];
+          parts = a_param ∷ parameter_made def ∷ a_type (parameter_from at 3 def) ∷ a_type (parameter_from at 5 def) ∷ [];
         })
         (taking (datum.more_types (parameter_from at 3 def) (only (parameter_from at 5 def))) true false)
 
@@ -200,28 +201,30 @@ module _ (at : Spot) (def : GenericDefId) where
   -- `fn()`, `fn() ->`, `fn() -> !`, `fn() -> impl B`, and `fn() -> impl A<impl B>`
   pub record ReadsReturned : Type 0 where
     pub nothing : Returns None datum.no_type []
-    pub typeless : Returns (Some None) (datum.some_type absent) (type_made ∷ [])
+    pub typeless : Returns (Some None) (datum.some_type absent) (type_made absent ∷ [])
     pub never : Returns (Some (Some (never_at 1))) (datum.some_type (never_data at 1)) (a_type (never_data at 1) ∷ [])
     pub of_impl : Returns (Some (Some (impl_at 1 (bare (codes "B"))))) (datum.some_type (impl_data at 1 (codes "B") datum.no_args true))
         (a_type (impl_data at 1 (codes "B") datum.no_args true) ∷ [])
     pub nested : Returns (Some (Some (impl_at 4 with_impl))) (datum.some_type with_error) (a_type with_error ∷ [])
 
--- `impl ::core::m::t<g = given>`
-abbrev pub coroutine_of : List ℕ → List ℕ → List ℕ → TypeData → TypeData
-coroutine_of m t g given =
+-- `::core::m::t<g = given>`, and an `impl` of it
+abbrev pub trait_of : List ℕ → List ℕ → List ℕ → TypeData → TypeData
+trait_of m t g given =
     let last : NamesData = datum.more_names (text t) (one_binding g given) datum.no_names in
     let names = datum.more_names (text (codes "core")) datum.no_args (datum.more_names (text m) datum.no_args last) in
-    typed None (datum.impl_shape (one_bound (bounded_by
-    (typed None (datum.path_shape (datum.path_data kind.Abs datum.no_type names false))))))
+    typed None (datum.path_shape (datum.path_data kind.Abs datum.no_type names false))
 
-abbrev pub future_of : TypeData → TypeData
-future_of t = coroutine_of (codes "future") (codes "Future") (codes "Output") t
+abbrev pub impl_of_trait : TypeData → TypeData
+impl_of_trait t = typed None (datum.impl_shape (one_bound (bounded_by t)))
 
-abbrev pub iterator_of : TypeData → TypeData
-iterator_of t = coroutine_of (codes "iter") (codes "Iterator") (codes "Item") t
+abbrev pub future_trait : TypeData → TypeData
+future_trait t = trait_of (codes "future") (codes "Future") (codes "Output") t
 
-abbrev pub async_iterator_of : TypeData → TypeData
-async_iterator_of t = coroutine_of (codes "async_iter") (codes "AsyncIterator") (codes "Item") t
+abbrev pub iterator_trait : TypeData → TypeData
+iterator_trait t = trait_of (codes "iter") (codes "Iterator") (codes "Item") t
+
+abbrev pub async_iterator_trait : TypeData → TypeData
+async_iterator_trait t = trait_of (codes "async_iter") (codes "AsyncIterator") (codes "Item") t
 
 abbrev pub unit_type : TypeData
 unit_type = typed None (datum.tuple_shape datum.no_types)
@@ -233,19 +236,21 @@ module _ (at : Spot) (def : GenericDefId) where
 
   -- of a function with these words in front, without `->`, with that alone, with `!`, and with `impl B`
   pub record ReadsCoroutine (is_async is_gen : Bool) (of : TypeData → TypeData) : Type 0 where
-    pub nothing : CoroutineReads is_async is_gen None (of unit_type) (type_made ∷ type_made ∷ type_made ∷ [])
-    pub typeless : CoroutineReads is_async is_gen (Some None) (of absent) (type_made ∷ type_made ∷ type_made ∷ [])
-    pub never : CoroutineReads is_async is_gen (Some (Some (never_at 1))) (of (never_data at 1))
-        (a_type (never_data at 1) ∷ type_made ∷ type_made ∷ [])
-    pub of_impl : CoroutineReads is_async is_gen (Some (Some (impl_at 1 (bare (codes "B")))))
-        (of (impl_data at 1 (codes "B") datum.no_args true))
-        (a_type (impl_data at 1 (codes "B") datum.no_args true) ∷ type_made ∷ type_made ∷ [])
+    pub nothing : CoroutineReads is_async is_gen None (impl_of_trait (of unit_type))
+        (type_made unit_type ∷ type_made (of unit_type) ∷ type_made (impl_of_trait (of unit_type)) ∷ [])
+    pub typeless : CoroutineReads is_async is_gen (Some None) (impl_of_trait (of absent))
+        (type_made absent ∷ type_made (of absent) ∷ type_made (impl_of_trait (of absent)) ∷ [])
+    pub never : CoroutineReads is_async is_gen (Some (Some (never_at 1))) (impl_of_trait (of (never_data at 1)))
+        (a_type (never_data at 1) ∷ type_made (of (never_data at 1)) ∷ type_made (impl_of_trait (of (never_data at 1))) ∷ [])
+    pub of_impl : let t = impl_data at 1 (codes "B") datum.no_args true in
+        CoroutineReads is_async is_gen (Some (Some (impl_at 1 (bare (codes "B"))))) (impl_of_trait (of t))
+        (a_type t ∷ type_made (of t) ∷ type_made (impl_of_trait (of t)) ∷ [])
 
   -- `async fn`, `gen fn`, and `async gen fn`
   pub record ReadsCoroutines : Type 0 where
-    pub async_ : ReadsCoroutine true false future_of
-    pub gen_ : ReadsCoroutine false true iterator_of
-    pub async_gen : ReadsCoroutine true true async_iterator_of
+    pub async_ : ReadsCoroutine true false future_trait
+    pub gen_ : ReadsCoroutine false true iterator_trait
+    pub async_gen : ReadsCoroutine true true async_iterator_trait
 
 -- ---- all in one
 
@@ -256,12 +261,12 @@ WholeFunction at def = FunctionReads def (enabled at)
     (Some (param_list (Some (self_at 3 true false None None)) (param_at 4 (Some (impl_at 5 (bare (codes "B")))) ∷ [])))
     (Some (Some (never_at 8))) false false)
     (record {
-      params = plain_param (codes "T") ∷ from_impl def (pointer at 5) ∷ [];
+      params = plain_param def (codes "T") ∷ from_impl def (pointer at 5) ∷ [];
       lifetimes = [];
       asks = of_parameter def 0 (a_bound_at at 7) ∷ of_written (never_data at 1) (b_of_never at)
           ∷ of_impl def 1 (pointer at 5) (bounded_by (named_data at 9 (codes "B"))) ∷ [];
-      parts = a_param ∷ type_made ∷ a_bound (a_bound_at at 7) ∷ a_type (never_data at 1) ∷ a_bound (b_of_never at)
-          ∷ type_made ∷ type_made ∷ a_type (parameter_from at 5 def) ∷ a_type (never_data at 8) ∷ [];
+      parts = a_param ∷ parameter_made def ∷ a_bound (a_bound_at at 7) ∷ a_type (never_data at 1) ∷ a_bound (b_of_never at)
+          ∷ type_made self_type ∷ type_made (self_behind None Shared) ∷ a_type (parameter_from at 5 def) ∷ a_type (never_data at 8) ∷ [];
     })
     (record {
       args = datum.more_types (self_behind None Shared) (only (parameter_from at 5 def));

@@ -27,7 +27,7 @@ use Rattle.hir_item_worked.specs.Trees.{broken_named, enabled, path_at, trait_at
 use Rattle.hir_item_worked.specs.Read.{Read, Seen, a_bound, a_fault, a_param, a_trait, a_type, alias_seen, impl_seen}
 use Rattle.hir_item_worked.specs.Read.{trait_read, type_made}
 use Rattle.hir_item_worked.specs.Expected.{absent, args_of, bounded_by, data_with, from_impl, named_data, of_impl, of_parameter, of_written}
-use Rattle.hir_item_worked.specs.Expected.{one_bound, parameter_from, plain_param, self_param}
+use Rattle.hir_item_worked.specs.Expected.{one_bound, parameter_from, parameter_made, plain_param, self_param}
 
 module _ (at : Spot) where
   -- with a parameter, and with an `impl` that stays
@@ -53,8 +53,8 @@ module _ (at : Spot) where
   abbrev pub b_of_never : BoundData
   b_of_never = bounded_by (named_data at 2 (codes "B"))
 
-  abbrev pub t_seen : List Seen
-  t_seen = a_param ∷ type_made ∷ a_bound (a_bound_at at 7) ∷ []
+  abbrev pub t_seen : GenericDefId → List Seen
+  t_seen def = a_param ∷ parameter_made def ∷ a_bound (a_bound_at at 7) ∷ []
 
 -- ---- traits
 
@@ -69,28 +69,28 @@ module _ (at : Spot) (def : GenericDefId) where
   pub record ReadsTraits : Type 0 where
     pub bounded : TraitReads (trait_of (trait_at 3 (bare (codes "A")) ∷ []) None None)
         (record {
-          params = self_param ∷ [];
+          params = self_param def ∷ [];
           lifetimes = [];
           asks = of_parameter def 0 (a_bound_at at 3) ∷ [];
-          parts = a_param ∷ type_made ∷ a_bound (a_bound_at at 3) ∷ [];
+          parts = a_param ∷ parameter_made def ∷ a_bound (a_bound_at at 3) ∷ [];
         })
     pub whole : TraitReads (trait_of (trait_at 4 with_impl ∷ []) (Some t_of_a) (Some never_of_b))
         (record {
-          params = self_param ∷ from_impl def (pointer at 5) ∷ plain_param (codes "T") ∷ [];
+          params = self_param def ∷ from_impl def (pointer at 5) ∷ plain_param def (codes "T") ∷ [];
           lifetimes = [];
           asks = of_impl def 1 (pointer at 5) (bounded_by (named_data at 9 (codes "B")))
               ∷ of_parameter def 0 (bounded_by (with_parameter at def)) ∷ of_parameter def 2 (a_bound_at at 7)
               ∷ of_written (never_data at 1) (b_of_never at) ∷ [];
-          parts = a_param ∷ type_made ∷ a_bound (bounded_by (with_parameter at def))
-              ∷ a_param ∷ type_made ∷ a_bound (a_bound_at at 7)
+          parts = a_param ∷ parameter_made def ∷ a_bound (bounded_by (with_parameter at def))
+              ∷ a_param ∷ parameter_made def ∷ a_bound (a_bound_at at 7)
               ∷ a_type (never_data at 1) ∷ a_bound (b_of_never at) ∷ [];
         })
     pub boundless : TraitReads (trait_of [] (Some t_of_a) None)
         (record {
-          params = self_param ∷ plain_param (codes "T") ∷ [];
+          params = self_param def ∷ plain_param def (codes "T") ∷ [];
           lifetimes = [];
           asks = of_parameter def 1 (a_bound_at at 7) ∷ [];
-          parts = a_param ∷ type_made ∷ t_seen at;
+          parts = a_param ∷ parameter_made def ∷ t_seen at def;
         })
 
 -- ---- implementations
@@ -114,14 +114,14 @@ module _ (at : Spot) (def : GenericDefId) where
   pub record ReadsImplementations : Type 0 where
     pub whole : ImplReads (impl_of (Some (never_at 3)) (Some (path_at 4 with_impl)) (Some t_of_a) (Some never_of_b))
         (record {
-          params = plain_param (codes "T") ∷ [];
+          params = plain_param def (codes "T") ∷ [];
           lifetimes = [];
           asks = of_parameter def 0 (a_bound_at at 7) ∷ of_written (never_data at 1) (b_of_never at) ∷ [];
           parts = a_type (never_data at 3) ∷ a_trait (Some (with_opaque at))
-              ∷ a_param ∷ type_made ∷ a_bound (a_bound_at at 7) ∷ a_type (never_data at 1) ∷ a_bound (b_of_never at) ∷ [];
+              ∷ a_param ∷ parameter_made def ∷ a_bound (a_bound_at at 7) ∷ a_type (never_data at 1) ∷ a_bound (b_of_never at) ∷ [];
         })
         (never_data at 3, Some (with_opaque at))
-    pub lacking : ImplReads (impl_of None None None None) (of_parts (type_made ∷ [])) (absent, None)
+    pub lacking : ImplReads (impl_of None None None None) (of_parts (type_made absent ∷ [])) (absent, None)
     -- `impl B`, which is no type that has an implementation
     pub of_impl : ImplReads (impl_of (Some (impl_at 3 (bare (codes "B")))) None None None)
         (of_parts (a_type (error_data at 3) ∷ [])) (error_data at 3, None)
@@ -148,10 +148,10 @@ module _ (at : Spot) (def : GenericDefId) where
   -- `type X<T: A>: A<impl B> where !: B`, and these parts behind
   abbrev pub in_front : List Seen → Read
   in_front xs = record {
-    params = plain_param (codes "T") ∷ [];
+    params = plain_param def (codes "T") ∷ [];
     lifetimes = [];
     asks = of_parameter def 0 (a_bound_at at 7) ∷ of_written (never_data at 1) (b_of_never at) ∷ [];
-    parts = a_bound (bounded_by (with_opaque at)) ∷ a_param ∷ type_made ∷ a_bound (a_bound_at at 7)
+    parts = a_bound (bounded_by (with_opaque at)) ∷ a_param ∷ parameter_made def ∷ a_bound (a_bound_at at 7)
         ∷ a_type (never_data at 1) ∷ a_bound (b_of_never at) ∷ xs;
   }
 

@@ -29,7 +29,7 @@ use Rattle.hir_item_worked.specs.Read.{a_param, a_lifetime_param, Seen}
 use Rattle.hir_item_worked.specs.Expected.{text, named_data, data_with, args_of, lifetime_from, bounded_by, parameter_from, absent}
 use Rattle.hir_item_worked.specs.Expected.{plain_param, default_param, from_impl, const_alone, const_by, const_with, early, of_parameter}
 use Rattle.hir_item_worked.specs.Expected.{of_impl}
-use Rattle.hir_item_worked.specs.Expected.{nameless_param, of_bound_type, of_written, outlives, inactive, fault_alone}
+use Rattle.hir_item_worked.specs.Expected.{nameless_param, parameter_made, of_bound_type, of_written, outlives, inactive, fault_alone}
 
 module _ (at : Spot) (def : GenericDefId) where
   -- these parameters and this where clause
@@ -45,20 +45,20 @@ module _ (at : Spot) (def : GenericDefId) where
   -- `<T>`, one without a name, and `<T: A = !>`
   pub record ReadsTypeParams : Type 0 where
     pub named : Reads (type_param_at 1 (Some (codes "T")) [] None ∷ []) []
-        (record { params = plain_param (codes "T") ∷ []; lifetimes = []; asks = []; parts = a_param ∷ type_made ∷ [] })
+        (record { params = plain_param def (codes "T") ∷ []; lifetimes = []; asks = []; parts = a_param ∷ parameter_made def ∷ [] })
     pub nameless : Reads (type_param_at 1 None [] None ∷ []) []
         (record {
-          params = nameless_param ∷ [];
+          params = nameless_param def ∷ [];
           lifetimes = [];
           asks = [];
-          parts = a_param ∷ type_made ∷ [];
+          parts = a_param ∷ parameter_made def ∷ [];
         })
     pub whole : Reads (type_param_at 1 (Some (codes "T")) (trait_at 3 (bare (codes "A")) ∷ []) (Some (never_at 2)) ∷ []) []
         (record {
-          params = default_param (codes "T") (never_data at 2) ∷ [];
+          params = default_param def (codes "T") (never_data at 2) ∷ [];
           lifetimes = [];
           asks = of_parameter def 0 (bounded_by (named_data at 3 (codes "A"))) ∷ [];
-          parts = a_type (never_data at 2) ∷ a_param ∷ type_made ∷ a_bound (bounded_by (named_data at 3 (codes "A"))) ∷ [];
+          parts = a_type (never_data at 2) ∷ a_param ∷ parameter_made def ∷ a_bound (bounded_by (named_data at 3 (codes "A"))) ∷ [];
         })
 
   -- ---- constants
@@ -77,7 +77,7 @@ module _ (at : Spot) (def : GenericDefId) where
           parts = a_type (never_data at 2) ∷ a_param ∷ [];
         })
     pub nameless : Reads (const_param_at 1 None None None ∷ []) []
-        (record { params = const_alone name.Missing absent ∷ []; lifetimes = []; asks = []; parts = type_made ∷ a_param ∷ [] })
+        (record { params = const_alone name.Missing absent ∷ []; lifetimes = []; asks = []; parts = type_made absent ∷ a_param ∷ [] })
     pub whole : Reads (const_param_at 1 (Some (codes "N")) (Some (never_at 2)) (Some (constant_at 3)) ∷ []) []
         (record {
           params = const_with (text (codes "N")) (never_data at 2) (pointer at 3) ∷ [];
@@ -106,7 +106,7 @@ module _ (at : Spot) (def : GenericDefId) where
     pub placeholder : NamelessLifetime (codes "'_") lifetime.Placeholder
     pub lone : NamelessLifetime (codes "'") lifetime.Error
     pub lacking : Reads (lifetime_param_at 1 None (impl_inside ∷ []) ∷ []) []
-        (record { params = []; lifetimes = []; asks = []; parts = lifetime_made ∷ [] })
+        (record { params = []; lifetimes = []; asks = []; parts = lifetime_made (record { lifetime = lifetime.Placeholder; from = None }) ∷ [] })
 
   -- ---- order, and what is disabled
 
@@ -118,13 +118,13 @@ module _ (at : Spot) (def : GenericDefId) where
       ∷ const_param_at 4 (Some (codes "N")) (Some (never_at 5)) None
       ∷ type_param_at 6 (Some (codes "U")) (trait_at 7 (bare (codes "A")) ∷ []) None ∷ []) []
       (record {
-        params = plain_param (codes "T") ∷ const_alone (text (codes "N")) (never_data at 5) ∷ plain_param (codes "U") ∷ [];
+        params = plain_param def (codes "T") ∷ const_alone (text (codes "N")) (never_data at 5) ∷ plain_param def (codes "U") ∷ [];
         lifetimes = early (codes "'a") ∷ [];
         asks = of_parameter def 2 (bounded_by (named_data at 7 (codes "A"))) ∷ [];
         parts = a_lifetime (lifetime_from at 2 (codes "'a")) ∷ a_lifetime_param
-            ∷ a_param ∷ type_made
+            ∷ a_param ∷ parameter_made def
             ∷ a_type (never_data at 5) ∷ a_param
-            ∷ a_param ∷ type_made ∷ a_bound (bounded_by (named_data at 7 (codes "A"))) ∷ [];
+            ∷ a_param ∷ parameter_made def ∷ a_bound (bounded_by (named_data at 7 (codes "A"))) ∷ [];
       })
 
   -- a type parameter with bound and default, a constant with type and default, and a lifetime with a bound, each disabled; and the first
@@ -138,10 +138,10 @@ module _ (at : Spot) (def : GenericDefId) where
     pub before : ReadsBehind by (type_param_at 1 (Some (codes "T")) (impl_inside ∷ []) None
         ∷ type_param_at 2 (Some (codes "U")) (trait_at 3 (bare (codes "A")) ∷ []) None ∷ [])
         (record {
-          params = plain_param (codes "U") ∷ [];
+          params = plain_param def (codes "U") ∷ [];
           lifetimes = [];
           asks = of_parameter def 0 (bounded_by (named_data at 3 (codes "A"))) ∷ [];
-          parts = inactive at 1 by ∷ a_param ∷ type_made ∷ a_bound (bounded_by (named_data at 3 (codes "A"))) ∷ [];
+          parts = inactive at 1 by ∷ a_param ∷ parameter_made def ∷ a_bound (bounded_by (named_data at 3 (codes "A"))) ∷ [];
         })
 
   -- ---- bounds
@@ -169,11 +169,11 @@ module _ (at : Spot) (def : GenericDefId) where
   pub record AsksByBounds : Type 0 where
     pub of_type : Reads (type_param_at 1 (Some (codes "T")) all_bounds None ∷ []) []
         (record {
-          params = plain_param (codes "T") ∷ [];
+          params = plain_param def (codes "T") ∷ [];
           lifetimes = [];
           asks = of_parameter def 0 (bounded_by (named_data at 2 (codes "A"))) ∷ of_parameter def 0 maybe_data
               ∷ of_parameter def 0 (datum.lifetime_bound (lifetime_from at 4 (codes "'a"))) ∷ of_parameter def 0 for_data ∷ [];
-          parts = a_param ∷ type_made ∷ all_read;
+          parts = a_param ∷ parameter_made def ∷ all_read;
         })
     pub of_lifetime : Reads (lifetime_param_at 1 (Some (lifetime_at 1 (codes "'c"))) all_bounds ∷ []) []
         (record {
@@ -216,11 +216,11 @@ module _ (at : Spot) (def : GenericDefId) where
   ParametersFirst = Reads (type_param_at 1 (Some (codes "T")) bounded None ∷ [])
       (where_of (Some (never_at 3)) None None (trait_at 4 (bare (codes "B")) ∷ []) ∷ [])
       (record {
-        params = plain_param (codes "T") ∷ [];
+        params = plain_param def (codes "T") ∷ [];
         lifetimes = [];
         asks = of_parameter def 0 (bounded_by (named_data at 2 (codes "A")))
             ∷ of_written (never_data at 3) (bounded_by (named_data at 4 (codes "B"))) ∷ [];
-        parts = a_param ∷ type_made ∷ a_bound (bounded_by (named_data at 2 (codes "A")))
+        parts = a_param ∷ parameter_made def ∷ a_bound (bounded_by (named_data at 2 (codes "A")))
             ∷ a_type (never_data at 3) ∷ a_bound (bounded_by (named_data at 4 (codes "B"))) ∷ [];
       })
 
@@ -240,12 +240,12 @@ module _ (at : Spot) (def : GenericDefId) where
     pub in_bound : Reads (type_param_at 1 (Some (codes "T")) (impl_inside ∷ []) None ∷ type_param_at 2 (Some (codes "U")) bounded None ∷ [])
         []
         (record {
-          params = plain_param (codes "T") ∷ from_impl def (pointer at 5) ∷ plain_param (codes "U") ∷ [];
+          params = plain_param def (codes "T") ∷ from_impl def (pointer at 5) ∷ plain_param def (codes "U") ∷ [];
           lifetimes = [];
           asks = of_impl def 1 (pointer at 5) (bounded_by (named_data at 9 (codes "B"))) ∷ of_parameter def 0 with_parameter
               ∷ of_parameter def 2 (bounded_by (named_data at 2 (codes "A"))) ∷ [];
-          parts = a_param ∷ type_made ∷ a_bound with_parameter
-              ∷ a_param ∷ type_made ∷ a_bound (bounded_by (named_data at 2 (codes "A"))) ∷ [];
+          parts = a_param ∷ parameter_made def ∷ a_bound with_parameter
+              ∷ a_param ∷ parameter_made def ∷ a_bound (bounded_by (named_data at 2 (codes "A"))) ∷ [];
         })
     pub of_lifetime : Reads (lifetime_param_at 1 (Some (lifetime_at 1 (codes "'c"))) (impl_inside ∷ []) ∷ []) []
         (record {
@@ -270,10 +270,10 @@ module _ (at : Spot) (def : GenericDefId) where
         })
     pub in_default : Reads (type_param_at 1 (Some (codes "T")) [] (Some (impl_at 2 (bare (codes "B")))) ∷ []) []
         (record {
-          params = default_param (codes "T") (error_data at 2) ∷ [];
+          params = default_param def (codes "T") (error_data at 2) ∷ [];
           lifetimes = [];
           asks = [];
-          parts = a_type (error_data at 2) ∷ a_param ∷ type_made ∷ [];
+          parts = a_type (error_data at 2) ∷ a_param ∷ parameter_made def ∷ [];
         })
     pub in_const : Reads (const_param_at 1 (Some (codes "N")) (Some (impl_at 2 (bare (codes "B")))) None ∷ []) []
         (record {

@@ -22,14 +22,14 @@ use Rattle.hir_item_result.specs.Parts.{Part, alias_parts, function_parts, gener
 pub data Seen : Type 0 where
   -- a type, and one that comes from no node
   a_type : TypeData → Seen
-  type_made : Seen
+  type_made : TypeData → Seen
   a_bound : BoundData → Seen
   -- none where its path is refused
   a_trait : Option TypeData → Seen
   -- by the node of what it becomes
   a_constant : Option Site → Seen
   a_lifetime : LifetimeData → Seen
-  lifetime_made : Seen
+  lifetime_made : LifetimeData → Seen
   a_fault : ExpressionStoreDiagnostics → Seen
   -- a parameter that is a type or a constant, and one that is a lifetime
   a_param : Seen
@@ -37,12 +37,12 @@ pub data Seen : Type 0 where
 
 abbrev pub seen : Part → Seen
 seen (part.type_read t) = a_type (type_data None t)
-seen part.type_made = type_made
+seen (part.type_made shape) = type_made (typed None shape)
 seen (part.bound_read b) = a_bound (bound_data b)
 seen (part.trait_read at p) = a_trait (option_map (λ d. typed (Some at) (datum.path_shape d)) (written_path p))
 seen (part.constant_read c) = a_constant (constant_site c)
 seen (part.lifetime_read l) = a_lifetime (lifetime_data l)
-seen part.lifetime_made = lifetime_made
+seen (part.lifetime_made l) = lifetime_made (record { lifetime = l; from = None })
 seen (part.fault_told d) = a_fault d
 seen part.param_made = a_param
 seen part.lifetime_param_made = a_lifetime_param
@@ -62,20 +62,20 @@ read_off n lifetimes x parts = record { params = n.params; lifetimes = lifetimes
 
 module _ (def : GenericDefId) where
   abbrev pub generics_read : Generics → Read
-  generics_read g = let n = noted_in_generics g in read_off n (all_early n) (asked_in_generics def g) (generics_parts g)
+  generics_read g = let n = noted_in_generics def g in read_off n (all_early n) (asked_in_generics def g) (generics_parts def g)
 
   abbrev pub trait_read : Trait → Read
-  trait_read x = let n = noted_in_trait x in read_off n (all_early n) (asked_in_trait def x) (trait_parts x)
+  trait_read x = let n = noted_in_trait def x in read_off n (all_early n) (asked_in_trait def x) (trait_parts def x)
 
   abbrev pub impl_read : Impl → Read
-  impl_read x = let n = noted_in_impl x in read_off n (all_early n) (asked_in_impl def x) (impl_parts x)
+  impl_read x = let n = noted_in_impl def x in read_off n (all_early n) (asked_in_impl def x) (impl_parts def x)
 
   abbrev pub alias_read : Alias → Read
-  alias_read x = let n = noted_in_alias x in read_off n (all_early n) (asked_in_alias def x) (alias_parts x)
+  alias_read x = let n = noted_in_alias def x in read_off n (all_early n) (asked_in_alias def x) (alias_parts def x)
 
   -- of a function, whose lifetimes may be late bound
   abbrev pub function_read : Function → Read
-  function_read x = let n = noted_in_function x in read_off n (by_kind n) (asked_in_function def x) (function_parts x)
+  function_read x = let n = noted_in_function def x in read_off n (by_kind n) (asked_in_function def x) (function_parts def x)
 
 -- ---- what is answered of an item
 

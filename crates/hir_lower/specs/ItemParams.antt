@@ -25,16 +25,16 @@ pub record ParamsAre (store : Store) (source_map : SourceMap) (n : ItemNoting) (
 
 module _ (store : Store) (source_map : SourceMap) (def : GenericDefId) where
   abbrev pub GenericsHave : Generics → GenericParams → Type 0
-  GenericsHave x g = let n = noted_in_generics x in ParamsAre store source_map n (all_early n) (asked_in_generics def x 0).asks g
+  GenericsHave x g = let n = noted_in_generics def x in ParamsAre store source_map n (all_early n) (asked_in_generics def x 0).asks g
 
   abbrev pub ImplHas : Impl → GenericParams → Type 0
-  ImplHas x g = let n = noted_in_impl x in ParamsAre store source_map n (all_early n) (asked_in_impl def x 0).asks g
+  ImplHas x g = let n = noted_in_impl def x in ParamsAre store source_map n (all_early n) (asked_in_impl def x 0).asks g
 
   abbrev pub TraitHas : Trait → GenericParams → Type 0
-  TraitHas x g = let n = noted_in_trait x in ParamsAre store source_map n (all_early n) (asked_in_trait def x 0).asks g
+  TraitHas x g = let n = noted_in_trait def x in ParamsAre store source_map n (all_early n) (asked_in_trait def x 0).asks g
 
   abbrev pub AliasHas : Alias → GenericParams → Type 0
-  AliasHas x g = let n = noted_in_alias x in ParamsAre store source_map n (all_early n) (asked_in_alias def x 0).asks g
+  AliasHas x g = let n = noted_in_alias def x in ParamsAre store source_map n (all_early n) (asked_in_alias def x 0).asks g
 
   abbrev pub FunctionHas : Function → GenericParams → Type 0
-  FunctionHas x g = let n = noted_in_function x in ParamsAre store source_map n (by_kind n) (asked_in_function def x 0).asks g
+  FunctionHas x g = let n = noted_in_function def x in ParamsAre store source_map n (by_kind n) (asked_in_function def x 0).asks g

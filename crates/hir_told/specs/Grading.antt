@@ -32,9 +32,6 @@ pub record Grading {ℓ} : Type (ℓ + 1) where
   -- ---- what is stored: a type and a lifetime that read back so
   pub type_as : TypeData → G
   pub lifetime_as : LifetimeData → G
-  -- one that an item has and no tree, of which no more is told than its node
-  pub type_at : Option Pointer → G
-  pub lifetime_at : Option Pointer → G
   -- of a node, where it came from one
   pub pat_at : Option Pointer → G
   -- a pattern to which no written node leads, and a node that is assigned to and leads to the last one

@@ -21,8 +21,6 @@ module _ {X : Type 0} (of_faults : List ExpressionStoreDiagnostics → List X) (
     then' = λ D E. λ ss. D ss ++ E ss;
     type_as = λ t. nothing;
     lifetime_as = λ l. nothing;
-    type_at = λ at. nothing;
-    lifetime_at = λ at. nothing;
     pat_at = λ at. nothing;
     made_pat_at = λ at. nothing;
     target_way = λ at. nothing;

@@ -24,8 +24,6 @@ stored_data = record {
   then' = λ a b. and_then a b;
   type_as = λ t. record { types = t ∷ []; lifetimes = [] };
   lifetime_as = λ l. record { types = []; lifetimes = l ∷ [] };
-  type_at = λ at. no_data;
-  lifetime_at = λ at. no_data;
   pat_at = λ at. no_data;
   made_pat_at = λ at. no_data;
   target_way = λ at. no_data;

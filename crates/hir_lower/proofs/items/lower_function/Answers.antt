@@ -41,7 +41,7 @@ returns-clause-params g c =
     let env = g.E.LowerEnv.answers c.args.db.now in
     let def = definition.FunctionId c.args.id in
     let x = read_function env c.args.item.file_id c.args.inside c.args.id c.args.item.value.now in
-    let n = noted_in_function x in
+    let n = noted_in_function def x in
     let asks = asked_in_function def x in
     from_if (lower_function def x) of_kinds 4294967295 (λ r. signature r.3 r.4 r.5 r.6) (λ r. r.2) (λ r. r.0) (λ r. r.1)
     (λ ps s m a. ParamsAre s m n (by_kind n) (asks 0).asks ps)
@@ -87,7 +87,7 @@ returns-clause-params_in_range g c =
     let env = g.E.LowerEnv.answers c.args.db.now in
     let def = definition.FunctionId c.args.id in
     let x = read_function env c.args.item.file_id c.args.inside c.args.id c.args.item.value.now in
-    let n = noted_in_function x in
+    let n = noted_in_function def x in
     let asks = asked_in_function def x in
     from_if (lower_function def x) of_kinds 4294967295 (λ r. signature r.3 r.4 r.5 r.6) (λ r. r.2) (λ r. r.0) (λ r. r.1)
     (λ ps s m a. Within s (past_params ps))

@@ -38,7 +38,7 @@ returns-clause-params g c =
     let def = c.args.def in
     let ps = option_copied c.args.param_list in
     let x = read_generics env c.args.file_id c.args.inside c.args.mode def ps (option_copied c.args.where_clause) in
-    let n = noted_in_generics x in
+    let n = noted_in_generics def x in
     let asks = asked_in_generics def x in
     from_if (lower_generics def x) as_noted 4294967295 (λ r. tt) (λ r. r.1) (λ r. r.0) (λ r. r.2)
     (λ ps s m a. ParamsAre s m n (all_early n) (asks 0).asks ps)
@@ -79,7 +79,7 @@ returns-clause-params_in_range g c =
     let def = c.args.def in
     let ps = option_copied c.args.param_list in
     let x = read_generics env c.args.file_id c.args.inside c.args.mode def ps (option_copied c.args.where_clause) in
-    let n = noted_in_generics x in
+    let n = noted_in_generics def x in
     let asks = asked_in_generics def x in
     from_if (lower_generics def x) as_noted 4294967295 (λ r. tt) (λ r. r.1) (λ r. r.0) (λ r. r.2)
     (λ ps s m a. Within s (past_params ps))

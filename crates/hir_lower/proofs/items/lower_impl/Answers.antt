@@ -40,7 +40,7 @@ returns-clause-params g c =
     let env = g.E.LowerEnv.answers c.args.db.now in
     let def = definition.ImplId c.args.id in
     let x = read_impl env c.args.item.file_id c.args.inside c.args.id c.args.item.value.now in
-    let n = noted_in_impl x in
+    let n = noted_in_impl def x in
     let asks = asked_in_impl def x in
     from_if (lower_impl def x) as_noted 4294967295 (λ r. (r.2, r.3)) (λ r. r.4) (λ r. r.0) (λ r. r.1)
     (λ ps s m a. ParamsAre s m n (all_early n) (asks 0).asks ps)
@@ -86,7 +86,7 @@ returns-clause-params_in_range g c =
     let env = g.E.LowerEnv.answers c.args.db.now in
     let def = definition.ImplId c.args.id in
     let x = read_impl env c.args.item.file_id c.args.inside c.args.id c.args.item.value.now in
-    let n = noted_in_impl x in
+    let n = noted_in_impl def x in
     let asks = asked_in_impl def x in
     from_if (lower_impl def x) as_noted 4294967295 (λ r. (r.2, r.3)) (λ r. r.4) (λ r. r.0) (λ r. r.1)
     (λ ps s m a. Within s (past_params ps))

@@ -36,7 +36,7 @@ returns-clause-params g c =
     let env = g.E.LowerEnv.answers c.args.db.now in
     let def = definition.TraitId c.args.id in
     let x = read_trait env c.args.item.file_id c.args.inside c.args.id c.args.item.value.now in
-    let n = noted_in_trait x in
+    let n = noted_in_trait def x in
     let asks = asked_in_trait def x in
     from_if (lower_trait def x) as_noted 4294967295 (λ r. tt) (λ r. r.2) (λ r. r.0) (λ r. r.1)
     (λ ps s m a. ParamsAre s m n (all_early n) (asks 0).asks ps)
@@ -73,7 +73,7 @@ returns-clause-params_in_range g c =
     let env = g.E.LowerEnv.answers c.args.db.now in
     let def = definition.TraitId c.args.id in
     let x = read_trait env c.args.item.file_id c.args.inside c.args.id c.args.item.value.now in
-    let n = noted_in_trait x in
+    let n = noted_in_trait def x in
     let asks = asked_in_trait def x in
     from_if (lower_trait def x) as_noted 4294967295 (λ r. tt) (λ r. r.2) (λ r. r.0) (λ r. r.1)
     (λ ps s m a. Within s (past_params ps))

@@ -40,7 +40,7 @@ returns-clause-params g c =
     let env = g.E.LowerEnv.answers c.args.db.now in
     let def = definition.TypeAliasId c.args.id in
     let x = read_alias env c.args.item.file_id c.args.container c.args.id c.args.item.value.now in
-    let n = noted_in_alias x in
+    let n = noted_in_alias def x in
     let asks = asked_in_alias def x in
     from_if (lower_alias def x) as_noted 4294967295 (λ r. (r.3, r.4)) (λ r. r.2) (λ r. r.0) (λ r. r.1)
     (λ ps s m a. ParamsAre s m n (all_early n) (asks 0).asks ps)
@@ -86,7 +86,7 @@ returns-clause-params_in_range g c =
     let env = g.E.LowerEnv.answers c.args.db.now in
     let def = definition.TypeAliasId c.args.id in
     let x = read_alias env c.args.item.file_id c.args.container c.args.id c.args.item.value.now in
-    let n = noted_in_alias x in
+    let n = noted_in_alias def x in
     let asks = asked_in_alias def x in
     from_if (lower_alias def x) as_noted 4294967295 (λ r. (r.3, r.4)) (λ r. r.2) (λ r. r.0) (λ r. r.1)
     (λ ps s m a. Within s (past_params ps))
