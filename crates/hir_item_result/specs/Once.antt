@@ -4,6 +4,7 @@ use Rattle.std.specs.Prelude.{◌≡◌, ℕ, ◌≤◌, Bool, true, false, ◌|
 use Rattle.std.specs.Prelude.{Option, Some, None, Ok}
 use Rattle.hir_store.specs.Pointers.{Pointer}
 use Rattle.hir_store.specs.Stored.{SourceMap, Store, map_of, store_of}
+use Rattle.hir_store.specs.declared.generics.GenericParams.{GenericParams}
 use Rattle.hir_store.specs.declared.generics.TypeOrConstParamData.{TypeOrConstParamData}
 use Rattle.hir_store.specs.declared.generics.TypeOrConstParamData.TheVariants as param
 use Rattle.hir_store.specs.declared.generics.WherePredicate.{WherePredicate}
@@ -38,6 +39,10 @@ named_by_alias bounds ty f = of_each (of_bound f) bounds ++ of_present f ty
 -- the types of what a function is given, and of what it returns
 abbrev pub named_by_function : List TypeRefId → Option TypeRefId → Naming
 named_by_function args ret f = of_each f args ++ of_present f ret
+
+-- where parameters and predicates are all that is answered
+abbrev pub none_named : Naming
+none_named f = []
 
 -- ---- what is named by parameters and predicates
 
@@ -74,6 +79,10 @@ module _ (store : Store) (source_map : SourceMap) where
   abbrev pub named_by_params : List TypeOrConstParamData → List WherePredicate → Naming
   named_by_params xs ps f = of_each (λ x. named_by_param x f) xs ++ named_by_predicates [] ps f
 
+-- with what its parameters and predicates name
+abbrev pub with_params : Store → SourceMap → GenericParams → Naming → Naming
+with_params store source_map g named f = named f ++ named_by_params store source_map g.type_or_consts g.where_predicates f
+
 -- however deep one looks
 abbrev pub ReachesOnce : Store → Naming → Type 0
 ReachesOnce store named = (depth : ℕ) → length store.types ≤ depth → let f = types_reached store.types depth in let l = of_types_alone f in
@@ -85,10 +94,6 @@ abbrev pub AnswersOnce : {A : Type 0} → (A → Naming) → Lowering A → Type
 AnswersOnce {A} named p = (limit : ℕ) (new : Builder) (a : A) → p (fresh limit) ≡ (Ok a, new)
     → let s = store_of new.stored in let g = new.notes.generics in
     ReachesOnce s (λ f. named a f ++ named_by_params s (map_of new.stored) g.type_or_consts g.where_predicates f)
-
--- parameters are all that there is
-abbrev pub none_named : Naming
-none_named f = []
 
 abbrev pub GenericsOnce : Type 0
 GenericsOnce = (def : GenericDefId) (g : Generics) → AnswersOnce (λ a. none_named) (lower_generics def g)

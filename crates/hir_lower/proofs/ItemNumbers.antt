@@ -163,7 +163,7 @@ module _ (s : Stored) (same : length s.exprs.sources ≡ length s.exprs.entries)
       within_type (store_of s) t (type_is_stored s t (lasts_if (λ z. stored_type (store_of z) (map_of z) t) s d h (h s here)))
 
   param_exists : (k : ℕ) (x : TypeOrConstParamData) (y : Param) → Always (λ st m. ParamIs st m k x y) → Within (store_of s) (past_param x)
-  param_exists k (param.TypeParamData x) (type_param n from t bs) h = option_type_within s x.default
+  param_exists k (param.TypeParamData x) (type_param def n from t bs) h = option_type_within s x.default
       (lasts_if (λ z. stored_option_type (store_of z) (map_of z) x.default) s t (λ later e. (h later e).2) (h s here).2)
   param_exists k (param.TypeParamData x) (impl_param def at) h =
       subst (λ o. Within (store_of s) (past_present past_type_id o)) (sym (h s here).2) (within_nothing (store_of s))
@@ -171,7 +171,7 @@ module _ (s : Stored) (same : length s.exprs.sources ≡ length s.exprs.entries)
   param_exists k (param.ConstParamData x) (const_param n t bs c cs) h = within_join (store_of s) (past_type_id x.ty)
       (past_present past_constant x.default) (type_exists x.ty t (λ later e. (h later e).1))
       (constant_exists x.default c (λ later e. (h later e).3))
-  param_exists k (param.ConstParamData x) (type_param n from t bs) h = absurd (h s here)
+  param_exists k (param.ConstParamData x) (type_param def n from t bs) h = absurd (h s here)
   param_exists k (param.ConstParamData x) (impl_param def at) h = absurd (h s here)
 
   all_exist : (k : ℕ) (xs : List TypeOrConstParamData) (ys : List Param) → Always (λ st m. ParamsFrom st m k xs ys)

@@ -4,6 +4,7 @@ ghost use Rattle.std.specs.Prelude.{◌≡◌, ◌≢◌, Err, IfOk, IsErrOf, No
 ghost use Rattle.hir_store.specs.Range.{HasBounds};
 ghost use Rattle.hir_env.specs.Spot.{in_file};
 ghost use Rattle.hir_env.specs.declared.place.ImplTrait.{ImplTrait as Mode};
+ghost use Rattle.hir_lower.specs.Argument.{ArgumentsAreOne};
 ghost use Rattle.hir_lower.specs.Calls.{Calls};
 ghost use Rattle.hir_lower_form.specs.declared.generics.GenericLists.{GenericLists as AllLists};
 ghost use Rattle.hir_lower.specs.Means.{AddsType, NoRoomForImpl, NoRoomForType, RoomForImpl, RoomForType, becomes, lists_behind};
@@ -143,6 +144,13 @@ impl ImplTraitLower for ArgumentImplTrait<'_> {
         collector.add_param(self.lists, self.parent, &bounds, ptr)
     }
 }
+
+/// What `ArgumentImplTrait::lower` stores, answers and adds to its lists is what the walk of an item stores, answers and notes of an `impl` in
+/// an argument: from the same store and behind the same lists each of the two says all of what the other does, and both are refused just
+/// where there is no room for a type or for a parameter. A law, which does nothing.
+pub fn arguments_are_one()
+    ensures { ArgumentsAreOne }
+{}
 
 /// Stores one error type, to which the node leads from now on, and drops the bounds (upstream's function of this name).
 ///

@@ -6,10 +6,13 @@ ghost use Rattle.hir_store.specs.Range.{InRange};
 ghost use Rattle.hir_store.specs.declared.ids.GenericDefId.TheVariants as definition;
 ghost use Rattle.hir_item_result.specs.Answers.{AliasReads, FunctionReads, ImplReads};
 ghost use Rattle.hir_item_result.specs.ItemResult.{ItemResult};
-ghost use Rattle.hir_item_result.specs.Once.{ReachesOnce, named_by_alias, named_by_function, named_by_impl};
+ghost use Rattle.hir_item_result.specs.Once.{ReachesOnce, named_by_alias, named_by_function, named_by_impl, none_named};
+ghost use Rattle.hir_item_result.specs.Once.{with_params};
+ghost use Rattle.hir_item_result.specs.Stored.{data_of_item};
 ghost use Rattle.hir_item_result.specs.Numbers.{past_alias, past_function, past_impl, past_params};
 ghost use Rattle.hir_item_result.specs.Parts.{alias_parts, function_parts, generics_parts, impl_parts, trait_parts};
 ghost use Rattle.hir_item_result.specs.Sizes.{ItemFitsIn, ItemTooLarge};
+ghost use Rattle.hir_told.specs.StoredData.{ReadsAs};
 ghost use Rattle.hir_lower.specs.ItemParams.{AliasHas, FunctionHas, GenericsHave, ImplHas, TraitHas};
 ghost use Rattle.hir_lower.specs.Means.{MadeOnce};
 ghost use Rattle.hir_lower.specs.Items.{read_alias, read_function, read_generics, read_impl, read_trait};
@@ -46,7 +49,10 @@ use std::alloc::Global;
 /// calls of macros are recorded as the parts say. The parameters are those that are written, and those that `impl`s become, in the order
 /// of their numbers: types and defaults read back, and the bodies inside them run so. The type that an `impl` becomes names the parameter
 /// of its number. Of each bound there is one predicate, in their order: it reads back with what it is of, and the bodies inside them run
-/// so (clause `params`).
+/// so (clause `params`). Each type that defaults, types of constants, what is bound, and bounds reach is reached in one way only; what several
+/// predicates are of is counted once, and of what is asked of a parameter that an `impl` became nothing is said (`reached_once`). All
+/// stored types and all lifetimes, in their order, read back as what is written or made, also those that nothing reaches: so the type that
+/// a parameter is, and the lifetime of a lifetime parameter, which bears its name (`stored`).
 ///
 /// `Memory` where a growth was refused; `Full` only where the item becomes more types, lifetimes, expressions, labels, patterns, bindings
 /// or parameters than there is room for, or something in it counts further than 32 bits do; never `Failed`. What was stored until then
@@ -63,19 +69,23 @@ pub fn lower_generic_params<E: LowerEnv>(
 ) -> Result<(ExpressionStore, GenericParams, ExpressionStoreSourceMap), LowerError>
     ensures result { let ps = option_copied param_list.entry in
         let x = read_generics (E.answers db.now) file_id inside mode def ps (option_copied where_clause.entry) in
-        IfOk result (λ r. ItemResult r.0 r.2 (generics_parts x)) }
+        IfOk result (λ r. ItemResult r.0 r.2 (generics_parts def x)) }
+    ensures stored { let ps = option_copied param_list.entry in
+        let x = read_generics (E.answers db.now) file_id inside mode def ps (option_copied where_clause.entry) in
+        IfOk result (λ r. ReadsAs (data_of_item (generics_parts def x)) r.0 r.2) }
     ensures params { let ps = option_copied param_list.entry in
         let x = read_generics (E.answers db.now) file_id inside mode def ps (option_copied where_clause.entry) in
         IfOk result (λ r. GenericsHave r.0 r.2 def x r.1) }
+    ensures reached_once { IfOk result (λ r. ReachesOnce r.0 (with_params r.0 r.2 r.1 none_named)) }
     ensures made_once { IfOk result (λ r. MadeOnce r.0 []) }
     ensures in_range { IfOk result (λ r. InRange r.0 r.2) }
     ensures params_in_range { IfOk result (λ r. Within r.0 (past_params r.1)) }
     ensures too_large { let ps = option_copied param_list.entry in
         let x = read_generics (E.answers db.now) file_id inside mode def ps (option_copied where_clause.entry) in
-        IsErrOf result LowerError.Full → ItemTooLarge 4294967295 (generics_parts x) }
+        IsErrOf result LowerError.Full → ItemTooLarge 4294967295 (generics_parts def x) }
     ensures fits { let ps = option_copied param_list.entry in
         let x = read_generics (E.answers db.now) file_id inside mode def ps (option_copied where_clause.entry) in
-        IfOk result (λ r. ItemFitsIn 4294967295 (generics_parts x)) }
+        IfOk result (λ r. ItemFitsIn 4294967295 (generics_parts def x)) }
     ensures own { result ≢ Err LowerError.Failed }
 {
     generic_params_steps(
@@ -95,8 +105,8 @@ pub fn lower_generic_params<E: LowerEnv>(
 ///
 /// The trait is read only where it is written as a path as it stands; none is answered for another form, nor for a path that is absent or
 /// refused. Type and trait read back as they are written, and the bodies inside them run so (clause
-/// `reads`); each type that they reach is reached in one way only (`reached_once`). Of parameters and predicates, of ranges and of what is
-/// claimed, the same is so as for `lower_generic_params`.
+/// `reads`); each type that they, or parameters and predicates, reach is reached in one way only (`reached_once`). Of parameters and
+/// predicates, of all that is stored, of ranges and of what is claimed, the same is so as for `lower_generic_params`.
 ///
 /// `Memory` where a growth was refused; `Full` only where the item becomes more types, lifetimes, expressions, labels, patterns, bindings
 /// or parameters than there is room for, or something in it counts further than 32 bits do; never `Failed`. What was stored until then
@@ -118,20 +128,22 @@ pub fn lower_impl<E: LowerEnv>(
     LowerError,
 >
     ensures result { let x = read_impl (E.answers db.now) item.entry.file_id inside id item.entry.value.now in
-        IfOk result (λ r. ItemResult r.0 r.1 (impl_parts x)) }
+        IfOk result (λ r. ItemResult r.0 r.1 (impl_parts (definition.ImplId id) x)) }
+    ensures stored { let x = read_impl (E.answers db.now) item.entry.file_id inside id item.entry.value.now in
+        IfOk result (λ r. ReadsAs (data_of_item (impl_parts (definition.ImplId id) x)) r.0 r.1) }
     ensures params { let x = read_impl (E.answers db.now) item.entry.file_id inside id item.entry.value.now in
         IfOk result (λ r. ImplHas r.0 r.1 (definition.ImplId id) x r.4) }
     ensures reads { let x = read_impl (E.answers db.now) item.entry.file_id inside id item.entry.value.now in
         IfOk result (λ r. ImplReads r.0 r.1 x r.2 r.3) }
-    ensures reached_once { IfOk result (λ r. ReachesOnce r.0 (named_by_impl r.2 r.3)) }
+    ensures reached_once { IfOk result (λ r. ReachesOnce r.0 (with_params r.0 r.1 r.4 (named_by_impl r.2 r.3))) }
     ensures made_once { IfOk result (λ r. MadeOnce r.0 []) }
     ensures in_range { IfOk result (λ r. InRange r.0 r.1) }
     ensures answer_in_range { IfOk result (λ r. Within r.0 (past_impl r.2 r.3)) }
     ensures params_in_range { IfOk result (λ r. Within r.0 (past_params r.4)) }
     ensures too_large { let x = read_impl (E.answers db.now) item.entry.file_id inside id item.entry.value.now in
-        IsErrOf result LowerError.Full → ItemTooLarge 4294967295 (impl_parts x) }
+        IsErrOf result LowerError.Full → ItemTooLarge 4294967295 (impl_parts (definition.ImplId id) x) }
     ensures fits { let x = read_impl (E.answers db.now) item.entry.file_id inside id item.entry.value.now in
-        IfOk result (λ r. ItemFitsIn 4294967295 (impl_parts x)) }
+        IfOk result (λ r. ItemFitsIn 4294967295 (impl_parts (definition.ImplId id) x)) }
     ensures own { result ≢ Err LowerError.Failed }
 {
     impl_steps(alloc, db, inside, item, id)
@@ -140,7 +152,7 @@ pub fn lower_impl<E: LowerEnv>(
 /// Lowers a trait (upstream's function of this name): `Self`, which is its first parameter, with a predicate for each bound of the trait,
 /// and then its other parameters and what its where clause asks.
 ///
-/// Of parameters and predicates, of ranges and of what is claimed, the same is so as for `lower_generic_params`.
+/// Of parameters and predicates, of all that is stored, of ranges and of what is claimed, the same is so as for `lower_generic_params`.
 ///
 /// `Memory` where a growth was refused; `Full` only where the item becomes more types, lifetimes, expressions, labels, patterns, bindings
 /// or parameters than there is room for, or something in it counts further than 32 bits do; never `Failed`. What was stored until then
@@ -153,16 +165,19 @@ pub fn lower_trait<E: LowerEnv>(
     id: TraitId,
 ) -> Result<(ExpressionStore, ExpressionStoreSourceMap, GenericParams), LowerError>
     ensures result { let x = read_trait (E.answers db.now) item.entry.file_id inside id item.entry.value.now in
-        IfOk result (λ r. ItemResult r.0 r.1 (trait_parts x)) }
+        IfOk result (λ r. ItemResult r.0 r.1 (trait_parts (definition.TraitId id) x)) }
+    ensures stored { let x = read_trait (E.answers db.now) item.entry.file_id inside id item.entry.value.now in
+        IfOk result (λ r. ReadsAs (data_of_item (trait_parts (definition.TraitId id) x)) r.0 r.1) }
     ensures params { let x = read_trait (E.answers db.now) item.entry.file_id inside id item.entry.value.now in
         IfOk result (λ r. TraitHas r.0 r.1 (definition.TraitId id) x r.2) }
+    ensures reached_once { IfOk result (λ r. ReachesOnce r.0 (with_params r.0 r.1 r.2 none_named)) }
     ensures made_once { IfOk result (λ r. MadeOnce r.0 []) }
     ensures in_range { IfOk result (λ r. InRange r.0 r.1) }
     ensures params_in_range { IfOk result (λ r. Within r.0 (past_params r.2)) }
     ensures too_large { let x = read_trait (E.answers db.now) item.entry.file_id inside id item.entry.value.now in
-        IsErrOf result LowerError.Full → ItemTooLarge 4294967295 (trait_parts x) }
+        IsErrOf result LowerError.Full → ItemTooLarge 4294967295 (trait_parts (definition.TraitId id) x) }
     ensures fits { let x = read_trait (E.answers db.now) item.entry.file_id inside id item.entry.value.now in
-        IfOk result (λ r. ItemFitsIn 4294967295 (trait_parts x)) }
+        IfOk result (λ r. ItemFitsIn 4294967295 (trait_parts (definition.TraitId id) x)) }
     ensures own { result ≢ Err LowerError.Failed }
 {
     trait_steps(alloc, db, inside, item, id)
@@ -172,8 +187,9 @@ pub fn lower_trait<E: LowerEnv>(
 /// type, where one is written.
 ///
 /// An alias of a module or an `impl` owes a type; where it lacks one, that is told last. Bounds and type read back as they are
-/// written, and the bodies inside them run so (clause `reads`); each type that they reach is reached in one way only (`reached_once`). Of
-/// parameters and predicates, of ranges and of what is claimed, the same is so as for `lower_generic_params`.
+/// written, and the bodies inside them run so (clause `reads`); each type that they, or parameters and predicates, reach is reached in one
+/// way only (`reached_once`). Of parameters and predicates, of all that is stored, of ranges and of what is claimed, the same is so as for
+/// `lower_generic_params`.
 ///
 /// `Memory` where a growth was refused; `Full` only where the item becomes more types, lifetimes, expressions, labels, patterns, bindings
 /// or parameters than there is room for, or something in it counts further than 32 bits do; never `Failed`. What was stored until then
@@ -195,20 +211,22 @@ pub fn lower_type_alias<E: LowerEnv>(
     LowerError,
 >
     ensures result { let x = read_alias (E.answers db.now) item.entry.file_id container id item.entry.value.now in
-        IfOk result (λ r. ItemResult r.0 r.1 (alias_parts x)) }
+        IfOk result (λ r. ItemResult r.0 r.1 (alias_parts (definition.TypeAliasId id) x)) }
+    ensures stored { let x = read_alias (E.answers db.now) item.entry.file_id container id item.entry.value.now in
+        IfOk result (λ r. ReadsAs (data_of_item (alias_parts (definition.TypeAliasId id) x)) r.0 r.1) }
     ensures params { let x = read_alias (E.answers db.now) item.entry.file_id container id item.entry.value.now in
         IfOk result (λ r. AliasHas r.0 r.1 (definition.TypeAliasId id) x r.2) }
     ensures reads { let x = read_alias (E.answers db.now) item.entry.file_id container id item.entry.value.now in
         IfOk result (λ r. AliasReads r.0 r.1 x r.3 r.4) }
-    ensures reached_once { IfOk result (λ r. ReachesOnce r.0 (named_by_alias r.3 r.4)) }
+    ensures reached_once { IfOk result (λ r. ReachesOnce r.0 (with_params r.0 r.1 r.2 (named_by_alias r.3 r.4))) }
     ensures made_once { IfOk result (λ r. MadeOnce r.0 []) }
     ensures in_range { IfOk result (λ r. InRange r.0 r.1) }
     ensures answer_in_range { IfOk result (λ r. Within r.0 (past_alias r.3 r.4)) }
     ensures params_in_range { IfOk result (λ r. Within r.0 (past_params r.2)) }
     ensures too_large { let x = read_alias (E.answers db.now) item.entry.file_id container id item.entry.value.now in
-        IsErrOf result LowerError.Full → ItemTooLarge 4294967295 (alias_parts x) }
+        IsErrOf result LowerError.Full → ItemTooLarge 4294967295 (alias_parts (definition.TypeAliasId id) x) }
     ensures fits { let x = read_alias (E.answers db.now) item.entry.file_id container id item.entry.value.now in
-        IfOk result (λ r. ItemFitsIn 4294967295 (alias_parts x)) }
+        IfOk result (λ r. ItemFitsIn 4294967295 (alias_parts (definition.TypeAliasId id) x)) }
     ensures own { result ≢ Err LowerError.Failed }
 {
     alias_steps(alloc, db, container, item, id)
@@ -224,9 +242,9 @@ pub fn lower_type_alias<E: LowerEnv>(
 ///
 /// A lifetime parameter is late bound, unless a bound names it, or what is returned names it and nothing that is given does: a projection
 /// doesn't count, and of an alias only the lifetimes that its type names. The types of what is given and of what is returned read
-/// back as they are written, and the bodies inside them run so (clause `reads`); each type that they reach is reached in one way only
-/// (`reached_once`). Of parameters and predicates, of ranges and of what is
-/// claimed, the same is so as for `lower_generic_params`.
+/// back as they are written, and the bodies inside them run so (clause `reads`); each type that they, or parameters and predicates, reach is
+/// reached in one way only (`reached_once`). Of parameters and predicates, of all that is stored, of ranges and of what is claimed, the same
+/// is so as for `lower_generic_params`.
 ///
 /// `Memory` where a growth was refused; `Full` only where the item becomes more types, lifetimes, expressions, labels, patterns, bindings
 /// or parameters than there is room for, or something in it counts further than 32 bits do; never `Failed`. What was stored until then
@@ -250,20 +268,22 @@ pub fn lower_function<E: LowerEnv>(
     LowerError,
 >
     ensures result { let x = read_function (E.answers db.now) item.entry.file_id inside id item.entry.value.now in
-        IfOk result (λ r. ItemResult r.0 r.1 (function_parts x)) }
+        IfOk result (λ r. ItemResult r.0 r.1 (function_parts (definition.FunctionId id) x)) }
+    ensures stored { let x = read_function (E.answers db.now) item.entry.file_id inside id item.entry.value.now in
+        IfOk result (λ r. ReadsAs (data_of_item (function_parts (definition.FunctionId id) x)) r.0 r.1) }
     ensures params { let x = read_function (E.answers db.now) item.entry.file_id inside id item.entry.value.now in
         IfOk result (λ r. FunctionHas r.0 r.1 (definition.FunctionId id) x r.2) }
     ensures reads { let x = read_function (E.answers db.now) item.entry.file_id inside id item.entry.value.now in
         IfOk result (λ r. FunctionReads r.0 r.1 x r.3 r.4 r.5 r.6) }
-    ensures reached_once { IfOk result (λ r. ReachesOnce r.0 (named_by_function r.3 r.4)) }
+    ensures reached_once { IfOk result (λ r. ReachesOnce r.0 (with_params r.0 r.1 r.2 (named_by_function r.3 r.4))) }
     ensures made_once { IfOk result (λ r. MadeOnce r.0 []) }
     ensures in_range { IfOk result (λ r. InRange r.0 r.1) }
     ensures answer_in_range { IfOk result (λ r. Within r.0 (past_function r.3 r.4)) }
     ensures params_in_range { IfOk result (λ r. Within r.0 (past_params r.2)) }
     ensures too_large { let x = read_function (E.answers db.now) item.entry.file_id inside id item.entry.value.now in
-        IsErrOf result LowerError.Full → ItemTooLarge 4294967295 (function_parts x) }
+        IsErrOf result LowerError.Full → ItemTooLarge 4294967295 (function_parts (definition.FunctionId id) x) }
     ensures fits { let x = read_function (E.answers db.now) item.entry.file_id inside id item.entry.value.now in
-        IfOk result (λ r. ItemFitsIn 4294967295 (function_parts x)) }
+        IfOk result (λ r. ItemFitsIn 4294967295 (function_parts (definition.FunctionId id) x)) }
     ensures own { result ≢ Err LowerError.Failed }
 {
     function_steps(alloc, db, inside, item, id)

@@ -12,15 +12,18 @@ use Rattle.hir_item_noted.proofs.Laws.{items_make}
 use Rattle.hir_item_result.specs.Answers.{FunctionReads}
 use Rattle.hir_item_result.specs.ItemResult.{ItemResult}
 use Rattle.hir_item_result.specs.Numbers.{past_params}
-use Rattle.hir_item_result.specs.Once.{ReachesOnce, named_by_function}
+use Rattle.hir_item_result.specs.Once.{ReachesOnce, named_by_function, with_params}
 use Rattle.hir_item_result.specs.Parts.{function_parts}
+use Rattle.hir_item_result.specs.Stored.{data_of_item}
 use Rattle.hir_item_result.specs.Sizes.{ItemFitsIn}
 use Rattle.hir_item_result.proofs.Answered.{functions_read}
 use Rattle.hir_item_result.proofs.Apart.{items_apart}
+use Rattle.hir_item_result.proofs.Data.{first_items_store}
 use Rattle.hir_item_result.proofs.Fitting.{fitting_items}
 use Rattle.hir_item_result.proofs.Took.{refused_items}
 use Rattle.hir_item_result.proofs.Once.{functions_once}
 use Rattle.hir_item_result.proofs.Whole.{item_results}
+use Rattle.hir_told.specs.StoredData.{ReadsAs}
 use Rattle.hir_lower.specs.ItemParams.{ParamsAre}
 use Rattle.hir_lower.specs.Items.{read_function, signature}
 use Rattle.hir_lower.proofs.ItemNumbers.{params_exist}
@@ -33,7 +36,16 @@ returns-clause-result g c =
     let def = definition.FunctionId c.args.id in
     let x = read_function env c.args.item.file_id c.args.inside c.args.id c.args.item.value.now in
     from_if (lower_function def x) of_kinds 4294967295 (λ r. signature r.3 r.4 r.5 r.6) (λ r. r.2) (λ r. r.0) (λ r. r.1)
-    (λ ps s m a. ItemResult s m (function_parts x)) (λ b a is. (item_results def).4 x 4294967295 b a is)
+    (λ ps s m a. ItemResult s m (function_parts def x)) (λ b a is. (item_results def).4 x 4294967295 b a is)
+    c.function_steps.result c.function_steps.ensures.made
+
+pub returns-clause-stored : goal.returns-clause-stored
+returns-clause-stored g c =
+    let env = g.E.LowerEnv.answers c.args.db.now in
+    let def = definition.FunctionId c.args.id in
+    let x = read_function env c.args.item.file_id c.args.inside c.args.id c.args.item.value.now in
+    from_if (lower_function def x) of_kinds 4294967295 (λ r. signature r.3 r.4 r.5 r.6) (λ r. r.2) (λ r. r.0) (λ r. r.1)
+    (λ ps s m a. ReadsAs (data_of_item (function_parts def x)) s m) (λ b a is. (first_items_store def).4 x 4294967295 b a is)
     c.function_steps.result c.function_steps.ensures.made
 
 pub returns-clause-params : goal.returns-clause-params
@@ -63,7 +75,7 @@ returns-clause-too_large g c = λ is.
     let env = g.E.LowerEnv.answers c.args.db.now in
     let def = definition.FunctionId c.args.id in
     let x = read_function env c.args.item.file_id c.args.inside c.args.id c.args.item.value.now in
-    item_too_large (function_parts x) (lower_function def x) 4294967295 ((refused_items def).4 x) (c.function_steps.ensures.full is)
+    item_too_large (function_parts def x) (lower_function def x) 4294967295 ((refused_items def).4 x) (c.function_steps.ensures.full is)
 
 pub returns-clause-made_once : goal.returns-clause-made_once
 returns-clause-made_once g c =
@@ -79,7 +91,7 @@ returns-clause-fits g c =
     let def = definition.FunctionId c.args.id in
     let x = read_function env c.args.item.file_id c.args.inside c.args.id c.args.item.value.now in
     from_if (lower_function def x) of_kinds 4294967295 (λ r. signature r.3 r.4 r.5 r.6) (λ r. r.2) (λ r. r.0) (λ r. r.1)
-    (λ ps s m a. ItemFitsIn 4294967295 (function_parts x)) (λ b a is. (fitting_items def).4 x 4294967295 b a is)
+    (λ ps s m a. ItemFitsIn 4294967295 (function_parts def x)) (λ b a is. (fitting_items def).4 x 4294967295 b a is)
     c.function_steps.result c.function_steps.ensures.made
 
 pub returns-clause-params_in_range : goal.returns-clause-params_in_range
@@ -102,5 +114,5 @@ returns-clause-reached_once g c =
     let def = definition.FunctionId c.args.id in
     let x = read_function env c.args.item.file_id c.args.inside c.args.id c.args.item.value.now in
     from_if (lower_function def x) of_kinds 4294967295 (λ r. signature r.3 r.4 r.5 r.6) (λ r. r.2) (λ r. r.0) (λ r. r.1)
-    (λ ps s m a. ReachesOnce s (named_by_function a.args a.ret)) (λ b a is. functions_once def x 4294967295 b a is)
+    (λ ps s m a. ReachesOnce s (with_params s m ps (named_by_function a.args a.ret))) (λ b a is. functions_once def x 4294967295 b a is)
     c.function_steps.result c.function_steps.ensures.made

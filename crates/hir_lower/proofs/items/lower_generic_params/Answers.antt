@@ -10,12 +10,17 @@ use Rattle.hir_item_noted.specs.Noted.{all_early}
 use Rattle.hir_item_noted.proofs.Laws.{items_make}
 use Rattle.hir_item_result.specs.ItemResult.{ItemResult}
 use Rattle.hir_item_result.specs.Numbers.{past_params}
+use Rattle.hir_item_result.specs.Once.{ReachesOnce, none_named, with_params}
 use Rattle.hir_item_result.specs.Parts.{generics_parts}
+use Rattle.hir_item_result.specs.Stored.{data_of_item}
 use Rattle.hir_item_result.specs.Sizes.{ItemFitsIn}
 use Rattle.hir_item_result.proofs.Apart.{items_apart}
+use Rattle.hir_item_result.proofs.Data.{first_items_store}
 use Rattle.hir_item_result.proofs.Fitting.{fitting_items}
 use Rattle.hir_item_result.proofs.Took.{refused_items}
+use Rattle.hir_item_result.proofs.Once.{generics_once}
 use Rattle.hir_item_result.proofs.Whole.{item_results}
+use Rattle.hir_told.specs.StoredData.{ReadsAs}
 use Rattle.hir_lower.specs.ItemParams.{ParamsAre}
 use Rattle.hir_lower.specs.Items.{as_noted, read_generics}
 use Rattle.hir_lower.proofs.ItemNumbers.{params_exist}
@@ -29,7 +34,17 @@ returns-clause-result g c =
     let ps = option_copied c.args.param_list in
     let x = read_generics env c.args.file_id c.args.inside c.args.mode def ps (option_copied c.args.where_clause) in
     from_if (lower_generics def x) as_noted 4294967295 (λ r. tt) (λ r. r.1) (λ r. r.0) (λ r. r.2)
-    (λ ps s m a. ItemResult s m (generics_parts x)) (λ b a is. (item_results def).0 x 4294967295 b a is)
+    (λ ps s m a. ItemResult s m (generics_parts def x)) (λ b a is. (item_results def).0 x 4294967295 b a is)
+    c.generic_params_steps.result c.generic_params_steps.ensures.made
+
+pub returns-clause-stored : goal.returns-clause-stored
+returns-clause-stored g c =
+    let env = g.E.LowerEnv.answers c.args.db.now in
+    let def = c.args.def in
+    let ps = option_copied c.args.param_list in
+    let x = read_generics env c.args.file_id c.args.inside c.args.mode def ps (option_copied c.args.where_clause) in
+    from_if (lower_generics def x) as_noted 4294967295 (λ r. tt) (λ r. r.1) (λ r. r.0) (λ r. r.2)
+    (λ ps s m a. ReadsAs (data_of_item (generics_parts def x)) s m) (λ b a is. (first_items_store def).0 x 4294967295 b a is)
     c.generic_params_steps.result c.generic_params_steps.ensures.made
 
 pub returns-clause-params : goal.returns-clause-params
@@ -52,7 +67,7 @@ returns-clause-too_large g c = λ is.
     let def = c.args.def in
     let ps = option_copied c.args.param_list in
     let x = read_generics env c.args.file_id c.args.inside c.args.mode def ps (option_copied c.args.where_clause) in
-    item_too_large (generics_parts x) (lower_generics def x) 4294967295 ((refused_items def).0 x) (c.generic_params_steps.ensures.full is)
+    item_too_large (generics_parts def x) (lower_generics def x) 4294967295 ((refused_items def).0 x) (c.generic_params_steps.ensures.full is)
 
 pub returns-clause-made_once : goal.returns-clause-made_once
 returns-clause-made_once g c =
@@ -70,7 +85,7 @@ returns-clause-fits g c =
     let ps = option_copied c.args.param_list in
     let x = read_generics env c.args.file_id c.args.inside c.args.mode def ps (option_copied c.args.where_clause) in
     from_if (lower_generics def x) as_noted 4294967295 (λ r. tt) (λ r. r.1) (λ r. r.0) (λ r. r.2)
-    (λ ps s m a. ItemFitsIn 4294967295 (generics_parts x)) (λ b a is. (fitting_items def).0 x 4294967295 b a is)
+    (λ ps s m a. ItemFitsIn 4294967295 (generics_parts def x)) (λ b a is. (fitting_items def).0 x 4294967295 b a is)
     c.generic_params_steps.result c.generic_params_steps.ensures.made
 
 pub returns-clause-params_in_range : goal.returns-clause-params_in_range
@@ -86,4 +101,14 @@ returns-clause-params_in_range g c =
     (λ b a is. params_exist n (all_early n) asks 4294967295 b (as_noted b.notes)
     ((item_results def).0 x 4294967295 b a is).expr_sources ((items_make def).0 x 4294967295 b a is)
     ((items_ask def).0 x (fresh 4294967295) b a (nothing_stored 4294967295) is) refl)
+    c.generic_params_steps.result c.generic_params_steps.ensures.made
+
+pub returns-clause-reached_once : goal.returns-clause-reached_once
+returns-clause-reached_once g c =
+    let env = g.E.LowerEnv.answers c.args.db.now in
+    let def = c.args.def in
+    let ps = option_copied c.args.param_list in
+    let x = read_generics env c.args.file_id c.args.inside c.args.mode def ps (option_copied c.args.where_clause) in
+    from_if (lower_generics def x) as_noted 4294967295 (λ r. tt) (λ r. r.1) (λ r. r.0) (λ r. r.2)
+    (λ ps s m a. ReachesOnce s (with_params s m ps none_named)) (λ b a is. generics_once def x 4294967295 b a is)
     c.generic_params_steps.result c.generic_params_steps.ensures.made

@@ -11,15 +11,18 @@ use Rattle.hir_item_noted.proofs.Laws.{items_make}
 use Rattle.hir_item_result.specs.Answers.{ImplReads}
 use Rattle.hir_item_result.specs.ItemResult.{ItemResult}
 use Rattle.hir_item_result.specs.Numbers.{past_params}
-use Rattle.hir_item_result.specs.Once.{ReachesOnce, named_by_impl}
+use Rattle.hir_item_result.specs.Once.{ReachesOnce, named_by_impl, with_params}
 use Rattle.hir_item_result.specs.Parts.{impl_parts}
+use Rattle.hir_item_result.specs.Stored.{data_of_item}
 use Rattle.hir_item_result.specs.Sizes.{ItemFitsIn}
 use Rattle.hir_item_result.proofs.Answered.{impls_read}
 use Rattle.hir_item_result.proofs.Apart.{items_apart}
+use Rattle.hir_item_result.proofs.Data.{first_items_store}
 use Rattle.hir_item_result.proofs.Fitting.{fitting_items}
 use Rattle.hir_item_result.proofs.Took.{refused_items}
 use Rattle.hir_item_result.proofs.Once.{impls_once}
 use Rattle.hir_item_result.proofs.Whole.{item_results}
+use Rattle.hir_told.specs.StoredData.{ReadsAs}
 use Rattle.hir_lower.specs.ItemParams.{ParamsAre}
 use Rattle.hir_lower.specs.Items.{as_noted, read_impl}
 use Rattle.hir_lower.proofs.ItemNumbers.{params_exist}
@@ -32,7 +35,16 @@ returns-clause-result g c =
     let def = definition.ImplId c.args.id in
     let x = read_impl env c.args.item.file_id c.args.inside c.args.id c.args.item.value.now in
     from_if (lower_impl def x) as_noted 4294967295 (λ r. (r.2, r.3)) (λ r. r.4) (λ r. r.0) (λ r. r.1)
-    (λ ps s m a. ItemResult s m (impl_parts x)) (λ b a is. (item_results def).2 x 4294967295 b a is)
+    (λ ps s m a. ItemResult s m (impl_parts def x)) (λ b a is. (item_results def).2 x 4294967295 b a is)
+    c.impl_steps.result c.impl_steps.ensures.made
+
+pub returns-clause-stored : goal.returns-clause-stored
+returns-clause-stored g c =
+    let env = g.E.LowerEnv.answers c.args.db.now in
+    let def = definition.ImplId c.args.id in
+    let x = read_impl env c.args.item.file_id c.args.inside c.args.id c.args.item.value.now in
+    from_if (lower_impl def x) as_noted 4294967295 (λ r. (r.2, r.3)) (λ r. r.4) (λ r. r.0) (λ r. r.1)
+    (λ ps s m a. ReadsAs (data_of_item (impl_parts def x)) s m) (λ b a is. (first_items_store def).2 x 4294967295 b a is)
     c.impl_steps.result c.impl_steps.ensures.made
 
 pub returns-clause-params : goal.returns-clause-params
@@ -62,7 +74,7 @@ returns-clause-too_large g c = λ is.
     let env = g.E.LowerEnv.answers c.args.db.now in
     let def = definition.ImplId c.args.id in
     let x = read_impl env c.args.item.file_id c.args.inside c.args.id c.args.item.value.now in
-    item_too_large (impl_parts x) (lower_impl def x) 4294967295 ((refused_items def).2 x) (c.impl_steps.ensures.full is)
+    item_too_large (impl_parts def x) (lower_impl def x) 4294967295 ((refused_items def).2 x) (c.impl_steps.ensures.full is)
 
 pub returns-clause-made_once : goal.returns-clause-made_once
 returns-clause-made_once g c =
@@ -78,7 +90,7 @@ returns-clause-fits g c =
     let def = definition.ImplId c.args.id in
     let x = read_impl env c.args.item.file_id c.args.inside c.args.id c.args.item.value.now in
     from_if (lower_impl def x) as_noted 4294967295 (λ r. (r.2, r.3)) (λ r. r.4) (λ r. r.0) (λ r. r.1)
-    (λ ps s m a. ItemFitsIn 4294967295 (impl_parts x)) (λ b a is. (fitting_items def).2 x 4294967295 b a is)
+    (λ ps s m a. ItemFitsIn 4294967295 (impl_parts def x)) (λ b a is. (fitting_items def).2 x 4294967295 b a is)
     c.impl_steps.result c.impl_steps.ensures.made
 
 pub returns-clause-params_in_range : goal.returns-clause-params_in_range
@@ -101,5 +113,5 @@ returns-clause-reached_once g c =
     let def = definition.ImplId c.args.id in
     let x = read_impl env c.args.item.file_id c.args.inside c.args.id c.args.item.value.now in
     from_if (lower_impl def x) as_noted 4294967295 (λ r. (r.2, r.3)) (λ r. r.4) (λ r. r.0) (λ r. r.1)
-    (λ ps s m a. ReachesOnce s (named_by_impl a.0 a.1)) (λ b a is. impls_once def x 4294967295 b a is)
+    (λ ps s m a. ReachesOnce s (with_params s m ps (named_by_impl a.0 a.1))) (λ b a is. impls_once def x 4294967295 b a is)
     c.impl_steps.result c.impl_steps.ensures.made

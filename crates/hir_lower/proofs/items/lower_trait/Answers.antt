@@ -10,12 +10,17 @@ use Rattle.hir_item_noted.specs.Noted.{all_early}
 use Rattle.hir_item_noted.proofs.Laws.{items_make}
 use Rattle.hir_item_result.specs.ItemResult.{ItemResult}
 use Rattle.hir_item_result.specs.Numbers.{past_params}
+use Rattle.hir_item_result.specs.Once.{ReachesOnce, none_named, with_params}
 use Rattle.hir_item_result.specs.Parts.{trait_parts}
+use Rattle.hir_item_result.specs.Stored.{data_of_item}
 use Rattle.hir_item_result.specs.Sizes.{ItemFitsIn}
 use Rattle.hir_item_result.proofs.Apart.{items_apart}
+use Rattle.hir_item_result.proofs.Data.{first_items_store}
 use Rattle.hir_item_result.proofs.Fitting.{fitting_items}
 use Rattle.hir_item_result.proofs.Took.{refused_items}
+use Rattle.hir_item_result.proofs.Once.{traits_once}
 use Rattle.hir_item_result.proofs.Whole.{item_results}
+use Rattle.hir_told.specs.StoredData.{ReadsAs}
 use Rattle.hir_lower.specs.ItemParams.{ParamsAre}
 use Rattle.hir_lower.specs.Items.{as_noted, read_trait}
 use Rattle.hir_lower.proofs.ItemNumbers.{params_exist}
@@ -28,7 +33,16 @@ returns-clause-result g c =
     let def = definition.TraitId c.args.id in
     let x = read_trait env c.args.item.file_id c.args.inside c.args.id c.args.item.value.now in
     from_if (lower_trait def x) as_noted 4294967295 (λ r. tt) (λ r. r.2) (λ r. r.0) (λ r. r.1)
-    (λ ps s m a. ItemResult s m (trait_parts x)) (λ b a is. (item_results def).1 x 4294967295 b a is)
+    (λ ps s m a. ItemResult s m (trait_parts def x)) (λ b a is. (item_results def).1 x 4294967295 b a is)
+    c.trait_steps.result c.trait_steps.ensures.made
+
+pub returns-clause-stored : goal.returns-clause-stored
+returns-clause-stored g c =
+    let env = g.E.LowerEnv.answers c.args.db.now in
+    let def = definition.TraitId c.args.id in
+    let x = read_trait env c.args.item.file_id c.args.inside c.args.id c.args.item.value.now in
+    from_if (lower_trait def x) as_noted 4294967295 (λ r. tt) (λ r. r.2) (λ r. r.0) (λ r. r.1)
+    (λ ps s m a. ReadsAs (data_of_item (trait_parts def x)) s m) (λ b a is. (first_items_store def).1 x 4294967295 b a is)
     c.trait_steps.result c.trait_steps.ensures.made
 
 pub returns-clause-params : goal.returns-clause-params
@@ -49,7 +63,7 @@ returns-clause-too_large g c = λ is.
     let env = g.E.LowerEnv.answers c.args.db.now in
     let def = definition.TraitId c.args.id in
     let x = read_trait env c.args.item.file_id c.args.inside c.args.id c.args.item.value.now in
-    item_too_large (trait_parts x) (lower_trait def x) 4294967295 ((refused_items def).1 x) (c.trait_steps.ensures.full is)
+    item_too_large (trait_parts def x) (lower_trait def x) 4294967295 ((refused_items def).1 x) (c.trait_steps.ensures.full is)
 
 pub returns-clause-made_once : goal.returns-clause-made_once
 returns-clause-made_once g c =
@@ -65,7 +79,7 @@ returns-clause-fits g c =
     let def = definition.TraitId c.args.id in
     let x = read_trait env c.args.item.file_id c.args.inside c.args.id c.args.item.value.now in
     from_if (lower_trait def x) as_noted 4294967295 (λ r. tt) (λ r. r.2) (λ r. r.0) (λ r. r.1)
-    (λ ps s m a. ItemFitsIn 4294967295 (trait_parts x)) (λ b a is. (fitting_items def).1 x 4294967295 b a is)
+    (λ ps s m a. ItemFitsIn 4294967295 (trait_parts def x)) (λ b a is. (fitting_items def).1 x 4294967295 b a is)
     c.trait_steps.result c.trait_steps.ensures.made
 
 pub returns-clause-params_in_range : goal.returns-clause-params_in_range
@@ -80,4 +94,13 @@ returns-clause-params_in_range g c =
     (λ b a is. params_exist n (all_early n) asks 4294967295 b (as_noted b.notes)
     ((item_results def).1 x 4294967295 b a is).expr_sources ((items_make def).1 x 4294967295 b a is)
     ((items_ask def).1 x (fresh 4294967295) b a (nothing_stored 4294967295) is) refl)
+    c.trait_steps.result c.trait_steps.ensures.made
+
+pub returns-clause-reached_once : goal.returns-clause-reached_once
+returns-clause-reached_once g c =
+    let env = g.E.LowerEnv.answers c.args.db.now in
+    let def = definition.TraitId c.args.id in
+    let x = read_trait env c.args.item.file_id c.args.inside c.args.id c.args.item.value.now in
+    from_if (lower_trait def x) as_noted 4294967295 (λ r. tt) (λ r. r.2) (λ r. r.0) (λ r. r.1)
+    (λ ps s m a. ReachesOnce s (with_params s m ps none_named)) (λ b a is. traits_once def x 4294967295 b a is)
     c.trait_steps.result c.trait_steps.ensures.made

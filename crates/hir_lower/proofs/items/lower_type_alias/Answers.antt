@@ -11,15 +11,18 @@ use Rattle.hir_item_noted.proofs.Laws.{items_make}
 use Rattle.hir_item_result.specs.Answers.{AliasReads}
 use Rattle.hir_item_result.specs.ItemResult.{ItemResult}
 use Rattle.hir_item_result.specs.Numbers.{past_params}
-use Rattle.hir_item_result.specs.Once.{ReachesOnce, named_by_alias}
+use Rattle.hir_item_result.specs.Once.{ReachesOnce, named_by_alias, with_params}
 use Rattle.hir_item_result.specs.Parts.{alias_parts}
+use Rattle.hir_item_result.specs.Stored.{data_of_item}
 use Rattle.hir_item_result.specs.Sizes.{ItemFitsIn}
 use Rattle.hir_item_result.proofs.Answered.{aliases_read}
 use Rattle.hir_item_result.proofs.Apart.{items_apart}
+use Rattle.hir_item_result.proofs.Data.{first_items_store}
 use Rattle.hir_item_result.proofs.Fitting.{fitting_items}
 use Rattle.hir_item_result.proofs.Took.{refused_items}
 use Rattle.hir_item_result.proofs.Once.{aliases_once}
 use Rattle.hir_item_result.proofs.Whole.{item_results}
+use Rattle.hir_told.specs.StoredData.{ReadsAs}
 use Rattle.hir_lower.specs.ItemParams.{ParamsAre}
 use Rattle.hir_lower.specs.Items.{as_noted, read_alias}
 use Rattle.hir_lower.proofs.ItemNumbers.{params_exist}
@@ -32,7 +35,16 @@ returns-clause-result g c =
     let def = definition.TypeAliasId c.args.id in
     let x = read_alias env c.args.item.file_id c.args.container c.args.id c.args.item.value.now in
     from_if (lower_alias def x) as_noted 4294967295 (λ r. (r.3, r.4)) (λ r. r.2) (λ r. r.0) (λ r. r.1)
-    (λ ps s m a. ItemResult s m (alias_parts x)) (λ b a is. (item_results def).3 x 4294967295 b a is)
+    (λ ps s m a. ItemResult s m (alias_parts def x)) (λ b a is. (item_results def).3 x 4294967295 b a is)
+    c.alias_steps.result c.alias_steps.ensures.made
+
+pub returns-clause-stored : goal.returns-clause-stored
+returns-clause-stored g c =
+    let env = g.E.LowerEnv.answers c.args.db.now in
+    let def = definition.TypeAliasId c.args.id in
+    let x = read_alias env c.args.item.file_id c.args.container c.args.id c.args.item.value.now in
+    from_if (lower_alias def x) as_noted 4294967295 (λ r. (r.3, r.4)) (λ r. r.2) (λ r. r.0) (λ r. r.1)
+    (λ ps s m a. ReadsAs (data_of_item (alias_parts def x)) s m) (λ b a is. (first_items_store def).3 x 4294967295 b a is)
     c.alias_steps.result c.alias_steps.ensures.made
 
 pub returns-clause-params : goal.returns-clause-params
@@ -62,7 +74,7 @@ returns-clause-too_large g c = λ is.
     let env = g.E.LowerEnv.answers c.args.db.now in
     let def = definition.TypeAliasId c.args.id in
     let x = read_alias env c.args.item.file_id c.args.container c.args.id c.args.item.value.now in
-    item_too_large (alias_parts x) (lower_alias def x) 4294967295 ((refused_items def).3 x) (c.alias_steps.ensures.full is)
+    item_too_large (alias_parts def x) (lower_alias def x) 4294967295 ((refused_items def).3 x) (c.alias_steps.ensures.full is)
 
 pub returns-clause-made_once : goal.returns-clause-made_once
 returns-clause-made_once g c =
@@ -78,7 +90,7 @@ returns-clause-fits g c =
     let def = definition.TypeAliasId c.args.id in
     let x = read_alias env c.args.item.file_id c.args.container c.args.id c.args.item.value.now in
     from_if (lower_alias def x) as_noted 4294967295 (λ r. (r.3, r.4)) (λ r. r.2) (λ r. r.0) (λ r. r.1)
-    (λ ps s m a. ItemFitsIn 4294967295 (alias_parts x)) (λ b a is. (fitting_items def).3 x 4294967295 b a is)
+    (λ ps s m a. ItemFitsIn 4294967295 (alias_parts def x)) (λ b a is. (fitting_items def).3 x 4294967295 b a is)
     c.alias_steps.result c.alias_steps.ensures.made
 
 pub returns-clause-params_in_range : goal.returns-clause-params_in_range
@@ -101,5 +113,5 @@ returns-clause-reached_once g c =
     let def = definition.TypeAliasId c.args.id in
     let x = read_alias env c.args.item.file_id c.args.container c.args.id c.args.item.value.now in
     from_if (lower_alias def x) as_noted 4294967295 (λ r. (r.3, r.4)) (λ r. r.2) (λ r. r.0) (λ r. r.1)
-    (λ ps s m a. ReachesOnce s (named_by_alias a.0 a.1)) (λ b a is. aliases_once def x 4294967295 b a is)
+    (λ ps s m a. ReachesOnce s (with_params s m ps (named_by_alias a.0 a.1))) (λ b a is. aliases_once def x 4294967295 b a is)
     c.alias_steps.result c.alias_steps.ensures.made
