@@ -1,11 +1,10 @@
 -- How often numbers are named by what is noted of an item, beside what steps answer and what is stored: the logic. Parts name nothing that
 -- was there before, so all is counted at one depth.
-use Rattle.std.proofs.Common.{◌≡◌, ◌∙◌, refl, sym, ap, subst, arith, ℕ, zero, suc, ◌+◌, ◌≤◌, Bool, true, false, ◌||◌, if◌then◌else◌}
-use Rattle.std.proofs.Common.{nat_eq, length, List, [], ◌∷◌, ◌++◌, append-nil, append_assoc, length-append, slice_get, Option, Some, None, Ok, Err}
+use Rattle.std.proofs.Common.{◌≡◌, ◌∙◌, refl, sym, ap, subst, arith, ℕ, suc, ◌+◌, ◌≤◌, Bool, true, false, ◌||◌, if◌then◌else◌, true≢false}
+use Rattle.std.proofs.Common.{nat_eq, length, List, [], ◌∷◌, ◌++◌, append-nil, append_assoc, length-append, Ok, Err}
 use Rattle.hir_store.specs.Arenas.{Prefix}
 use Rattle.hir_store.specs.Stored.{Stored, Store, SourceMap, map_of, store_of}
 use Rattle.hir_store.specs.Storing.{Extends}
-use Rattle.hir_store.specs.declared.generics.TypeOrConstParamData.{TypeOrConstParamData}
 use Rattle.hir_store.specs.declared.generics.WherePredicate.{WherePredicate}
 use Rattle.hir_store.specs.declared.generics.WherePredicate.TheVariants as predicate
 use Rattle.hir_store.specs.declared.ids.TypeRefId.{TypeRefId}
@@ -23,7 +22,7 @@ use Rattle.hir_noted.specs.Lists.{Fits, Noted, unnamed}
 use Rattle.hir_noted.proofs.Logic as parts
 use Rattle.hir_one_result.proofs.AfterLowering.{after_lowering}
 use Rattle.hir_type_result.specs.Named.{of_types_alone}
-use Rattle.hir_type_result.specs.Reached.{of_bound, of_each, types_reached}
+use Rattle.hir_type_result.specs.Reached.{of_each, types_reached}
 use Rattle.hir_type_result.proofs.Counted.{times, less, times_append, ◌⊑◌}
 use Rattle.hir_type_result.proofs.Adding.{Adds, Numbers, named, none, the_types}
 use Rattle.hir_item_result.specs.Once.{Naming, among, impl_became, is_of_impl, named_by_bound, named_by_param, named_by_params}
@@ -55,7 +54,7 @@ among_more t seen (predicate.TypeBound binder u b ∷ ps) h =
 among_more t seen (predicate.Lifetime l m ∷ ps) h = among_more t seen ps h
 
 same_number : (n : ℕ) → nat_eq n n ≡ true
-same_number n = grind
+same_number n = grind arith
 
 pub among_first : (t : TypeRefId) (seen : List TypeRefId) → among t (t ∷ seen) ≡ true
 among_first t seen = ap (λ x. x || among t seen) (same_number t.0)
@@ -75,10 +74,8 @@ left_less ps qs t f k = by (among t (before_all [] ps)) refl (among t (before_al
         either_less true = omega arith
         either_less false = omega arith
     by true e true g = omega arith
-    by true e false g = absurd (differs (sym g ∙ (ap (among t) (before_append [] ps qs) ∙ among_more t (before_all [] ps) qs e)))
-      where
-        differs : false ≡ true → ⊥
-        differs h = let n : 0 ≡ 1 = ap (λ x. if x then 1 else 0) h in omega (arith, n)
+    by true e false g =
+        absurd (true≢false (sym (ap (among t) (before_append [] ps qs) ∙ among_more t (before_all [] ps) qs e) ∙ g))
 
 module _ (store : Store) (source_map : SourceMap) where
   pub predicates_append : (seen : List TypeRefId) (ps qs : List WherePredicate) (f : TypeRefId → List ℕ)
@@ -241,25 +238,26 @@ pub counts_then : {A B : Type 0} {was : Naming} {one : A → Naming} {now : B �
 counts_then {now = now} {p = p} {f = f} h k =
     record { at = λ b d. then_to now p f b (h.at b d) (λ a c g is. (k a).at c g.paired) }
 
-pub to_as : {A : Type 0} {was was' : Naming} {now now' : A → Naming} (b : Builder) (o : Checked A) (c : Builder)
+pub to_as : {A : Type 0} (was was' : Naming) (now now' : A → Naming) (b : Builder) (o : Checked A) (c : Builder)
     → ((f : TypeRefId → List ℕ) → was f ⊑ was' f) → ((a : A) (f : TypeRefId → List ℕ) → now' a f ⊑ now a f)
     → CountTo was now b o c → CountTo was' now' b o c
-to_as b (Ok a) c more less_than g = count_as more (less_than a) g
-to_as b (Err e) c more less_than g = tt
+to_as was was' now now' b (Ok a) c more less_than g = count_as more (less_than a) g
+to_as was was' now now' b (Err e) c more less_than g = tt
 
 pub counts_as : {A : Type 0} {was was' : Naming} {now now' : A → Naming} {p : Lowering A}
     → ((f : TypeRefId → List ℕ) → was f ⊑ was' f) → ((a : A) (f : TypeRefId → List ℕ) → now' a f ⊑ now a f)
     → Counts was now p → Counts was' now' p
-counts_as {p = p} more less_than h = record { at = λ b d. to_as b (p b).0 (p b).1 more less_than (h.at b d) }
+counts_as {was = was} {was' = was'} {now = now} {now' = now'} {p = p} more less_than h =
+    record { at = λ b d. to_as was was' now now' b (p b).0 (p b).1 more less_than (h.at b d) }
 
-pub to_beside : {A : Type 0} {was : Naming} {now : A → Naming} (more : Naming) (b : Builder) (o : Checked A) (c : Builder)
+pub to_beside : {A : Type 0} (was : Naming) (now : A → Naming) (more : Naming) (b : Builder) (o : Checked A) (c : Builder)
     → CountTo was now b o c → CountTo (λ f. was f ++ more f) (λ a f. now a f ++ more f) b o c
-to_beside more b (Ok a) c g = count_beside more g
-to_beside more b (Err e) c g = tt
+to_beside was now more b (Ok a) c g = count_beside more g
+to_beside was now more b (Err e) c g = tt
 
 pub counts_beside : {A : Type 0} {was : Naming} {now : A → Naming} {p : Lowering A} (more : Naming) → Counts was now p
     → Counts (λ f. was f ++ more f) (λ a f. now a f ++ more f) p
-counts_beside {p = p} more h = record { at = λ b d. to_beside more b (p b).0 (p b).1 (h.at b d) }
+counts_beside {was = was} {now = now} {p = p} more h = record { at = λ b d. to_beside was now more b (p b).0 (p b).1 (h.at b d) }
 
 -- where neither what is noted nor what is stored changes in what is counted
 pub count_still : {was now : Naming} {b c : Builder} → c.stored ≡ b.stored → Paired b.stored
@@ -289,10 +287,10 @@ counts_pure a h = record { at = λ b d. count_still refl d (λ final f k. let x 
 longer : {A : Type 0} {xs ys : List A} → Prefix xs ys → length xs ≤ length ys
 longer {xs = xs} p = let l = ap length p.is in let m = length-append xs p.more in omega (arith, l, m)
 
-part_to : {A : Type 0} {now : A → Numbers} {n : Noting} {p : Lowering A} → Correct p (Adds none now) → (b : Builder) → Paired b.stored
+part_to : {A : Type 0} {now : A → Numbers} (n : Noting) {p : Lowering A} → Correct p (Adds none now) → (b : Builder) → Paired b.stored
     → (o : Checked A) (c : Builder) → p b ≡ (o, c) → parts.NotesTo n b o c
     → CountTo none_named (λ a f. now a (of_types_alone f)) b o c
-part_to {now = now} h b d (Ok a) c is g = record {
+part_to {now = now} n h b d (Ok a) c is g = record {
   stays = g.1.stays;
   paired = g.0;
   more = longer g.1.stays.types.entries;
@@ -306,9 +304,9 @@ part_to {now = now} h b d (Ok a) c is g = record {
   where
     part : (a p q x y u v : ℕ) → a + (x + u) ≤ 0 + (y + v) → p ≡ q → a + (p + (x + u)) ≤ 0 + (q + (y + v))
     part a p q x y u v g h = omega (arith, g, h)
-part_to h b d (Err e) c is g = tt
+part_to n h b d (Err e) c is g = tt
 
 -- a part of the item names what it answers
 pub part_counts : {A : Type 0} {now : A → Numbers} {n : Noting} {p : Lowering A} → Correct p (Adds none now) → parts.Notes n p
     → Counts none_named (λ a f. now a (of_types_alone f)) p
-part_counts {p = p} h g = record { at = λ b d. part_to h b d (p b).0 (p b).1 refl (g.at b d) }
+part_counts {n = n} {p = p} h g = record { at = λ b d. part_to n h b d (p b).0 (p b).1 refl (g.at b d) }

@@ -40,7 +40,8 @@ use Rattle.hir_told.proofs.Tree.{bound_graded, part_graded, type_graded}
 use Rattle.hir_told.proofs.TypeForms as forms
 use Rattle.hir_item_result.specs.Answers.{borrowed_data, coroutine_path_data, coroutine_shape, self_data}
 use Rattle.hir_item_result.specs.Parts as part
-use Rattle.hir_item_result.specs.Parts.{Part, coroutine_parts, self_parts, type_parts}
+use Rattle.hir_item_result.specs.Parts.{Part, alias_parts, coroutine_parts, function_parts, generics_parts, impl_parts, self_parts, trait_parts}
+use Rattle.hir_item_result.specs.Parts.{type_parts}
 use Rattle.hir_item_result.specs.Stored.{AddsData, FirstItemsStore, ItemsStore, StoresFirst, data_of_item}
 use Rattle.hir_item_result.specs.Told.{grade_item_part}
 use Rattle.hir_item_result.proofs.Items.{items_walked}
@@ -198,15 +199,15 @@ items_store def = let h = items_walked storing def in (
   λ x b c a paired is. added (h.4 x) b c a paired is,
 )
 
-first : {A : Type 0} {xs : List Part} {p : Lowering A} → AddsData xs p → StoresFirst xs p
-first h limit new a is = let d = h (fresh limit) new a (nothing_paired limit) is in let same = extends_refl new.stored in
+first : {A : Type 0} (xs : List Part) {p : Lowering A} → AddsData xs p → StoresFirst xs p
+first xs h limit new a is = let d = h (fresh limit) new a (nothing_paired limit) is in let same = extends_refl new.stored in
     record { types = d.types new.stored same; lifetimes = d.lifetimes new.stored same }
 
 pub first_items_store : FirstItemsStore
 first_items_store def = let h = items_store def in (
-  λ g. first (h.0 g),
-  λ x. first (h.1 x),
-  λ x. first (h.2 x),
-  λ x. first (h.3 x),
-  λ x. first (h.4 x),
+  λ g. first (generics_parts def g) (h.0 g),
+  λ x. first (trait_parts def x) (h.1 x),
+  λ x. first (impl_parts def x) (h.2 x),
+  λ x. first (alias_parts def x) (h.3 x),
+  λ x. first (function_parts def x) (h.4 x),
 )

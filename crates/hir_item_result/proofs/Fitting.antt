@@ -22,7 +22,7 @@ use Rattle.hir_item_result.specs.Parts.{Part}
 use Rattle.hir_item_result.specs.Sizes.{lifetime_params, parts_size}
 use Rattle.hir_item_result.proofs.AsLimits.{fits_first, fresh_within, limits_graded, room_was}
 use Rattle.hir_item_result.proofs.Items.{items_read}
-use Rattle.hir_item_result.proofs.Limits.{Limited, LimitsTo, limited_add_param, limited_lifetime, limited_type}
+use Rattle.hir_item_result.proofs.Limits.{Limited, LimitsTo, limited_add_param, limited_type}
 use Rattle.hir_item_result.proofs.Reading.{Beside, Reading, nothing_paired}
 use Rattle.hir_item_result.proofs.Told.{GradedParams, TellsAll, items_tell}
 use Rattle.hir_item_result.proofs.Took.{Came, TakesAll, came_of, items_take, lifetime_noted, lifetimes_in, trait_noted}
@@ -127,8 +127,7 @@ limited_lifetime_param x = record {
 
 limits_params : GradedParams limits_graded
 limits_params = record {
-  type_is = λ t at. limited_type t at;
-  lifetime_is = λ l at. limited_lifetime l at;
+  type_is = λ t x. limited_type t None;
   param_is = λ x. limited_add_param x;
   lifetime_param_is = λ x. limited_lifetime_param x;
 }

@@ -1,19 +1,16 @@
 -- Lowering an item reads its parts in this order, whatever is claimed of that.
-use Rattle.std.proofs.Common.{◌≡◌, ◌∙◌, refl, sym, subst, List, [], ◌∷◌, ◌++◌, Option, Some, None}
+use Rattle.std.proofs.Common.{◌∙◌, refl, sym, subst, List, [], ◌∷◌, ◌++◌, Option, Some, None}
 use Rattle.hir_store.specs.Pointers.{Pointer}
 use Rattle.hir_store.specs.declared.diagnostics.MissingBodyItemKind.{MissingBodyItemKind}
 use Rattle.hir_store.specs.declared.generics.TypeParamProvenance.{TypeParamProvenance}
 use Rattle.hir_store.specs.declared.generics.TypeParamProvenance.TheVariants as provenance
 use Rattle.hir_store.specs.declared.hir.CoroutineKind.{CoroutineKind}
-use Rattle.hir_store.specs.declared.hir.Mutability.{Mutability}
 use Rattle.hir_store.specs.declared.ids.GenericDefId.{GenericDefId}
-use Rattle.hir_store.specs.declared.ids.LifetimeRefId.{LifetimeRefId}
 use Rattle.hir_store.specs.declared.ids.TypeRefId.{TypeRefId}
 use Rattle.hir_store.specs.declared.name.Name.{Name}
 use Rattle.hir_store.specs.declared.type_ref.LifetimeRef.TheVariants as lifetime
 use Rattle.hir_store.specs.declared.type_ref.TypeBound.{TypeBound}
 use Rattle.hir_store.specs.declared.type_ref.TypeBound.TheVariants as bound
-use Rattle.hir_store.specs.declared.type_ref.TraitBoundModifier.TheVariants as modifier
 use Rattle.hir_store.specs.declared.type_ref.TypeRef.TheVariants as type
 use Rattle.hir_env.specs.Answered as tree
 use Rattle.hir_env.specs.Answered.{Binder, Bounds, Constant, Lifetime, OptionRet, OptionType}
@@ -28,7 +25,6 @@ use Rattle.hir_lower_item.specs.declared.predicates.Bounded.TheVariants as bound
 use Rattle.hir_lower_item.specs.Items as item
 use Rattle.hir_lower_item.specs.Items.{Alias, Argument, Function, Generics, Impl, Param, Predicate, Receiver, Trait}
 use Rattle.hir_lower_item.specs.Lower as steps
-use Rattle.hir_item_result.specs.Parts as part
 use Rattle.hir_item_result.specs.Parts.{alias_parts, all_inactive_parts, argument_parts, arguments_parts, bounds_parts, coroutine_parts}
 use Rattle.hir_item_result.specs.Parts.{default_parts}
 use Rattle.hir_item_result.specs.Parts.{function_parts, generics_parts, impl_parts, inactive_parts, input_parts}

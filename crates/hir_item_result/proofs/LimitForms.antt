@@ -28,7 +28,7 @@ use Rattle.hir_lower_form.specs.declared.walk.Reading.{Reading}
 use Rattle.hir_lower_form.specs.Calls.{define_form, inside_macro}
 use Rattle.hir_lower_form.specs.Forms.{ExprSteps, StoredContents, closure_form, constant_form, coroutine_block_form, coroutine_form}
 use Rattle.hir_lower_form.specs.Forms.{value_form, yield_form}
-use Rattle.hir_lower_form.specs.Lowering.{Lowering, ◌>>=◌, pure, argument_form, becoming, count_def, count_out, input_end}
+use Rattle.hir_lower_form.specs.Lowering.{Lowering, pure, argument_form, becoming, count_def, count_out, input_end}
 use Rattle.hir_lower_form.specs.Lowering.{open_macro}
 use Rattle.hir_lower_form.specs.Made.{made_bind_form}
 use Rattle.hir_lower_form.specs.Paths.{aliased, counted, cut_back}

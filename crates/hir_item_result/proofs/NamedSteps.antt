@@ -15,6 +15,7 @@ use Rattle.hir_store.specs.declared.ids.GenericDefId.{GenericDefId}
 use Rattle.hir_store.specs.declared.ids.LifetimeRefId.{LifetimeRefId}
 use Rattle.hir_store.specs.declared.ids.TypeRefId.{TypeRefId}
 use Rattle.hir_store.specs.declared.name.Name.{Name}
+use Rattle.hir_store.specs.declared.type_ref.ConstRef.{ConstRef}
 use Rattle.hir_store.specs.declared.type_ref.LifetimeRef.{LifetimeRef}
 use Rattle.hir_store.specs.declared.type_ref.LifetimeRef.TheVariants as lifetime
 use Rattle.hir_store.specs.declared.type_ref.TypeBound.{TypeBound}
@@ -23,7 +24,7 @@ use Rattle.hir_env.specs.declared.place.LifetimeScope.TheVariants as scope
 use Rattle.hir_env.specs.Answered as tree
 use Rattle.hir_env.specs.Answered.{Binder, Bound, Bounds, Constant, Lifetime, OptionType}
 use Rattle.hir_lower_form.specs.Builder.{Builder}
-use Rattle.hir_lower_form.specs.Generics.{naming, with_lifetime_param, with_param, with_predicate}
+use Rattle.hir_lower_form.specs.Generics.{naming, with_param, with_predicate}
 use Rattle.hir_lower_form.specs.Lowering.{Checked, go_on, Lowering, ◌>>=◌, ◌>>◌, add_lifetime_param, add_param, add_predicate}
 use Rattle.hir_lower_form.specs.Lowering.{alloc_lifetime}
 use Rattle.hir_lower_form.specs.Lowering.{count_out, lifetime_counted, note_down, param_numbered, param_type, pure, with_notes}
@@ -149,28 +150,31 @@ left_later {n = n} h b c a d is t f k =
 more_left : (k : ℕ) (xs ys zs : List ℕ) → times k ys ≤ times k zs → times k (xs ++ ys) ≤ times k (xs ++ zs)
 more_left k xs ys zs h = let a = times_append k xs ys in let b = times_append k xs zs in omega (arith, a, b, h)
 
+-- what becomes of one, and then of the others
+asked_then : (binder : Option Binder) (t : TypeRefId) (ys : Bounds) → ((b : Builder) → Paired b.stored
+    → let p = steps.ask_each binder (bounded_by.Type_ t) ys in CountTo (left_of b t) (λ a. none_named) b (p b).0 (p b).1)
+    → (was : Naming) (b : Builder) (o : Checked (Unit {0})) (c : Builder) → AskTo t was b o c
+    → let p = go_on o c (λ u. steps.ask_each binder (bounded_by.Type_ t) ys) in CountTo was (λ a. none_named) b p.0 p.1
+asked_then binder t ys more was b (Ok u) c h =
+    let p = steps.ask_each binder (bounded_by.Type_ t) ys in
+    counted_both (λ a. none_named) b c h (p c).0 (p c).1 (more c h.paired)
+asked_then binder t ys more was b (Err f) c h = tt
+
 -- each bound of a type
 each_counts : (binder : Option Binder) (t : TypeRefId) (bs : Bounds) (b : Builder) → Paired b.stored
     → let p = steps.ask_each binder (bounded_by.Type_ t) bs in CountTo (left_of b t) (λ a. none_named) b (p b).0 (p b).1
 each_counts binder t tree.no_bounds b d = count_still refl d (λ final f k. omega arith)
 each_counts binder t (tree.more_bounds y ys) b d =
-    then_to (λ a. none_named) (lower_bound y) (λ r. ask r >> rest) b
-    (to_beside (left_of b t) b (lower_bound y b).0 (lower_bound y b).1 ((bound_counts y).at b d))
-    (λ r c g is. to_as c ((ask r >> rest) c).0 ((ask r >> rest) c).1
+    let ask : TypeBound → Lowering (Unit {0}) = λ r. steps.ask binder (bounded_by.Type_ t) r in
+    let all : TypeBound → Lowering (Unit {0}) = λ r. ask r >> steps.ask_each binder (bounded_by.Type_ t) ys in
+    then_to (λ a. none_named) (lower_bound y) all b
+    (to_beside none_named (λ r f. of_bound f r) (left_of b t) b (lower_bound y b).0 (lower_bound y b).1 ((bound_counts y).at b d))
+    (λ r c g is.
+    to_as (bound_and_left c t r) (λ f. of_bound f r ++ left_of b t f) (λ a. none_named) (λ a. none_named) c (all r c).0 (all r c).1
     (λ f k. more_left k (of_bound f r) (left_of c t f) (left_of b t f) (left_later (bound_noted y) b c r d is t f k))
     (λ a f k. omega arith)
-    (by r c (ask r c).0 (ask r c).1 (asked_counts binder t r c g.paired)))
-  where
-    ask : TypeBound → Lowering (Unit {0})
-    ask r = steps.ask binder (bounded_by.Type_ t) r
-
-    rest : Lowering (Unit {0})
-    rest = steps.ask_each binder (bounded_by.Type_ t) ys
-
-    by : (r : TypeBound) (c : Builder) (o : Checked (Unit {0})) (e : Builder) → AskTo t (bound_and_left c t r) c o e
-        → CountTo (bound_and_left c t r) (λ a. none_named) c (go_on o e (λ u. rest)).0 (go_on o e (λ u. rest)).1
-    by r c (Ok u) e h = counted_both (λ a. none_named) c e h (rest e).0 (rest e).1 (each_counts binder t ys e h.paired)
-    by r c (Err f) e h = tt
+    (asked_then binder t ys (λ e h. each_counts binder t ys e h) (bound_and_left c t r) c (ask r c).0 (ask r c).1
+    (asked_counts binder t r c g.paired)))
 
 left_whole : (ps : List WherePredicate) (t : TypeRefId) (f : TypeRefId → List ℕ) → left ps t f ⊑ f t
 left_whole ps t f k = by (among t (before_all [] ps))
@@ -184,7 +188,7 @@ pub all_counts : (binder : Option Binder) (t : TypeRefId) (bs : Bounds)
     → Counts (λ f. f t) (λ a. none_named) (steps.ask_each binder (bounded_by.Type_ t) bs)
 all_counts binder t bs = record {
   at = λ b d. let p = steps.ask_each binder (bounded_by.Type_ t) bs in
-      to_as b (p b).0 (p b).1 (λ f k. left_whole b.notes.generics.where_predicates t f k) (λ a f k. omega arith)
+      to_as (left_of b t) (λ f. f t) (λ a. none_named) (λ a. none_named) b (p b).0 (p b).1 (λ f k. left_whole b.notes.generics.where_predicates t f k) (λ a f k. omega arith)
       (each_counts binder t bs b d);
 }
 
@@ -284,8 +288,11 @@ present_adds tree.no_type = adds_pure None (λ l k. omega arith)
 present_adds (tree.some_type t) = adds_then (part_adds None (tree.some_type t)) (λ i. adds_pure (Some i) (λ l k. omega arith))
 
 -- a constant of this type
-const_counts : (n : Name) (t : TypeRefId) (default : Option Constant) → Counts (λ f. f t) (λ a. none_named)
-    (steps.present_constant default >>= (λ d. add_param (param.ConstParamData (record { name = n; ty = t; default = d })) >> pure tt))
+abbrev behind_default : Name → TypeRefId → Option ConstRef → Lowering (Unit {0})
+behind_default n t d = add_param (param.ConstParamData (record { name = n; ty = t; default = d })) >> pure tt
+
+const_counts : (n : Name) (t : TypeRefId) (default : Option Constant)
+    → Counts (λ f. f t) (λ a. none_named) (steps.present_constant default >>= behind_default n t)
 const_counts n t default = counts_then (counts_beside (λ f. f t) (default_counts default))
     (λ d. counts_then (param_counts (param.ConstParamData (record { name = n; ty = t; default = d }))) (λ k. nothing_counts tt))
 

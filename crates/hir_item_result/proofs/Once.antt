@@ -1,5 +1,5 @@
 -- What an item is answered with, and its parameters and predicates, reach each type in one way only.
-use Rattle.std.proofs.Common.{◌≡◌, ap, subst, refl, arith, ℕ, ◌+◌, ◌≤◌, length, List, [], ◌∷◌, ◌++◌, Option, Some, None, Ok, false}
+use Rattle.std.proofs.Common.{◌≡◌, ap, subst, arith, ℕ, ◌+◌, ◌≤◌, length, List, [], ◌∷◌, ◌++◌, Option, Some, None, Ok, false}
 use Rattle.hir_store.specs.Generics.{of_binding as binding_of_parts}
 use Rattle.hir_store.specs.Pointers.{Pointer}
 use Rattle.hir_store.specs.Stored.{map_of, store_of}
@@ -70,7 +70,7 @@ stored_notes : (at : Pointer) (p : Option HirPath) → parts.Notes nothing (step
 stored_notes at None = parts.notes_pure None
 stored_notes at (Some p) = parts.notes_begin (notes_type _ _) (λ id. parts.notes_pure _)
 
-trait_noting : Option PathTypeReading → Noting
+abbrev trait_noting : Option PathTypeReading → Noting
 trait_noting None = nothing
 trait_noting (Some x) = noted_in_whole x.path
 
@@ -154,7 +154,7 @@ output_adds k r = adds_then (ret_adds r) (λ t. answer_adds k t)
 
 -- ---- what is noted of a function
 
-receiver_noting : Receiver → Noting
+abbrev receiver_noting : Receiver → Noting
 receiver_noting item.no_receiver = nothing
 receiver_noting (item.disabled_receiver at by) = nothing
 receiver_noting (item.typed_receiver t) = noted_in_type t
@@ -172,7 +172,7 @@ receiver_notes (item.typed_receiver t) = parts.notes_end (one_type_noted None t)
 receiver_notes (item.self_receiver borrow l) = parts.notes_end (parts.notes_begin (notes_type steps.self_path None) (λ self.
     parts.notes_end (lifetime_option_notes l) (λ id. borrowed_notes borrow self id))) (λ i. parts.notes_pure (Some i))
 
-argument_noting : Argument → Noting
+abbrev argument_noting : Argument → Noting
 argument_noting (item.disabled_argument at by) = nothing
 argument_noting item.variadic_argument = nothing
 argument_noting (item.argument t) = noted_in_type_part t

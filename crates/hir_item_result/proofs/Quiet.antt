@@ -48,7 +48,7 @@ bound_quiet (tree.path_bound at p maybe binder) = forgotten (path_bound_adds at 
 bound_quiet (tree.lifetime_bound l) = quiet_then (lifetime_adds l) (λ i. quiet_pure _)
 bound_quiet (tree.use_bound us) = quiet_then (uses_add [] us) (λ xs. quiet_pure _)
 
-constant_quiet : (c : Constant) → Correct (lower_constant c) Quiet
+pub constant_quiet : (c : Constant) → Correct (lower_constant c) Quiet
 constant_quiet (tree.constant e) = adds_owning (λ c. c.expr) (quiet_constant (part_quiet e))
 
 -- the path of a trait names what is in it

@@ -84,7 +84,7 @@ module _ (W : Walk) where
 -- ---- a walk of what is claimed in front of others
 
 module _ (R : Reading) where
-  part_type : (t : OptionType) → reading.Reads R (type_parts t) (type_part None t)
+  pub part_type : (t : OptionType) → reading.Reads R (type_parts t) (type_part None t)
   unfolding error_type
   part_type tree.no_type = reading.one R (R.made_is type.Error error_shape tt)
   part_type (tree.some_type t) = reading.one R (R.type_is t)
@@ -100,20 +100,20 @@ module _ (R : Reading) where
   borrowed (Some m) l self id =
       reading.one R (R.made_is (type.Reference (record { ty = self; lifetime = id; mutability = m })) _ tt)
 
-  self_form : (borrow : Option Mutability) (l : Option Lifetime) → reading.Reads R (self_parts borrow l) (steps.self_form borrow l)
+  pub self_form : (borrow : Option Mutability) (l : Option Lifetime) → reading.Reads R (self_parts borrow l) (steps.self_form borrow l)
   self_form borrow l = reading.next R (reading.one R (R.made_is steps.self_path _ tt))
       (λ self. reading.next R (lifetime_option l) (λ id. borrowed borrow l self id))
 
-  coroutine : (k : CoroutineKind) (given : TypeRefId) (x : TypeData) → reading.Reads R (coroutine_parts k x) (coroutine_of k given)
+  pub coroutine : (k : CoroutineKind) (given : TypeRefId) (x : TypeData) → reading.Reads R (coroutine_parts k x) (coroutine_of k given)
   coroutine k given x = reading.next R (reading.one R (R.made_is (type.Path (steps.coroutine_path k given)) _ tt))
       (λ p. reading.one R (R.made_is (type.ImplTrait (bound.Path p modifier.None ∷ [])) _ tt))
 
-  unit_coroutine : (k : CoroutineKind)
+  pub unit_coroutine : (k : CoroutineKind)
       → reading.Reads R (part.type_made (tuple_shape no_types) ∷ coroutine_parts k unit_data) (unit_type >>= coroutine_of k)
   unfolding unit_type
   unit_coroutine k = reading.next R (reading.one R (R.made_is (type.Tuple []) _ tt)) (λ given. coroutine k given unit_data)
 
-  pub walking : Walk
+  unfoldable pub walking : Walk
   walking = record {
     Reads = λ xs p. reading.Reads R xs p;
     Claim = λ xs p. R.Claim xs p;

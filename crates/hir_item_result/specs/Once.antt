@@ -1,7 +1,7 @@
 -- What an item is answered with, and its parameters and predicates, reach each type in one way only, together with what expressions and
 -- patterns name.
 use Rattle.std.specs.Prelude.{◌≡◌, ℕ, ◌≤◌, Bool, true, false, ◌||◌, if◌then◌else◌, nat_eq, List, [], ◌∷◌, ◌++◌, length, slice_get}
-use Rattle.std.specs.Prelude.{Option, Some, None, Ok}
+use Rattle.std.specs.Prelude.{Option, Some, Ok}
 use Rattle.hir_store.specs.Pointers.{Pointer}
 use Rattle.hir_store.specs.Stored.{SourceMap, Store, map_of, store_of}
 use Rattle.hir_store.specs.declared.generics.GenericParams.{GenericParams}

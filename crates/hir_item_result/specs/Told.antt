@@ -1,7 +1,7 @@
 -- What is told of the parts of an item, one after another: their faults, the blocks that are entered in them, the calls of macros, and what
 -- the types and lifetimes read back as that are stored.
 -- What they leave in a store.
-use Rattle.std.specs.Prelude.{List, [], ◌∷◌, Some, None, is_some}
+use Rattle.std.specs.Prelude.{List, [], ◌∷◌, None, is_some}
 use Rattle.hir_store.specs.Stored.{Store, SourceMap}
 use Rattle.hir_env.specs.Answered as tree
 use Rattle.hir_data.specs.Data.{typed}
