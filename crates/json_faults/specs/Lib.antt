@@ -4,6 +4,7 @@ pub mod Floats
 pub mod Kinds
 pub mod Faults
 pub mod Levels
+pub mod Members
 pub mod Nodes
 pub mod Tables
 pub mod PathTexts

@@ -3,13 +3,13 @@ use Rattle.std.specs.Prelude.{◌≡◌, ℕ, suc, Bool, true, false, not, List,
 use Rattle.std.specs.Prelude.{length, option_and_then, slice_index_or, unwrap_or, Result, Ok, Err}
 use Rattle.serde_json.specs.Data.{Data, string, Items, no_items, item}
 use Rattle.serde_json.specs.Find.{get, as_array, as_object, as_str, as_bool}
-use Rattle.serde_json.specs.View.{view}
 use Rattle.json_faults.specs.Values.{all_items, index_of, small_of, is_range, is_word, is_part, is_between}
 use Rattle.json_faults.specs.Literals.{is_integer, is_truth}
 use Rattle.json_faults.specs.Levels.{below, use_each, first_unused, first_deep}
 use Rattle.json_faults.specs.Kinds.{kind_at, is_of_group}
 use Rattle.json_faults.specs.Faults.{Fault, fault_of}
 use Rattle.json_faults.specs.Faults as fault
+use Rattle.json_faults.specs.Members.{said}
 use Rattle.json_faults.specs.declared.fault.Fault as rust
 use Rattle.json_kinds.specs.Rows.{NamedSort}
 use Rattle.json_kinds.specs.Table.{row}
@@ -124,8 +124,11 @@ pub record InList : Type 0 where
   pub at : ℕ
   pub node : Data
 
+abbrev pub node_in : List (Option Kind) → ℕ → Data → InList
+node_in kinds at d = record { kinds = kinds; at = at; node = d }
+
 abbrev pub in_list : ListedNode → InList
-in_list p = record { kinds = p.kinds.now; at = p.at; node = view p.node.now }
+in_list p = node_in p.kinds.now p.at (said p.node.now)
 
 -- the fields of every kind
 abbrev pub heading : List NamedSort
@@ -182,7 +185,7 @@ module _ (h : InList) where
 abbrev pub nodes_from : List (Option Kind) → ℕ → Items → List ℕ → Result (List ℕ) Fault
 nodes_from kinds at no_items levels = Ok levels
 nodes_from kinds at (item d ds) levels = do
-  next ← node (record { kinds = kinds; at = at; node = d }) levels
+  next ← node (node_in kinds at d) levels
   nodes_from kinds (suc at) ds next
 
 abbrev none_first : Option ℕ → (ℕ → Fault) → Result (Unit {0}) Fault

@@ -8,13 +8,15 @@ ghost use Rattle.json_faults.specs.Documents as spec;
 ghost use Rattle.json_faults.specs.Documents.{IsRefusalFor};
 ghost use Rattle.json_faults.specs.Kinds.{kinds_of};
 ghost use Rattle.json_faults.specs.Levels.{Uses};
+ghost use Rattle.json_faults.specs.Members.{all_pairs, pairs};
 ghost use Rattle.json_faults.specs.Nodes.{Walks};
 
 use crate::env::check_env;
 use crate::fault::Fault;
 use crate::floats::{has_float, has_float_beside};
-use crate::kinds::{is_of_group, whole_kinds_of};
+use crate::kinds::{Found, found_in, is_of_group};
 use crate::levels::use_at;
+use crate::members::Member;
 use crate::nodes::{check_each, check_levels};
 use crate::refusal::Refusal;
 use crate::value::{flag_if_there, index, is_word};
@@ -122,13 +124,15 @@ fn use_root(
 
 fn check_tree(
     kinds: &[Option<Kind>],
+    members: &[Member<'_>],
     nodes: &[Value],
     wanted: Group,
     optional: bool,
     document: &Value,
     levels: &mut [u16],
 ) -> Result<(), Fault>
-    requires { length levels.old ≡ length nodes.now }
+    requires levels { length levels.old ≡ length nodes.now }
+    requires members { pairs members.now ≡ all_pairs (items_view nodes.now) }
     ensures { Walks (spec.whole_tree kinds.now (items_view nodes.now) wanted optional (view document.now) levels.old) result levels.new }
 {
     let Some(root) = root_of(document) else {
@@ -137,7 +141,7 @@ fn check_tree(
     if !use_root(kinds, nodes, wanted, root, levels) {
         return Err(Fault::Root);
     }
-    check_each(kinds, nodes, levels)?;
+    check_each(kinds, members, nodes, levels)?;
     check_env(kinds, document.get("env"), levels)?;
     check_levels(levels)?;
     if !optional && is_missing(nodes) {
@@ -153,17 +157,18 @@ fn are_more(nodes: &[Value], most: usize) -> bool
     nodes.len() > most
 }
 
-/// The kinds of the nodes of a document, none where a number in it is no whole one of 64 bits.
+/// The kinds and the members of the nodes of a document, none where a number in it is no whole one of 64 bits.
 #[tactic(auto, using(crate::proofs::Beside::float_beside, crate::proofs::Beside::none_beside))]
-fn kinds_in(alloc: Global, document: &Value) -> Result<Option<Vec<Option<Kind>>>, AllocError>
+fn nodes_found(alloc: Global, document: &Value) -> Result<Option<Found<'_>>, AllocError>
     requires { is_some (spec.nodes_in (view document.now)) ≡ true }
-    ensures found { IfOk result (λ found. IfSome found (λ kinds. kinds.items ≡ kinds_of (spec.nodes (view document.now)))) }
+    ensures kinds { IfOk result (λ found. IfSome found (λ f. f.kinds.items ≡ kinds_of (spec.nodes (view document.now)))) }
+    ensures members { IfOk result (λ found. IfSome found (λ f. pairs f.members.items ≡ all_pairs (spec.nodes (view document.now)))) }
     ensures whole { IfOk result (λ found. is_some found ≡ not (has_float (view document.now))) }
 {
     if has_float_beside("nodes", document) {
         return Ok(None);
     }
-    whole_kinds_of(alloc, nodes(document))
+    found_in(alloc, nodes(document))
 }
 
 /// The kinds of the nodes of a document that has no fault: it has at most so many nodes, and a root of the group, or no
@@ -190,12 +195,14 @@ pub fn checked_kinds(
         }
         return Err(Refusal::Fault(Fault::TooManyNodes));
     }
-    let Some(kinds) = kinds_in(alloc, document)? else {
+    let Some(found) = nodes_found(alloc, document)? else {
         return Err(Refusal::Fault(Fault::NotADocument));
     };
+    let Found { kinds, members } = found;
     let mut levels = vec![in alloc; 0; nodes.len()]?;
     check_tree(
         kinds.as_slice(),
+        members.as_slice(),
         nodes,
         wanted,
         optional,

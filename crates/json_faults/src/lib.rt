@@ -11,6 +11,7 @@ pub mod kinds;
 mod levels;
 mod listed;
 mod literal;
+pub mod members;
 mod nodes;
 mod path_text;
 pub mod refusal;

@@ -5,6 +5,7 @@ ghost use Rattle.serde_json.specs.View.{view, items_view};
 ghost use Rattle.serde_json.specs.Find.{as_array, as_str};
 ghost use Rattle.json_kinds.specs.Rows.{named_sort};
 ghost use Rattle.json_faults.specs.Literals as text;
+ghost use Rattle.json_faults.specs.Members.{said};
 ghost use Rattle.json_faults.specs.Values.{all_items};
 ghost use Rattle.json_faults.specs.Nodes as spec;
 ghost use Rattle.json_faults.specs.Nodes.{in_list, Walks, text_is};
@@ -13,6 +14,7 @@ use crate::fault::Fault;
 use crate::kinds::{is_of_group, kind_at};
 use crate::levels::{below, use_each};
 use crate::literal::{is_integer, is_truth};
+use crate::members::{Member, found};
 use crate::value::{are_between, are_parts, index, is_range, is_word, small};
 use json_kinds::field::{Field, Sort};
 use json_kinds::group::Group;
@@ -49,20 +51,20 @@ fn literal_text(word: &str) -> Sort
     }
 }
 
-fn literal_sort(node: &Value) -> Sort
-    ensures { result ≡ spec.sort_at (view node.now) Sort.LiteralText }
+fn literal_sort(node: &[Member<'_>]) -> Sort
+    ensures { result ≡ spec.sort_at (said node.now) Sort.LiteralText }
 {
-    match node.get("lit") {
+    match found(node, "lit") {
         Some(Value::String(word)) => literal_text(word.as_str()),
         _ => Sort::Text,
     }
 }
 
 /// What the label of a block is, in the light of its modifier.
-fn label_sort(node: &Value) -> Sort
-    ensures { result ≡ spec.sort_at (view node.now) Sort.PlainLabel }
+fn label_sort(node: &[Member<'_>]) -> Sort
+    ensures { result ≡ spec.sort_at (said node.now) Sort.PlainLabel }
 {
-    match node.get("mod") {
+    match found(node, "mod") {
         Some(_) => Sort::Excluded,
         None => Sort::Part(Group::Label),
     }
@@ -80,28 +82,28 @@ fn type_sort(word: &str) -> Sort
 }
 
 /// What the type of a block is, in the light of its modifier.
-fn try_type_sort(node: &Value) -> Sort
-    ensures { result ≡ spec.sort_at (view node.now) Sort.TryType }
+fn try_type_sort(node: &[Member<'_>]) -> Sort
+    ensures { result ≡ spec.sort_at (said node.now) Sort.TryType }
 {
-    match node.get("mod") {
+    match found(node, "mod") {
         Some(Value::String(word)) => type_sort(word.as_str()),
         _ => Sort::Excluded,
     }
 }
 
 /// Whether an array has a semicolon.
-fn has_semi(node: &Value) -> bool
-    ensures { result ≡ spec.is_set (codes "semi") (view node.now) }
+fn has_semi(node: &[Member<'_>]) -> bool
+    ensures { result ≡ spec.is_set (codes "semi") (said node.now) }
 {
-    match node.get("semi") {
+    match found(node, "semi") {
         Some(value) => value.as_bool().unwrap_or(false),
         None => false,
     }
 }
 
 /// What the elements of an array are, in the light of its semicolon.
-fn elements_sort(node: &Value) -> Sort
-    ensures { result ≡ spec.sort_at (view node.now) Sort.Elements }
+fn elements_sort(node: &[Member<'_>]) -> Sort
+    ensures { result ≡ spec.sort_at (said node.now) Sort.Elements }
 {
     if has_semi(node) {
         Sort::PassedOver
@@ -111,8 +113,8 @@ fn elements_sort(node: &Value) -> Sort
 }
 
 /// What is repeated in an array, or how often, in the light of its semicolon.
-fn repeated_sort(node: &Value) -> Sort
-    ensures { result ≡ spec.sort_at (view node.now) Sort.Repeated }
+fn repeated_sort(node: &[Member<'_>]) -> Sort
+    ensures { result ≡ spec.sort_at (said node.now) Sort.Repeated }
 {
     if has_semi(node) {
         Sort::Part(Group::Expr)
@@ -122,8 +124,8 @@ fn repeated_sort(node: &Value) -> Sort
 }
 
 /// What a field holds, in the light of the others.
-fn sort_at(node: &Value, sort: Sort) -> Sort
-    ensures { result ≡ spec.sort_at (view node.now) sort }
+fn sort_at(node: &[Member<'_>], sort: Sort) -> Sort
+    ensures { result ≡ spec.sort_at (said node.now) sort }
 {
     match sort {
         Sort::LiteralText => literal_sort(node),
@@ -185,7 +187,7 @@ fn fits(sort: Sort, value: &Value) -> bool
 pub struct ListedNode<'k, 'n> {
     pub kinds: &'k [Option<Kind>],
     pub at: usize,
-    pub node: &'n Value,
+    pub node: &'n [Member<'n>],
 }
 
 impl ListedNode<'_, '_> {
@@ -303,7 +305,7 @@ impl ListedNode<'_, '_> {
         ensures kept { length levels.new ≡ length levels.old }
     {
         let sort = sort_at(self.node, field.sort);
-        match self.node.get(field.name) {
+        match found(self.node, field.name) {
             Some(value) => self.value(levels, field.name, sort, value),
             None => {
                 if is_owed(sort) {
@@ -327,14 +329,12 @@ impl ListedNode<'_, '_> {
     }
 
     /// Sees that the node has no fault, and uses its parts.
+    #[tactic(auto, using(crate::proofs::Sides::is_object))]
     pub fn check(&self, levels: &mut [u16]) -> Result<(), Fault>
         requires { self.now.at < length levels.old }
         ensures walks { Walks (spec.node (in_list self.now) levels.old) result levels.new }
         ensures kept { length levels.new ≡ length levels.old }
     {
-        let Value::Object(_) = self.node else {
-            return Err(Fault::NotAnObject { node: self.at });
-        };
         let Some(kind) = kind_at(self.kinds, self.at) else {
             return Err(Fault::Kind { node: self.at });
         };
