@@ -1,6 +1,6 @@
 -- The step of the walk of an `impl` in an argument, by whether there is room.
-use Rattle.std.proofs.Common.{◌≡◌, ◌∙◌, ◌⊎◌, inl, inr, refl, sym, ap, subst, arith, ℕ, ◌<◌, ◌≤◌, nat_lt, length, Bool, true, false, List}
-use Rattle.std.proofs.Common.{if◌then◌else◌, Option, Some, Ok, Err}
+use Rattle.std.proofs.Common.{◌≡◌, ◌∙◌, inl, inr, refl, sym, ap, subst, arith, ℕ, ◌<◌, ◌≤◌, nat_lt, length, Bool, true, false, List}
+use Rattle.std.proofs.Common.{if◌then◌else◌, Some, Ok, Err}
 use Rattle.std.proofs.lemmas.Option.{same_Some}
 use Rattle.hir_store.specs.Arenas.{Sourced, with_entry}
 use Rattle.hir_store.specs.Pointers.{Pointer}

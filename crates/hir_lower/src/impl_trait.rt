@@ -65,7 +65,7 @@ pub struct ErrorImplTrait;
 pub struct OpaqueImplTrait;
 
 /// An `impl` becomes a parameter of the definition, behind those of the lists that it borrows, with a predicate for each of its bounds.
-/// Only this crate makes one.
+/// Only this crate can make one. The walk of an item notes in its builder what `lower` adds to these lists (`arguments_are_one`).
 #[derive(Drop)]
 pub struct ArgumentImplTrait<'l> {
     parent: GenericDefId,
