@@ -142,8 +142,8 @@ part_names {n = n} {b = b} {c = c} g final e f k =
     ∙ append-nil (named_by_predicates s m [] ps f))) in
     λ j. times k (x j ++ p j)
 
--- No number is named more often, by what is answered now, by what is noted and by what is stored, than it was, but for those that were given
--- out, which are named once more.
+-- No number is named more often, by what is answered now, by what is noted and by what is stored, than it was, but for those that were
+-- given out, which are named once more.
 pub record Count (was now : Naming) (b c : Builder) : Type 0 where
   pub stays : Extends b.stored c.stored
   pub paired : Paired c.stored
@@ -225,7 +225,8 @@ counted_both now b c g (Err e) d h = tt
 
 -- from this builder on
 pub then_to : {A B : Type 0} {was : Naming} {one : A → Naming} (now : B → Naming) (p : Lowering A) (f : A → Lowering B) (b : Builder)
-    → CountTo was one b (p b).0 (p b).1 → ((a : A) (c : Builder) → Count was (one a) b c → p b ≡ (Ok a, c) → CountTo (one a) now c (f a c).0 (f a c).1)
+    → CountTo was one b (p b).0 (p b).1 → ((a : A) (c : Builder) → Count was (one a) b c → p b ≡ (Ok a, c)
+    → CountTo (one a) now c (f a c).0 (f a c).1)
     → CountTo was now b ((p >>= f) b).0 ((p >>= f) b).1
 then_to {A = A} {was = was} {one = one} now p f b h k = by (p b).0 (p b).1 refl h
   where
@@ -261,7 +262,8 @@ counts_beside {was = was} {now = now} {p = p} more h = record { at = λ b d. to_
 
 -- where neither what is noted nor what is stored changes in what is counted
 pub count_still : {was now : Naming} {b c : Builder} → c.stored ≡ b.stored → Paired b.stored
-    → ((final : Stored) (f : TypeRefId → List ℕ) (k : ℕ) → times k (now f) + noted final f c.notes k ≤ times k (was f) + noted final f b.notes k)
+    → ((final : Stored) (f : TypeRefId → List ℕ) (k : ℕ)
+    → times k (now f) + noted final f c.notes k ≤ times k (was f) + noted final f b.notes k)
     → Count was now b c
 count_still {was = was} {now = now} {b = b} {c = c} e d h = record {
   stays = subst (λ s. Extends b.stored s) (sym e) (extends_refl b.stored);

@@ -40,8 +40,8 @@ use Rattle.hir_told.proofs.Tree.{bound_graded, part_graded, type_graded}
 use Rattle.hir_told.proofs.TypeForms as forms
 use Rattle.hir_item_result.specs.Answers.{borrowed_data, coroutine_path_data, coroutine_shape, self_data}
 use Rattle.hir_item_result.specs.Parts as part
-use Rattle.hir_item_result.specs.Parts.{Part, alias_parts, coroutine_parts, function_parts, generics_parts, impl_parts, self_parts, trait_parts}
-use Rattle.hir_item_result.specs.Parts.{type_parts}
+use Rattle.hir_item_result.specs.Parts.{Part, alias_parts, coroutine_parts, function_parts, generics_parts, impl_parts}
+use Rattle.hir_item_result.specs.Parts.{self_parts, trait_parts, type_parts}
 use Rattle.hir_item_result.specs.Stored.{AddsData, FirstItemsStore, ItemsStore, StoresFirst, data_of_item}
 use Rattle.hir_item_result.specs.Told.{grade_item_part}
 use Rattle.hir_item_result.proofs.Items.{items_walked}

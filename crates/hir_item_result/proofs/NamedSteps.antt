@@ -1,6 +1,6 @@
 -- What parameters and predicates name is counted once: the steps of what is generic in an item.
-use Rattle.std.proofs.Common.{◌≡◌, ◌∙◌, refl, sym, ap, subst, arith, ℕ, ◌+◌, ◌≤◌, nat_lt, length, Bool, true, false, if◌then◌else◌, List, [], ◌∷◌}
-use Rattle.std.proofs.Common.{◌++◌, append-nil, Option, Some, None, Ok, Err}
+use Rattle.std.proofs.Common.{◌≡◌, ◌∙◌, refl, sym, ap, subst, arith, ℕ, ◌+◌, ◌≤◌, nat_lt, length, Bool, true, false, List, []}
+use Rattle.std.proofs.Common.{if◌then◌else◌, ◌∷◌, ◌++◌, append-nil, Option, Some, None, Ok, Err}
 use Rattle.hir_store.specs.Storing as storing
 use Rattle.hir_store.specs.Stored.{Stored, map_of, store_of}
 use Rattle.hir_store.specs.declared.generics.LifetimeParamData.{LifetimeParamData}
@@ -188,7 +188,8 @@ pub all_counts : (binder : Option Binder) (t : TypeRefId) (bs : Bounds)
     → Counts (λ f. f t) (λ a. none_named) (steps.ask_each binder (bounded_by.Type_ t) bs)
 all_counts binder t bs = record {
   at = λ b d. let p = steps.ask_each binder (bounded_by.Type_ t) bs in
-      to_as (left_of b t) (λ f. f t) (λ a. none_named) (λ a. none_named) b (p b).0 (p b).1 (λ f k. left_whole b.notes.generics.where_predicates t f k) (λ a f k. omega arith)
+      to_as (left_of b t) (λ f. f t) (λ a. none_named) (λ a. none_named) b (p b).0 (p b).1
+      (λ f k. left_whole b.notes.generics.where_predicates t f k) (λ a f k. omega arith)
       (each_counts binder t bs b d);
 }
 

@@ -20,7 +20,8 @@ module _ {ℓ} (S : Grading {ℓ}) where
   grade_item_part (part.type_read t) = grade_type S t
   grade_item_part (part.type_made shape) = S.type_as (typed None shape)
   grade_item_part (part.bound_read b) = grade_bound S b
-  grade_item_part (part.trait_read at p) = S.then' (grade_whole S p) (if_so S (is_some (whole_read p)) (S.type_as (type_data None (tree.path_type at p))))
+  grade_item_part (part.trait_read at p) =
+      S.then' (grade_whole S p) (if_so S (is_some (whole_read p)) (S.type_as (type_data None (tree.path_type at p))))
   grade_item_part (part.constant_read c) = grade_constant S c
   grade_item_part (part.lifetime_read l) = S.lifetime_as (lifetime_data l)
   grade_item_part (part.lifetime_made l) = S.lifetime_as (record { lifetime = l; from = None })

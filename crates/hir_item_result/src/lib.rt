@@ -51,9 +51,9 @@ pub fn items_read_back()
     ensures functions { FunctionsRead }
 {}
 
-/// All types and lifetimes that lowering an item stores read back, in their order, as its parts say, in each later store: what is written, or
-/// what is made. So do those that nothing reaches: of each parameter the type that it is, and of each lifetime parameter its lifetime, which
-/// bears its name.
+/// All types and lifetimes that lowering an item stores read back, in their order, as its parts say, in each later store: what is written,
+/// or what is made. So do those that nothing reaches: of each parameter the type that it is, and of each lifetime parameter its lifetime,
+/// which bears its name.
 pub fn items_store()
     ensures from_any { ItemsStore }
     ensures first { FirstItemsStore }

@@ -90,7 +90,8 @@ module _ (at : Spot) (def : GenericDefId) where
   pub record ReadsReceivers : Type 0 where
     pub plain : Receives (self_at 1 false false None None) self_type (type_made self_type ∷ [])
     pub mutable : Receives (self_at 1 false true None None) self_type (type_made self_type ∷ [])
-    pub borrowed : Receives (self_at 1 true false None None) (self_behind None Shared) (type_made self_type ∷ type_made (self_behind None Shared) ∷ [])
+    pub borrowed : Receives (self_at 1 true false None None) (self_behind None Shared)
+        (type_made self_type ∷ type_made (self_behind None Shared) ∷ [])
     pub borrowed_mutable : Receives (self_at 1 true true None None) (self_behind None Mut)
         (type_made self_type ∷ type_made (self_behind None Mut) ∷ [])
     pub named : Receives (self_at 1 true false behind_a None) (self_behind a_there Shared)

@@ -106,7 +106,12 @@ module _ (at : Spot) (def : GenericDefId) where
     pub placeholder : NamelessLifetime (codes "'_") lifetime.Placeholder
     pub lone : NamelessLifetime (codes "'") lifetime.Error
     pub lacking : Reads (lifetime_param_at 1 None (impl_inside ∷ []) ∷ []) []
-        (record { params = []; lifetimes = []; asks = []; parts = lifetime_made (record { lifetime = lifetime.Placeholder; from = None }) ∷ [] })
+        (record {
+          params = [];
+          lifetimes = [];
+          asks = [];
+          parts = lifetime_made (record { lifetime = lifetime.Placeholder; from = None }) ∷ [];
+        })
 
   -- ---- order, and what is disabled
 

@@ -103,7 +103,8 @@ module _ (def : GenericDefId) (at : Pointer) (bounds : List TypeBound) (b : Buil
       by true e false g = subst Given (sym (step_full e g)) (inl (not_less place b.stored.types.limit g))
       by false e y g = subst Given (sym (step_counted_out e)) (inr (not_less number 4294967295 e))
 
-  behind_is : (lists : GenericLists) (i : TypeRefId) → i ≡ type_id place → Some lists ≡ lists_behind (Argument def) (Some b.notes.generics) i bounds
+  behind_is : (lists : GenericLists) (i : TypeRefId) → i ≡ type_id place
+      → Some lists ≡ lists_behind (Argument def) (Some b.notes.generics) i bounds
       → (with_bounds (type_id place) bounds with_one.notes).generics ≡ lists
   behind_is lists i e h = sym (same_Some lists _ (h ∙ ap (λ t. lists_behind (Argument def) (Some b.notes.generics) t bounds) e))
 

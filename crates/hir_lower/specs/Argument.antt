@@ -1,5 +1,5 @@
--- What `ArgumentImplTrait` stores, answers and adds to the lists that it borrows is what the walk of an item stores, answers and notes of an
--- `impl` in an argument, from the same store and behind the same lists.
+-- What `ArgumentImplTrait` stores, answers and adds to the lists that it borrows is what the walk of an item stores, answers and notes of
+-- an `impl` in an argument, from the same store and behind the same lists.
 use Rattle.std.specs.Prelude.{◌≡◌, List, Some, Ok, Err}
 use Rattle.hir_store.specs.Pointers.{Pointer}
 use Rattle.hir_store.specs.Stored.{Stored}

@@ -49,10 +49,10 @@ use std::alloc::Global;
 /// calls of macros are recorded as the parts say. The parameters are those that are written, and those that `impl`s become, in the order
 /// of their numbers: types and defaults read back, and the bodies inside them run so. The type that an `impl` becomes names the parameter
 /// of its number. Of each bound there is one predicate, in their order: it reads back with what it is of, and the bodies inside them run
-/// so (clause `params`). Each type that defaults, types of constants, what is bound, and bounds reach is reached in one way only; what several
-/// predicates are of is counted once, and of what is asked of a parameter that an `impl` became nothing is said (`reached_once`). All
-/// stored types and all lifetimes, in their order, read back as what is written or made, also those that nothing reaches: so the type that
-/// a parameter is, and the lifetime of a lifetime parameter, which bears its name (`stored`).
+/// so (clause `params`). Each type that defaults, types of constants, what is bound, and bounds reach is reached in one way only; what
+/// several predicates are of is counted once, and of what is asked of a parameter that an `impl` became nothing is said (`reached_once`).
+/// All stored types and all lifetimes, in their order, read back as what is written or made, also those that nothing reaches: so the
+/// type that a parameter is, and the lifetime of a lifetime parameter, which bears its name (`stored`).
 ///
 /// `Memory` where a growth was refused; `Full` only where the item becomes more types, lifetimes, expressions, labels, patterns, bindings
 /// or parameters than there is room for, or something in it counts further than 32 bits do; never `Failed`. What was stored until then
@@ -242,9 +242,9 @@ pub fn lower_type_alias<E: LowerEnv>(
 ///
 /// A lifetime parameter is late bound, unless a bound names it, or what is returned names it and nothing that is given does: a projection
 /// doesn't count, and of an alias only the lifetimes that its type names. The types of what is given and of what is returned read
-/// back as they are written, and the bodies inside them run so (clause `reads`); each type that they, or parameters and predicates, reach is
-/// reached in one way only (`reached_once`). Of parameters and predicates, of all that is stored, of ranges and of what is claimed, the same
-/// is so as for `lower_generic_params`.
+/// back as they are written, and the bodies inside them run so (clause `reads`); each type that they, or parameters and predicates, reach
+/// is reached in one way only (`reached_once`). Of parameters and predicates, of all that is stored, of ranges and of what is claimed, the
+/// same is so as for `lower_generic_params`.
 ///
 /// `Memory` where a growth was refused; `Full` only where the item becomes more types, lifetimes, expressions, labels, patterns, bindings
 /// or parameters than there is room for, or something in it counts further than 32 bits do; never `Failed`. What was stored until then

@@ -67,7 +67,8 @@ returns-clause-too_large g c = λ is.
     let def = c.args.def in
     let ps = option_copied c.args.param_list in
     let x = read_generics env c.args.file_id c.args.inside c.args.mode def ps (option_copied c.args.where_clause) in
-    item_too_large (generics_parts def x) (lower_generics def x) 4294967295 ((refused_items def).0 x) (c.generic_params_steps.ensures.full is)
+    item_too_large (generics_parts def x) (lower_generics def x) 4294967295 ((refused_items def).0 x)
+    (c.generic_params_steps.ensures.full is)
 
 pub returns-clause-made_once : goal.returns-clause-made_once
 returns-clause-made_once g c =
