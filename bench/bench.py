@@ -556,6 +556,30 @@ def alias_names(size):
     return nodes
 
 
+def lifetime_names(size):
+    """Very many lifetime parameters, of which each is named by a bound of the next, by an argument and in what is returned."""
+    nodes = Nodes()
+    names = ["'x%d" % k for k in range(size // 8)]
+    function = nodes.add("Fn")
+    generics = nodes.add("GenericParamList", params=[])
+    nodes.all[function]["generics"] = generics
+    for before, name in zip(names[-1:] + names, names):
+        nodes.all[generics]["params"].append(nodes.add("LifetimeParam", lifetime=name, bounds=[]))
+        nodes.all[-1]["bounds"].append(nodes.add("TypeBound", b="lifetime", lifetime=before))
+    params = nodes.add("ParamList", params=[])
+    nodes.all[function]["params"] = params
+    for name in names:
+        param = nodes.add("Param")
+        nodes.all[param]["ty"] = reference(nodes, name)
+        nodes.all[params]["params"].append(param)
+    answer = nodes.add("RetType")
+    nodes.all[function]["ret"] = answer
+    nodes.all[answer]["ty"] = tuple_of = nodes.add("TupleType", fields=[])
+    for name in names:
+        nodes.all[tuple_of]["fields"].append(reference(nodes, name))
+    return nodes
+
+
 SHAPES = {
     "wide": wide,
     "calls": calls,
@@ -591,6 +615,7 @@ SHAPES = {
     "alias": alias,
     "alias_uses": alias_uses,
     "alias_names": alias_names,
+    "lifetime_names": lifetime_names,
 }
 
 # The shapes that aren't linear, and up to which size they are run.
@@ -609,6 +634,7 @@ MODES = {
     "alias": "fn",
     "alias_uses": "fn",
     "alias_names": "fn",
+    "lifetime_names": "fn",
 }
 
 
