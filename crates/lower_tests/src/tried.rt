@@ -110,7 +110,7 @@ pub const REFUSED: Tried = Tried {
     ends: Err(LowerError::Failed),
 };
 
-fn tried(alloc: Global, env: &TableEnv, path: &Path, call: Call, limit: u32) -> Tried {
+fn answer_to(alloc: Global, env: &TableEnv, path: &Path, call: Call, limit: u32) -> Tried {
     let mut collector = collector(alloc, env, limit);
     let error = called(alloc, &mut collector, call, path).err();
     let is_sound = match error {
@@ -126,7 +126,7 @@ fn tried(alloc: Global, env: &TableEnv, path: &Path, call: Call, limit: u32) -> 
 }
 
 fn tried_in(alloc: Global, document: &Document, call: Call, limit: u32) -> Option<Tried> {
-    Some(tried(alloc, &document.env, path_in(document)?, call, limit))
+    Some(answer_to(alloc, &document.env, path_in(document)?, call, limit))
 }
 
 /// What the call is answered of the path in a text.
@@ -146,9 +146,9 @@ pub fn tried_of(
 
 /// In how much room the call is answered as it is in any: in less room it is answered `Full`. None where that isn't so.
 fn room_for(alloc: Global, env: &TableEnv, path: &Path, call: Call) -> Option<u32> {
-    let whole = tried(alloc, env, path, call, u32::MAX);
+    let whole = answer_to(alloc, env, path, call, u32::MAX);
     for limit in 0..100 {
-        let tried = tried(alloc, env, path, call, limit);
+        let tried = answer_to(alloc, env, path, call, limit);
         if tried == whole {
             return Some(limit);
         }
