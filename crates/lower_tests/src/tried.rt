@@ -27,15 +27,15 @@ pub enum Call {
     OpaqueImpl,
 }
 
+/// Of a path without a constant no call is made.
 fn constant(
     collector: &mut ExprCollector<'_, TableEnv>,
-    constant: Option<&ConstArg>,
+    arg: Option<&ConstArg>,
 ) -> Result<bool, LowerError> {
-    let absent: ConstArg = None;
-    let _lowered = match constant {
-        Some(constant) => collector.lower_const_arg(constant)?,
-        None => collector.lower_const_arg(&absent)?,
+    let Some(arg) = arg else {
+        return Err(LowerError::Failed);
     };
+    let _lowered = collector.lower_const_arg(arg)?;
     Ok(true)
 }
 
