@@ -31,7 +31,7 @@ use crate::named::NamedLifetimeStore;
 use hir_base::Seq;
 use hir_base::node::{AstPtr, HirFileId, InFile};
 use hir_env::env::LowerEnv;
-use hir_env::place::{ImplTrait, LifetimeScope, LoweringMode, Place};
+use hir_env::place::{ImplTrait, LifetimeScope, LoweringMode, Place, inside_constant};
 use hir_lower_form::builder::BodyBuilder;
 use hir_lower_form::generics::GenericLists;
 use hir_lower_knot::knot::{collect_expr, lower_path};
@@ -58,17 +58,6 @@ fn unboxed(expr: &Option<Boxed<ast::Expr>>) -> Option<&ast::Expr>
     match expr {
         None => None,
         Some(expr) => Some(expr.get()),
-    }
-}
-
-/// Where the expression of a constant is read that stands at this place.
-fn inside_constant(place: Place) -> Place
-    ensures { result ≡ inside_constant place }
-{
-    Place {
-        impl_trait: ImplTrait::Error,
-        await_location: Some(AwaitLocation::Constant),
-        ..place
     }
 }
 
