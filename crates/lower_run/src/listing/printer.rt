@@ -9,7 +9,7 @@ use super::words::{expr_word, lang_word, pat_word, statement_word};
 use super::writer::Writer;
 use super::{Listed, expansions, lines};
 use hir_lower::Param;
-use hir_store::hir::{MatchArm, RecordFieldPat, RecordLitField, Statement};
+use hir_store::hir::{Expr, MatchArm, Pat, RecordFieldPat, RecordLitField, Statement};
 use hir_store::ids::{BindingId, ExprId, HygieneId, LabelId, LifetimeRefId, PatId, TypeRefId};
 use hir_store::name::Name;
 use hir_store::path::{AssociatedTypeBinding, GenericArg, GenericArgs, Path};
@@ -76,13 +76,12 @@ impl<'a> Printer<'a> {
     /// Prints the whole listing: the lines of what is shown, then its bindings and labels by number, then what calls were
     /// expanded to, then the diagnostics.
     ///
-    /// Where bindings in it have owners, the lines are printed once more, with the owners' numbers. All other numbers are those
-    /// of the first time, since the order is.
+    /// Where bindings in it have owners, the owners' numbers are put into the lines when all of them are printed.
     pub fn listing(&mut self, shown: Shown<'a>) -> Result<(), AllocError> {
         self.shown(shown)?;
-        if self.owners.all_found() {
-            self.writer.clear();
-            self.shown(shown)?;
+        if self.owners.are_any() {
+            let text = self.owners.marked(self.writer.text())?;
+            self.writer.replace(text);
         }
         self.others()
     }
@@ -128,7 +127,7 @@ impl<'a> Printer<'a> {
     /// Prints a piece and ends the line.
     pub(super) fn line(&mut self, piece: Piece<'a>) -> Result<(), AllocError> {
         self.whole(piece)?;
-        self.writer.word("\n")
+        self.writer.mark('\n')
     }
 
     /// Prints a line for each parameter.
@@ -169,7 +168,7 @@ impl<'a> Printer<'a> {
             Some(root) => self.whole(Piece::Expr(root.root))?,
             None => self.writer.word("-")?,
         }
-        self.writer.word("\n")
+        self.writer.mark('\n')
     }
 
     /// Prints a piece with all that it reaches.
@@ -178,10 +177,13 @@ impl<'a> Printer<'a> {
     pub(super) fn whole(&mut self, piece: Piece<'a>) -> Result<(), AllocError> {
         self.waiting.push(piece)?;
         for _ in 0..u64::MAX {
-            let Some(piece) = self.waiting.pop() else {
+            let Some(next) = self.waiting.pop() else {
                 break;
             };
-            self.piece(piece)?;
+            if next.spaced {
+                self.writer.mark(' ')?;
+            }
+            self.piece(next.piece)?;
         }
         Ok(())
     }
@@ -189,19 +191,13 @@ impl<'a> Printer<'a> {
     fn piece(&mut self, piece: Piece<'a>) -> Result<(), AllocError> {
         match piece {
             Piece::Word(text) => self.writer.word(text),
+            Piece::Close => self.writer.mark(')'),
             Piece::Expr(id) => self.open_expr(id),
             Piece::Exprs(exprs) => self.exprs("[", exprs, "[]"),
             Piece::MoreExprs(exprs) => self.exprs(" ", exprs, "]"),
             Piece::Statement(statement) => self.open_statement(statement),
             Piece::Statements(statements) => self.statements("[", statements, "[]"),
             Piece::MoreStatements(statements) => self.statements(" ", statements, "]"),
-            _ => self.plain_piece(piece),
-        }
-    }
-
-    /// What is neither a word nor an expression nor a statement.
-    fn plain_piece(&mut self, piece: Piece<'a>) -> Result<(), AllocError> {
-        match piece {
             Piece::Label(id) => self.label(id),
             Piece::Block(id) => self.writer.numbered("b", id.0),
             Piece::Name(name) => self.writer.name(name),
@@ -210,11 +206,14 @@ impl<'a> Printer<'a> {
             Piece::Number(number) => self.writer.numbered("", number),
             Piece::FieldList(fields) => self.waiting.push_field_list(fields),
             Piece::Fields(before, fields) => self.fields(before, fields),
+            Piece::Arms(arms) => self.arms("[", arms, "[]"),
+            Piece::MoreArms(arms) => self.arms(" ", arms, "]"),
+            Piece::Arm(arm) => self.open_arm(arm),
             _ => self.pat_piece(piece),
         }
     }
 
-    /// A piece of a pattern, or of what holds one.
+    /// A piece of a pattern, of the parameters of a closure, or of a path.
     fn pat_piece(&mut self, piece: Piece<'a>) -> Result<(), AllocError> {
         match piece {
             Piece::Pat(id) => self.open_pat(id),
@@ -223,21 +222,38 @@ impl<'a> Printer<'a> {
             Piece::Binding(id) => self.binding(id),
             Piece::PatFieldList(fields) => self.waiting.push_pat_field_list(fields),
             Piece::PatFields(before, fields) => self.pat_fields(before, fields),
-            Piece::Arms(arms) => self.arms("[", arms, "[]"),
-            Piece::MoreArms(arms) => self.arms(" ", arms, "]"),
-            Piece::Arm(arm) => self.open_arm(arm),
-            _ => self.closure_piece(piece),
-        }
-    }
-
-    /// A piece of the parameters of a closure, or of a path.
-    fn closure_piece(&mut self, piece: Piece<'a>) -> Result<(), AllocError> {
-        match piece {
             Piece::ClosureParamList(pats, types) => {
                 self.waiting.push_closure_param_list(pats, types)
             }
             Piece::ClosureParams(before, pats, types) => self.closure_params(before, pats, types),
-            _ => self.path_piece(piece),
+            Piece::Path(path, hygiene) => self.waiting.push_path_of(path, hygiene),
+            Piece::PlainPath(path) => self.waiting.push_path(path),
+            Piece::LangItem(item) => self.writer.word(lang_word(self.listed.lang_items, item)),
+            Piece::Hygiene(hygiene) => self.writer.hygiene(hygiene),
+            Piece::PathKind(kind) => self.writer.path_kind(kind),
+            Piece::ModPath(path) => self.writer.mod_path(path),
+            Piece::Segments(before, names, args) => self.segments(before, names, args),
+            _ => self.type_piece(piece),
+        }
+    }
+
+    /// A piece of a list of arguments, or of a type.
+    fn type_piece(&mut self, piece: Piece<'a>) -> Result<(), AllocError> {
+        match piece {
+            Piece::GenericArgs(args) => self.waiting.push_generic_args(args),
+            Piece::Args(before, args) => self.args(before, args),
+            Piece::TypeBindings(before, bindings) => self.type_bindings(before, bindings),
+            Piece::TypeBinding(binding) => self.waiting.push_binding(binding),
+            Piece::Type_(id) => self.open_type(id),
+            Piece::TypeParam(id) => self.type_param(id),
+            Piece::Types(before, types) => self.types(before, types),
+            Piece::Params(before, types, names) => self.fn_params(before, types, names),
+            Piece::Lifetime(id) => self.lifetime(id),
+            Piece::Binder(names) => self.writer.binder(names),
+            Piece::Bounds(before, bounds) => self.bounds(before, bounds),
+            Piece::Bound(bound) => self.waiting.push_bound(bound),
+            Piece::UseArgs(before, args) => self.use_args(before, args),
+            _ => Ok(()),
         }
     }
 
@@ -263,7 +279,7 @@ impl<'a> Printer<'a> {
             Piece::ClosureParams(" ", pats, types),
         ])?;
         self.writer.word(before)?;
-        self.writer.word("(")
+        self.writer.mark('(')
     }
 
     /// Prints what stands before the first of these, and lets them wait.
@@ -283,55 +299,7 @@ impl<'a> Printer<'a> {
             Piece::Fields(" ", rest),
         ])?;
         self.writer.word(before)?;
-        self.writer.word("(")
-    }
-
-    /// A piece of a path, or of a type.
-    fn path_piece(&mut self, piece: Piece<'a>) -> Result<(), AllocError> {
-        match piece {
-            Piece::Path(path, hygiene) => self.waiting.push_path_of(path, hygiene),
-            Piece::PlainPath(path) => self.waiting.push_path(path),
-            Piece::LangItem(item) => self.writer.word(lang_word(self.listed.lang_items, item)),
-            Piece::Hygiene(hygiene) => self.writer.hygiene(hygiene),
-            Piece::PathKind(kind) => self.writer.path_kind(kind),
-            Piece::ModPath(path) => self.writer.mod_path(path),
-            Piece::Segments(before, names, args) => self.segments(before, names, args),
-            _ => self.args_piece(piece),
-        }
-    }
-
-    /// A piece of a list of arguments, or of a type.
-    fn args_piece(&mut self, piece: Piece<'a>) -> Result<(), AllocError> {
-        match piece {
-            Piece::GenericArgs(args) => self.waiting.push_generic_args(args),
-            Piece::Args(before, args) => self.args(before, args),
-            Piece::TypeBindings(before, bindings) => self.type_bindings(before, bindings),
-            Piece::TypeBinding(binding) => self.waiting.push_binding(binding),
-            _ => self.type_piece(piece),
-        }
-    }
-
-    /// A piece of a type.
-    fn type_piece(&mut self, piece: Piece<'a>) -> Result<(), AllocError> {
-        match piece {
-            Piece::Type_(id) => self.open_type(id),
-            Piece::TypeParam(id) => self.type_param(id),
-            Piece::Types(before, types) => self.types(before, types),
-            Piece::Params(before, types, names) => self.fn_params(before, types, names),
-            Piece::Lifetime(id) => self.lifetime(id),
-            Piece::Binder(names) => self.writer.binder(names),
-            _ => self.bound_piece(piece),
-        }
-    }
-
-    /// A piece of bounds.
-    fn bound_piece(&mut self, piece: Piece<'a>) -> Result<(), AllocError> {
-        match piece {
-            Piece::Bounds(before, bounds) => self.bounds(before, bounds),
-            Piece::Bound(bound) => self.waiting.push_bound(bound),
-            Piece::UseArgs(before, args) => self.use_args(before, args),
-            _ => Ok(()),
-        }
+        self.writer.mark('(')
     }
 
     /// Prints what stands before the first of these names, and lets it wait with its arguments, and the others.
@@ -512,7 +480,7 @@ impl<'a> Printer<'a> {
             Piece::PatFields(" ", rest),
         ])?;
         self.writer.word(before)?;
-        self.writer.word("(")
+        self.writer.mark('(')
     }
 
     fn binding(&mut self, id: BindingId) -> Result<(), AllocError> {
@@ -530,13 +498,21 @@ impl<'a> Printer<'a> {
     /// no store holds, prints as a missing expression.
     fn open_expr(&mut self, id: ExprId) -> Result<(), AllocError> {
         self.root_mark(id)?;
-        self.owner_mark(id)?;
+        self.owners.note(self.writer.text().len(), id)?;
         let Some(expr) = self.listed.store.expr(id) else {
             return self.writer.word("(Missing)");
         };
         self.writer
             .open(expr_word(expr), self.listed.source_map.expr_syntax(id))?;
-        self.waiting.push_expr_parts(expr)
+        match expr {
+            Expr::Missing | Expr::Underscore | Expr::IncludeBytes => self.writer.mark(')'),
+            Expr::Literal(literal) => {
+                self.writer.mark(' ')?;
+                self.writer.literal(literal)?;
+                self.writer.mark(')')
+            }
+            _ => self.waiting.push_expr_parts(expr),
+        }
     }
 
     /// The same of a pattern.
@@ -546,7 +522,15 @@ impl<'a> Printer<'a> {
         };
         self.writer
             .open(pat_word(pat), self.listed.source_map.pat_syntax(id))?;
-        self.waiting.push_pat_parts(pat)
+        match pat {
+            Pat::Missing | Pat::Wild | Pat::Rest | Pat::NotNull => self.writer.mark(')'),
+            Pat::Bind { id, subpat: None } => {
+                self.writer.mark(' ')?;
+                self.binding(*id)?;
+                self.writer.word(" -)")
+            }
+            _ => self.waiting.push_pat_parts(pat),
+        }
     }
 
     fn open_arm(&mut self, arm: &'a MatchArm) -> Result<(), AllocError> {
@@ -571,20 +555,9 @@ impl<'a> Printer<'a> {
         match number {
             Ok(number) => {
                 self.writer.numbered("r", number)?;
-                self.writer.word("=")
+                self.writer.mark('=')
             }
             Err(_) => Ok(()),
-        }
-    }
-
-    /// Prints `ok=` where the expression owns a binding that is printed, the k-th to do so.
-    fn owner_mark(&mut self, id: ExprId) -> Result<(), AllocError> {
-        match self.owners.number(id)? {
-            Some(number) => {
-                self.writer.numbered("o", number)?;
-                self.writer.word("=")
-            }
-            None => Ok(()),
         }
     }
 }

@@ -20,6 +20,8 @@ use std::alloc::{AllocError, Global};
 pub enum Piece<'a> {
     /// A text that stands for itself.
     Word(&'static str),
+    /// The bracket behind the parts of a form.
+    Close,
     Expr(ExprId),
     /// A list.
     Exprs(&'a [ExprId]),
@@ -128,10 +130,17 @@ fn spread_or_absent(spread: RecordSpread) -> Piece<'static> {
     }
 }
 
+/// A piece that waits, and whether a space stands before it.
+#[derive(Clone, Copy)]
+pub struct Next<'a> {
+    pub spaced: bool,
+    pub piece: Piece<'a>,
+}
+
 /// The pieces that wait. The next one stands last.
 #[derive(Drop)]
 pub struct Waiting<'a> {
-    pieces: Vec<Piece<'a>>,
+    pieces: Vec<Next<'a>>,
 }
 
 impl<'a> Waiting<'a> {
@@ -142,13 +151,16 @@ impl<'a> Waiting<'a> {
     }
 
     /// Takes the next piece.
-    pub fn pop(&mut self) -> Option<Piece<'a>> {
+    pub fn pop(&mut self) -> Option<Next<'a>> {
         self.pieces.pop()
     }
 
     /// Lets a piece wait before all others.
     pub fn push(&mut self, piece: Piece<'a>) -> Result<(), AllocError> {
-        self.pieces.push(piece)?;
+        self.pieces.push(Next {
+            spaced: false,
+            piece,
+        })?;
         Ok(())
     }
 
@@ -337,10 +349,12 @@ impl<'a> Waiting<'a> {
 
     /// Lets these parts wait, each after a space, and then a bracket.
     pub fn push_parts(&mut self, parts: &[Piece<'a>]) -> Result<(), AllocError> {
-        self.push(Piece::Word(")"))?;
+        self.push(Piece::Close)?;
         for part in parts.iter().rev() {
-            self.push(*part)?;
-            self.push(Piece::Word(" "))?;
+            self.pieces.push(Next {
+                spaced: true,
+                piece: *part,
+            })?;
         }
         Ok(())
     }

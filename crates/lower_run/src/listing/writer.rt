@@ -9,8 +9,8 @@ use hir_store::name::Name;
 use hir_store::path::{ModPath, PathKind};
 use hir_store::type_ref::LifetimeRef;
 use hir_syntax::ast::LiteralKind;
+use itoa::{Buffer, Integer};
 use std::alloc::{AllocError, Global};
-use std::fmt::Display;
 
 /// A listing as far as it is written.
 pub struct Writer {
@@ -39,12 +39,17 @@ impl Writer {
         }
     }
 
-    /// Forgets the text written so far, but no number of a name.
-    pub fn clear(&mut self) {
-        self.out.clear();
+    /// The text written so far.
+    pub fn text(&self) -> &str {
+        self.out.as_str()
     }
 
-    /// The text written so far.
+    /// Takes another text in place of the one so far.
+    pub fn replace(&mut self, text: String) {
+        self.out = text;
+    }
+
+    /// The whole text.
     pub fn finish(self) -> String {
         let Writer {
             out,
@@ -54,14 +59,21 @@ impl Writer {
         out
     }
 
+    /// Adds one character.
+    pub fn mark(&mut self, mark: char) -> Result<(), AllocError> {
+        self.out.push(mark)
+    }
+
     /// Adds a text as it stands.
     pub fn word(&mut self, text: &str) -> Result<(), AllocError> {
         self.out.push_str(text)
     }
 
     /// Adds a text and a number.
-    pub fn numbered<N: Display + Drop>(&mut self, text: &str, number: N) -> Result<(), AllocError> {
-        write!(self.out, "{}{}", text, number)
+    pub fn numbered<N: Integer>(&mut self, text: &str, number: N) -> Result<(), AllocError> {
+        self.out.push_str(text)?;
+        let mut digits = Buffer::new();
+        self.out.push_str(digits.format(number))
     }
 
     /// Adds a text and a name.
@@ -72,14 +84,15 @@ impl Writer {
 
     /// Adds the bracket and the kind that a form begins with, and the node that it came from.
     pub fn open(&mut self, kind: &str, node: Option<InFile<AstPtr>>) -> Result<(), AllocError> {
-        write!(self.out, "({}", kind)?;
+        self.out.push('(')?;
+        self.out.push_str(kind)?;
         self.source("", node)
     }
 
     /// Ends a line by the node that it is about.
     pub fn end_line(&mut self, node: Option<InFile<AstPtr>>) -> Result<(), AllocError> {
         self.source(" ", node)?;
-        self.word("\n")
+        self.mark('\n')
     }
 
     /// Adds a name: its text, `?` for the missing one, `$k` for the k-th generated one by first printing.
@@ -156,7 +169,7 @@ impl Writer {
             PathKind::Crate => self.word("crate"),
             PathKind::DollarCrate(root) => {
                 self.numbered("$crate(", root.0)?;
-                self.word(")")
+                self.mark(')')
             }
         }
     }
@@ -177,7 +190,7 @@ impl Writer {
     /// with a fraction stand as they were written.
     pub fn literal(&mut self, literal: &Literal) -> Result<(), AllocError> {
         if literal.negative {
-            self.word("-")?;
+            self.mark('-')?;
         }
         let text = literal.text.as_str();
         match literal.kind {
@@ -208,8 +221,11 @@ impl Writer {
     /// Adds a node, `@n`, or `@f.n` where its file f isn't 0.
     pub fn node(&mut self, node: InFile<NodeId>) -> Result<(), AllocError> {
         match node.file_id.0 {
-            0 => write!(self.out, "@{}", node.value.0),
-            file => write!(self.out, "@{}.{}", file, node.value.0),
+            0 => self.numbered("@", node.value.0),
+            file => {
+                self.numbered("@", file)?;
+                self.numbered(".", node.value.0)
+            }
         }
     }
 
