@@ -57,6 +57,28 @@ fn the_rest_of_a_page_takes_no_memory(rt: HostRuntime) {
     assert!(rt; fills_its_page(rt.alloc()));
 }
 
+/// Whether each call is answered with the next number, or is refused for memory and changes nothing.
+pub fn after_each_refusal(alloc: Global) -> bool {
+    let mut arena = Arena::with_limit(alloc, u32::MAX);
+    let mut holds = true;
+    for _ in 0..1025 {
+        let len = arena.len();
+        let spare = arena.spare();
+        match arena.alloc(LifetimeRef::Error) {
+            Ok(id) => if id != LifetimeRefId(len) {
+                holds = false;
+            },
+            Err(fault) => {
+                if fault != StoreFault::Memory || arena.len() != len || arena.spare() != spare {
+                    holds = false;
+                }
+            }
+        }
+    }
+    drop(arena);
+    holds
+}
+
 #[test]
 fn a_limit_cuts_what_is_spare(rt: HostRuntime) {
     let alloc = rt.alloc();

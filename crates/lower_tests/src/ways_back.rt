@@ -83,7 +83,7 @@ fn arguments_and_bindings_are_lent(rt: HostRuntime) {
 }
 
 /// The constant `S { a: b }`.
-const RECORD: &str = r#"{"owner": "const", "nodes": [
+pub const RECORD: &str = r#"{"owner": "const", "nodes": [
     {"k": "Fn", "body": 1},
     {"k": "RecordExpr", "path": 2, "list": 4},
     {"k": "Path", "segs": [3]},
@@ -103,7 +103,7 @@ fn first_value(store: &ExpressionStore, record: ExprId) -> Option<ExprId> {
 }
 
 /// The node of the field that the first value of the body's record comes from.
-fn field_node(body: &Body, source_map: &BodySourceMap) -> Option<NodeId> {
+pub fn field_node(body: &Body, source_map: &BodySourceMap) -> Option<NodeId> {
     let record = body.store.expr_roots().last()?.root;
     let value = first_value(&body.store, record)?;
     Some(source_map.store.field_syntax(value)?.value.node)
