@@ -20,9 +20,9 @@ use Rattle.hir_store.specs.Stored.{Stored}
 use Rattle.hir_binding.specs.Bindings.{count_with, depth, name_count, noted}
 use Rattle.hir_env.specs.Answered.{Use}
 use Rattle.hir_lower_form.specs.Builder.{Builder}
-use Rattle.hir_lower_form.specs.Lowering.{Lowers, alloc_binding, go_on, pure}
+use Rattle.hir_lower_form.specs.Lowering.{Lowers, alloc_binding, go_on, pure, set_problem}
 use Rattle.hir_lower_form.specs.Pats.{Key, Notes, binding_of, key_of, new_binding, note_use, number_of, same_key, use_name}
-use Rattle.hir_lower_form.specs.Pats.{use_of_known, with_name, with_use}
+use Rattle.hir_lower_form.specs.Pats.{settle_from, use_of_known, with_name, with_use}
 use Rattle.hir_lower_pat.specs.Bindings.{HasNames, LowersNamed, SameDepth, table_of}
 use Rattle.hir_lower_pat.specs.declared.bindings.Bindings.{Bindings}
 
@@ -116,6 +116,24 @@ drop_none [] zero h = refl
 drop_none [] (suc n) h = refl
 drop_none (y ∷ xs) zero h = cc
 drop_none (y ∷ xs) (suc n) h = drop_none xs n h
+
+none_after : {A : Type 0} (xs : List A) (n : ℕ) → slice_get xs n ≡ None → slice_get xs (suc n) ≡ None
+none_after [] n h = refl
+none_after (y ∷ xs) zero h = cc
+none_after (y ∷ xs) (suc n) h = none_after xs n h
+
+pub settles_entry : (noted : Notes) (n : ℕ) (es : List (Key × BindingId)) (e : Key × BindingId) (b c : Builder) → slice_get es n ≡ Some e
+    → set_problem e.1 (noted n).problem b ≡ (Ok tt, c)
+    → settle_from noted n (drop n es) b ≡ settle_from noted (suc n) (drop (suc n) es) c
+settles_entry noted n es e b c at done =
+    ap (λ xs. settle_from noted n xs b) (drop_entry es n e at)
+    ∙ ap (λ r. go_on r.0 r.1 (λ _. settle_from noted (suc n) (drop (suc n) es))) done
+
+pub settles_nothing : (noted : Notes) (n : ℕ) (es : List (Key × BindingId)) (b : Builder) → slice_get es n ≡ None
+    → settle_from noted n (drop n es) b ≡ settle_from noted (suc n) (drop (suc n) es) b
+settles_nothing noted n es b at =
+    ap (λ xs. settle_from noted n xs b) (drop_none es n at)
+    ∙ sym (ap (λ xs. settle_from noted (suc n) xs b) (drop_none es (suc n) (none_after es n at)))
 
 -- ---- uses
 
