@@ -104,4 +104,3 @@ takes_called_type at {n = n} {p = p} l h = record { takes = λ b d. by b (p b).0
     by b (Err f) c e x = short_first n (a_type_call at) b x
 
 -- ---- forms
-
