@@ -9,7 +9,7 @@ use Rattle.hir_one_result.specs.Definitions.{DefinitionsAre}
 use Rattle.hir_one_result.specs.Leads.{Way, Covers, CoversBindings, CoversLabels, MapLeads, LeadBack, OwnersAre}
 use Rattle.hir_one_result.specs.Size.{calls_led, led_by, placed, sources_led, target_leads, targets_led}
 use Rattle.hir_told.specs.Expanded.{expansions}
-use Rattle.hir_told.specs.Laws.{blocks, faults}
+use Rattle.hir_one_result.specs.Lists.{blocks, faults}
 use Rattle.hir_type_result.specs.Named.{of_exprs, of_pats, of_pats_alone, of_types_alone}
 use Rattle.hir_type_result.specs.Pats.{of_types, pats_reached}
 use Rattle.hir_type_result.specs.Reached.{types_reached}

@@ -23,7 +23,7 @@ use Rattle.hir_store.specs.declared.type_ref.TypeBound.{TypeBound}
 use Rattle.hir_env.specs.declared.place.ImplTrait.{ImplTrait}
 use Rattle.hir_env.specs.declared.place.ImplTrait.TheVariants as becomes
 use Rattle.hir_lower_form.specs.Lowering.{becoming}
-use Rattle.hir_told.specs.Grading.{grade_impl}
+use Rattle.hir_one_result.specs.Grading.{grade_impl}
 use Rattle.hir_one_result.proofs.NoteRooms.{aliased_takes, becoming_takes, takes_noted}
 use Rattle.hir_lower_form.specs.Lowering.{open_label, open_try, point}
 use Rattle.hir_lower_form.specs.Made.{made_bind_form}
@@ -58,11 +58,11 @@ use Rattle.hir_one_result.proofs.Tellings.{takes_of, tells_any, tells_then}
 use Rattle.hir_one_result.proofs.Took.{Room, Same, may_be_owned, nothing_first}
 use Rattle.hir_told.specs.Laws.{BodiesFit, ExprsFit}
 use Rattle.hir_told.specs.Sizes.{bodies_sized, sizes}
-use Rattle.hir_told.specs.Bodies.{grade_self}
-use Rattle.hir_told.proofs.Answering.{Answering, AnsweredTo}
-use Rattle.hir_told.proofs.Bodies.{GradedBodies, body_graded}
-use Rattle.hir_told.proofs.Graded.{Graded}
-use Rattle.hir_told.proofs.Tree.{expr_part_graded}
+use Rattle.hir_one_result.specs.Bodies.{grade_self}
+use Rattle.hir_one_result.proofs.Answering.{Answering, AnsweredTo}
+use Rattle.hir_one_result.proofs.GradedBodies.{GradedBodies, body_graded}
+use Rattle.hir_one_result.proofs.Graded.{Graded}
+use Rattle.hir_one_result.proofs.GradedTree.{expr_part_graded}
 
 pub given : {A : Type 0} {P : A → Type 0} {n : Size} {p : Lowering A} → Takes n p → Answering P p → known.Tells n P p
 given {A = A} {P = P} {n = n} {p = p} h t = record { tells = λ b d. by b (p b).0 (p b).1 (h.takes b d) (t.answers b) }

@@ -12,8 +12,8 @@ use Rattle.hir_one_result.specs.Size as size
 use Rattle.hir_one_result.specs.Size.{Size, a_binding, a_body, a_label, a_lifetime, a_made_name, a_pat, a_super, a_type}
 use Rattle.hir_one_result.specs.Size.{a_def, a_made_pat, a_param, a_pat_call, a_target_way, a_type_call}
 use Rattle.hir_one_result.specs.Size.{an_expr, dots_behind, nothing, ◌∪◌}
-use Rattle.hir_told.specs.Bodies.{GradingBodies}
-use Rattle.hir_told.specs.Grading.{Grading}
+use Rattle.hir_one_result.specs.Bodies.{GradingBodies}
+use Rattle.hir_one_result.specs.Grading.{Grading}
 
 -- the node that a type came from, where it came from one
 abbrev pub type_node : TypeData → Option Pointer

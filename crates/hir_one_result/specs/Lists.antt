@@ -1,13 +1,13 @@
 -- What is added to a list in scopes: what a fault adds, a block that is entered, and what is told of calls.
-use Rattle.std.specs.Prelude.{List, [], ◌∷◌, ◌++◌, Option}
+use Rattle.std.specs.Prelude.{List, [], ◌∷◌, ◌++◌, Option, option_to_list}
 use Rattle.hir_store.specs.declared.diagnostics.ExpressionStoreDiagnostics.{ExpressionStoreDiagnostics}
 use Rattle.hir_store.specs.declared.ids.BlockId.{BlockId}
 use Rattle.hir_scope.specs.Scopes.{Scope, barrier, block_scope, loop_scope, macro_scope, try_scope}
 use Rattle.hir_one_result.specs.Diagnostics.{jump_faults}
 use Rattle.hir_steps.specs.Calls.{Expansions, called_faults, condition_faults, expansions_of_called, expansions_of_entered}
 use Rattle.hir_steps.specs.Calls.{expansions_of_gone}
-use Rattle.hir_told.specs.Bodies.{GradingBodies}
-use Rattle.hir_told.specs.Grading.{Grading}
+use Rattle.hir_one_result.specs.Bodies.{GradingBodies}
+use Rattle.hir_one_result.specs.Grading.{Grading}
 
 module _ {X : Type 0} (of_faults : List ExpressionStoreDiagnostics → List X) (of_block : Option BlockId → List X)
     (of_told : Expansions → List ExpressionStoreDiagnostics → List X) where
@@ -56,3 +56,11 @@ module _ {X : Type 0} (of_faults : List ExpressionStoreDiagnostics → List X) (
   -- `self`, the other parameters, and the body
   abbrev pub bodies_listed : GradingBodies listed
   bodies_listed = record { coroutine_body = λ skipped f D E F. λ ss. D ss ++ (E ss ++ F ss) }
+
+-- ---- faults, and the numbers of blocks
+
+abbrev pub faults : Grading {0}
+faults = listed {X = ExpressionStoreDiagnostics} (λ ds. ds) (λ n. []) (λ es ds. ds)
+
+abbrev pub blocks : Grading {0}
+blocks = listed {X = BlockId} (λ ds. []) option_to_list (λ es ds. [])

@@ -29,7 +29,7 @@ use Rattle.hir_one_result.specs.PathRoom.{Seen, refused, goes_on, one_more, proj
 use Rattle.hir_one_result.proofs.PathRooms.{seen, seen_of, path_seen, Gives as GivesRead}
 use Rattle.hir_one_result.proofs.Giving.{Gives, stmts_value}
 use Rattle.hir_one_result.proofs.PatRooms.{AreKeyed}
-use Rattle.hir_told.proofs.Answering.{Answering, AnsweredTo}
+use Rattle.hir_one_result.proofs.Answering.{Answering, AnsweredTo}
 
 -- ---- what a trait's path says
 

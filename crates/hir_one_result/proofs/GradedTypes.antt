@@ -38,11 +38,11 @@ use Rattle.hir_read_back.proofs.Types.{error_type_reads, unit_type_reads}
 use Rattle.hir_one_result.specs.PathRoom.{Seen, Read, goes_on, after, one_more, projected}
 use Rattle.hir_one_result.proofs.PathRooms.{seen, seen_of, option_seen, Gives, GivesPath, Yields}
 use Rattle.hir_one_result.proofs.NoteRooms.{naming_keeps}
-use Rattle.hir_told.specs.Grading.{Grading, if_so, before, grade_impl, grade_lifetime, grade_use, grade_uses}
-use Rattle.hir_told.proofs.Answering.{Answering, answering_any, answering_pure, answering_then, anything}
-use Rattle.hir_told.proofs.Graded.{Graded, HandsTold, Told, TypeIs, hand_beside, map_is, next, told_any, told_pure, told_then, type_next}
-use Rattle.hir_told.proofs.ReadingBack.{PartsAre, PathFound, path_in, tuple_in, type_in_store}
-use Rattle.hir_told.proofs.Knowing.{counted_gives, projected_is}
+use Rattle.hir_one_result.specs.Grading.{Grading, if_so, before, grade_impl, grade_lifetime, grade_use, grade_uses}
+use Rattle.hir_one_result.proofs.Answering.{Answering, answering_any, answering_pure, answering_then, anything}
+use Rattle.hir_one_result.proofs.Graded.{Graded, HandsTold, Told, TypeIs, hand_beside, map_is, next, told_any, told_pure, told_then, type_next}
+use Rattle.hir_one_result.proofs.ReadingBack.{PartsAre, PathFound, path_in, tuple_in, type_in_store}
+use Rattle.hir_one_result.proofs.GradedAnswers.{counted_gives, projected_is}
 
 module _ {ℓ} {S : Grading {ℓ}} (L : Graded S) where
   -- ---- where a path is read, and how far, what comes after is told by that

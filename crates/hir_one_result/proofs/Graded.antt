@@ -48,8 +48,8 @@ use Rattle.hir_lower_form.specs.Walks.{super_read, supers}
 use Rattle.hir_steps.proofs.Steps.{Mark, Correct}
 use Rattle.hir_one_result.proofs.LastStored.{LastPat, LastType}
 use Rattle.hir_one_result.proofs.NoteRooms.{KeepsParams}
-use Rattle.hir_told.specs.Grading.{Grading, grade_impl, made_bind}
-use Rattle.hir_told.proofs.Answering.{Answering, anything, answering_aliased, answering_any, answering_pure, answering_then, answering_less}
+use Rattle.hir_one_result.specs.Grading.{Grading, grade_impl, made_bind}
+use Rattle.hir_one_result.proofs.Answering.{Answering, anything, answering_aliased, answering_any, answering_pure, answering_then, answering_less}
 
 -- a type that reads back so
 abbrev pub TypeIs : TypeData → Stored → Mark → TypeRefId → Type 0

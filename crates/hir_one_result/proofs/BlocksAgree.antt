@@ -25,17 +25,14 @@ use Rattle.hir_data.specs.Written.{written_path}
 use Rattle.hir_meaning.specs.Left.{gives_value, is_left}
 use Rattle.hir_scope.specs.Scopes.{Scope, barrier, block_scope, loop_scope, macro_scope, try_scope}
 use Rattle.hir_one_result.specs.Blocks as now
-use Rattle.hir_one_result.specs.Laws.{BlocksAre}
 use Rattle.hir_one_result.specs.PatRoom.{names_after, names_after_each, names_after_field, names_after_part}
 use Rattle.hir_one_result.specs.PathRoom.{Read, Seen, at_first, ended, goes_on, nothing_seen, own_read, refused, segments_read, whole_read}
 use Rattle.hir_one_result.specs.PathRoom.{yields}
-use Rattle.hir_one_result.proofs.Around.{scopes_around}
-use Rattle.hir_told.specs.Grades as g
-use Rattle.hir_told.specs.Grading as p
-use Rattle.hir_told.specs.Laws.{blocks}
-use Rattle.hir_told.proofs.AsTelling.{exprs_enter}
-use Rattle.hir_told.proofs.ConditionsAgree.{blocks_of_condition}
-use Rattle.hir_told.proofs.PathsAgree.{read_alike}
+use Rattle.hir_one_result.specs.Grades as g
+use Rattle.hir_one_result.specs.Grading as p
+use Rattle.hir_one_result.specs.Lists.{blocks}
+use Rattle.hir_one_result.proofs.ConditionsAgree.{blocks_of_condition}
+use Rattle.hir_one_result.proofs.PathsAgree.{read_alike}
 
 -- ---- small parts
 
@@ -48,7 +45,7 @@ none ss = []
 behind : {xs ys : List BlockId} → xs ≡ ys → xs ++ [] ≡ ys
 behind {xs = xs} e = append-nil xs ∙ e
 
-both : {as' bs cs ds : List BlockId} → as' ≡ bs → cs ≡ ds → as' ++ cs ≡ bs ++ ds
+pub both : {as' bs cs ds : List BlockId} → as' ≡ bs → cs ≡ ds → as' ++ cs ≡ bs ++ ds
 both e f = λ i. e i ++ f i
 
 -- where nothing is told behind it
@@ -209,7 +206,7 @@ mutual
   type_is b (tree.dyn_type at bs) ss = behind (bounds_are bs ss)
   type_is b (tree.pattern_type at t own q) ss = both (part_is None t ss) (behind (type_pat_part_is q ss))
 
-  part_is : (b : Option Binder) (t : OptionType) (ss : List Scope) → g.grade_part_in blocks b t ss ≡ now.blocks_of_type_part t
+  pub part_is : (b : Option Binder) (t : OptionType) (ss : List Scope) → g.grade_part_in blocks b t ss ≡ now.blocks_of_type_part t
   part_is b tree.no_type ss = refl
   part_is b (tree.some_type t) ss = type_is b t ss
 
@@ -262,7 +259,7 @@ mutual
   outer_is tree.no_path x ss = refl
   outer_is (tree.some_path q) x ss = path_is q x ss
 
-  whole_is : (q : OptionPath) (ss : List Scope) → g.grade_whole blocks q ss ≡ now.blocks_of_whole q
+  pub whole_is : (q : OptionPath) (ss : List Scope) → g.grade_whole blocks q ss ≡ now.blocks_of_whole q
   whole_is tree.no_path ss = refl
   whole_is (tree.some_path q) ss = path_is q nothing_seen ss
 
@@ -383,7 +380,7 @@ mutual
   subpat_is tree.no_pat us ss = refl
   subpat_is (tree.some_pat q) us ss = pat_is q us ss
 
-  top_is : (q : OptionPat) (ss : List Scope) → g.grade_top blocks q ss ≡ now.blocks_of_top q
+  pub top_is : (q : OptionPat) (ss : List Scope) → g.grade_top blocks q ss ≡ now.blocks_of_top q
   top_is tree.no_pat ss = refl
   top_is (tree.some_pat q) ss = pat_is q [] ss
 
@@ -568,10 +565,3 @@ mutual
   stmt_is (tree.macro_stmt k d) ss = refl
   stmt_is (tree.let_stmt q t e b) ss =
       both (top_is q ss) (both (present_is t ss) (both (expr_present_is e ss) (block_present_is b ss)))
-
--- ---- what is claimed of them today follows
-
-pub blocks_follow : BlocksAre
-blocks_follow e old id new paired is =
-    let scopes = scopes_around old.scopes in
-    exprs_enter e old id new paired is scopes.0 scopes.1 ∙ ap (λ ns. old.stored.block_scopes ++ ns) (expr_part_is e scopes.0)

@@ -26,17 +26,15 @@ use Rattle.hir_steps.specs.Calls.{called_faults}
 use Rattle.hir_one_result.specs.Blocks.{unless, where_goes_on, where_some}
 use Rattle.hir_one_result.specs.Diagnostics as now
 use Rattle.hir_one_result.specs.Diagnostics.{Faults, await_faults, spread_faults}
-use Rattle.hir_one_result.specs.Laws.{DiagnosticsAre}
 use Rattle.hir_one_result.specs.PatRoom.{names_after, names_after_each, names_after_field, names_after_part}
 use Rattle.hir_one_result.specs.PathRoom.{Read, Seen, at_first, ended, goes_on, nothing_seen, own_read, refused, segments_read, whole_read}
 use Rattle.hir_one_result.specs.PathRoom.{yields}
-use Rattle.hir_told.specs.Grades as g
-use Rattle.hir_told.specs.Grading as p
-use Rattle.hir_told.specs.Laws.{faults}
-use Rattle.hir_told.proofs.AsTelling.{exprs_report}
-use Rattle.hir_told.proofs.FaultLists.{Like, as_is, behind, behind_none, both, first, same, then_none, turned}
-use Rattle.hir_told.proofs.ConditionsAgree.{faults_of_condition, turned_two}
-use Rattle.hir_told.proofs.PathsAgree.{read_alike}
+use Rattle.hir_one_result.specs.Grades as g
+use Rattle.hir_one_result.specs.Grading as p
+use Rattle.hir_one_result.specs.Lists.{faults}
+use Rattle.hir_one_result.proofs.FaultLists.{Like, as_is, behind, behind_none, both, first, same, then_none, turned}
+use Rattle.hir_one_result.proofs.ConditionsAgree.{faults_of_condition, turned_two}
+use Rattle.hir_one_result.proofs.PathsAgree.{read_alike}
 
 -- ---- small parts
 
@@ -201,7 +199,7 @@ mutual
   type_is b (tree.dyn_type at bs) ss = behind (bounds_are bs ss)
   type_is b (tree.pattern_type at t own q) ss = both (part_is None t ss) (behind (type_pat_part_is q ss))
 
-  part_is : (b : Option Binder) (t : OptionType) (ss : List Scope) → Like (g.grade_part_in faults b t ss) (now.type_part_faults ss t)
+  pub part_is : (b : Option Binder) (t : OptionType) (ss : List Scope) → Like (g.grade_part_in faults b t ss) (now.type_part_faults ss t)
   part_is b tree.no_type ss = same _
   part_is b (tree.some_type t) ss = type_is b t ss
 
@@ -254,7 +252,7 @@ mutual
   outer_is tree.no_path x ss = same _
   outer_is (tree.some_path q) x ss = path_is q x ss
 
-  whole_is : (q : OptionPath) (ss : List Scope) → Like (g.grade_whole faults q ss) (now.whole_faults ss q)
+  pub whole_is : (q : OptionPath) (ss : List Scope) → Like (g.grade_whole faults q ss) (now.whole_faults ss q)
   whole_is tree.no_path ss = same _
   whole_is (tree.some_path q) ss = path_is q nothing_seen ss
 
@@ -375,7 +373,7 @@ mutual
   subpat_is tree.no_pat us ss = same _
   subpat_is (tree.some_pat q) us ss = pat_is q us ss
 
-  top_is : (q : OptionPat) (ss : List Scope) → Like (g.grade_top faults q ss) (now.top_faults ss q)
+  pub top_is : (q : OptionPat) (ss : List Scope) → Like (g.grade_top faults q ss) (now.top_faults ss q)
   top_is tree.no_pat ss = same _
   top_is (tree.some_pat q) ss = pat_is q [] ss
 
@@ -567,9 +565,3 @@ mutual
   stmt_is (tree.macro_stmt k d) ss = same _
   stmt_is (tree.let_stmt q t e b) ss =
       both (top_is q ss) (both (present_is t ss) (both (expr_present_is e ss) (block_present_is b ss)))
-
--- ---- what is claimed of them today follows
-
-pub faults_follow : DiagnosticsAre
-faults_follow e old id new paired is ss around =
-    record { more = g.grade_expr_part faults e ss; is = exprs_report e old id new paired is ss around; permuted = expr_part_is e ss }

@@ -14,12 +14,12 @@ use Rattle.hir_lower_form.specs.Types.{TypeSteps, called_type_form, uncalled_typ
 use Rattle.hir_read_back.proofs.Layers.{type0}
 use Rattle.hir_one_result.proofs.LastStored.{LastPat, LastType, error_last, missing_pat_last}
 use Rattle.hir_one_result.proofs.PatRooms.{Keyed}
-use Rattle.hir_told.specs.Grading.{Grading, grade_uncalled_pat, grade_uncalled_type}
-use Rattle.hir_told.proofs.Answering.{answering_any, answering_pure, answering_then}
-use Rattle.hir_told.proofs.Graded.{Graded, HandsTold, hand_beside, made_next, next, told_any}
-use Rattle.hir_told.proofs.ReadingBack.{type_in_store}
-use Rattle.hir_told.proofs.PatForms.{PatTold, missing_pat_graded}
-use Rattle.hir_told.proofs.TypeForms.{error_graded}
+use Rattle.hir_one_result.specs.Grading.{Grading, grade_uncalled_pat, grade_uncalled_type}
+use Rattle.hir_one_result.proofs.Answering.{answering_any, answering_pure, answering_then}
+use Rattle.hir_one_result.proofs.Graded.{Graded, HandsTold, hand_beside, made_next, next, told_any}
+use Rattle.hir_one_result.proofs.ReadingBack.{type_in_store}
+use Rattle.hir_one_result.proofs.GradedPats.{PatTold, missing_pat_graded}
+use Rattle.hir_one_result.proofs.GradedTypes.{error_graded}
 
 module _ {ℓ} {S : Grading {ℓ}} (L : Graded S) where
   pub told_target_graded : (c : Called) {g : S.G} {p : Lowering PatId} → L.Claim g p → L.Claim (S.then' (S.told c) g) (told c >> p)

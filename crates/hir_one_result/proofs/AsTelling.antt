@@ -1,11 +1,13 @@
 -- What is added to a list of what is stored, as faults or entered blocks: an instance for both.
-use Rattle.std.proofs.Common.{◌≡◌, ◌∙◌, refl, sym, ap, subst, ℕ, List, [], ◌∷◌, ◌++◌, Bool, Option, Some, None, Ok}
+use Rattle.std.proofs.Common.{◌≡◌, ◌∙◌, refl, sym, ap, subst, ℕ, List, [], ◌∷◌, ◌++◌, append-nil}
+use Rattle.std.proofs.Common.{option_to_list, Bool, Option, Some, None, Ok}
 use Rattle.hir_binding.specs.declared.binding.BindingAnnotation.{BindingAnnotation}
 use Rattle.hir_store.specs.Pointers.{Pointer}
 use Rattle.hir_store.specs.Stored.{Stored}
 use Rattle.hir_store.proofs.Extending.{extends_refl}
 use Rattle.hir_store.specs.declared.diagnostics.ExpressionStoreDiagnostics.{ExpressionStoreDiagnostics}
 use Rattle.hir_store.specs.declared.hir.Expr.{Expr as HirExpr}
+use Rattle.hir_store.specs.declared.ids.BlockId.{BlockId}
 use Rattle.hir_store.specs.declared.ids.LabelId.{LabelId}
 use Rattle.hir_store.specs.declared.ids.PatId.{PatId}
 use Rattle.hir_data.specs.Data.{TypeData}
@@ -22,13 +24,13 @@ use Rattle.hir_steps.proofs.Barriers.{correct_yield}
 use Rattle.hir_steps.proofs.Frames.{block_at, loop_at, ribs, ribs_frames}
 use Rattle.hir_steps.proofs.MadeSteps.{correct_alloc_made, correct_opened_try, correct_try_target, made_label, put_made}
 use Rattle.hir_steps.proofs.PatSteps.{correct_point_pat_field, with_field_pat}
-use Rattle.hir_steps.proofs.Steps.{Correct, correct_as, correct_count_out}
+use Rattle.hir_steps.proofs.Steps.{Correct, correct_as, correct_count_out, with_block}
 use Rattle.hir_one_result.specs.Diagnostics.{Around}
 use Rattle.hir_store.specs.declared.type_ref.TypeBound.{TypeBound}
 use Rattle.hir_env.specs.declared.place.ImplTrait.{ImplTrait}
 use Rattle.hir_env.specs.declared.place.ImplTrait.TheVariants as becomes
 use Rattle.hir_lower_form.specs.Lowering.{becoming}
-use Rattle.hir_told.specs.Grading.{grade_impl}
+use Rattle.hir_one_result.specs.Grading.{grade_impl}
 use Rattle.hir_steps.proofs.Noted.{correct_aliased, correct_becoming, correct_noted}
 use Rattle.hir_one_result.proofs.AfterLowering.{after_lowering}
 use Rattle.hir_one_result.proofs.Around.{block_is_rib, in_loop, loop_is_rib, try_is_rib}
@@ -41,15 +43,11 @@ use Rattle.hir_one_result.proofs.PatTelling.{settle_tells, tells_binding, tells_
 use Rattle.hir_one_result.proofs.Telling.{Added, Listing, Tells, added_none, added_then, constant_tells, inner_tells, nothing, opened_tells}
 use Rattle.hir_one_result.proofs.Telling.{owning_tells, rooted_tells, tells_alloc, tells_aside, tells_bind, tells_end, tells_enter_block}
 use Rattle.hir_one_result.proofs.Telling.{tells_point, tells_point_field, tells_pure, tells_report, tells_target}
-use Rattle.hir_one_result.proofs.TreeBlocks.{entered}
-use Rattle.hir_one_result.proofs.TreeFaults.{no_fault_in_block}
-use Rattle.hir_told.specs.Laws.{BodiesEnter, BodiesReport, ExprsEnter, ExprsReport}
-use Rattle.hir_told.specs.Lists.{bodies_listed, listed}
-use Rattle.hir_told.proofs.Answering.{Answering}
-use Rattle.hir_told.proofs.Bodies.{GradedBodies, body_graded}
-use Rattle.hir_told.proofs.CorrectWhere.{correct_where, correct_with}
-use Rattle.hir_told.proofs.Graded.{Graded}
-use Rattle.hir_told.proofs.Tree.{expr_part_graded}
+use Rattle.hir_one_result.specs.Lists.{bodies_listed, listed}
+use Rattle.hir_one_result.proofs.Answering.{Answering}
+use Rattle.hir_one_result.proofs.GradedBodies.{GradedBodies}
+use Rattle.hir_one_result.proofs.CorrectWhere.{correct_where, correct_with}
+use Rattle.hir_one_result.proofs.Graded.{Graded}
 
 module _ {X : Type 0} (L : Listing X) where
   pub tells_where : {A B : Type 0} {P : A → Type 0} {D E : List Scope → List X} {p : Lowering A} {f : A → Lowering B}
@@ -210,7 +208,37 @@ module _ {X : Type 0} (L : Listing X) where
       let x = row.told ss (subst (Around ss) (ribs_frames old.scopes) around) in
       x.is ∙ ap (λ xs. L.list old.stored ++ xs) (sym (like (D ss) x.more x.like))
 
--- ---- laws
+-- ---- the two lists
+
+-- the numbers of entered blocks, in this order
+pub entered_block : (n : Option BlockId) (s : Stored) → (with_block n s).block_scopes ≡ s.block_scopes ++ option_to_list n
+entered_block None s = sym (append-nil s.block_scopes)
+entered_block (Some n) s = refl
+
+abbrev pub entered : Listing BlockId
+entered = record {
+  list = λ s. s.block_scopes;
+  of_faults = λ ds. [];
+  of_block = λ n. option_to_list n;
+  of_told = λ es ds. [];
+  fault = λ d s. sym (append-nil s.block_scopes);
+  no_fault = refl;
+  block = entered_block;
+  tells = λ es ds s. sym (append-nil s.block_scopes);
+  told_nothing = refl;
+  expr = λ e at s. refl;
+  label = λ l s. refl;
+  way = λ p i s. refl;
+  unchanged = λ a b faults blocks expansions. blocks;
+  Like = λ xs ys. xs ≡ ys;
+  same = λ xs. refl;
+  trans = λ xs ys zs e f. e ∙ f;
+  both = λ xs ys us vs e f. λ i. e i ++ f i;
+}
+
+pub no_fault_in_block : (n : Option BlockId) (s : Stored) → (with_block n s).diagnostics ≡ s.diagnostics ++ []
+no_fault_in_block None s = sym (append-nil s.diagnostics)
+no_fault_in_block (Some n) s = sym (append-nil s.diagnostics)
 
 -- the faults, in this order
 abbrev pub reported : Listing ExpressionStoreDiagnostics
@@ -233,19 +261,3 @@ reported = record {
   trans = λ xs ys zs e f. e ∙ f;
   both = λ xs ys us vs e f. λ i. e i ++ f i;
 }
-
-pub exprs_report : ExprsReport
-exprs_report e old id new paired is =
-    behind reported (λ xs ys like. like) (expr_part_graded (tells_graded reported) e) old new id paired is
-
-pub exprs_enter : ExprsEnter
-exprs_enter e old id new paired is =
-    behind entered (λ xs ys like. like) (expr_part_graded (tells_graded entered) e) old new id paired is
-
-pub bodies_report : BodiesReport
-bodies_report kind skipped f e old new r paired is = behind reported (λ xs ys like. like)
-    (body_graded (tells_graded reported) (tells_bodies reported) kind skipped f e) old new r paired is
-
-pub bodies_enter : BodiesEnter
-bodies_enter kind skipped f e old new r paired is = behind entered (λ xs ys like. like)
-    (body_graded (tells_graded entered) (tells_bodies entered) kind skipped f e) old new r paired is

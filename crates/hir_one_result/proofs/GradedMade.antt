@@ -11,8 +11,8 @@ use Rattle.hir_env.specs.Answered.{ForItems, IsWrittenLabel, Label, QuestionItem
 use Rattle.hir_lower_form.specs.Forms.{ExprSteps, StoredContents, settled}
 use Rattle.hir_lower_form.specs.Lowering.{Lowering}
 use Rattle.hir_lower_form.specs.Made as made
-use Rattle.hir_told.specs.Grading.{Grading, if_so, condition, item_call, flow_arm, residual, for_turn, made_bind, wrapped}
-use Rattle.hir_told.proofs.Graded.{Graded, Told, next, made_next, map_is}
+use Rattle.hir_one_result.specs.Grading.{Grading, if_so, condition, item_call, flow_arm, residual, for_turn, made_bind, wrapped}
+use Rattle.hir_one_result.proofs.Graded.{Graded, Told, next, made_next, map_is}
 
 module _ {ℓ} {S : Grading {ℓ}} (L : Graded S) where
   module _ (at : Pointer) where

@@ -55,20 +55,20 @@ use Rattle.hir_one_result.proofs.LastTargets.{lower_target_last}
 use Rattle.hir_one_result.proofs.PathRooms.{seen, seen_read, seen_named, seen_dollar, seen_self, Gives, GivesPath, Yields, Fills, full}
 use Rattle.hir_one_result.proofs.PathRooms.{full_arg, full_binding, yields_full, or_nothing}
 use Rattle.hir_one_result.proofs.PatRooms.{none_keyed, from_none}
-use Rattle.hir_told.specs.Grading.{Grading, grade_try}
-use Rattle.hir_told.specs.Grades as g
-use Rattle.hir_told.proofs.Graded.{Graded, Told, next, made_next, map_is, told_any, told_less, told_map, told_pure, told_then, told_last}
-use Rattle.hir_told.proofs.Graded.{told_aliased, hand_pure, hand_as, hand_less, hand_then, hand_map, hand_last}
-use Rattle.hir_told.proofs.ReadingBack.{parts_read, type_in}
-use Rattle.hir_told.proofs.TypeForms as forms
-use Rattle.hir_told.proofs.PatForms as pats
-use Rattle.hir_told.proofs.PatForms.{PatTold, PartsTold, LaterTold}
-use Rattle.hir_told.proofs.TargetForms as targets
-use Rattle.hir_told.proofs.TargetForms.{TargetsTold}
-use Rattle.hir_told.proofs.CallForms as calls
-use Rattle.hir_told.proofs.ExprForms as exprs
-use Rattle.hir_told.proofs.MadeForms as made
-use Rattle.hir_told.proofs.Knowing.{block_value}
+use Rattle.hir_one_result.specs.Grading.{Grading, grade_try}
+use Rattle.hir_one_result.specs.Grades as g
+use Rattle.hir_one_result.proofs.Graded.{Graded, Told, next, made_next, map_is, told_any, told_less, told_map, told_pure, told_then, told_last}
+use Rattle.hir_one_result.proofs.Graded.{told_aliased, hand_pure, hand_as, hand_less, hand_then, hand_map, hand_last}
+use Rattle.hir_one_result.proofs.ReadingBack.{parts_read, type_in}
+use Rattle.hir_one_result.proofs.GradedTypes as forms
+use Rattle.hir_one_result.proofs.GradedPats as pats
+use Rattle.hir_one_result.proofs.GradedPats.{PatTold, PartsTold, LaterTold}
+use Rattle.hir_one_result.proofs.GradedTargets as targets
+use Rattle.hir_one_result.proofs.GradedTargets.{TargetsTold}
+use Rattle.hir_one_result.proofs.GradedCalls as calls
+use Rattle.hir_one_result.proofs.GradedExprs as exprs
+use Rattle.hir_one_result.proofs.GradedMade as made
+use Rattle.hir_one_result.proofs.GradedAnswers.{block_value}
 
 -- an argument that isn't left out fills the lists
 abbrev is_there : Arg → Bool

@@ -22,7 +22,7 @@ use Rattle.hir_read_back.proofs.Layers.{Pushed, Reads, a_type, a_shape, pushed_a
 use Rattle.hir_read_back.proofs.Tree.{part_reads, type_reads}
 use Rattle.hir_read_back.proofs.Types.{types_more, types_none}
 use Rattle.hir_read_back.proofs.Walk.{Answers, matches_read}
-use Rattle.hir_told.proofs.Graded.{TypeIs}
+use Rattle.hir_one_result.proofs.Graded.{TypeIs}
 
 pub type_in_store : {t : TypeData} {p : TypeSteps} → Correct p (Reads a_type t) → Correct p (λ final ps m m' i. TypeIs t final m i)
 unfolding stored_type
