@@ -1,5 +1,5 @@
 -- The numbers of blocks that are told of a tree are those that `Blocks` lists.
-use Rattle.std.proofs.Common.{◌≡◌, ◌∙◌, refl, sym, ap, Bool, true, false}
+use Rattle.std.proofs.Common.{◌≡◌, ◌∙◌, refl, sym, Bool, true, false}
 use Rattle.std.proofs.Common.{true≢false, not, ◌||◌, List, [], ◌∷◌, ◌++◌, append-nil, append_assoc}
 use Rattle.std.proofs.Common.{option_to_list, Option, Some, None, is_some}
 use Rattle.hir_store.specs.Pointers.{Pointer}

@@ -1,6 +1,5 @@
 -- The faults that are told of a tree are those that `Diagnostics` lists, in another order at most.
-use Rattle.std.proofs.Common.{◌≡◌, ◌∙◌, refl, sym, Bool, true, false, true≢false, not, ◌||◌, List, [], ◌∷◌, ◌++◌, append-nil, append_assoc}
-use Rattle.std.proofs.lemmas.List.Sorted.{IsPermutation-append_comm, IsPermutation-trans}
+use Rattle.std.proofs.Common.{◌≡◌, refl, sym, Bool, true, false, true≢false, not, ◌||◌, List, [], ◌∷◌, ◌++◌}
 use Rattle.std.proofs.Common.{Option, Some, None, is_some}
 use Rattle.hir_store.specs.Pointers.{Pointer}
 use Rattle.hir_store.specs.declared.diagnostics.AwaitLocation.{AwaitLocation}

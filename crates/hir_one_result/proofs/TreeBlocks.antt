@@ -5,7 +5,7 @@ use Rattle.hir_store.specs.declared.ids.BlockId.{BlockId}
 use Rattle.hir_env.specs.Answered as tree
 use Rattle.hir_env.specs.Answered.{Binder, Formal, Formals, OptionExpr, OptionPath, OptionType, SelfFormal}
 use Rattle.hir_scope.specs.Scopes.{Scope}
-use Rattle.hir_lower_form.specs.Lower.{lower_part, lower_path, type_part}
+use Rattle.hir_lower_form.specs.Lower.{lower_path, type_part}
 use Rattle.hir_lower_form.specs.Lowering.{Lowering}
 use Rattle.hir_steps.proofs.Steps.{Correct}
 use Rattle.hir_one_result.specs.Blocks.{blocks_of_part, blocks_of_tops, blocks_of_type_part, blocks_of_whole}

@@ -1,5 +1,5 @@
 -- Lowering a tree reports its faults: those that are told of it are those that are listed, in some order.
-use Rattle.std.proofs.Common.{◌≡◌, refl, sym, subst, Bool, true, false, List, [], ◌∷◌, ◌++◌, append_assoc, Option, Some, None}
+use Rattle.std.proofs.Common.{◌≡◌, refl, sym, subst, Bool, true, false, List, [], ◌∷◌, append_assoc, Option, Some, None}
 use Rattle.std.proofs.Common.{IsPermutation}
 use Rattle.std.proofs.lemmas.List.Sorted.{IsPermutation-append, IsPermutation-refl, IsPermutation-trans}
 use Rattle.hir_store.specs.declared.diagnostics.ExpressionStoreDiagnostics.{ExpressionStoreDiagnostics}
@@ -7,7 +7,7 @@ use Rattle.hir_store.specs.declared.hir.CoroutineKind.{CoroutineKind}
 use Rattle.hir_env.specs.Answered as tree
 use Rattle.hir_env.specs.Answered.{Binder, Formal, Formals, OptionExpr, OptionPath, OptionType, SelfFormal}
 use Rattle.hir_scope.specs.Scopes.{Scope}
-use Rattle.hir_lower_form.specs.Lower.{lower_part, lower_path, type_part}
+use Rattle.hir_lower_form.specs.Lower.{lower_path, type_part}
 use Rattle.hir_lower_form.specs.Lowering.{Lowering}
 use Rattle.hir_steps.proofs.Steps.{Correct}
 use Rattle.hir_one_result.specs.Bodies.{GradingBodies, grade_body, grade_formal, grade_formals, grade_self}
