@@ -38,7 +38,8 @@ use Rattle.hir_one_result.proofs.CallTelling.{gone_tells, note_tells, tells_poin
 use Rattle.hir_one_result.proofs.ClosureTelling.{closure_tells, coroutine_tells}
 use Rattle.hir_one_result.proofs.CoroutineTelling.{coroutine_body_tells, coroutine_closure_tells}
 use Rattle.hir_one_result.proofs.DefTelling.{define_tells, inside_tells}
-use Rattle.hir_one_result.proofs.PatTelling.{settle_tells, tells_binding, tells_define, tells_made_pat, tells_number, tells_pat, tells_point_target}
+use Rattle.hir_one_result.proofs.PatTelling.{settle_tells, tells_binding, tells_define, tells_made_pat, tells_number, tells_pat}
+use Rattle.hir_one_result.proofs.PatTelling.{tells_point_target}
 use Rattle.hir_one_result.proofs.Telling.{Added, Listing, Tells, added_none, added_then, constant_tells, inner_tells, nothing, opened_tells}
 use Rattle.hir_one_result.proofs.Telling.{owning_tells, rooted_tells, tells_alloc, tells_aside, tells_bind, tells_end, tells_enter_block}
 use Rattle.hir_one_result.proofs.Telling.{tells_point, tells_point_field, tells_pure, tells_report, tells_target}

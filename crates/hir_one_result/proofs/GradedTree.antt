@@ -158,7 +158,7 @@ module _ {ℓ} {S : Grading {ℓ}} (L : Graded S) where
     parts_graded done tree.no_parts = L.pure_is done
     parts_graded done (tree.more_parts t ts) = next L (part_graded None t) (λ i. parts_graded _ ts)
 
-    segment_graded : (first : Bool) (s : Segment) (w : PathWalk)
+    pub segment_graded : (first : Bool) (s : Segment) (w : PathWalk)
         → Told L (g.grade_segment S first s (seen w)) (Gives (segment_read first s (seen w))) (read_segment first s w)
     segment_graded first tree.absent_segment w = told_pure L _ (seen_named walks.missing_name None w)
     segment_graded first tree.broken_segment w = told_pure L _ refl
@@ -179,7 +179,7 @@ module _ {ℓ} {S : Grading {ℓ}} (L : Graded S) where
         told_then L (told_any L (type_graded None t))
         (λ i u. forms.trait_graded L (path_of p) i at w (path_graded p) (path_reads p))
 
-    segments_graded : (ss : Segments) (w : PathWalk)
+    pub segments_graded : (ss : Segments) (w : PathWalk)
         → Told L (g.grade_segments S ss (seen w)) (Gives (segments_read ss (seen w))) (read_each ss w)
     segments_graded tree.no_segments w = told_pure L _ refl
     segments_graded (tree.more_segments s ss) w = told_then L (segments_graded ss w) (λ r e.

@@ -3,7 +3,7 @@ pub mod AsYields
 pub mod Listed
 pub mod AsExpansions
 pub mod CallRows
-pub mod AsRooms
+pub mod Fitting
 pub mod Storing
 pub mod StoringPreludes
 pub mod AsStoredData

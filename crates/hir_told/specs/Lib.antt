@@ -1,7 +1,6 @@
 pub mod Silent
 pub mod Yields
 pub mod Expanded
-pub mod Sizes
 pub mod StoredData
 pub mod Laws
 pub mod StoredLaws

@@ -29,11 +29,9 @@ use Rattle.hir_lower_form.specs.Lowering.{open_label, open_try, point}
 use Rattle.hir_lower_form.specs.Made.{made_bind_form}
 use Rattle.hir_lower_form.specs.Pats.{counted_dots, counted_place, moved_dots, new_binding, small_place}
 use Rattle.hir_meaning.specs.InnerWritten.{constant_body, limit_body}
-use Rattle.hir_steps.specs.Keeps.{Paired}
 use Rattle.hir_one_result.specs.Formals.{coroutine_body, each_formal, lower_self}
 use Rattle.hir_one_result.specs.Room.{self_size}
 use Rattle.hir_one_result.specs.Size.{Size, dots_behind, nothing, a_label, a_made_name, ◌∪◌}
-use Rattle.hir_one_result.specs.Laws.{GrownUnless}
 use Rattle.hir_steps.proofs.Calls.{only_note}
 use Rattle.hir_one_result.proofs.CallRooms.{takes_called_type, takes_gone, takes_told, tells_called}
 use Rattle.hir_one_result.proofs.DefRooms.{define_takes, inside_takes}
@@ -55,14 +53,12 @@ use Rattle.hir_one_result.proofs.Rooms.{takes_then, takes_type}
 use Rattle.hir_one_result.proofs.TargetRooms.{takes_pointed}
 use Rattle.hir_one_result.proofs.Tellings as known
 use Rattle.hir_one_result.proofs.Tellings.{takes_of, tells_any, tells_then}
-use Rattle.hir_one_result.proofs.Took.{Room, Same, may_be_owned, nothing_first}
-use Rattle.hir_told.specs.Laws.{BodiesFit, ExprsFit}
-use Rattle.hir_told.specs.Sizes.{bodies_sized, sizes}
+use Rattle.hir_one_result.proofs.Took.{Room, Same, nothing_first}
+use Rattle.hir_one_result.specs.Sizes.{bodies_sized, sizes}
 use Rattle.hir_one_result.specs.Bodies.{grade_self}
 use Rattle.hir_one_result.proofs.Answering.{Answering, AnsweredTo}
-use Rattle.hir_one_result.proofs.GradedBodies.{GradedBodies, body_graded}
+use Rattle.hir_one_result.proofs.GradedBodies.{GradedBodies}
 use Rattle.hir_one_result.proofs.Graded.{Graded}
-use Rattle.hir_one_result.proofs.GradedTree.{expr_part_graded}
 
 pub given : {A : Type 0} {P : A → Type 0} {n : Size} {p : Lowering A} → Takes n p → Answering P p → known.Tells n P p
 given {A = A} {P = P} {n = n} {p = p} h t = record { tells = λ b d. by b (p b).0 (p b).1 (h.takes b d) (t.answers b) }
@@ -291,35 +287,3 @@ body_takes kind skipped f e {n = n} {k = k} hs hf he =
 
 abbrev pub rooms_bodies : GradedBodies rooms_graded bodies_sized
 rooms_bodies = record { coroutine_body_is = λ kind skipped f e hs hf he. body_takes kind skipped f e hs hf he.0 }
-
--- ---- laws
-
--- of a builder, where lowering answers
-fits : {A : Type 0} {n : Size} {p : Lowering A} → Takes n p → (old : Builder) → Paired old.stored
-    → GrownUnless n old (p old).0 (p old).1
-fits {A = A} {n = n} {p = p} h old d = by (p old).0 (p old).1 (h.takes old d)
-  where
-    by : (o : Checked A) (new : Builder) → Room n old o new → GrownUnless n old o new
-    by (Ok a) new h = record {
-      exprs = h.exprs.more;
-      labels = h.labels.more;
-      bindings = h.bindings.more;
-      owners = h.owners;
-      may_be_owned = may_be_owned h;
-      pats = h.pats.more;
-      types = h.types.more;
-      lifetimes = h.lifetimes.more;
-      pat_sources = h.pat_sources;
-      pat_map = h.pat_ways;
-      target_map = h.target_ways;
-      type_sources = h.type_sources;
-      lifetime_sources = h.lifetime_sources;
-      types_map = h.type_ways;
-    }
-    by (Err f) new h = h
-
-pub exprs_fit : ExprsFit
-exprs_fit e old d = fits (expr_part_graded rooms_graded e).0 old d
-
-pub bodies_fit : BodiesFit
-bodies_fit kind skipped f e old d = fits (body_graded rooms_graded rooms_bodies kind skipped f e) old d
