@@ -1,5 +1,5 @@
 -- As much as is told of a tree is its size.
-use Rattle.std.proofs.Common.{Bool, true, false, not, ◌||◌, List, [], ◌∷◌, Option, Some, None, is_some}
+use Rattle.std.proofs.Common.{Bool, true, false, not, ◌||◌, List, [], ◌∷◌, map, Option, Some, None, is_some}
 use Rattle.hir_store.specs.Pointers.{Pointer}
 use Rattle.hir_store.specs.declared.diagnostics.AwaitLocation.{AwaitLocation}
 use Rattle.hir_store.specs.declared.hir.CoroutineKind.{CoroutineKind}
@@ -15,9 +15,11 @@ use Rattle.hir_env.specs.Answered.{OptionPat, OptionPath, OptionRet, OptionType,
 use Rattle.hir_env.specs.Answered.{PatFields, Path, Pats, RangeForm, Segment, SegmentArgs, Segments, SelfFormal, Side, Spread, Stmt, Stmts}
 use Rattle.hir_env.specs.Answered.{Target, TargetField, TargetFields, Targets, TypePat, TypePats, Type_, UseRead}
 use Rattle.hir_env.specs.Conditions.{holds_let}
-use Rattle.hir_data.specs.Data.{Shape, typed}
-use Rattle.hir_data.specs.Patterns.{is_dots}
+use Rattle.hir_data.specs.Patterns.{ellipsis_of, is_dots, written_pat}
+use Rattle.hir_data.specs.Targets.{target_dots}
+use Rattle.hir_data.specs.Tops.{params_tops}
 use Rattle.hir_data.specs.Uses.{FirstUses}
+use Rattle.hir_data.specs.Written.{type_data}
 use Rattle.hir_meaning.specs.InnerWritten.{constant_body, limit_body}
 use Rattle.hir_meaning.specs.Left.{gives_value, is_kept, is_left}
 use Rattle.hir_one_result.specs.Bodies.{grade_body, grade_formals, grade_self}
@@ -29,6 +31,7 @@ use Rattle.hir_one_result.specs.PatRoom.{is_known, names_after, names_after_each
 use Rattle.hir_one_result.specs.PathRoom as walk
 use Rattle.hir_one_result.specs.PathRoom.{Read, Seen, at_first, ended, goes_on, nothing_seen, own_read, refused, segments_read, whole_read}
 use Rattle.hir_one_result.specs.PathRoom.{yields}
+use Rattle.hir_one_result.specs.PreludeRoom.{handed_size, prelude_size, self_let_size}
 use Rattle.hir_one_result.specs.Room as room
 use Rattle.hir_one_result.specs.Size as size
 use Rattle.hir_one_result.specs.Size.{Size, an_expr, nothing, ◌∪◌}
@@ -59,10 +62,11 @@ uses_are : (us : List UseRead) → Same (p.grade_uses sizes us) (walk.uses_size 
 uses_are [] = same nothing
 uses_are (u ∷ us) = both (use_is u) (uses_are us)
 
-impl_is : (mode : ImplTrait) (at : Pointer) (shape : Shape) → Same (p.grade_impl sizes mode (typed (Some at) shape)) (size.an_impl mode at)
-impl_is becomes.Error at shape = same _
-impl_is becomes.Opaque at shape = same _
-impl_is (becomes.Argument def) at shape = same _
+impl_is : (b : Option Binder) (at : Pointer) (mode : ImplTrait) (bs : Bounds)
+    → Same (p.grade_impl sizes mode (type_data b (tree.impl_type at mode bs))) (size.an_impl mode at)
+impl_is b at becomes.Error bs = same _
+impl_is b at becomes.Opaque bs = same _
+impl_is b at (becomes.Argument def) bs = same _
 
 missing_is : (b : Bool) {n k : Size} → Same n k → Same (p.or_missing sizes b n) (size.or_missing b k)
 missing_is true h = h
@@ -119,10 +123,11 @@ range_is tree.itemless_range = same _
 
 condition_is : (lets : Bool) {n k : Size} → Same n k → Same (p.condition sizes lets n) (size.a_condition lets k)
 condition_is true h = h
-condition_is false h = both h (same _)
+condition_is false h = both h (same (size.a_made_name ∪ size.a_made_bind ∪ an_expr ∪ an_expr))
 
 for_turn_is : {n k : Size} → Same n k → Same (p.for_turn sizes n) (size.a_for_turn k)
-for_turn_is h = both (same _) (both (same _) (both (both (same _) h) (same _)))
+for_turn_is h = both (same ((an_expr ∪ an_expr) ∪ size.an_item_call))
+    (both (same (size.a_pat None ∪ an_expr)) (both (both (same (size.a_pat None)) h) (same (an_expr ∪ an_expr))))
 
 -- a disabled one is nothing
 kept_is : (e : Expr) {n k : Size} → Same n k → Same (p.kept_of sizes e n) (size.if_so (is_kept e) k)
@@ -131,27 +136,28 @@ kept_is e h = h
 
 uncalled_pat_is : (at : Pointer) (c : Called) → Same (p.grade_uncalled_pat sizes at c) (size.uncalled_pat_size at c)
 uncalled_pat_is at tree.callless = same _
-uncalled_pat_is at c = behind (same _)
+uncalled_pat_is at c = behind (same (size.a_pat None ∪ size.a_pat_call at))
 
 uncalled_type_is : (at : Pointer) (c : Called) → Same (p.grade_uncalled_type sizes at c) (size.uncalled_type_size at c)
 uncalled_type_is at tree.callless = same _
-uncalled_type_is at c = behind (same _)
+uncalled_type_is at c = behind (same (size.a_type None ∪ size.a_type_call at))
 
 labelled_is : (label : Option Label) {n k : Size} → Same n k → Same (p.labelled_of sizes label n) (room.label_size label ∪ k)
-labelled_is None h = same_then h (nothing_first _)
-labelled_is (Some l) h = both (same _) h
+labelled_is None {k = k} h = same_then h (nothing_first k)
+labelled_is (Some l) h = both (same size.a_label) h
 
 looped_is : (label : Option Label) {n k : Size} → Same n k → Same (sizes.looped label n) (room.label_size label ∪ (k ∪ an_expr))
-looped_is label h = both (same _) (both h (same an_expr))
+looped_is label h = both (same (room.label_size label)) (both h (same an_expr))
 
 abbrev try_size : Stmts → OptionExpr → Size
 try_size st e =
     (size.a_made_name ∪ size.a_label) ∪ (room.stmts_size st ∪ room.size_kept e) ∪ (an_expr ∪ room.unit_size st e ∪ an_expr) ∪ an_expr
 
-try_is : (typed : Bool) (number : Option BlockId) (st : Stmts) (e : OptionExpr) {n : Size} → Same n (room.stmts_size st ∪ room.size_kept e)
-    → Same (p.grade_try sizes typed number st e n) (try_size st e)
-try_is typed number st e h = both (same _) (behind (both h
-    (both (both (same _) (both (if_is (not (is_left e || gives_value st false)) (same an_expr)) (same an_expr))) (same an_expr))))
+try_is : (has_type : Bool) (number : Option BlockId) (st : Stmts) (e : OptionExpr) {n : Size}
+    → Same n (room.stmts_size st ∪ room.size_kept e)
+    → Same (p.grade_try sizes has_type number st e n) (try_size st e)
+try_is has_type number st e h = both (same (size.a_made_name ∪ size.a_label)) (behind (both h
+    (both (both (same an_expr) (both (if_is (not (is_left e || gives_value st false)) (same an_expr)) (same an_expr))) (same an_expr))))
 
 mutual
   -- ---- types, paths, arguments and bounds
@@ -159,19 +165,19 @@ mutual
   pub type_is : (b : Option Binder) (t : Type_) → Same (g.grade_type_in sizes b t) (room.type_size t)
   type_is b (tree.paren_type t) = part_is b t
   type_is b (tree.macro_type at c tree.no_type) = uncalled_type_is at c
-  type_is b (tree.macro_type at c (tree.some_type t)) = behind (both (type_is b t) (same _))
+  type_is b (tree.macro_type at c (tree.some_type t)) = behind (both (type_is b t) (same (size.a_type_call at)))
   type_is b (tree.for_type names t) = part_is (Some names) t
   type_is b (tree.leaf_type at form) = same _
-  type_is b (tree.over_type at form t) = both (part_is None t) (same _)
-  type_is b (tree.array_type at c t) = both (constant_is c) (both (part_is None t) (same _))
-  type_is b (tree.tuple_type at ts) = both (parts_are ts) (same _)
-  type_is b (tree.path_type at q) = both (whole_is q) (same _)
-  type_is b (tree.ref_type at l mutability t) = both (part_is None t) (both (lifetime_is l) (same _))
-  type_is b (tree.fn_type at head ts r) = both (ret_is r) (both (parts_are ts) (same _))
-  type_is b (tree.impl_type at mode bs) = both (bounds_are bs) (impl_is mode at _)
+  type_is b (tree.over_type at form t) = both (part_is None t) (same (size.a_type (Some at)))
+  type_is b (tree.array_type at c t) = both (constant_is c) (both (part_is None t) (same (size.a_type (Some at))))
+  type_is b (tree.tuple_type at ts) = both (parts_are ts) (same (size.a_type (Some at)))
+  type_is b (tree.path_type at q) = both (whole_is q) (same (size.a_type (Some at)))
+  type_is b (tree.ref_type at l mutability t) = both (part_is None t) (both (lifetime_is l) (same (size.a_type (Some at))))
+  type_is b (tree.fn_type at head ts r) = both (ret_is r) (both (parts_are ts) (same (size.a_type (Some at))))
+  type_is b (tree.impl_type at mode bs) = both (bounds_are bs) (impl_is b at mode bs)
   type_is b (tree.nested_impl at) = same _
-  type_is b (tree.dyn_type at bs) = both (bounds_are bs) (same _)
-  type_is b (tree.pattern_type at t own q) = both (part_is None t) (both (type_pat_part_is q) (same _))
+  type_is b (tree.dyn_type at bs) = both (bounds_are bs) (same (size.a_type (Some at)))
+  type_is b (tree.pattern_type at t own q) = both (part_is None t) (both (type_pat_part_is q) (same (size.a_type (Some at))))
 
   pub part_is : (b : Option Binder) (t : OptionType) → Same (g.grade_part_in sizes b t) (room.type_part_size t)
   part_is b tree.no_type = same _
@@ -194,7 +200,7 @@ mutual
   segment_is first tree.super_segment x = same _
   segment_is true (tree.type_segment t) x = type_is None t
   segment_is true (tree.trait_segment t at q) x =
-      both (type_is None t) (both (whole_is q) (if_is (is_some (whole_read q)) (same _)))
+      both (type_is None t) (both (whole_is q) (if_is (is_some (whole_read q)) (same (size.a_type (Some at)))))
   segment_is true tree.absent_segment x = same nothing
   segment_is true tree.broken_segment x = same nothing
   segment_is true tree.self_type_segment x = same nothing
@@ -234,7 +240,7 @@ mutual
 
   parens_are : (ps : OptionParens) → Same (g.grade_parens sizes ps) (room.parens_size ps)
   parens_are tree.no_parens = same nothing
-  parens_are (tree.some_parens ts r) = both (parts_are ts) (both (same _) (output_is r))
+  parens_are (tree.some_parens ts r) = both (parts_are ts) (both (same (size.a_type None)) (output_is r))
 
   output_is : (r : OptionRet) → Same (g.grade_output sizes r) (room.output_size r)
   output_is tree.no_ret = same _
@@ -261,7 +267,7 @@ mutual
 
   bound_is : (b : Bound) → Same (g.grade_bound sizes b) (room.bound_size b)
   bound_is tree.error_bound = same nothing
-  bound_is (tree.path_bound at q maybe binder) = both (whole_is q) (if_is (is_some (whole_read q)) (same _))
+  bound_is (tree.path_bound at q maybe binder) = both (whole_is q) (if_is (is_some (whole_read q)) (same (size.a_type (Some at))))
   bound_is (tree.lifetime_bound l) = same _
   bound_is (tree.use_bound us) = uses_are us
 
@@ -276,9 +282,9 @@ mutual
   type_pat_is : (q : TypePat) → Same (g.grade_type_pat sizes q) (room.type_pat_size q)
   type_pat_is (tree.not_null_type_pat at) = same _
   type_pat_is (tree.macro_type_pat at c tree.no_type_pat) = uncalled_pat_is at c
-  type_pat_is (tree.macro_type_pat at c (tree.some_type_pat q)) = behind (both (type_pat_is q) (same _))
-  type_pat_is (tree.or_type_pat at ps) = both (type_pats_are ps) (same _)
-  type_pat_is (tree.range_type_pat at low high) = both (limit_is low) (both (limit_is high) (same _))
+  type_pat_is (tree.macro_type_pat at c (tree.some_type_pat q)) = behind (both (type_pat_is q) (same (size.a_pat_call at)))
+  type_pat_is (tree.or_type_pat at ps) = both (type_pats_are ps) (same (size.a_pat (Some at)))
+  type_pat_is (tree.range_type_pat at low high) = both (limit_is low) (both (limit_is high) (same (size.a_pat (Some at))))
   type_pat_is (tree.other_type_pat at) = same _
 
   type_pat_part_is : (q : OptionTypePat) → Same (g.grade_type_pat_part sizes q) (room.type_pat_part_size q)
@@ -292,13 +298,13 @@ mutual
   limit_is : (l : Limit) → Same (g.grade_limit sizes l) (room.limit_size l)
   limit_is (tree.item_limit item) = same _
   limit_is (tree.side_limit s) = in_body (limit_body (tree.side_limit s)) (limit_side_is s)
-  limit_is (tree.before_limit item s) = in_body (limit_body (tree.before_limit item s)) (both (limit_side_is s) (same _))
+  limit_is (tree.before_limit item s) = in_body (limit_body (tree.before_limit item s)) (both (limit_side_is s) (same (an_expr ∪ an_expr)))
 
   limit_side_is : (s : Side) → Same (g.grade_limit_side sizes s) (room.limit_side_size s)
   limit_side_is tree.no_side = same _
   limit_side_is (tree.literal_side at l) = same _
   limit_side_is (tree.name_side at n _) = same _
-  limit_side_is (tree.path_side at q) = both (whole_is q) (same _)
+  limit_side_is (tree.path_side at q) = both (whole_is q) (same an_expr)
   limit_side_is tree.other_side = same _
 
   -- ---- patterns
@@ -307,37 +313,41 @@ mutual
   side_is tree.no_side = same nothing
   side_is (tree.literal_side at l) = same _
   side_is (tree.name_side at n _) = name_side_is n
-  side_is (tree.path_side at q) = both (whole_is q) (if_is (is_some (whole_read q)) (same _))
+  side_is (tree.path_side at q) = both (whole_is q) (if_is (is_some (whole_read q)) (same an_expr))
   side_is tree.other_side = same nothing
 
   pat_is : (q : Pat) (us : FirstUses) → Same (g.grade_pat sizes q us) (room.pat_size q us)
   pat_is (tree.leaf_pat at form) us = same _
   pat_is (tree.bind_pat at u _ sub) us =
-      both (subpat_is sub us) (both (if_is (not (is_known (names_after_part sub us) u)) (same _)) (same _))
+      both (subpat_is sub us) (both (if_is (not (is_known (names_after_part sub us) u)) (same size.a_binding))
+      (same (size.a_pat (Some at))))
   pat_is (tree.name_pat at u _) us = same _
-  pat_is (tree.path_pat at q) us = both (whole_is q) (same _)
+  pat_is (tree.path_pat at q) us = both (whole_is q) (same (size.a_pat (Some at)))
   pat_is (tree.tuple_struct_pat at q comma ps) us = both (whole_is q)
-      (missing_is (is_some (whole_read q)) (both (elements_are ps us) (both (comma_is comma _) (same _))))
-  pat_is (tree.tuple_pat at comma ps) us = both (elements_are ps us) (both (comma_is comma _) (same _))
+      (missing_is (is_some (whole_read q)) (both (elements_are ps us)
+      (both (comma_is comma (dots_behind (ellipsis_of comma ps))) (same (size.a_pat (Some at))))))
+  pat_is (tree.tuple_pat at comma ps) us = both (elements_are ps us)
+      (both (comma_is comma (dots_behind (ellipsis_of comma ps))) (same (size.a_pat (Some at))))
   pat_is (tree.record_pat at q fs dots) us =
-      both (whole_is q) (missing_is (is_some (whole_read q)) (both (pat_fields_are fs us) (same _)))
+      both (whole_is q) (missing_is (is_some (whole_read q)) (both (pat_fields_are fs us) (same (size.a_pat (Some at)))))
   pat_is (tree.or_pat at ps) us = alternatives_are at ps us
   pat_is (tree.paren_pat at q) us = pat_part_is q us
   pat_is (tree.macro_pat at c tree.no_pat) us = uncalled_pat_is at c
-  pat_is (tree.macro_pat at c (tree.some_pat q)) us = behind (both (pat_is q us) (same _))
-  pat_is (tree.barred_pat at) us = behind (same _)
+  pat_is (tree.macro_pat at c (tree.some_pat q)) us = behind (both (pat_is q us) (same (size.a_pat_call at)))
+  pat_is (tree.barred_pat at) us = behind (same (size.a_pat None))
   pat_is (tree.slice_pat at before middle after) us =
       both (pats_are before us) (both (subpat_is middle (names_after_each before us))
-      (both (pats_are after (names_after_part middle (names_after_each before us))) (same _)))
-  pat_is (tree.over_pat at form q) us = both (pat_part_is q us) (same _)
+      (both (pats_are after (names_after_part middle (names_after_each before us))) (same (size.a_pat (Some at)))))
+  pat_is (tree.over_pat at form q) us = both (pat_part_is q us) (same (size.a_pat (Some at)))
   pat_is (tree.literal_pat at own l) us = same _
-  pat_is (tree.range_pat at op low high) us = both (side_is low) (both (side_is high) (same _))
+  pat_is (tree.range_pat at op low high) us = both (side_is low) (both (side_is high) (same (size.a_pat (Some at))))
 
   alternatives_are : (at : Pointer) (ps : Pats) (us : FirstUses)
       → Same (g.grade_alternatives sizes at ps us) (room.pats_size ps us ∪ now.or_size at ps)
-  alternatives_are at tree.no_pats us = nothing_first _
+  alternatives_are at tree.no_pats us = nothing_first (size.a_pat (Some at))
   alternatives_are at (tree.more_pats q ps) us =
-      same_then (both (pat_is q us) (both (pats_are ps (names_after q us)) (or_is at ps))) (moved_in _ _ _)
+      same_then (both (pat_is q us) (both (pats_are ps (names_after q us)) (or_is at ps)))
+      (moved_in (room.pat_size q us) (room.pats_size ps (names_after q us)) (now.or_behind at ps))
   alternatives_are at (tree.noted_pats c ps) us = behind (alternatives_are at ps us)
 
   pat_part_is : (q : OptionPat) (us : FirstUses) → Same (g.grade_pat_part sizes q us) (room.pat_part_size q us)
@@ -375,18 +385,19 @@ mutual
 
   target_is : (t : Target) → Same (g.grade_target sizes t) (room.target_size t)
   target_is (tree.absent_target call) = same _
-  target_is (tree.place_target at e) = both (expr_is e) (same _)
+  target_is (tree.place_target at e) = both (expr_is e) (same (size.a_made_pat (Some at)))
   target_is (tree.macro_target None c t) = behind (target_is t)
-  target_is (tree.macro_target (Some at) c t) = behind (both (target_is t) (same _))
+  target_is (tree.macro_target (Some at) c t) = behind (both (target_is t) (same (size.a_target_way at)))
   target_is (tree.wild_target at) = same _
-  target_is (tree.path_target at q h) = both (path_is q nothing_seen) (same _)
-  target_is (tree.tuple_target at ts) = both (targets_are ts) (same _)
+  target_is (tree.path_target at q h) = both (path_is q nothing_seen) (same (size.a_target at))
+  target_is (tree.tuple_target at ts) = both (targets_are ts) (same (dots_behind (target_dots ts) ∪ size.a_target at))
   target_is (tree.call_target at q ts) =
-      both (whole_is q) (missing_target_is at.call (is_some (whole_read q)) (both (targets_are ts) (same _)))
+      both (whole_is q) (missing_target_is at.call (is_some (whole_read q))
+      (both (targets_are ts) (same (dots_behind (target_dots ts) ∪ size.a_target at))))
   target_is (tree.array_target at before dots after) =
-      both (targets_are before) (both (targets_are after) (both (rest_is dots) (same _)))
+      both (targets_are before) (both (targets_are after) (both (rest_is dots) (same (size.a_target at))))
   target_is (tree.record_target at q fs dots spread) = both (whole_is q)
-      (missing_target_is at.call (is_some (whole_read q)) (spread_none spread (both (target_fields_are fs) (same _))))
+      (missing_target_is at.call (is_some (whole_read q)) (spread_none spread (both (target_fields_are fs) (same (size.a_target at)))))
 
   targets_are : (ts : Targets) → Same (g.grade_targets sizes ts) (room.targets_size ts)
   targets_are tree.no_targets = same nothing
@@ -406,53 +417,57 @@ mutual
   -- ---- expressions
 
   expr_is : (e : Expr) → Same (g.grade_expr sizes e) (room.size e)
-  expr_is (tree.disabled_expr why e) = behind (same _)
-  expr_is (tree.if_expr at c t e) = both (block_part_is t) (both (expr_present_is e) (both (expr_part_is c) (same _)))
+  expr_is (tree.disabled_expr why e) = behind (same an_expr)
+  expr_is (tree.if_expr at c t e) = both (block_part_is t) (both (expr_present_is e) (both (expr_part_is c) (same an_expr)))
   expr_is (tree.block_expr b) = block_is b
   expr_is (tree.loop_expr at label _ b) = looped_is label (block_part_is b)
   expr_is (tree.while_expr at label _ c b) =
-      looped_is label (both (block_part_is b) (both (condition_is (holds_let c) (expr_part_is c)) (same _)))
-  expr_is (tree.for_expr at items label _ q h b) = both (expr_part_is h) (both (same _) (both (top_is q)
-      (both (same _) (both (same _) (both (looped_is label (for_turn_is (expr_part_is b))) (same _))))))
-  expr_is (tree.question_expr at items e) = both (expr_part_is e) (same _)
+      looped_is label (both (block_part_is b) (both (condition_is (holds_let c) (expr_part_is c)) (same (an_expr ∪ an_expr))))
+  expr_is (tree.for_expr at items label _ q h b) = both (expr_part_is h) (both (same size.an_item_call) (both (top_is q)
+      (both (same size.a_made_name) (both (same size.a_made_bind) (both (looped_is label (for_turn_is (expr_part_is b))) (same an_expr))))))
+  expr_is (tree.question_expr at items e) = both (expr_part_is e) (same (size.an_item_call ∪ size.a_flow_arm an_expr
+      ∪ size.a_flow_arm (an_expr ∪ size.an_item_call ∪ an_expr) ∪ an_expr))
   expr_is (tree.itemless_expr at) = same _
-  expr_is (tree.try_expr at item tree.no_type number st e) = try_is false number st e (contents_are st e)
+  expr_is (tree.try_expr at item tree.no_type number st e) = try_is false number st e (stmts_are st (kept_part_is e))
   expr_is (tree.try_expr at item (tree.some_type t) number st e) =
-      both (try_is true number st e (contents_are st e)) (both (same _) (both (type_is None t) (same _)))
-  expr_is (tree.coroutine_expr at kind moves number st e) = all_owned (both (contents_are st e) (same _))
-  expr_is (tree.call_expr at f has_list es) = both (expr_part_is f) (both (exprs_are es) (same _))
-  expr_is (tree.path_expr at q h) = both (whole_is q) (same _)
-  expr_is (tree.continue_expr at jump) = behind (same _)
-  expr_is (tree.break_expr at jump e) = behind (both (expr_present_is e) (same _))
+      both (try_is true number st e (stmts_are st (kept_part_is e))) (both (same size.a_made_name)
+      (both (type_is None t) (same (size.a_made_bind ∪ an_expr ∪ an_expr))))
+  expr_is (tree.coroutine_expr at kind moves number st e) = all_owned (both (stmts_are st (kept_part_is e)) (same (an_expr ∪ an_expr)))
+  expr_is (tree.call_expr at f has_list es) = both (expr_part_is f) (both (exprs_are es) (same an_expr))
+  expr_is (tree.path_expr at q h) = both (whole_is q) (same an_expr)
+  expr_is (tree.continue_expr at jump) = behind (same an_expr)
+  expr_is (tree.break_expr at jump e) = behind (both (expr_present_is e) (same an_expr))
   expr_is (tree.paren_expr at e) = expr_part_is e
   expr_is (tree.macro_expr at c e) = behind (expr_part_is e)
   expr_is (tree.literal_expr at l) = same _
   expr_is (tree.leaf_expr at form) = same _
-  expr_is (tree.unary_expr at form e) = both (expr_part_is e) (same _)
-  expr_is (tree.binary_expr at form a b) = both (expr_part_is a) (both (expr_part_is b) (same _))
-  expr_is (tree.lazy_expr at op a b) = both (expr_part_is a) (both (expr_part_is b) (same _))
+  expr_is (tree.unary_expr at form e) = both (expr_part_is e) (same an_expr)
+  expr_is (tree.binary_expr at form a b) = both (expr_part_is a) (both (expr_part_is b) (same an_expr))
+  expr_is (tree.lazy_expr at op a b) = both (expr_part_is a) (both (expr_part_is b) (same an_expr))
   expr_is (tree.list_expr at form es) = both (exprs_are es) (front_is form)
-  expr_is (tree.repeat_expr at e c) = both (expr_part_is e) (both (constant_is c) (same _))
-  expr_is (tree.const_expr at c) = all_owned (both (rooted_is c) (same _))
+  expr_is (tree.repeat_expr at e c) = both (expr_part_is e) (both (constant_is c) (same an_expr))
+  expr_is (tree.const_expr at c) = all_owned (both (rooted_is c) (same an_expr))
   expr_is (tree.closure_expr at moves is_static xs t e) =
-      all_owned (both (params_are xs) (both (present_is t) (both (expr_part_is e) (same _))))
+      all_owned (both (params_are xs) (both (present_is t) (both (expr_part_is e) (same an_expr))))
   expr_is (tree.coroutine_closure_expr at kind moves xs t e) =
-      all_owned (both (all_owned (both (params_are xs) (both (present_is t) (both (expr_part_is e) (same _))))) (same _))
+      let ys = map written_pat (params_tops xs) in
+      all_owned (both (all_owned (both (params_are xs) (both (present_is t)
+      (both (expr_part_is e) (same (prelude_size ys ∪ an_expr ∪ an_expr)))))) (same (handed_size ys ∪ an_expr)))
   expr_is (tree.method_call_expr at e n es generics) =
-      both (expr_part_is e) (both (exprs_are es) (both (args_are generics) (same _)))
-  expr_is (tree.cast_expr at e t) = both (expr_part_is e) (both (part_is None t) (same _))
+      both (expr_part_is e) (both (exprs_are es) (both (args_are generics) (same an_expr)))
+  expr_is (tree.cast_expr at e t) = both (expr_part_is e) (both (part_is None t) (same an_expr))
   expr_is (tree.record_expr at q head fs s) =
       both (whole_is q) (record_is (is_some (whole_read q)) (both (fields_are fs) (expr_spread_is s)))
-  expr_is (tree.offset_of_expr at t names) = both (part_is None t) (same _)
-  expr_is (tree.leaving_expr at form e) = both (expr_present_is e) (same _)
-  expr_is (tree.become_expr at e) = both (expr_part_is e) (same _)
-  expr_is (tree.yield_expr at e) = both (expr_present_is e) (same _)
-  expr_is (tree.await_expr at location e) = both (expr_part_is e) (await_none at location (same _))
-  expr_is (tree.nameless_expr at e) = both (expr_part_is e) (same _)
-  expr_is (tree.let_expr at q e) = both (top_is q) (both (expr_part_is e) (same _))
-  expr_is (tree.match_expr at e arms) = both (expr_part_is e) (both (arms_are arms) (same _))
+  expr_is (tree.offset_of_expr at t names) = both (part_is None t) (same an_expr)
+  expr_is (tree.leaving_expr at form e) = both (expr_present_is e) (same an_expr)
+  expr_is (tree.become_expr at e) = both (expr_part_is e) (same an_expr)
+  expr_is (tree.yield_expr at e) = both (expr_present_is e) (same an_expr)
+  expr_is (tree.await_expr at location e) = both (expr_part_is e) (await_none at location (same an_expr))
+  expr_is (tree.nameless_expr at e) = both (expr_part_is e) (same an_expr)
+  expr_is (tree.let_expr at q e) = both (top_is q) (both (expr_part_is e) (same an_expr))
+  expr_is (tree.match_expr at e arms) = both (expr_part_is e) (both (arms_are arms) (same an_expr))
   expr_is (tree.range_expr at form low high) = both (expr_present_is low) (both (expr_present_is high) (range_is form))
-  expr_is (tree.assign_expr at own t e) = both (target_is t) (both (expr_part_is e) (same _))
+  expr_is (tree.assign_expr at own t e) = both (target_is t) (both (expr_part_is e) (same an_expr))
 
   params_are : (xs : Params) → Same (g.grade_params sizes xs) (room.params_size xs)
   params_are tree.no_params = same nothing
@@ -506,7 +521,8 @@ mutual
 
   block_is : (b : Block) → Same (g.grade_block sizes b) (room.block_size b)
   block_is (tree.block at is_unsafe label _ number st e) =
-      labelled_is label (behind (same_then (both (contents_are st e) (same an_expr)) (moved_out _ _ _)))
+      labelled_is label (behind (same_then (both (stmts_are st (kept_part_is e)) (same an_expr))
+      (moved_out (room.stmts_size st) (room.size_kept e) an_expr)))
 
   block_part_is : (b : OptionBlock) → Same (g.grade_block_part sizes b) (room.block_part_size b)
   block_part_is tree.no_block = same _
@@ -516,13 +532,10 @@ mutual
   block_present_is tree.no_block = same nothing
   block_present_is (tree.some_block b) = block_is b
 
-  contents_are : (st : Stmts) (e : OptionExpr)
-      → Same (g.grade_stmts sizes st (g.grade_kept sizes e)) (room.stmts_size st ∪ room.size_kept e)
-  contents_are st e = stmts_are st (kept_part_is e)
-
   stmts_are : (st : Stmts) {n k : Size} → Same n k → Same (g.grade_stmts sizes st n) (room.stmts_size st ∪ k)
-  stmts_are tree.no_stmts h = same_then h (nothing_first _)
-  stmts_are (tree.more_stmts s st) h = same_then (both (stmt_is s) (behind_is s (stmts_are st h))) (moved_in _ _ _)
+  stmts_are tree.no_stmts {k = k} h = same_then h (nothing_first k)
+  stmts_are (tree.more_stmts s st) {k = k} h =
+      same_then (both (stmt_is s) (behind_is s (stmts_are st h))) (moved_in (room.stmt_size s) (room.stmts_size st) k)
 
   stmt_is : (s : Stmt) → Same (g.grade_stmt sizes s) (room.stmt_size s)
   stmt_is (tree.expr_stmt e semi) = kept_part_is e
@@ -543,11 +556,13 @@ formals_are : (skipped : Bool) (fs : List Formal) → Same (grade_formals sizes 
 formals_are skipped [] = same nothing
 formals_are false (tree.disabled_formal at by ∷ fs) = behind (formals_are false fs)
 formals_are true (tree.disabled_formal at by ∷ fs) = behind (formals_are true fs)
-formals_are true (tree.formal q ∷ fs) = both (same _) (formals_are true fs)
+formals_are true (tree.formal q ∷ fs) = both (same (size.a_pat None)) (formals_are true fs)
 formals_are false (tree.formal q ∷ fs) = both (top_is q) (formals_are false fs)
 
 pub body_is : (kind : Option CoroutineKind) (skipped : Bool) (f : Formals) (e : OptionExpr)
     → Same (grade_body sizes bodies_sized kind skipped f e) (room.body_size kind skipped f e)
 body_is None skipped f e = both (both (self_is f.receiver) (formals_are skipped f.formals)) (expr_part_is e)
-body_is (Some kind) skipped f e = both (self_is f.receiver)
-    (both (all_owned (both (formals_are skipped f.formals) (both (expr_part_is e) (same _)))) (same _))
+body_is (Some kind) skipped f e =
+    let ys = room.formals_data skipped f.formals in
+    both (self_is f.receiver) (both (all_owned (both (formals_are skipped f.formals)
+    (both (expr_part_is e) (same (self_let_size f.receiver ∪ prelude_size ys ∪ an_expr ∪ an_expr))))) (same (handed_size ys)))
