@@ -34,7 +34,7 @@ use Rattle.hir_one_result.specs.PathRoom.{yields}
 use Rattle.hir_one_result.specs.PreludeRoom.{handed_size, prelude_size, self_let_size}
 use Rattle.hir_one_result.specs.Room as room
 use Rattle.hir_one_result.specs.Size as size
-use Rattle.hir_one_result.specs.Size.{Size, an_expr, nothing, ◌∪◌}
+use Rattle.hir_one_result.specs.Size.{Size, an_expr, dots_behind, nothing, ◌∪◌}
 use Rattle.hir_one_result.specs.Sizes.{bodies_sized, sizes}
 use Rattle.hir_one_result.proofs.SameSizes.{all_owned, behind, both, in_body, in_front, same, same_then}
 use Rattle.hir_one_result.proofs.Took.{Same, moved_in, moved_out, nothing_first}
@@ -428,11 +428,11 @@ mutual
   expr_is (tree.question_expr at items e) = both (expr_part_is e) (same (size.an_item_call ∪ size.a_flow_arm an_expr
       ∪ size.a_flow_arm (an_expr ∪ size.an_item_call ∪ an_expr) ∪ an_expr))
   expr_is (tree.itemless_expr at) = same _
-  expr_is (tree.try_expr at item tree.no_type number st e) = try_is false number st e (stmts_are st (kept_part_is e))
+  expr_is (tree.try_expr at item tree.no_type number st e) = try_is false number st e (stmts_are st e (kept_part_is e))
   expr_is (tree.try_expr at item (tree.some_type t) number st e) =
-      both (try_is true number st e (stmts_are st (kept_part_is e))) (both (same size.a_made_name)
+      both (try_is true number st e (stmts_are st e (kept_part_is e))) (both (same size.a_made_name)
       (both (type_is None t) (same (size.a_made_bind ∪ an_expr ∪ an_expr))))
-  expr_is (tree.coroutine_expr at kind moves number st e) = all_owned (both (stmts_are st (kept_part_is e)) (same (an_expr ∪ an_expr)))
+  expr_is (tree.coroutine_expr at kind moves number st e) = all_owned (both (stmts_are st e (kept_part_is e)) (same (an_expr ∪ an_expr)))
   expr_is (tree.call_expr at f has_list es) = both (expr_part_is f) (both (exprs_are es) (same an_expr))
   expr_is (tree.path_expr at q h) = both (whole_is q) (same an_expr)
   expr_is (tree.continue_expr at jump) = behind (same an_expr)
@@ -521,7 +521,7 @@ mutual
 
   block_is : (b : Block) → Same (g.grade_block sizes b) (room.block_size b)
   block_is (tree.block at is_unsafe label _ number st e) =
-      labelled_is label (behind (same_then (both (stmts_are st (kept_part_is e)) (same an_expr))
+      labelled_is label (behind (same_then (both (stmts_are st e (kept_part_is e)) (same an_expr))
       (moved_out (room.stmts_size st) (room.size_kept e) an_expr)))
 
   block_part_is : (b : OptionBlock) → Same (g.grade_block_part sizes b) (room.block_part_size b)
@@ -532,10 +532,11 @@ mutual
   block_present_is tree.no_block = same nothing
   block_present_is (tree.some_block b) = block_is b
 
-  stmts_are : (st : Stmts) {n k : Size} → Same n k → Same (g.grade_stmts sizes st n) (room.stmts_size st ∪ k)
-  stmts_are tree.no_stmts {k = k} h = same_then h (nothing_first k)
-  stmts_are (tree.more_stmts s st) {k = k} h =
-      same_then (both (stmt_is s) (behind_is s (stmts_are st h))) (moved_in (room.stmt_size s) (room.stmts_size st) k)
+  stmts_are : (st : Stmts) (e : OptionExpr) → Same (g.grade_kept sizes e) (room.size_kept e)
+      → Same (g.grade_stmts sizes st (g.grade_kept sizes e)) (room.stmts_size st ∪ room.size_kept e)
+  stmts_are tree.no_stmts e h = same_then h (nothing_first (room.size_kept e))
+  stmts_are (tree.more_stmts s st) e h =
+      same_then (both (stmt_is s) (behind_is s (stmts_are st e h))) (moved_in (room.stmt_size s) (room.stmts_size st) (room.size_kept e))
 
   stmt_is : (s : Stmt) → Same (g.grade_stmt sizes s) (room.stmt_size s)
   stmt_is (tree.expr_stmt e semi) = kept_part_is e
