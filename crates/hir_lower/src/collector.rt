@@ -19,7 +19,7 @@ ghost use Rattle.hir_item_result.specs.Exceeding.{FitsBehind, InLimits};
 ghost use Rattle.hir_lower_handlers.specs.Spots.{spot_at};
 ghost use Rattle.hir_lower.specs.Beside.{TakesArguments};
 ghost use Rattle.hir_lower.specs.Calls.{Calls, Outside};
-ghost use Rattle.hir_lower.specs.Collected.{Collected};
+ghost use Rattle.hir_lower.specs.Collected.{Collected, OfCalls};
 ghost use Rattle.hir_lower.specs.Means.{AddsType, BearsNames, MadeOnce, NoRoomForType, PathRooted, ReadsBack, RoomForType, Rooted};
 ghost use Rattle.hir_lower.specs.Means.{whole_path, with_impl};
 ghost use Rattle.hir_lower.specs.Named.{none_named};
@@ -538,12 +538,12 @@ impl<'db, E: LowerEnv> ExprCollector<'db, E> {
     /// is that of one of the trees that were lowered, or of a type that an `impl` became, as the call of it says. A node of a type or of a
     /// lifetime leads to one, and no other node leads to a lifetime. Each number is in range, each binding has the patterns that make it,
     /// and no name is made up twice, but for those that the parameters of a closure with `async` or `gen` are handed in by.
-    #[tactic(auto, using(crate::proofs::MadeNames::once_of, crate::proofs::Meanings::definitions_of))]
+    #[tactic(auto, using(crate::proofs::MadeNames::once_of, crate::proofs::Meanings::definitions_of, crate::proofs::OneStore::calls_of))]
     pub fn into_store(self) -> Result<(ExpressionStore, ExpressionStoreSourceMap), LowerError>
         ensures failed { self.entry.failed ≡ true → result ≡ Err LowerError.Failed }
         ensures works { self.entry.failed ≡ false
             → IsOkAnd result (λ r. (r.0 ≡ store_of self.entry.state.stored) × (r.1 ≡ map_of self.entry.state.stored)) }
-        ensures collected { IfOk result (λ r. ∥ Collected self.entry.state.stored ∥₁) }
+        ensures collected { IfOk result (λ r. ∥ OfCalls r.0 r.1 ∥₁) }
         ensures mapped { IfOk result (λ r. ∥ Mapped self.entry.state.stored ∥₁) }
         ensures definitions { IfOk result (λ r. DefinitionsAre r.0.pats (length r.0.bindings) r.1.binding_definitions) }
         ensures made_once { IfOk result (λ r. ∥ MadeOnce r.0 [] ∥₁) }
