@@ -1,7 +1,7 @@
 -- Beside the names of a path without a trait stands what is written behind their segments.
 use Rattle.std.proofs.Common.{◌≡◌, ◌∙◌, refl, sym, ap, subst, List, [], ◌∷◌, ◌++◌}
 use Rattle.std.proofs.Common.{Option, Some, None, Bool, true, false}
-use Rattle.std.specs.Prelude.{if◌then◌else◌, map, reverse, option_map, is_some, bytes_eq, codes}
+use Rattle.std.specs.Prelude.{if◌then◌else◌, map, reverse, is_some, bytes_eq, codes}
 use Rattle.std.proofs.lemmas.List.{reverse-append, reverse-reverse, map-append}
 use Rattle.hir_syntax.specs.declared.ast.Name.{Name as AstName}
 use Rattle.hir_syntax.specs.declared.ast.Path.{Path as AstPath, out-Path}
@@ -17,7 +17,7 @@ use Rattle.hir_env.specs.Answered.{OptionType, SegmentArgs, OptionArgs, OptionPa
 use Rattle.hir_env.specs.TypeLayers.{PathTypeReading}
 use Rattle.hir_env.specs.LocalPaths.{at_local_root, behind_root, is_bare, local_root}
 use Rattle.hir_env.specs.PathNames.{mod_path_of}
-use Rattle.hir_env.specs.Paths.{alias_at, called_path, context_at, crate_root_at, inside_projection, kinded_segment, qualified_segment}
+use Rattle.hir_env.specs.Paths.{alias_at, called_path, context_at, crate_root_at, kinded_segment, qualified_segment}
 use Rattle.hir_env.specs.Paths.{with_alias}
 use Rattle.hir_env.specs.Whole.{answered_path, answered_segment, path_part, segments_part, first_part, rest_part, path_type_part}
 use Rattle.hir_env.specs.Whole.{into, reader}
@@ -27,9 +27,9 @@ use Rattle.hir_data.specs.Data.{ArgumentsData, BindingsData, OptionArgsData, no_
 use Rattle.hir_data.specs.Rule as rule
 use Rattle.hir_data.specs.Rule.{Named, PathRead, Item, ends, ended, read, refused, names_of, read_of, path_read, data_of, names_data}
 use Rattle.hir_data.specs.Rule.{first_without_self, last_without_self, without_self}
-use Rattle.hir_data.specs.Written.{what, items, segments, path_of, written_path, list_data, parens_data, notation, first_list, yielded}
+use Rattle.hir_data.specs.Written.{what, items, segments, path_of, list_data, parens_data, notation, first_list, yielded}
 use Rattle.hir_data.specs.Written.{segment_args_data, arguments_of, bindings_of}
-use Rattle.hir_data.specs.Segments.{name_borne, segment_name, named_among, named_segments, trait_of, first_trait, replaced, all_present}
+use Rattle.hir_data.specs.Segments.{name_borne, segment_name, named_among, trait_of, first_trait, all_present}
 use Rattle.hir_data.specs.Segments.{none_missing, Whole}
 use Rattle.hir_lower.specs.Beside.{all_behind, args_behind, behind_name, in_projection}
 
@@ -280,7 +280,7 @@ rooted_read : (root : Option CrateId) (leading : Bool) (first : Segment) (x : Pa
 rooted_read root leading first x e Q k = by (ended (front leading first ∷ [])) e
   where
     all : List Item
-    all = item false (tree.dollar_crate_segment root) ∷ front leading first ∷ []
+    all = front false (tree.dollar_crate_segment root) ∷ front leading first ∷ []
 
     whole : (b : Bool) → (if b then None else Some (read_of all)) ≡ Some x
         → ((y : PathRead) → (if b then None else Some (read_of (front leading first ∷ []))) ≡ Some y → Q y.names) → Q x.names

@@ -24,9 +24,7 @@ use Rattle.hir_data.specs.Rule.{Named, PathRead, Item, What, names_of, path_read
 use Rattle.hir_data.specs.Rule.{first_behind_self, last_behind_self, self_first, without_self}
 use Rattle.hir_data.specs.Written.{items, path_of, type_data, written_path, written_type}
 use Rattle.hir_data.specs.Segments.{trait_of, first_trait, none_missing, Whole, is_qualified, none_qualified, PlainPath, PlainTrait}
-use Rattle.hir_data.specs.Segments.{all_but_first}
 use Rattle.hir_lower.specs.Beside.{all_behind, args_of_named, beside, beside_names, in_projection, last_behind_type, segments_in}
-use Rattle.hir_lower.specs.Beside.{type_in_front}
 use Rattle.hir_lower.proofs.Beside.{all_args, answered_read, args_at, args_of_rest, clash, first_without, front, last_without, map_reverse}
 use Rattle.hir_lower.proofs.Beside.{no_some, plain_args, read_args, written_stays}
 
