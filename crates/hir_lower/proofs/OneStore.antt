@@ -21,7 +21,6 @@ use Rattle.hir_one_result.specs.Leads.{unled_way}
 use Rattle.hir_one_result.proofs.Lasting.{in_prefix}
 use Rattle.hir_one_result.proofs.Led.{leads_nowhere, led_still, led_then}
 use Rattle.hir_lower.specs.Collected.{AllStand, Call, Collected, LeftBy, OfCalls, StandsFor, of_constant, of_path, of_type}
-use Rattle.hir_lower.specs.Means.{AddsType}
 use Rattle.hir_lower.specs.Roots.{fresh}
 use Rattle.hir_lower.specs.Stays.{Stays}
 
