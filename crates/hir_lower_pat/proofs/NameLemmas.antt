@@ -1,7 +1,7 @@
 -- What the bindings of a top pattern know of its names.
 use Rattle.std.proofs.Common.{arith, ◌≡◌, ◌∙◌, ◌≤◌, ◌<◌, ◌+◌, ℕ, zero, suc, Bool, true, false, cond, refl}
 use Rattle.std.proofs.Common.{sym, ap, subst}
-use Rattle.std.proofs.Common.{List, [], ◌∷◌, ◌++◌, length, length-append, None, Some}
+use Rattle.std.proofs.Common.{List, [], ◌∷◌, ◌++◌, length, length-append, None, Option, Some}
 use Rattle.std.specs.Prelude.{◌&&◌, drop, nat_eq, slice_get, if◌then◌else◌, Result, Ok, Err, OnOk}
 use Rattle.std.specs.Map.{lookup}
 use Rattle.std.proofs.lemmas.Bool.{eq-eqb}
@@ -15,9 +15,10 @@ use Rattle.hir_store.specs.contracts.name.NamePartialEq.TheImpl as names
 use Rattle.hir_store.specs.declared.ids.BindingId.{BindingId}
 use Rattle.hir_store.specs.declared.name.Name.{Name}
 use Rattle.hir_store.specs.declared.name.Name.TheVariants as name
-use Rattle.hir_store.specs.Range.{Grows, HasBindingId}
+use Rattle.hir_store.specs.Range.{Grows, HasBindingId, HasNone}
 use Rattle.hir_store.specs.Stored.{Stored}
 use Rattle.hir_binding.specs.Bindings.{count_with, depth, name_count, noted}
+use Rattle.hir_binding.specs.declared.binding.BindingProblems.{BindingProblems}
 use Rattle.hir_env.specs.Answered.{Use}
 use Rattle.hir_lower_form.specs.Builder.{Builder}
 use Rattle.hir_lower_form.specs.Lowering.{Lowers, alloc_binding, go_on, pure, set_problem}
@@ -206,3 +207,27 @@ used_first u was mid is b c id n copied stored number at ids notes count deep en
 -- what is stored further takes no name away
 pub names_grow : (s t : Stored) (b : Bindings) → Grows s t → HasNames s b → HasNames t b
 names_grow s t b more names = (names.0, omega (arith, names.1, more.5))
+
+grows_on : (a b c : Stored) → Grows a b → Grows b c → Grows a c
+grows_on a b c g h =
+    (omega (arith, g.0, h.0), omega (arith, g.1, h.1), omega (arith, g.2, h.2), omega (arith, g.3, h.3), omega (arith, g.4, h.4), omega (arith, g.5, h.5))
+
+-- the problems of the first n names are written
+abbrev pub Settled : Bindings → ℕ → Builder → Builder → Type 0
+Settled b n first now =
+    (settle_from (noted b.list) 0 b.ids first ≡ settle_from (noted b.list) n (drop n b.ids) now)
+    × Grows first.stored now.stored × HasNames now.stored b
+
+pub settled_on : (b : Bindings) (n : ℕ) (first old new : Builder) (e : Key × BindingId) (problem : Option BindingProblems)
+    → slice_get b.ids n ≡ Some e → problem ≡ (noted b.list n).problem → Lowers HasNone (set_problem e.1 problem) old (Ok tt) new
+    → Settled b n first old → Settled b (suc n) first new
+settled_on b n first old new e problem at is (step, more, _) (so_far, grown, names) = (
+  so_far ∙ settles_entry (noted b.list) n b.ids e old new at (ap (λ p. set_problem e.1 p old) (sym is) ∙ step),
+  grows_on first.stored old.stored new.stored grown more,
+  names_grow old.stored new.stored b more names,
+)
+
+pub settled_past : (b : Bindings) (n : ℕ) (first now : Builder) → slice_get b.ids n ≡ None → Settled b n first now
+    → Settled b (suc n) first now
+settled_past b n first now at (so_far, grown, names) =
+    (so_far ∙ settles_nothing (noted b.list) n b.ids now at, grown, names)
