@@ -12,8 +12,8 @@ use std::alloc::{AllocError, Global};
 #[derive(Drop)]
 pub struct Owners {
     alloc: Global,
-    found: Numbering<ExprId>,
-    numbered: Numbering<ExprId>,
+    found: Numbering,
+    numbered: Numbering,
     places: Vec<(usize, ExprId)>,
 }
 
@@ -31,7 +31,7 @@ impl Owners {
     /// What owns a binding that is printed, where something does.
     pub fn find(&mut self, owner: Option<ExprId>) -> Result<(), AllocError> {
         if let Some(owner) = owner {
-            self.found.number(owner)?;
+            self.found.number(owner.0)?;
         }
         Ok(())
     }
@@ -49,8 +49,8 @@ impl Owners {
 
     /// The number of an expression that owns a printed binding, the next free one where it has none yet.
     pub fn number(&mut self, id: ExprId) -> Result<Option<usize>, AllocError> {
-        if self.found.has(id) {
-            let number = self.numbered.number(id)?;
+        if self.found.has(id.0) {
+            let number = self.numbered.number(id.0)?;
             return Ok(Some(number));
         }
         Ok(None)
@@ -61,8 +61,8 @@ impl Owners {
         let mut marked = String::with_capacity(self.alloc, text.len())?;
         let mut start = 0;
         for (place, id) in &self.places {
-            if self.found.has(*id) {
-                let number = self.numbered.number(*id)?;
+            if self.found.has(id.0) {
+                let number = self.numbered.number(id.0)?;
                 marked.push_str(between(text, start, *place))?;
                 marked.push('o')?;
                 marked.push_str(Buffer::new().format(number))?;

@@ -25,8 +25,8 @@ pub struct Printer<'a> {
     alloc: Global,
     pub(super) listed: Listed<'a>,
     pub(super) writer: Writer,
-    bindings: Numbering<BindingId>,
-    labels: Numbering<LabelId>,
+    bindings: Numbering,
+    labels: Numbering,
     owners: Owners,
     waiting: Waiting<'a>,
 }
@@ -485,12 +485,12 @@ impl<'a> Printer<'a> {
 
     fn binding(&mut self, id: BindingId) -> Result<(), AllocError> {
         self.owners.find(self.listed.store.binding_owner(id))?;
-        let number = self.bindings.number(id)?;
+        let number = self.bindings.number(id.0)?;
         self.writer.numbered("#", number)
     }
 
     fn label(&mut self, id: LabelId) -> Result<(), AllocError> {
-        let number = self.labels.number(id)?;
+        let number = self.labels.number(id.0)?;
         self.writer.numbered("L", number)
     }
 

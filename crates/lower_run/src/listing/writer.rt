@@ -16,7 +16,7 @@ use std::alloc::{AllocError, Global};
 pub struct Writer {
     out: String,
     sources: bool,
-    generated: Numbering<u32>,
+    generated: Numbering,
 }
 
 impl Drop for Writer {
