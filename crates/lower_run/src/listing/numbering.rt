@@ -49,7 +49,8 @@ fn reach(places: &mut Vec<Option<usize>>, item: u32) -> Result<(), AllocError>
 
 /// Notes where an item stands. Where memory is refused nothing changes.
 fn note(places: &mut Vec<Option<usize>>, item: u32, place: usize) -> Result<(), AllocError>
-    ensures ok { OnOk result ((x : ℕ) → slice_index_or places.new.items x None ≡ cond (nat_eq x item) (Some place) (slice_index_or places.old.items x None)) }
+    ensures ok { OnOk result ((x : ℕ) → slice_index_or places.new.items x None
+        ≡ cond (nat_eq x item) (Some place) (slice_index_or places.old.items x None)) }
     ensures err { OnErr result (places.new.items ≡ places.old.items) }
 {
     reach(places, item)?;

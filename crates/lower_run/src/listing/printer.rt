@@ -5,11 +5,11 @@ use super::owners::Owners;
 use super::pats::type_or_absent;
 use super::shown::Shown;
 use super::waiting::{Piece, Waiting, arg_piece};
-use super::words::{expr_word, lang_word, pat_word, statement_word};
+use super::words::lang_word;
 use super::writer::Writer;
 use super::{Listed, expansions, lines};
 use hir_lower::Param;
-use hir_store::hir::{Expr, MatchArm, Pat, RecordFieldPat, RecordLitField, Statement};
+use hir_store::hir::{MatchArm, RecordFieldPat, RecordLitField, Statement};
 use hir_store::ids::{BindingId, ExprId, HygieneId, LabelId, LifetimeRefId, PatId, TypeRefId};
 use hir_store::name::Name;
 use hir_store::path::{AssociatedTypeBinding, GenericArg, GenericArgs, Path};
@@ -27,8 +27,8 @@ pub struct Printer<'a> {
     pub(super) writer: Writer,
     bindings: Numbering,
     labels: Numbering,
-    owners: Owners,
-    waiting: Waiting<'a>,
+    pub(super) owners: Owners,
+    pub(super) waiting: Waiting<'a>,
 }
 
 impl Drop for Printer<'_> {
@@ -183,42 +183,38 @@ impl<'a> Printer<'a> {
             if next.spaced {
                 self.writer.mark(' ')?;
             }
-            self.piece(next.piece)?;
+            self.piece(&next.piece)?;
         }
         Ok(())
     }
 
-    fn piece(&mut self, piece: Piece<'a>) -> Result<(), AllocError> {
-        match piece {
+    fn piece(&mut self, piece: &Piece<'a>) -> Result<(), AllocError> {
+        match *piece {
             Piece::Word(text) => self.writer.word(text),
             Piece::Close => self.writer.mark(')'),
             Piece::Expr(id) => self.open_expr(id),
-            Piece::Exprs(exprs) => self.exprs("[", exprs, "[]"),
-            Piece::MoreExprs(exprs) => self.exprs(" ", exprs, "]"),
-            Piece::Statement(statement) => self.open_statement(statement),
-            Piece::Statements(statements) => self.statements("[", statements, "[]"),
-            Piece::MoreStatements(statements) => self.statements(" ", statements, "]"),
+            Piece::Exprs(exprs) => self.exprs('[', exprs, "[]"),
+            Piece::MoreExprs(exprs) => self.exprs(' ', exprs, "]"),
+            Piece::Statements(statements) => self.statements('[', statements, "[]"),
+            Piece::MoreStatements(statements) => self.statements(' ', statements, "]"),
             Piece::Label(id) => self.label(id),
-            Piece::Block(id) => self.writer.numbered("b", id.0),
             Piece::Name(name) => self.writer.name(name),
-            Piece::Literal(literal) => self.writer.literal(literal),
             Piece::Names(names) => self.writer.names(names),
             Piece::Number(number) => self.writer.numbered("", number),
             Piece::FieldList(fields) => self.waiting.push_field_list(fields),
             Piece::Fields(before, fields) => self.fields(before, fields),
-            Piece::Arms(arms) => self.arms("[", arms, "[]"),
-            Piece::MoreArms(arms) => self.arms(" ", arms, "]"),
-            Piece::Arm(arm) => self.open_arm(arm),
+            Piece::Arms(arms) => self.arms('[', arms, "[]"),
+            Piece::MoreArms(arms) => self.arms(' ', arms, "]"),
             _ => self.pat_piece(piece),
         }
     }
 
     /// A piece of a pattern, of the parameters of a closure, or of a path.
-    fn pat_piece(&mut self, piece: Piece<'a>) -> Result<(), AllocError> {
-        match piece {
+    fn pat_piece(&mut self, piece: &Piece<'a>) -> Result<(), AllocError> {
+        match *piece {
             Piece::Pat(id) => self.open_pat(id),
-            Piece::Pats(pats) => self.pats("[", pats, "[]"),
-            Piece::MorePats(pats) => self.pats(" ", pats, "]"),
+            Piece::Pats(pats) => self.pats('[', pats, "[]"),
+            Piece::MorePats(pats) => self.pats(' ', pats, "]"),
             Piece::Binding(id) => self.binding(id),
             Piece::PatFieldList(fields) => self.waiting.push_pat_field_list(fields),
             Piece::PatFields(before, fields) => self.pat_fields(before, fields),
@@ -238,14 +234,13 @@ impl<'a> Printer<'a> {
     }
 
     /// A piece of a list of arguments, or of a type.
-    fn type_piece(&mut self, piece: Piece<'a>) -> Result<(), AllocError> {
-        match piece {
+    fn type_piece(&mut self, piece: &Piece<'a>) -> Result<(), AllocError> {
+        match *piece {
             Piece::GenericArgs(args) => self.waiting.push_generic_args(args),
             Piece::Args(before, args) => self.args(before, args),
             Piece::TypeBindings(before, bindings) => self.type_bindings(before, bindings),
             Piece::TypeBinding(binding) => self.waiting.push_binding(binding),
             Piece::Type_(id) => self.open_type(id),
-            Piece::TypeParam(id) => self.type_param(id),
             Piece::Types(before, types) => self.types(before, types),
             Piece::Params(before, types, names) => self.fn_params(before, types, names),
             Piece::Lifetime(id) => self.lifetime(id),
@@ -403,36 +398,28 @@ impl<'a> Printer<'a> {
         self.writer.word(before)
     }
 
-    /// Lets the parts of a type wait. A number past the store's end, which no store holds, prints as an error.
-    fn open_type(&mut self, id: TypeRefId) -> Result<(), AllocError> {
-        match self.listed.store.type_ref(id) {
-            Some(ty) => self.waiting.push_type(ty),
-            None => self.writer.word("{error}"),
-        }
-    }
-
-    /// Prints a lifetime, likewise.
-    fn lifetime(&mut self, id: LifetimeRefId) -> Result<(), AllocError> {
+    /// Prints a lifetime. A number past the store's end, which no store holds, prints as an error.
+    pub(super) fn lifetime(&mut self, id: LifetimeRefId) -> Result<(), AllocError> {
         match self.listed.store.lifetime(id) {
             Some(lifetime) => self.writer.lifetime(lifetime),
             None => self.writer.word("'{error}"),
         }
     }
 
-    /// Prints what stands before the first of these, and lets them wait; prints the end where there are none.
-    fn exprs(&mut self, before: &str, exprs: &'a [ExprId], end: &str) -> Result<(), AllocError> {
+    /// Prints what stands before the first of these, opens it, and lets the others wait; prints the end where there are none.
+    fn exprs(&mut self, before: char, exprs: &'a [ExprId], end: &str) -> Result<(), AllocError> {
         let Some((first, rest)) = exprs.split_first() else {
             return self.writer.word(end);
         };
         self.waiting.push(Piece::MoreExprs(rest))?;
-        self.waiting.push(Piece::Expr(*first))?;
-        self.writer.word(before)
+        self.writer.mark(before)?;
+        self.open_expr(*first)
     }
 
     /// The same of statements.
     fn statements(
         &mut self,
-        before: &str,
+        before: char,
         statements: &'a [Statement],
         end: &str,
     ) -> Result<(), AllocError> {
@@ -440,27 +427,27 @@ impl<'a> Printer<'a> {
             return self.writer.word(end);
         };
         self.waiting.push(Piece::MoreStatements(rest))?;
-        self.waiting.push(Piece::Statement(first))?;
-        self.writer.word(before)
+        self.writer.mark(before)?;
+        self.open_statement(first)
     }
 
     /// The same of patterns, and of arms.
-    fn pats(&mut self, before: &str, pats: &'a [PatId], end: &str) -> Result<(), AllocError> {
+    fn pats(&mut self, before: char, pats: &'a [PatId], end: &str) -> Result<(), AllocError> {
         let Some((first, rest)) = pats.split_first() else {
             return self.writer.word(end);
         };
         self.waiting.push(Piece::MorePats(rest))?;
-        self.waiting.push(Piece::Pat(*first))?;
-        self.writer.word(before)
+        self.writer.mark(before)?;
+        self.open_pat(*first)
     }
 
-    fn arms(&mut self, before: &str, arms: &'a [MatchArm], end: &str) -> Result<(), AllocError> {
+    fn arms(&mut self, before: char, arms: &'a [MatchArm], end: &str) -> Result<(), AllocError> {
         let Some((first, rest)) = arms.split_first() else {
             return self.writer.word(end);
         };
         self.waiting.push(Piece::MoreArms(rest))?;
-        self.waiting.push(Piece::Arm(first))?;
-        self.writer.word(before)
+        self.writer.mark(before)?;
+        self.open_arm(first)
     }
 
     /// Prints what stands before the first of these fields, and lets them wait.
@@ -483,81 +470,14 @@ impl<'a> Printer<'a> {
         self.writer.mark('(')
     }
 
-    fn binding(&mut self, id: BindingId) -> Result<(), AllocError> {
+    pub(super) fn binding(&mut self, id: BindingId) -> Result<(), AllocError> {
         self.owners.find(self.listed.store.binding_owner(id))?;
         let number = self.bindings.number(id.0)?;
         self.writer.numbered("#", number)
     }
 
-    fn label(&mut self, id: LabelId) -> Result<(), AllocError> {
+    pub(super) fn label(&mut self, id: LabelId) -> Result<(), AllocError> {
         let number = self.labels.number(id.0)?;
         self.writer.numbered("L", number)
-    }
-
-    /// Prints what stands before an expression's parts, and lets the parts wait. A number past the store's end, which
-    /// no store holds, prints as a missing expression.
-    fn open_expr(&mut self, id: ExprId) -> Result<(), AllocError> {
-        self.root_mark(id)?;
-        self.owners.note(self.writer.text().len(), id)?;
-        let Some(expr) = self.listed.store.expr(id) else {
-            return self.writer.word("(Missing)");
-        };
-        self.writer
-            .open(expr_word(expr), self.listed.source_map.expr_syntax(id))?;
-        match expr {
-            Expr::Missing | Expr::Underscore | Expr::IncludeBytes => self.writer.mark(')'),
-            Expr::Literal(literal) => {
-                self.writer.mark(' ')?;
-                self.writer.literal(literal)?;
-                self.writer.mark(')')
-            }
-            _ => self.waiting.push_expr_parts(expr),
-        }
-    }
-
-    /// The same of a pattern.
-    fn open_pat(&mut self, id: PatId) -> Result<(), AllocError> {
-        let Some(pat) = self.listed.store.pat(id) else {
-            return self.writer.word("(Missing)");
-        };
-        self.writer
-            .open(pat_word(pat), self.listed.source_map.pat_syntax(id))?;
-        match pat {
-            Pat::Missing | Pat::Wild | Pat::Rest | Pat::NotNull => self.writer.mark(')'),
-            Pat::Bind { id, subpat: None } => {
-                self.writer.mark(' ')?;
-                self.binding(*id)?;
-                self.writer.word(" -)")
-            }
-            _ => self.waiting.push_pat_parts(pat),
-        }
-    }
-
-    fn open_arm(&mut self, arm: &'a MatchArm) -> Result<(), AllocError> {
-        self.writer.open("Arm", None)?;
-        self.waiting.push_arm_parts(arm)
-    }
-
-    fn open_statement(&mut self, statement: &'a Statement) -> Result<(), AllocError> {
-        self.writer.open(statement_word(statement), None)?;
-        self.waiting.push_statement_parts(statement)
-    }
-
-    /// Prints `rk=` where the expression is the k-th recorded root.
-    ///
-    /// What a root reaches is stored behind all of the root before it, so that the numbers of the roots grow.
-    fn root_mark(&mut self, id: ExprId) -> Result<(), AllocError> {
-        let number = self
-            .listed
-            .store
-            .expr_roots()
-            .binary_search_by_key(&id.0, |root| root.root.0);
-        match number {
-            Ok(number) => {
-                self.writer.numbered("r", number)?;
-                self.writer.mark('=')
-            }
-            Err(_) => Ok(()),
-        }
     }
 }

@@ -82,16 +82,23 @@ impl Writer {
         self.name(name)
     }
 
-    /// Adds the bracket and the kind that a form begins with, and the node that it came from.
+    /// Adds the bracket and the kind that a form begins with, and the node that it came from where sources are shown.
     pub fn open(&mut self, kind: &str, node: Option<InFile<AstPtr>>) -> Result<(), AllocError> {
-        self.out.push('(')?;
         self.out.push_str(kind)?;
-        self.source("", node)
+        match node {
+            Some(node) if self.sources => self.source(node),
+            _ => Ok(()),
+        }
     }
 
-    /// Ends a line by the node that it is about.
+    /// Ends a line by the node that it is about where sources are shown.
     pub fn end_line(&mut self, node: Option<InFile<AstPtr>>) -> Result<(), AllocError> {
-        self.source(" ", node)?;
+        if let Some(node) = node
+            && self.sources
+        {
+            self.mark(' ')?;
+            self.source(node)?;
+        }
         self.mark('\n')
     }
 
@@ -229,18 +236,12 @@ impl Writer {
         }
     }
 
-    /// Adds the node that something came from. Nothing, where sources aren't shown.
-    fn source(&mut self, before: &str, node: Option<InFile<AstPtr>>) -> Result<(), AllocError> {
-        match node {
-            Some(InFile { file_id, value }) if self.sources => {
-                self.word(before)?;
-                self.node(InFile {
-                    file_id,
-                    value: value.node,
-                })
-            }
-            _ => Ok(()),
-        }
+    fn source(&mut self, node: InFile<AstPtr>) -> Result<(), AllocError> {
+        let InFile { file_id, value } = node;
+        self.node(InFile {
+            file_id,
+            value: value.node,
+        })
     }
 }
 

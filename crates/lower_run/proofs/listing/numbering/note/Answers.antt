@@ -1,4 +1,4 @@
-use Rattle.std.proofs.Common.{◌∙◌, ap, arith, cond, None, Some}
+use Rattle.std.proofs.Common.{◌∙◌, ap, cond, Some}
 use Rattle.std.specs.Prelude.{nat_eq}
 use Rattle.lower_run.proofs.Numbers.{noted_at}
 use Rattle.lower_run.proofs.listing.numbering.note.Goals as goal
