@@ -19,6 +19,8 @@ pub struct Found<'n> {
     pub kinds: Vec<Option<Kind>>,
     /// The members of the first, then those of the next.
     pub members: Vec<Member<'n>>,
+    /// Where those of each begin.
+    pub starts: Vec<usize>,
 }
 
 /// The kind of the node whose members begin at a place, by its field "k"; none where that is not the word of a kind.
@@ -47,6 +49,7 @@ fn add<'n>(nodes: &mut Found<'n>, node: &'n Value) -> Result<bool, AllocError>
     }
     let kind = kind_from(nodes.members.as_slice(), start);
     nodes.kinds.push(kind)?;
+    nodes.starts.push(start)?;
     Ok(true)
 }
 
@@ -60,6 +63,7 @@ pub fn found_in(alloc: Global, nodes: &[Value]) -> Result<Option<Found<'_>>, All
     let mut found = Found {
         kinds: Vec::with_capacity(alloc, nodes.len())?,
         members: Vec::new(alloc),
+        starts: Vec::with_capacity(alloc, nodes.len())?,
     };
     for node in nodes {
         if !add(&mut found, node)? {

@@ -1,12 +1,15 @@
 //! The members of nodes, side by side.
 
-ghost use Rattle.std.specs.Prelude.{◌≡◌, ◌++◌, IfOk, not, true, option_map};
-ghost use Rattle.serde_json.specs.View.{view, members_view};
+ghost use Rattle.std.specs.Prelude.{◌≡◌, ◌++◌, IfOk, length, not, true, option_map};
+ghost use Rattle.serde_json.specs.View.{view, items_view, members_view};
+ghost use Rattle.serde_json.specs.Data.{null};
 ghost use Rattle.serde_json.specs.Find.{get};
+ghost use Rattle.json_faults.specs.Values.{get_item};
 ghost use Rattle.serde_json.specs.Written.{has_float, members_have_float};
-ghost use Rattle.json_faults.specs.Members.{pairs, pairs_in, pairs_of, said};
+ghost use Rattle.json_faults.specs.Members.{all_pairs, pairs, pairs_in, pairs_of, said, starts_from};
 
 use crate::floats::has_float;
+use crate::value::item_at;
 use serde_json::{Map, Value};
 use std::alloc::AllocError;
 
@@ -62,5 +65,65 @@ pub fn add_members<'n>(all: &mut Vec<Member<'n>>, node: &'n Value) -> Result<boo
     match node {
         Value::Object(members) => add_each(all, members),
         _ => Ok(!has_float(node)),
+    }
+}
+
+/// A node, whose fields are looked up among its members.
+#[derive(Clone, Copy)]
+pub struct Own<'n> {
+    pub node: &'n Value,
+    pub members: &'n [Member<'n>],
+    pub ghost own: { pairs members.now ≡ pairs_of (view node.now) },
+}
+
+impl<'n> Own<'n> {
+    /// Null, in which no field is.
+    pub fn null() -> Own<'n>
+        ensures { view result.node.now ≡ null }
+    {
+        Own {
+            node: &Value::Null,
+            members: &[],
+        }
+    }
+
+    /// What the field of that name holds.
+    pub fn get(&self, name: &str) -> Option<&'n Value>
+        ensures { option_map (λ v. view v.now) result ≡ get name.now (view self.now.node.now) }
+    {
+        found(self.members, name)
+    }
+}
+
+/// How many members a node has.
+#[tactic(auto, using(crate::proofs::Sides::count))]
+pub fn count(node: &Value) -> usize
+    ensures { result ≡ length (pairs_of (view node.now)) }
+{
+    match node {
+        Value::Object(members) => members.len(),
+        _ => 0,
+    }
+}
+
+/// The nodes of a document, with the members of all of them, and where those of each begin.
+pub struct NodeList<'n> {
+    pub nodes: &'n [Value],
+    pub members: &'n [Member<'n>],
+    pub starts: &'n [usize],
+    pub ghost all: { pairs members.now ≡ all_pairs (items_view nodes.now) },
+    pub ghost begin: { starts.now ≡ starts_from 0 (items_view nodes.now) },
+}
+
+impl<'n> NodeList<'n> {
+    /// The node at an index, none past the end.
+    pub fn at(&self, at: usize) -> Option<Own<'n>>
+        ensures { option_map (λ n. view n.node.now) result ≡ get_item at (items_view self.now.nodes.now) }
+    {
+        let node = item_at(self.nodes, at)?;
+        let start = *self.starts.get(at)?;
+        let (_, own) = self.members.split_at_checked(start)?;
+        let (own, _) = own.split_at_checked(count(node))?;
+        Some(Own { node, members: own })
     }
 }

@@ -11,8 +11,8 @@ use crate::fields::{All, AllOrNulls, Fields, InBox, One};
 use crate::name_parts::{Lifetimes, UseArgs};
 use crate::type_parts::{Binders, PathTypes, TypePart, Types};
 use hir_syntax::ast::{BoundKind, ForBinder, TypeBound};
+use json_faults::members::Own;
 use json_kinds::kind::PartNode;
-use serde_json::Value;
 
 /// The kind with that word.
 fn bound_kind_of(word: &str) -> Option<BoundKind>
@@ -26,8 +26,8 @@ fn bound_kind_of(word: &str) -> Option<BoundKind>
     }
 }
 
-fn bound_kind(node: &Value) -> Option<BoundKind>
-    ensures { result ≡ option_and_then spec.bound_kind_of (text_in (codes "b") (view node.now)) }
+fn bound_kind(node: &Own<'_>) -> Option<BoundKind>
+    ensures { result ≡ option_and_then spec.bound_kind_of (text_in (codes "b") (view node.now.node.now)) }
 {
     bound_kind_of(text(node, "b")?)
 }

@@ -31,6 +31,7 @@ fn if_expr<F: Fields>(node: &F, refused: &mut bool) -> ExprKind
 }
 
 /// An `if`, which is told from other expressions, since it may follow `else`.
+#[inline(never)]
 pub fn of_if<F: Fields>(node: &F, refused: &mut bool) -> Option<ExprPart>
     requires { F.can node.now }
     ensures { Kept refused.old refused.new (result ≡ spec.of_if (F.here node.now)) }
@@ -45,6 +46,7 @@ pub fn of_if<F: Fields>(node: &F, refused: &mut bool) -> Option<ExprPart>
 }
 
 /// A literal, which is told from other expressions, since it may stand in a pattern.
+#[inline(never)]
 pub fn of_literal<F: Fields>(node: &F, refused: &mut bool) -> Option<ExprPart>
     ensures { Kept refused.old refused.new (result ≡ spec.of_literal (F.here node.now)) }
 {

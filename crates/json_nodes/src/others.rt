@@ -13,8 +13,8 @@ use crate::name_parts::{Labels, Lifetimes, NamePart, Names};
 use crate::param_parts::Pats;
 use crate::type_parts::Types;
 use hir_syntax::ast::{BlockExpr, BlockModifier, Label, Lifetime, Name, Stmt, StmtKind};
+use json_faults::members::Own;
 use json_kinds::kind::{PartNode, StmtNode};
-use serde_json::Value;
 
 #[tactic(auto, unfolding(crate::specs::Others::statement))]
 fn statement<F: Fields>(node: &F, refused: &mut bool, kind: StmtNode) -> StmtKind
@@ -52,6 +52,7 @@ fn statement<F: Fields>(node: &F, refused: &mut bool, kind: StmtNode) -> StmtKin
 }
 
 /// A statement.
+#[inline(never)]
 pub fn of_stmt<F: Fields>(node: &F, refused: &mut bool, kind: StmtNode) -> Option<CodePart>
     requires { F.can node.now }
     ensures { Kept refused.old refused.new (result ≡ spec.of_stmt (F.here node.now) kind) }
@@ -78,13 +79,14 @@ fn modifier_with(word: &str) -> Option<BlockModifier>
     }
 }
 
-fn modifier(node: &Value) -> Option<BlockModifier>
-    ensures { result ≡ option_and_then spec.modifier_of (text_in (codes "mod") (view node.now)) }
+fn modifier(node: &Own<'_>) -> Option<BlockModifier>
+    ensures { result ≡ option_and_then spec.modifier_of (text_in (codes "mod") (view node.now.node.now)) }
 {
     modifier_with(text(node, "mod")?)
 }
 
 /// A block.
+#[inline(never)]
 #[tactic(auto, unfolding(crate::specs::Others::of_block))]
 pub fn of_block<F: Fields>(node: &F, refused: &mut bool) -> Option<ExprPart>
     requires { F.can node.now }

@@ -96,6 +96,7 @@ pub trait PartSort<A> {
     ghost in_part: { A → Option Self.Held };
 
     /// The part as one of a group of this sort, or as it was where it is of another.
+    #[inline(never)]
     fn served<G: SortGroup<Self::Held>>(part: A) -> Result<G::Part, A>
         ensures { result_ok result ≡ option_and_then G.of_sort (in_part part) };
 }

@@ -171,6 +171,7 @@ fn partless_pat<F: Fields>(node: &F, refused: &mut bool, kind: PatNode) -> Optio
 }
 
 /// A pattern.
+#[inline(never)]
 pub fn of_pat<F: Fields>(node: &F, refused: &mut bool, kind: PatNode) -> Option<PatPart>
     requires { F.can node.now }
     ensures { Kept refused.old refused.new (result ≡ spec.of_pat (F.here node.now) kind) }

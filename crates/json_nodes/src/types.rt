@@ -119,6 +119,7 @@ fn bounded<F: Fields>(node: &F, refused: &mut bool, kind: TypeNode) -> Option<Ty
 }
 
 /// A type that is no path.
+#[inline(never)]
 pub fn of_type<F: Fields>(node: &F, refused: &mut bool, kind: TypeNode) -> Option<TypePart>
     requires { F.can node.now }
     ensures { Kept refused.old refused.new (result ≡ spec.of_type (F.here node.now) kind) }
@@ -133,6 +134,7 @@ pub fn of_type<F: Fields>(node: &F, refused: &mut bool, kind: TypeNode) -> Optio
 }
 
 /// A path as a type, which is told from other types, since it may also name a trait.
+#[inline(never)]
 #[tactic(auto, unfolding(crate::specs::Types::of_path_type))]
 pub fn of_path_type<F: Fields>(node: &F, refused: &mut bool) -> Option<TypePart>
     requires { F.can node.now }

@@ -17,7 +17,7 @@ use hir_base::node::{NodeId, TextRange};
 use hir_items::ast::TypeAlias;
 use hir_syntax::ast::{Fragment, Param, ParamList, Pat};
 use json_faults::kinds::kind_at;
-use json_faults::value::item_at;
+use json_faults::members::{NodeList, Own};
 use json_items::items::{function, type_alias};
 use json_items::listed::ListedNodes;
 use json_kinds::kind::{ExprNode, ItemNode, Kind, PartNode, PathNode};
@@ -43,7 +43,6 @@ use json_nodes::pats::of_pat;
 use json_nodes::type_parts::Types;
 use json_nodes::typed::{of_pat_field, of_record, typed};
 use json_nodes::types::{of_path_type, of_type};
-use serde_json::Value;
 use std::alloc::{AllocError, Global};
 
 /// The levels below the root.
@@ -63,18 +62,18 @@ const LAST_RANGE: TextRange = TextRange {
 #[derive_where(Clone, Copy; F)]
 pub struct Level<'k, 'n, F> {
     kinds: &'k [Option<Kind>],
-    nodes: &'n [Value],
+    nodes: &'n NodeList<'n>,
     levels: u32,
     read: F,
 }
 
 impl<F> ReadParts for Level<'_, '_, F>
 where
-    F: Fn(Global, &[Option<Kind>], &[Value], u32, u32) -> Result<Option<AnyPart>, AllocError>,
+    F: Fn(Global, &[Option<Kind>], &NodeList<'_>, u32, u32) -> Result<Option<AnyPart>, AllocError>,
 {
     ghost can = { λ it. Reads (F.pre it.read) (F.post it.read) it.kinds.now it.nodes.now it.levels };
 
-    ghost parts = { λ it. spec.part_at it.levels it.kinds.now (items_view it.nodes.now) };
+    ghost parts = { λ it. spec.part_at it.levels it.kinds.now (items_view it.nodes.now.nodes.now) };
 
     fn part_at(&self, alloc: Global, at: u32) -> Result<Option<AnyPart>, AllocError> {
         (self.read)(alloc, self.kinds, self.nodes, self.levels, at)
@@ -82,6 +81,7 @@ where
 }
 
 /// An expression.
+#[inline(never)]
 fn of_expr<F: Fields>(node: &F, refused: &mut bool, kind: ExprNode) -> Option<ExprPart>
     requires { F.can node.now }
     ensures { Kept refused.old refused.new (result ≡ spec.of_expr (F.here node.now) kind) }
@@ -111,6 +111,7 @@ fn of_expr<F: Fields>(node: &F, refused: &mut bool, kind: ExprNode) -> Option<Ex
 }
 
 /// A path, or what stands beside a name.
+#[inline(never)]
 fn of_path_part<F: Fields>(node: &F, refused: &mut bool, kind: PathNode) -> Option<PathPart>
     requires { F.can node.now }
     ensures { Kept refused.old refused.new (result ≡ spec.of_path_part (F.here node.now) kind) }
@@ -122,6 +123,7 @@ fn of_path_part<F: Fields>(node: &F, refused: &mut bool, kind: PathNode) -> Opti
 }
 
 /// A part of anything else.
+#[inline(never)]
 fn of_part<F: Fields>(node: &F, refused: &mut bool, kind: PartNode) -> Option<AnyPart>
     requires { F.can node.now }
     ensures { Kept refused.old refused.new (result ≡ spec.of_part (F.here node.now) kind) }
@@ -172,12 +174,12 @@ fn of_kind<F: Fields>(node: &F, refused: &mut bool, kind: Kind) -> Option<AnyPar
 pub fn part_at<P: ReadParts>(
     alloc: Global,
     parts: &P,
-    value: &Value,
+    value: Own<'_>,
     at: u32,
     kind: Kind,
 ) -> Result<Option<AnyPart>, AllocError>
     requires { P.can parts.now }
-    ensures { IfOk result (λ part. part ≡ of_kind (node_at (P.parts parts.now) at (view value.now)) kind) }
+    ensures { IfOk result (λ part. part ≡ of_kind (node_at (P.parts parts.now) at (view value.node.now)) kind) }
 {
     let mut refused = false;
     let part = of_kind(&node_at(alloc, parts, value, at), &mut refused, kind);
@@ -193,16 +195,16 @@ pub fn part_at<P: ReadParts>(
 fn read_part(
     alloc: Global,
     kinds: &[Option<Kind>],
-    nodes: &[Value],
+    nodes: &NodeList<'_>,
     levels: u32,
     at: u32,
 ) -> Result<Option<AnyPart>, AllocError>
-    ensures { IfOk result (λ part. part ≡ spec.part_at levels kinds.now (items_view nodes.now) at) }
+    ensures { IfOk result (λ part. part ≡ spec.part_at levels kinds.now (items_view nodes.now.nodes.now) at) }
 {
     if levels == 0 {
         return Ok(None);
     }
-    let Some(value) = item_at(nodes, at as usize) else {
+    let Some(value) = nodes.at(at as usize) else {
         return Ok(None);
     };
     let Some(kind) = kind_at(kinds, at as usize) else {
@@ -292,13 +294,13 @@ fn whole_tree<P: ReadParts>(
     items: &ListedNodes<'_, '_, '_, P>,
     want: Root,
     kind: Option<Kind>,
-    value: &Value,
+    value: Own<'_>,
     at: u32,
 ) -> Result<Tree, AllocError>
     requires parts { P.can parts.now }
     requires items { P.can items.now.parts.now }
     ensures { IfOk result (λ tree.
-        tree ≡ tree_of want kind (node_at (P.parts parts.now) at (view value.now)) (listed P.parts items.now)) }
+        tree ≡ tree_of want kind (node_at (P.parts parts.now) at (view value.node.now)) (listed P.parts items.now)) }
 {
     let mut refused = false;
     let node = node_at(items.alloc, parts, value, at);
@@ -316,10 +318,10 @@ pub fn read_tree_at(
     alloc: Global,
     want: Root,
     kinds: &[Option<Kind>],
-    nodes: &[Value],
+    nodes: &NodeList<'_>,
     root: u32,
 ) -> Result<Tree, AllocError>
-    ensures { IfOk result (λ tree. tree ≡ tree_at want kinds.now (items_view nodes.now) root) }
+    ensures { IfOk result (λ tree. tree ≡ tree_at want kinds.now (items_view nodes.now.nodes.now) root) }
 {
     let inside = Level {
         kinds,
@@ -340,9 +342,9 @@ pub fn read_tree_at(
         parts: &in_lists,
     };
     let kind = kind_at(kinds, root as usize);
-    match item_at(nodes, root as usize) {
+    match nodes.at(root as usize) {
         Some(value) => whole_tree(&inside, &items, want, kind, value, root),
-        None => whole_tree(&inside, &items, want, kind, &Value::Null, root),
+        None => whole_tree(&inside, &items, want, kind, Own::null(), root),
     }
 }
 
@@ -361,13 +363,13 @@ fn is_alias(kinds: &[Option<Kind>], at: u32) -> bool
 pub fn alias_at(
     alloc: Global,
     kinds: &[Option<Kind>],
-    nodes: &[Value],
+    nodes: &NodeList<'_>,
     refused: &mut bool,
     root: u32,
 ) -> Option<TypeAlias>
-    ensures { Kept refused.old refused.new (result ≡ spec.alias_at kinds.now (items_view nodes.now) root) }
+    ensures { Kept refused.old refused.new (result ≡ spec.alias_at kinds.now (items_view nodes.now.nodes.now) root) }
 {
-    let Some(value) = item_at(nodes, root as usize) else {
+    let Some(value) = nodes.at(root as usize) else {
         return None;
     };
     if !is_alias(kinds, root) {
@@ -478,11 +480,11 @@ fn whole_fragment<P: ReadParts>(
     alloc: Global,
     parts: &P,
     kind: Kind,
-    value: &Value,
+    value: Own<'_>,
     at: u32,
 ) -> Result<Option<Fragment>, AllocError>
     requires { P.can parts.now }
-    ensures { IfOk result (λ tree. tree ≡ fragment_of (node_at (P.parts parts.now) at (view value.now)) kind) }
+    ensures { IfOk result (λ tree. tree ≡ fragment_of (node_at (P.parts parts.now) at (view value.node.now)) kind) }
 {
     let mut refused = false;
     let fragment = fragment_of(&node_at(alloc, parts, value, at), &mut refused, kind);
@@ -499,12 +501,12 @@ fn whole_fragment<P: ReadParts>(
 pub fn fragment_at(
     alloc: Global,
     kinds: &[Option<Kind>],
-    nodes: &[Value],
+    nodes: &NodeList<'_>,
     root: u32,
 ) -> Result<Option<Fragment>, AllocError>
-    ensures { IfOk result (λ tree. tree ≡ spec.fragment_at kinds.now (items_view nodes.now) root) }
+    ensures { IfOk result (λ tree. tree ≡ spec.fragment_at kinds.now (items_view nodes.now.nodes.now) root) }
 {
-    let Some(value) = item_at(nodes, root as usize) else {
+    let Some(value) = nodes.at(root as usize) else {
         return Ok(None);
     };
     let Some(kind) = kind_at(kinds, root as usize) else {
