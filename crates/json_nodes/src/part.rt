@@ -96,7 +96,6 @@ pub trait PartSort<A> {
     ghost in_part: { A → Option Self.Held };
 
     /// The part as one of a group of this sort, or as it was where it is of another.
-    #[inline(never)]
     fn served<G: SortGroup<Self::Held>>(part: A) -> Result<G::Part, A>
         ensures { result_ok result ≡ option_and_then G.of_sort (in_part part) };
 }
@@ -116,6 +115,7 @@ where
 }
 
 /// The part as one of a group, if it serves there.
+#[inline(never)]
 pub fn served<A, G: Group<A>, P: LetsGo<A>>(parts: &P, part: A) -> Option<G::Part>
     ensures { result ≡ G.as_group part }
 {
