@@ -107,6 +107,7 @@ pub fn count(node: &Value) -> usize
 }
 
 /// The nodes of a document, with the members of all of them, and where those of each begin.
+#[derive(Clone, Copy)]
 pub struct NodeList<'n> {
     pub nodes: &'n [Value],
     pub members: &'n [Member<'n>],
