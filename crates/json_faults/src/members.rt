@@ -2,7 +2,6 @@
 
 ghost use Rattle.std.specs.Prelude.{◌≡◌, ◌++◌, IfOk, length, not, true, option_map};
 ghost use Rattle.serde_json.specs.View.{view, items_view, members_view};
-ghost use Rattle.serde_json.specs.Data.{null};
 ghost use Rattle.serde_json.specs.Find.{get};
 ghost use Rattle.json_faults.specs.Values.{get_item};
 ghost use Rattle.serde_json.specs.Written.{has_float, members_have_float};
@@ -77,16 +76,6 @@ pub struct Own<'n> {
 }
 
 impl<'n> Own<'n> {
-    /// Null, in which no field is.
-    pub fn null() -> Own<'n>
-        ensures { view result.node.now ≡ null }
-    {
-        Own {
-            node: &Value::Null,
-            members: &[],
-        }
-    }
-
     /// What the field of that name holds.
     pub fn get(&self, name: &str) -> Option<&'n Value>
         ensures { option_map (λ v. view v.now) result ≡ get name.now (view self.now.node.now) }

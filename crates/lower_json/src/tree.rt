@@ -43,6 +43,7 @@ use json_nodes::pats::of_pat;
 use json_nodes::type_parts::Types;
 use json_nodes::typed::{of_pat_field, of_record, typed};
 use json_nodes::types::{of_path_type, of_type};
+use serde_json::Value;
 use std::alloc::{AllocError, Global};
 
 /// The levels below the root.
@@ -344,7 +345,17 @@ pub fn read_tree_at(
     let kind = kind_at(kinds, root as usize);
     match nodes.at(root as usize) {
         Some(value) => whole_tree(&inside, &items, want, kind, value, root),
-        None => whole_tree(&inside, &items, want, kind, Own::null(), root),
+        None => whole_tree(
+            &inside,
+            &items,
+            want,
+            kind,
+            Own {
+                node: &Value::Null,
+                members: &[],
+            },
+            root,
+        ),
     }
 }
 
