@@ -163,6 +163,7 @@ fn nodes_found(alloc: Global, document: &Value) -> Result<Option<Found<'_>>, All
     requires { is_some (spec.nodes_in (view document.now)) ≡ true }
     ensures kinds { IfOk result (λ found. IfSome found (λ f. f.kinds.items ≡ kinds_of (spec.nodes (view document.now)))) }
     ensures members { IfOk result (λ found. IfSome found (λ f. pairs f.members.items ≡ all_pairs (spec.nodes (view document.now)))) }
+    ensures starts { IfOk result (λ found. IfSome found (λ f. f.starts.items ≡ starts_from 0 (spec.nodes (view document.now)))) }
     ensures whole { IfOk result (λ found. is_some found ≡ not (has_float (view document.now))) }
 {
     if has_float_beside("nodes", document) {

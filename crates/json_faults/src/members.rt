@@ -1,14 +1,12 @@
 //! The members of nodes, side by side.
 
-ghost use Rattle.std.specs.Prelude.{◌≡◌, ◌++◌, IfOk, length, not, true, option_map};
+ghost use Rattle.std.specs.Prelude.{◌≡◌, ◌++◌, IfOk, List, length, not, true, option_map};
 ghost use Rattle.serde_json.specs.View.{view, items_view, members_view};
-ghost use Rattle.serde_json.specs.Find.{get};
-ghost use Rattle.json_faults.specs.Values.{get_item};
+ghost use Rattle.serde_json.specs.Find.{get, get_item};
 ghost use Rattle.serde_json.specs.Written.{has_float, members_have_float};
-ghost use Rattle.json_faults.specs.Members.{all_pairs, pairs, pairs_in, pairs_of, said, starts_from};
+ghost use Rattle.json_faults.specs.Members.{Named, all_pairs, pairs, pairs_in, pairs_of, said, starts_from};
 
 use crate::floats::has_float;
-use crate::value::item_at;
 use serde_json::{Map, Value};
 use std::alloc::AllocError;
 
@@ -77,6 +75,7 @@ pub struct Own<'n> {
 
 impl<'n> Own<'n> {
     /// What the field of that name holds.
+    #[tactic(auto, using(crate::proofs::Sides::own_get))]
     pub fn get(&self, name: &str) -> Option<&'n Value>
         ensures { option_map (λ v. view v.now) result ≡ get name.now (view self.now.node.now) }
     {
@@ -95,6 +94,15 @@ pub fn count(node: &Value) -> usize
     }
 }
 
+/// A node whose members are the first of these.
+fn own_of<'n>(node: &'n Value, rest: &'n [Member<'n>]) -> Own<'n>
+    requires { (more : List Named) × (pairs rest.now ≡ pairs_of (view node.now) ++ more) }
+    ensures { view result.node.now ≡ view node.entry.now }
+{
+    let (members, _) = rest.split_at(count(node));
+    Own { node, members }
+}
+
 /// The nodes of a document, with the members of all of them, and where those of each begin.
 #[derive(Clone, Copy)]
 pub struct NodeList<'n> {
@@ -107,13 +115,16 @@ pub struct NodeList<'n> {
 
 impl<'n> NodeList<'n> {
     /// The node at an index, none past the end.
+    #[tactic(auto, using(crate::proofs::Items::found_at, crate::proofs::Items::past_items))]
     pub fn at(&self, at: usize) -> Option<Own<'n>>
         ensures { option_map (λ n. view n.node.now) result ≡ get_item at (items_view self.now.nodes.now) }
     {
-        let node = item_at(self.nodes, at)?;
-        let start = *self.starts.get(at)?;
-        let (_, own) = self.members.split_at_checked(start)?;
-        let (own, _) = own.split_at_checked(count(node))?;
-        Some(Own { node, members: own })
+        if at >= self.nodes.len() {
+            return None;
+        }
+        Some(own_of(
+            &self.nodes[at],
+            &self.members[self.starts[at]..],
+        ))
     }
 }

@@ -30,7 +30,9 @@ module _ {X : Type 0} (p : X → Bool) where
       by false rest = omega (arith, rest)
 
   pub found : (xs : List X) (k : ℕ) → position p xs ≡ Some k → (position_or_len p xs ≡ k) × (list_any p xs ≡ true)
-  found xs k h = let parts = cond_some (nat_lt (position_or_len p xs) (length xs)) (position_or_len p xs) k h in (parts.1, any_is xs ∙ parts.0)
+  found xs k h =
+      let parts = cond_some (nat_lt (position_or_len p xs) (length xs)) (position_or_len p xs) k h in
+      (parts.1, any_is xs ∙ parts.0)
 
   pub missing : (xs : List X) → position p xs ≡ None → (position_or_len p xs ≡ length xs) × (list_any p xs ≡ false)
   missing xs h = by (nat_lt (position_or_len p xs) (length xs)) refl h

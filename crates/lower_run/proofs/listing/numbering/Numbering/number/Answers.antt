@@ -12,7 +12,8 @@ invariant_of-self-2 c = λ x.
     let xs = c.self.inside.printed.items in
     let places = c.self.inside.places.items in
     let item = c.args.item in
-    let count : c.len-number.result ≡ length c.self.inside.printed.items = omega (arith, c.len-number.ensures, c.self.inside.printed.ok.0) in
+    let count : c.len-number.result ≡ length c.self.inside.printed.items
+    = omega (arith, c.len-number.ensures, c.self.inside.printed.ok.0) in
     let noted = λ (y : ℕ). c.in_ok-note.ensures.ok y ∙ ap (λ n. cond (nat_eq y item) (Some n) (get_or places y None)) count in
     let new = ap (position (nat_eq item)) c.self.view_is ∙ sym c.in_default.ensures in
     let items = c.push_reserved.ensures.items ∙ ap (λ ys. ys ++ item ∷ []) c.reserve.ensures.items in
@@ -20,7 +21,8 @@ invariant_of-self-2 c = λ x.
 
 pub returns-clause-number : goal.returns-clause-number
 returns-clause-number c =
-    let count : c.len-number.result ≡ length c.self.inside.printed.items = omega (arith, c.len-number.ensures, c.self.inside.printed.ok.0) in
+    let count : c.len-number.result ≡ length c.self.inside.printed.items
+    = omega (arith, c.len-number.ensures, c.self.inside.printed.ok.0) in
     count ∙ (ap length c.self.view_is ∙ sym (missing (nat_eq c.args.item) c.args.self.now (sym c.in_default.ensures)).0)
 
 pub returns-clause-printed : goal.returns-clause-printed
