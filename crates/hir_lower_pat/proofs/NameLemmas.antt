@@ -7,7 +7,8 @@ use Rattle.std.specs.Map.{lookup}
 use Rattle.std.proofs.lemmas.Bool.{eq-eqb}
 use Rattle.std.proofs.lemmas.Bool.Decides.{nat_tests}
 use Rattle.std.proofs.lemmas.Option.{same_Some}
-use Rattle.indexmap.specs.IndexMap.{insert_entry}
+use Rattle.indexmap.specs.IndexMap.{IndexMap, insert_entry}
+use Rattle.indexmap.proofs.CallerLemmas.{insert_entry-new}
 use Rattle.hir_store.specs.Arenas.{past}
 use Rattle.hir_store.specs.Names.{same_name}
 use Rattle.hir_store.specs.contracts.ids.HygieneIdPartialEq.TheImpl as hygienes
@@ -76,22 +77,9 @@ pub same_keys : (x y : Key) → (names.ghosts.eq x.0 y.0 && hygienes.ghosts.eq x
 same_keys x y = λ i. same_names x.0 y.0 i && nat_eq x.1.0 y.1.0
 
 -- a name that has no binding goes last
-new_name : (test : Key → Key → Bool) → ((x y : Key) → test x y ≡ same_key x y) → (es : List (Key × BindingId)) (k : Key)
-    (b : BindingId) → lookup (same_key k) es ≡ None → insert_entry test es k b ≡ es ++ (k, b) ∷ []
-new_name test agree [] k b h = refl
-new_name test agree (e ∷ es) k b h = by (same_key k e.0) (agree k e.0) h (new_name test agree es k b)
-  where
-    by : (c : Bool) → test k e.0 ≡ c → cond c (Some e.1) (lookup (same_key k) es) ≡ None
-        → (lookup (same_key k) es ≡ None → insert_entry test es k b ≡ es ++ (k, b) ∷ [])
-        → insert_entry test (e ∷ es) k b ≡ e ∷ (es ++ (k, b) ∷ [])
-    by true is g rest = cc
-    by false is g rest = ap (λ c. if c then (e.0, b) ∷ es else e ∷ insert_entry test es k b) is ∙ ap (λ z. e ∷ z) (rest g)
-
-pub goes_last : {A E : Type 0} (r : Result A E) (test : Key → Key → Bool) → ((x y : Key) → test x y ≡ same_key x y)
-    → (was is : List (Key × BindingId)) (k : Key) (b : BindingId) → OnOk r (is ≡ insert_entry test was k b)
-    → lookup (same_key k) was ≡ None → OnOk r (is ≡ was ++ (k, b) ∷ [])
-goes_last (Ok a) test agree was is k b h none = h ∙ new_name test agree was k b none
-goes_last (Err e) test agree was is k b h none = tt
+pub new_name : {S : Type 0} (test : Key → Key → Bool) → ((x y : Key) → test x y ≡ same_key x y) → (m : IndexMap Key BindingId S)
+    (k : Key) (b : BindingId) → lookup (same_key k) m.entries ≡ None → insert_entry test m.entries k b ≡ m.entries ++ (k, b) ∷ []
+new_name test agree m k b h = insert_entry-new test m k b (ap (λ t. lookup t m.entries) (λ i y. agree k y i) ∙ h)
 
 -- ---- counts
 
@@ -125,7 +113,7 @@ stays s = (omega arith, omega arith, omega arith, omega arith, omega arith, omeg
 -- a name that has a binding is used again
 pub used_again : (u : Use) (was is : Bindings) (b : Builder) (id : BindingId) (number : ℕ)
     → binding_of (key_of u) (table_of was) ≡ Some id → number ≡ number_of (key_of u) (table_of was)
-    → number < length was.ids → is.ids ≡ was.ids → noted is.list ≡ note_use number u.mode (noted was.list)
+    → number < length was.ids.entries → is.ids ≡ was.ids → noted is.list ≡ note_use number u.mode (noted was.list)
     → name_count is.list ≡ count_with number (name_count was.list) → SameDepth was is → HasNames b.stored was
     → LowersNamed HasBindingId (use_name u) was b (Ok id) is b
 unfolding use_name
@@ -135,17 +123,17 @@ used_again u was is b id number found at within ids notes count deep names =
         Ok (
           id,
           record {
-            bindings = sym ids j;
+            bindings = (sym ids j).entries;
             noted = (ap (λ n. note_use n u.mode (noted was.list)) (sym at) ∙ sym notes) j;
           },
         ),
         b,
       )),
       stays b.stored,
-      found_exists (same_key (key_of u)) was.ids id (length b.stored.bindings.entries) found names.1,
+      found_exists (same_key (key_of u)) was.ids.entries id (length b.stored.bindings.entries) found names.1,
       (
-        count ∙ (known_counted number (name_count was.list) counted ∙ (names.0 ∙ ap length (sym ids))),
-        subst (λ i. past_ids i ≤ length b.stored.bindings.entries) (sym ids) names.1,
+        count ∙ (known_counted number (name_count was.list) counted ∙ (names.0 ∙ ap (λ i. length i.entries) (sym ids))),
+        subst (λ i. past_ids i.entries ≤ length b.stored.bindings.entries) (sym ids) names.1,
       ),
       deep,
     )
@@ -153,36 +141,36 @@ used_again u was is b id number found at within ids notes count deep names =
 -- a name that has none is used first
 pub used_first : (u : Use) (was mid is : Bindings) (b c : Builder) (id : BindingId) (n : Name) → n ≡ u.name
     → Lowers HasBindingId (alloc_binding (record (new_binding u) { name = n })) b (Ok id) c
-    → (number : ℕ) → number ≡ length was.ids
+    → (number : ℕ) → number ≡ length was.ids.entries
     → mid.ids ≡ was.ids → noted mid.list ≡ note_use number u.mode (noted was.list)
     → name_count mid.list ≡ count_with number (name_count was.list) → SameDepth was mid
-    → is.ids ≡ mid.ids ++ (key_of u, id) ∷ [] → is.list ≡ mid.list → HasNames b.stored was
+    → is.ids.entries ≡ mid.ids.entries ++ (key_of u, id) ∷ [] → is.list ≡ mid.list → HasNames b.stored was
     → LowersNamed HasBindingId (λ t. use_of_known u t None) was b (Ok id) is c
 used_first u was mid is b c id n copied stored number at ids notes count deep entries list names =
     let made : Lowers HasBindingId (alloc_binding (new_binding u)) b (Ok id) c
     = subst (λ m. Lowers HasBindingId (alloc_binding (record (new_binding u) { name = m })) b (Ok id) c) copied stored in
-    let all : is.ids ≡ was.ids ++ (key_of u, id) ∷ [] = entries ∙ ap (λ i. i ++ (key_of u, id) ∷ []) ids in
-    let longer : length is.ids ≡ length was.ids + 1
-    = ap length all ∙ length-append was.ids ((key_of u, id) ∷ []) in
-    let counted : count_with (length was.ids) (name_count was.list) ≡ length was.ids + 1
-    = ap (count_with (length was.ids)) names.0 ∙ next_counted (length was.ids) in
-    let noted_last : noted mid.list ≡ note_use (length was.ids) u.mode (noted was.list)
+    let all : is.ids.entries ≡ was.ids.entries ++ (key_of u, id) ∷ [] = entries ∙ ap (λ i. i.entries ++ (key_of u, id) ∷ []) ids in
+    let longer : length is.ids.entries ≡ length was.ids.entries + 1
+    = ap length all ∙ length-append was.ids.entries ((key_of u, id) ∷ []) in
+    let counted : count_with (length was.ids.entries) (name_count was.list) ≡ length was.ids.entries + 1
+    = ap (count_with (length was.ids.entries)) names.0 ∙ next_counted (length was.ids.entries) in
+    let noted_last : noted mid.list ≡ note_use (length was.ids.entries) u.mode (noted was.list)
     = notes ∙ ap (λ k. note_use k u.mode (noted was.list)) at in
     let counted_last = count ∙ ap (λ k. count_with k (name_count was.list)) at in (
-      ap (λ r. go_on r.0 r.1 (λ i. pure (i, with_use (length was.ids) u.mode (with_name (key_of u) i (table_of was))))) made.0
+      ap (λ r. go_on r.0 r.1 (λ i. pure (i, with_use (length was.ids.entries) u.mode (with_name (key_of u) i (table_of was))))) made.0
           ∙ (λ j. (Ok (id, record { bindings = sym all j; noted = (sym noted_last ∙ ap noted (sym list)) j }), c)),
       made.1,
       made.2,
       (
         ap name_count list ∙ (counted_last ∙ (counted ∙ sym longer)),
         subst (λ es. past_ids es ≤ length c.stored.bindings.entries) (sym all)
-            (past_more was.ids (key_of u) id (length c.stored.bindings.entries) (past_later names.1 made.1) made.2),
+            (past_more was.ids.entries (key_of u) id (length c.stored.bindings.entries) (past_later names.1 made.1) made.2),
       ),
       ap depth list ∙ deep,
     )
   where
-    past_later : past_ids was.ids ≤ length b.stored.bindings.entries → Grows b.stored c.stored
-        → past_ids was.ids ≤ length c.stored.bindings.entries
+    past_later : past_ids was.ids.entries ≤ length b.stored.bindings.entries → Grows b.stored c.stored
+        → past_ids was.ids.entries ≤ length c.stored.bindings.entries
     past_later h (_, _, _, _, _, le) = omega (arith, h, le)
 
 -- what is stored further takes no name away

@@ -57,19 +57,24 @@ fn the_rest_of_a_page_takes_no_memory(rt: HostRuntime) {
     assert!(rt; fills_its_page(rt.alloc()));
 }
 
-/// Whether each call is answered with the next number, or is refused for memory and changes nothing.
-pub fn after_each_refusal(alloc: Global) -> bool {
-    let mut arena = Arena::with_limit(alloc, u32::MAX);
+/// Whether each of so many calls is answered with the next number, up to the limit, or is refused for memory and changes nothing.
+pub fn after_each_refusal(alloc: Global, limit: u32, calls: u32) -> bool {
+    let mut arena = Arena::with_limit(alloc, limit);
     let mut holds = true;
-    for _ in 0..1025 {
+    for _ in 0..calls {
         let len = arena.len();
         let spare = arena.spare();
         match arena.alloc(LifetimeRef::Error) {
-            Ok(id) => if id != LifetimeRefId(len) {
+            Ok(id) => if id != LifetimeRefId(len) || len >= limit {
                 holds = false;
             },
             Err(fault) => {
-                if fault != StoreFault::Memory || arena.len() != len || arena.spare() != spare {
+                let own = if len < limit {
+                    StoreFault::Memory
+                } else {
+                    StoreFault::Full
+                };
+                if fault != own || arena.len() != len || arena.spare() != spare {
                     holds = false;
                 }
             }

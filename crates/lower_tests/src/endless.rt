@@ -87,7 +87,7 @@ fn each_argument_is_entered_up_to_the_limit(rt: HostRuntime) {
 }
 
 /// The same, of which none may be entered.
-const NO_ARGUMENTS: &str = r#"{
+pub const NO_ARGUMENTS: &str = r#"{
     "owner": "const",
     "nodes": [
         {"k": "Fn", "body": 1},

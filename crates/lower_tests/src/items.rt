@@ -15,6 +15,7 @@ use hir_store::ids::{
 };
 use hir_store::source_map::ExpressionStoreSourceMap;
 use hir_store::store::ExpressionStore;
+use hir_store::type_ref::{TraitRef, TypeBound};
 use lower_run::listing::{Listed, Signature, function_listing};
 use std::alloc::{AllocError, Global};
 
@@ -71,6 +72,30 @@ pub fn trait_is(alloc: Global, lacks: Option<Part>, text: &str) -> Result<bool, 
     }
 }
 
+/// Whether an implementation is listed so, and its type for `Self` comes from a node just where one is written.
+fn impl_is_listed(
+    alloc: Global,
+    item: &Impl,
+    store: &ExpressionStore,
+    source_map: &ExpressionStoreSourceMap,
+    params: &GenericParams,
+    self_type: TypeRefId,
+    trait_: Option<TraitRef>,
+    text: &str,
+) -> Result<bool, LowerError> {
+    if source_map.type_syntax(self_type).is_some() != item.self_ty.is_some() {
+        return Ok(false);
+    }
+    let listed = match trait_ {
+        Some(trait_) => {
+            let types = [self_type, trait_.path];
+            listed(alloc, store, source_map, params, &types, None)
+        }
+        None => listed(alloc, store, source_map, params, &[self_type], None),
+    };
+    is_text(listed, text)
+}
+
 fn impl_has(alloc: Global, item: &Impl, text: &str) -> Result<bool, LowerError> {
     let env = table(alloc);
     let written = InFile {
@@ -84,20 +109,19 @@ fn impl_has(alloc: Global, item: &Impl, text: &str) -> Result<bool, LowerError> 
         written,
         ImplId(0),
     )?;
-    if source_map.type_syntax(self_type).is_some() != item.self_ty.is_some() {
-        return Ok(false);
-    }
-    let listed = match trait_ {
-        Some(trait_) => {
-            let types = [self_type, trait_.path];
-            listed(alloc, &store, &source_map, &params, &types, None)
-        }
-        None => listed(alloc, &store, &source_map, &params, &[self_type], None),
-    };
-    is_text(listed, text)
+    impl_is_listed(
+        alloc,
+        item,
+        &store,
+        &source_map,
+        &params,
+        self_type,
+        trait_,
+        text,
+    )
 }
 
-/// The same of the implementation; a type for `Self` that isn't written comes from no node.
+/// The same of the implementation.
 pub fn impl_is(alloc: Global, lacks: Option<Part>, text: &str) -> Result<bool, LowerError> {
     match impl_item(alloc, lacks) {
         Ok(item) => impl_has(alloc, &item, text),
@@ -136,6 +160,23 @@ pub fn params_are(alloc: Global, lacks: Option<Part>, text: &str) -> Result<bool
     }
 }
 
+/// Whether an alias is listed so, and has as many bounds as are written.
+fn alias_is_listed(
+    alloc: Global,
+    item: &TypeAlias,
+    store: &ExpressionStore,
+    source_map: &ExpressionStoreSourceMap,
+    params: &GenericParams,
+    bounds: &[TypeBound],
+    ty: Option<TypeRefId>,
+    text: &str,
+) -> Result<bool, LowerError> {
+    if bounds.len() != item.bounds.as_slice().len() {
+        return Ok(false);
+    }
+    is_text(listed(alloc, store, source_map, params, &[], ty), text)
+}
+
 fn alias_has(
     alloc: Global,
     container: ItemContainerId,
@@ -154,13 +195,19 @@ fn alias_has(
         written,
         TypeAliasId(0),
     )?;
-    if bounds.as_slice().len() != item.bounds.as_slice().len() {
-        return Ok(false);
-    }
-    is_text(listed(alloc, &store, &source_map, &params, &[], ty), text)
+    alias_is_listed(
+        alloc,
+        item,
+        &store,
+        &source_map,
+        &params,
+        bounds.as_slice(),
+        ty,
+        text,
+    )
 }
 
-/// The same of the alias in a module; it has as many bounds as are written.
+/// The same of the alias in a module.
 pub fn alias_is(alloc: Global, lacks: Option<Part>, text: &str) -> Result<bool, LowerError> {
     let module = ItemContainerId::ModuleId(ModuleId(0));
     match whole_alias(alloc, lacks) {
@@ -179,75 +226,113 @@ pub fn bare_alias_is(
     alias_has(alloc, container, &item, text)
 }
 
-pub const TRAIT: &str = "type 0 Self list\ntype 1 T list\nwhere Self: A\nwhere T: A\nret -\n";
+/// What is listed of an item that lacks this part, if any.
+pub type Listing = (Option<Part>, &'static str);
+
+pub const TRAITS: [Listing; 4] = [
+    (
+        None,
+        "type 0 Self list\ntype 1 T list\nwhere Self: A\nwhere T: A\nret -\n",
+    ),
+    (
+        Some(Part::Bounds),
+        "type 0 Self list\ntype 1 T list\nwhere T: A\nret -\n",
+    ),
+    (
+        Some(Part::Generics),
+        "type 0 Self list\nwhere Self: A\nwhere T: A\nret -\n",
+    ),
+    (
+        Some(Part::Where),
+        "type 0 Self list\ntype 1 T list\nwhere Self: A\nret -\n",
+    ),
+];
 
 #[test]
 fn self_is_the_first_parameter_of_a_trait(rt: HostRuntime) {
-    let alloc = rt.alloc();
-    assert!(rt; trait_is(alloc, None, TRAIT) == Ok(true));
-    let bare = "type 0 Self list\ntype 1 T list\nwhere T: A\nret -\n";
-    assert!(rt; trait_is(alloc, Some(Part::Bounds), bare) == Ok(true));
-    let alone = "type 0 Self list\nwhere Self: A\nwhere T: A\nret -\n";
-    assert!(rt; trait_is(alloc, Some(Part::Generics), alone) == Ok(true));
-    let free = "type 0 Self list\ntype 1 T list\nwhere Self: A\nret -\n";
-    assert!(rt; trait_is(alloc, Some(Part::Where), free) == Ok(true));
+    for (lacks, text) in TRAITS.iter() {
+        assert!(rt; trait_is(rt.alloc(), *lacks, *text) == Ok(true));
+    }
 }
 
-pub const IMPL: &str = "type 0 T list\nwhere T: A\narg S\narg Tr::<T>\nret -\n";
+pub const IMPLS: [Listing; 5] = [
+    (
+        None,
+        "type 0 T list\nwhere T: A\narg S\narg Tr::<T>\nret -\n",
+    ),
+    (
+        Some(Part::SelfType),
+        "type 0 T list\nwhere T: A\narg {error}\narg Tr::<T>\nret -\n",
+    ),
+    (
+        Some(Part::Trait),
+        "type 0 T list\nwhere T: A\narg S\nret -\n",
+    ),
+    (
+        Some(Part::Generics),
+        "where T: A\narg S\narg Tr::<T>\nret -\n",
+    ),
+    (
+        Some(Part::Where),
+        "type 0 T list\narg S\narg Tr::<T>\nret -\n",
+    ),
+];
 
 #[test]
 fn impl_has_its_type_and_its_trait(rt: HostRuntime) {
-    let alloc = rt.alloc();
-    assert!(rt; impl_is(alloc, None, IMPL) == Ok(true));
-    let of_nothing = "type 0 T list\nwhere T: A\narg {error}\narg Tr::<T>\nret -\n";
-    assert!(rt; impl_is(alloc, Some(Part::SelfType), of_nothing) == Ok(true));
-    let own = "type 0 T list\nwhere T: A\narg S\nret -\n";
-    assert!(rt; impl_is(alloc, Some(Part::Trait), own) == Ok(true));
-    let plain = "where T: A\narg S\narg Tr::<T>\nret -\n";
-    assert!(rt; impl_is(alloc, Some(Part::Generics), plain) == Ok(true));
-    let free = "type 0 T list\narg S\narg Tr::<T>\nret -\n";
-    assert!(rt; impl_is(alloc, Some(Part::Where), free) == Ok(true));
+    for (lacks, text) in IMPLS.iter() {
+        assert!(rt; impl_is(rt.alloc(), *lacks, *text) == Ok(true));
+    }
 }
 
-pub const PARAMS: &str = "type 0 T list\nwhere T: A\nwhere T: B\nret -\n";
+pub const PARAMS: [Listing; 3] = [
+    (None, "type 0 T list\nwhere T: A\nwhere T: B\nret -\n"),
+    (Some(Part::Where), "type 0 T list\nwhere T: A\nret -\n"),
+    (Some(Part::Generics), "where T: B\nret -\n"),
+];
 
 #[test]
 fn parameters_by_themselves(rt: HostRuntime) {
-    let alloc = rt.alloc();
-    assert!(rt; params_are(alloc, None, PARAMS) == Ok(true));
-    let free = "type 0 T list\nwhere T: A\nret -\n";
-    assert!(rt; params_are(alloc, Some(Part::Where), free) == Ok(true));
-    let conditions = "where T: B\nret -\n";
-    assert!(rt; params_are(alloc, Some(Part::Generics), conditions) == Ok(true));
+    for (lacks, text) in PARAMS.iter() {
+        assert!(rt; params_are(rt.alloc(), *lacks, *text) == Ok(true));
+    }
 }
 
-pub const ALIAS: &str = "type 0 T list\nwhere T: A\nret U\n";
+pub const ALIASES: [Listing; 5] = [
+    (None, "type 0 T list\nwhere T: A\nret U\n"),
+    (Some(Part::Bounds), "type 0 T list\nwhere T: A\nret U\n"),
+    (Some(Part::Generics), "where T: A\nret U\n"),
+    (Some(Part::Where), "type 0 T list\nret U\n"),
+    (
+        Some(Part::Type_),
+        "type 0 T list\nwhere T: A\nret -\ndiag MissingBody TypeAlias\n",
+    ),
+];
 
 #[test]
 fn alias_has_its_bounds_and_its_type(rt: HostRuntime) {
-    let alloc = rt.alloc();
-    assert!(rt; alias_is(alloc, None, ALIAS) == Ok(true));
-    assert!(rt; alias_is(alloc, Some(Part::Bounds), ALIAS) == Ok(true));
-    let plain = "where T: A\nret U\n";
-    assert!(rt; alias_is(alloc, Some(Part::Generics), plain) == Ok(true));
-    let free = "type 0 T list\nret U\n";
-    assert!(rt; alias_is(alloc, Some(Part::Where), free) == Ok(true));
-    let owed = "type 0 T list\nwhere T: A\nret -\ndiag MissingBody TypeAlias\n";
-    assert!(rt; alias_is(alloc, Some(Part::Type_), owed) == Ok(true));
+    for (lacks, text) in ALIASES.iter() {
+        assert!(rt; alias_is(rt.alloc(), *lacks, *text) == Ok(true));
+    }
 }
 
-pub const OWED: &str = "ret -\ndiag MissingBody TypeAlias\n";
+/// What is listed of an alias without a type that stands in this.
+pub const BARE_ALIASES: [(ItemContainerId, &str); 4] = [
+    (
+        ItemContainerId::ModuleId(ModuleId(0)),
+        "ret -\ndiag MissingBody TypeAlias\n",
+    ),
+    (
+        ItemContainerId::ImplId(ImplId(0)),
+        "ret -\ndiag MissingBody AssocType\n",
+    ),
+    (ItemContainerId::TraitId(TraitId(0)), "ret -\n"),
+    (ItemContainerId::ExternBlockId(ExternBlockId(0)), "ret -\n"),
+];
 
 #[test]
 fn alias_of_a_module_or_an_impl_owes_a_type(rt: HostRuntime) {
-    let alloc = rt.alloc();
-    let module = ItemContainerId::ModuleId(ModuleId(0));
-    assert!(rt; bare_alias_is(alloc, module, OWED) == Ok(true));
-    let inside = ItemContainerId::ImplId(ImplId(0));
-    let owed = "ret -\ndiag MissingBody AssocType\n";
-    assert!(rt; bare_alias_is(alloc, inside, owed) == Ok(true));
-    let of_trait = ItemContainerId::TraitId(TraitId(0));
-    assert!(rt; bare_alias_is(alloc, of_trait, "ret -\n") == Ok(true));
-    let outside = ItemContainerId::ExternBlockId(ExternBlockId(0));
-    assert!(rt; bare_alias_is(alloc, outside, "ret -\n") == Ok(true));
+    for (container, text) in BARE_ALIASES.iter() {
+        assert!(rt; bare_alias_is(rt.alloc(), *container, *text) == Ok(true));
+    }
 }

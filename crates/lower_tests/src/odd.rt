@@ -99,7 +99,7 @@ fn a_block_is_asked_about_in_the_module_around_it(rt: HostRuntime) {
 }
 
 /// `fn f() { a..b }`.
-const RANGE: &str = r#"{"nodes": [
+pub const RANGE: &str = r#"{"nodes": [
     {"k": "Fn", "body": 1},
     {"k": "BlockExpr", "tail": 2},
     {"k": "RangeExpr", "op": "..", "start": 3, "end": 6},
@@ -156,25 +156,65 @@ fn a_range_is_asked_about_in_its_module(rt: HostRuntime) {
     );
 }
 
-/// The item of ranges isn't there.
-fn lowered_without_range(alloc: Global, document: &Document) -> Lowered {
-    let items = LangItems {
-        range: None,
-        ..LangItems::numbered()
-    };
+/// These are the items of the language.
+fn lowered_with(alloc: Global, document: &Document, items: &LangItems) -> Lowered {
     let lacking = Lacking {
         behind: &document.env,
-        items: &items,
+        items,
     };
     let object: &dyn LowerEnv = &lacking;
     lowered_of(alloc, &object, document)
 }
 
+/// The item of ranges isn't there.
+pub fn lowered_without_range(alloc: Global, document: &Document) -> Lowered {
+    let items = LangItems {
+        range: None,
+        ..LangItems::numbered()
+    };
+    lowered_with(alloc, document, &items)
+}
+
+/// The item of newer ranges with an included end is that of those with an excluded one.
+pub fn lowered_with_equal_items(alloc: Global, document: &Document) -> Lowered {
+    let numbered = LangItems::numbered();
+    let items = LangItems {
+        range_inclusive_copy: numbered.range_copy,
+        ..numbered
+    };
+    lowered_with(alloc, document, &items)
+}
+
+/// `fn f() { a..=b }`, where ranges are the newer ones.
+pub const NEWER_RANGE: &str = r#"{
+    "nodes": [
+        {"k": "Fn", "body": 1},
+        {"k": "BlockExpr", "tail": 2},
+        {"k": "RangeExpr", "op": "..=", "start": 3, "end": 6},
+        {"k": "PathExpr", "path": 4},
+        {"k": "Path", "segs": [5]},
+        {"k": "PathSegment", "seg": "name", "name": "a"},
+        {"k": "PathExpr", "path": 7},
+        {"k": "Path", "segs": [8]},
+        {"k": "PathSegment", "seg": "name", "name": "b"}
+    ],
+    "env": {"new_range": true}
+}"#;
+
 #[test]
-fn a_range_without_its_item_is_no_record(rt: HostRuntime) {
+fn items_of_the_language_may_be_absent_or_equal(rt: HostRuntime) {
+    let alloc = rt.alloc();
     assert!(rt;
-        with_lowered_as(rt.alloc(), RANGE, &lowered_without_range, &item_of_record)
-            == Ok(Some(None))
+        with_lowered_as(alloc, RANGE, &lowered_without_range, &item_of_record) == Ok(Some(None))
+    );
+    let items = LangItems::numbered();
+    assert!(rt;
+        with_lowered_as(
+            alloc,
+            NEWER_RANGE,
+            &lowered_with_equal_items,
+            &item_of_record
+        ) == Ok(Some(items.range_copy))
     );
 }
 

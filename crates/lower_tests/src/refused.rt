@@ -7,25 +7,27 @@ use crate::constants::{LET, PATH};
 use crate::coroutines::{CLOSURE, FUNCTION, closure_and_coroutine, is_bound_by_lets};
 use crate::definitions::{TWICE, patterns_of_first};
 use crate::documents::with_document;
-use crate::endless::{ARGUMENTS, held, lowered_endlessly};
+use crate::endless::{ARGUMENTS as CALLS, NO_ARGUMENTS as NO_CALLS, held, lowered_endlessly};
 use crate::items::{
-    ALIAS, IMPL, OWED, PARAMS, TRAIT, alias_is, bare_alias_is, impl_is, params_are, trait_is,
+    ALIASES, BARE_ALIASES, IMPLS, PARAMS, TRAITS, alias_is, bare_alias_is, impl_is, params_are,
+    trait_is,
 };
 use crate::lowered::{Lowered, asked, lowered_by_object, lowered_document};
 use crate::objects::{BLOCK_IN_BLOCK, entered};
 use crate::odd::{
-    ALIASED, OWN_PARENTS, RANGE_INSIDE, held_of_unsafe, item_of_record, lifetimes_without_aliases,
-    lowered_in_circles, lowered_in_the_root,
+    ALIASED, NEWER_RANGE, OWN_PARENTS, RANGE, RANGE_INSIDE, held_of_unsafe, item_of_record,
+    lifetimes_without_aliases, lowered_in_circles, lowered_in_the_root, lowered_with_equal_items,
+    lowered_without_range,
 };
 use crate::small::{CALL, FOR, NESTED, ONE, answered};
 use crate::stacks::found_inside;
 use crate::tried::{Call, FULL, REFUSED, Tried, tried_of};
 use crate::types::IMPL_IN_A_PATH;
-use crate::ways_back::{RECORD, field_node};
+use crate::ways_back::{ARGUMENTS, LENT, RECORD, field_node, lent_in};
 use hir_base::node::NodeId;
 use hir_env::lang::LangItems;
 use hir_lower::{Body, BodySourceMap, LowerError};
-use hir_store::ids::{BlockId, ExprId, ItemContainerId, LabelId, ModuleId, PatId};
+use hir_store::ids::{BlockId, ExprId, LabelId, PatId};
 use lower_json::document::{Document, Root};
 use lower_json::fault::ReadError;
 use std::alloc::{AllocError, Global};
@@ -159,7 +161,8 @@ fn bodies_where_objects_answer(rt: HostRuntime) {
             (1, 0)
         )
     );
-    assert!(rt; body_fits(alloc, ARGUMENTS, &lowered_endlessly, &held, (4, (6, 0))));
+    assert!(rt; body_fits(alloc, CALLS, &lowered_endlessly, &held, (4, (6, 0))));
+    assert!(rt; body_fits(alloc, NO_CALLS, &lowered_endlessly, &held, (4, (0, 0))));
     assert!(rt;
         body_fits(
             alloc,
@@ -169,14 +172,29 @@ fn bodies_where_objects_answer(rt: HostRuntime) {
             (1, 1)
         )
     );
-    let range = LangItems::numbered().range;
+}
+
+#[test]
+fn bodies_with_ranges(rt: HostRuntime) {
+    let alloc = rt.alloc();
+    let items = LangItems::numbered();
     assert!(rt;
         body_fits(
             alloc,
             RANGE_INSIDE,
             &lowered_in_the_root,
             &item_of_record,
-            range
+            items.range
+        )
+    );
+    assert!(rt; body_fits(alloc, RANGE, &lowered_without_range, &item_of_record, None));
+    assert!(rt;
+        body_fits(
+            alloc,
+            NEWER_RANGE,
+            &lowered_with_equal_items,
+            &item_of_record,
+            items.range_copy
         )
     );
 }
@@ -189,12 +207,26 @@ fn is_so(answer: Result<bool, LowerError>) -> bool {
 #[test]
 fn items(rt: HostRuntime) {
     let alloc = rt.alloc();
-    assert!(rt; is_so(trait_is(alloc, None, TRAIT)));
-    assert!(rt; is_so(impl_is(alloc, None, IMPL)));
-    assert!(rt; is_so(params_are(alloc, None, PARAMS)));
-    assert!(rt; is_so(alias_is(alloc, None, ALIAS)));
-    let module = ItemContainerId::ModuleId(ModuleId(0));
-    assert!(rt; is_so(bare_alias_is(alloc, module, OWED)));
+    for (lacks, text) in TRAITS.iter() {
+        assert!(rt; is_so(trait_is(alloc, *lacks, *text)));
+    }
+    for (lacks, text) in IMPLS.iter() {
+        assert!(rt; is_so(impl_is(alloc, *lacks, *text)));
+    }
+    for (lacks, text) in PARAMS.iter() {
+        assert!(rt; is_so(params_are(alloc, *lacks, *text)));
+    }
+}
+
+#[test]
+fn aliases(rt: HostRuntime) {
+    let alloc = rt.alloc();
+    for (lacks, text) in ALIASES.iter() {
+        assert!(rt; is_so(alias_is(alloc, *lacks, *text)));
+    }
+    for (container, text) in BARE_ALIASES.iter() {
+        assert!(rt; is_so(bare_alias_is(alloc, *container, *text)));
+    }
     let lifetimes = with_document(alloc, Root::Fn, ALIASED, &lifetimes_without_aliases);
     assert!(rt;
         lifetimes == Ok(Ok((2, 2)))
@@ -204,11 +236,14 @@ fn items(rt: HostRuntime) {
 }
 
 #[test]
-fn stacks_arenas_and_a_label(rt: HostRuntime) {
+fn stacks_arenas_a_label_and_the_ways_back(rt: HostRuntime) {
     let alloc = rt.alloc();
     let found = found_inside(alloc, 100, 0);
     assert!(rt; found == Ok((Some(LabelId(0)), 1)) || found == Err(AllocError));
-    assert!(rt; after_each_refusal(alloc));
+    assert!(rt; after_each_refusal(alloc, u32::MAX, 1025));
+    assert!(rt; after_each_refusal(alloc, 3, 4));
     let held = held_of_unsafe(alloc);
     assert!(rt; held == Ok((2, 0, 1)) || held == Err(LowerError::Memory));
+    let lent = with_document(alloc, Root::Path, ARGUMENTS, &lent_in);
+    assert!(rt; lent == Ok(Some(LENT)) || lent == Err(ReadError::Memory));
 }

@@ -6,7 +6,7 @@ use Rattle.hir_lower_pat.proofs.bindings.Bindings.settle.Goals as goal
 
 pub set_problem-requires : goal.set_problem-requires
 set_problem-requires c =
-    entry_exists c.args.self.now.ids c.loop-number.number _ _ (sym c.in-Some.ensures) c.loop-number.invariant.placed.1.1
+    entry_exists c.args.self.now.ids.entries c.loop-number.number _ _ (sym c.in-Some.ensures.entry) c.loop-number.invariant.placed.1.1
 
 pub loop-number-preserved : goal.loop-number-preserved
 unfolding settle
