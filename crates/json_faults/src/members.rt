@@ -25,7 +25,7 @@ pub fn found<'n>(members: &[Member<'n>], name: &str) -> Option<&'n Value>
     ensures { option_map (λ v. view v.now) result ≡ get name.now (said members.now) }
 {
     for member in members {
-        if name == member.name {
+        if name.len() == member.name.len() && name == member.name {
             return Some(member.value);
         }
     }
@@ -122,9 +122,6 @@ impl<'n> NodeList<'n> {
         if at >= self.nodes.len() {
             return None;
         }
-        Some(own_of(
-            &self.nodes[at],
-            &self.members[self.starts[at]..],
-        ))
+        Some(own_of(&self.nodes[at], &self.members[self.starts[at]..]))
     }
 }

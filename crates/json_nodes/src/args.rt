@@ -34,6 +34,7 @@ fn assoc_arg<F: Fields>(node: &F, refused: &mut bool) -> AssocTypeArg
     }
 }
 
+#[inline(never)]
 #[tactic(auto, unfolding(crate::specs::Args::arg))]
 fn arg<F: Fields>(node: &F, refused: &mut bool, kind: PathNode) -> Option<PathPart>
     requires { F.can node.now }
@@ -65,6 +66,7 @@ fn arg<F: Fields>(node: &F, refused: &mut bool, kind: PathNode) -> Option<PathPa
     }
 }
 
+#[inline(never)]
 #[tactic(auto, unfolding(crate::specs::Args::arg_list))]
 fn arg_list<F: Fields>(node: &F, refused: &mut bool, kind: PathNode) -> Option<PathPart>
     requires { F.can node.now }

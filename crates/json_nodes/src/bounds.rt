@@ -54,6 +54,7 @@ fn bound<F: Fields>(node: &F, refused: &mut bool) -> TypeBound
 }
 
 /// A bound, or what else stands beside types.
+#[inline(never)]
 #[tactic(auto, unfolding(crate::specs::Bounds::of_bound))]
 pub fn of_bound<F: Fields>(node: &F, refused: &mut bool, kind: PartNode) -> Option<TypePart>
     requires { F.can node.now }

@@ -31,7 +31,6 @@ fn if_expr<F: Fields>(node: &F, refused: &mut bool) -> ExprKind
 }
 
 /// An `if`, which is told from other expressions, since it may follow `else`.
-#[inline(never)]
 pub fn of_if<F: Fields>(node: &F, refused: &mut bool) -> Option<ExprPart>
     requires { F.can node.now }
     ensures { Kept refused.old refused.new (result ≡ spec.of_if (F.here node.now)) }
@@ -46,7 +45,6 @@ pub fn of_if<F: Fields>(node: &F, refused: &mut bool) -> Option<ExprPart>
 }
 
 /// A literal, which is told from other expressions, since it may stand in a pattern.
-#[inline(never)]
 pub fn of_literal<F: Fields>(node: &F, refused: &mut bool) -> Option<ExprPart>
     ensures { Kept refused.old refused.new (result ≡ spec.of_literal (F.here node.now)) }
 {
@@ -61,6 +59,7 @@ pub fn of_literal<F: Fields>(node: &F, refused: &mut bool) -> Option<ExprPart>
 }
 
 /// What steers the order of running.
+#[inline(never)]
 #[tactic(auto, unfolding(crate::specs::Exprs::flow))]
 pub fn flow<F: Fields>(node: &F, refused: &mut bool, kind: ExprNode) -> Option<ExprPart>
     requires { F.can node.now }
@@ -120,6 +119,7 @@ pub fn flow<F: Fields>(node: &F, refused: &mut bool, kind: ExprNode) -> Option<E
 }
 
 /// Calls, also of macros, paths, parentheses and ranges.
+#[inline(never)]
 #[tactic(auto, unfolding(crate::specs::Exprs::plain))]
 pub fn plain<F: Fields>(node: &F, refused: &mut bool, kind: ExprNode) -> Option<ExprPart>
     requires { F.can node.now }

@@ -52,7 +52,6 @@ fn statement<F: Fields>(node: &F, refused: &mut bool, kind: StmtNode) -> StmtKin
 }
 
 /// A statement.
-#[inline(never)]
 pub fn of_stmt<F: Fields>(node: &F, refused: &mut bool, kind: StmtNode) -> Option<CodePart>
     requires { F.can node.now }
     ensures { Kept refused.old refused.new (result ≡ spec.of_stmt (F.here node.now) kind) }
@@ -86,7 +85,6 @@ fn modifier(node: &Own<'_>) -> Option<BlockModifier>
 }
 
 /// A block.
-#[inline(never)]
 #[tactic(auto, unfolding(crate::specs::Others::of_block))]
 pub fn of_block<F: Fields>(node: &F, refused: &mut bool) -> Option<ExprPart>
     requires { F.can node.now }

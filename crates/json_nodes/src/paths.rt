@@ -36,6 +36,7 @@ fn segment_kind(node: &Own<'_>) -> Option<SegmentKind>
     segment_kind_of(text(node, "seg")?)
 }
 
+#[inline(never)]
 #[tactic(auto, unfolding(crate::specs::Paths::segment))]
 fn segment<F: Fields>(node: &F, refused: &mut bool) -> PathSegment
     requires { F.can node.now }
@@ -62,6 +63,7 @@ fn segment<F: Fields>(node: &F, refused: &mut bool) -> PathSegment
 }
 
 /// A path.
+#[inline(never)]
 #[tactic(auto, unfolding(crate::specs::Paths::path))]
 pub fn path<F: Fields>(node: &F, refused: &mut bool) -> Path
     requires { F.can node.now }

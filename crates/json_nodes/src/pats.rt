@@ -17,6 +17,7 @@ use hir_syntax::ast::PatKind;
 use json_kinds::kind::PatNode;
 
 /// Names and paths, and tuples behind a path or without one.
+#[inline(never)]
 #[tactic(auto, unfolding(crate::specs::Pats::named))]
 fn named<F: Fields>(node: &F, refused: &mut bool, kind: PatNode) -> Option<PatPart>
     requires { F.can node.now }
@@ -61,6 +62,7 @@ fn named<F: Fields>(node: &F, refused: &mut bool, kind: PatNode) -> Option<PatPa
 }
 
 /// What stands around one pattern, or between some.
+#[inline(never)]
 #[tactic(auto, unfolding(crate::specs::Pats::around))]
 fn around<F: Fields>(node: &F, refused: &mut bool, kind: PatNode) -> Option<PatPart>
     requires { F.can node.now }
@@ -93,6 +95,7 @@ fn around<F: Fields>(node: &F, refused: &mut bool, kind: PatNode) -> Option<PatP
 }
 
 /// Records and slices.
+#[inline(never)]
 #[tactic(auto, unfolding(crate::specs::Pats::pieces))]
 fn pieces<F: Fields>(node: &F, refused: &mut bool, kind: PatNode) -> Option<PatPart>
     requires { F.can node.now }
@@ -124,6 +127,7 @@ fn pieces<F: Fields>(node: &F, refused: &mut bool, kind: PatNode) -> Option<PatP
 }
 
 /// Values, ranges between two, and calls of macros.
+#[inline(never)]
 #[tactic(auto, unfolding(crate::specs::Pats::values))]
 fn values<F: Fields>(node: &F, refused: &mut bool, kind: PatNode) -> Option<PatPart>
     requires { F.can node.now }
@@ -171,7 +175,6 @@ fn partless_pat<F: Fields>(node: &F, refused: &mut bool, kind: PatNode) -> Optio
 }
 
 /// A pattern.
-#[inline(never)]
 pub fn of_pat<F: Fields>(node: &F, refused: &mut bool, kind: PatNode) -> Option<PatPart>
     requires { F.can node.now }
     ensures { Kept refused.old refused.new (result ≡ spec.of_pat (F.here node.now) kind) }

@@ -1,6 +1,7 @@
 //! The trees of a list of nodes.
 
-ghost use Rattle.std.specs.Prelude.{◌≡◌, IfOk, option_and_then, option_map};
+ghost use Rattle.std.specs.Prelude.{◌≡◌, ⊥, IfOk, option_and_then, option_map};
+ghost use Rattle.json_nodes.specs.declared.part.AnyOf.TheVariants as part;
 ghost use Rattle.serde_json.specs.View.{view, items_view};
 ghost use Rattle.hir_syntax.specs.declared.macros.Fragment.TheVariants as fragment;
 ghost use Rattle.json_nodes.specs.Groups.{as_expr, as_macro_stmts, as_pat, as_type};
@@ -20,7 +21,7 @@ use json_faults::kinds::kind_at;
 use json_faults::members::{NodeList, Own};
 use json_items::items::{function, type_alias};
 use json_items::listed::ListedNodes;
-use json_kinds::kind::{ExprNode, ItemNode, Kind, PartNode, PathNode};
+use json_kinds::kind::{ExprNode, ItemNode, Kind, PartNode, PatNode, PathNode, StmtNode, TypeNode};
 use json_nodes::args::of_args;
 use json_nodes::bounds::of_bound;
 use json_nodes::branches::{branching, of_branch};
@@ -82,7 +83,6 @@ where
 }
 
 /// An expression.
-#[inline(never)]
 fn of_expr<F: Fields>(node: &F, refused: &mut bool, kind: ExprNode) -> Option<ExprPart>
     requires { F.can node.now }
     ensures { Kept refused.old refused.new (result ≡ spec.of_expr (F.here node.now) kind) }
@@ -112,7 +112,6 @@ fn of_expr<F: Fields>(node: &F, refused: &mut bool, kind: ExprNode) -> Option<Ex
 }
 
 /// A path, or what stands beside a name.
-#[inline(never)]
 fn of_path_part<F: Fields>(node: &F, refused: &mut bool, kind: PathNode) -> Option<PathPart>
     requires { F.can node.now }
     ensures { Kept refused.old refused.new (result ≡ spec.of_path_part (F.here node.now) kind) }
@@ -150,25 +149,111 @@ fn of_part<F: Fields>(node: &F, refused: &mut bool, kind: PartNode) -> Option<An
     Some(AnyPart::Name(other(node, refused, kind)?))
 }
 
-/// What stands at a node of a kind.
+/// An `if`, as a part.
+#[inline(never)]
+fn if_part<F: Fields>(node: &F, refused: &mut bool) -> Option<AnyPart>
+    requires { F.can node.now }
+    ensures { Kept refused.old refused.new (result ≡ option_map part.Expr (spec.of_if (F.here node.now))) }
+{
+    Some(AnyPart::Expr(of_if(node, refused)?))
+}
+
+/// A block, as a part.
+#[inline(never)]
+fn block_part<F: Fields>(node: &F, refused: &mut bool) -> Option<AnyPart>
+    requires { F.can node.now }
+    ensures { Kept refused.old refused.new (result ≡ option_map part.Expr (spec.of_block (F.here node.now))) }
+{
+    Some(AnyPart::Expr(of_block(node, refused)?))
+}
+
+/// A path as a type, as a part.
+#[inline(never)]
+fn path_type_part<F: Fields>(node: &F, refused: &mut bool) -> Option<AnyPart>
+    requires { F.can node.now }
+    ensures { Kept refused.old refused.new (result ≡ option_map part.Type_ (spec.of_path_type (F.here node.now))) }
+{
+    Some(AnyPart::Type_(of_path_type(node, refused)?))
+}
+
+/// An expression, as a part.
+#[inline(never)]
+fn expr_part<F: Fields>(node: &F, refused: &mut bool, kind: ExprNode) -> Option<AnyPart>
+    requires { F.can node.now }
+    ensures { Kept refused.old refused.new (result ≡ option_map part.Expr (spec.of_expr (F.here node.now) kind)) }
+{
+    Some(AnyPart::Expr(of_expr(node, refused, kind)?))
+}
+
+/// A statement, as a part.
+#[inline(never)]
+fn stmt_part<F: Fields>(node: &F, refused: &mut bool, kind: StmtNode) -> Option<AnyPart>
+    requires { F.can node.now }
+    ensures { Kept refused.old refused.new (result ≡ option_map part.Code (spec.of_stmt (F.here node.now) kind)) }
+{
+    Some(AnyPart::Code(of_stmt(node, refused, kind)?))
+}
+
+/// A pattern, as a part.
+#[inline(never)]
+fn pat_part<F: Fields>(node: &F, refused: &mut bool, kind: PatNode) -> Option<AnyPart>
+    requires { F.can node.now }
+    ensures { Kept refused.old refused.new (result ≡ option_map part.Pat (spec.of_pat (F.here node.now) kind)) }
+{
+    Some(AnyPart::Pat(of_pat(node, refused, kind)?))
+}
+
+/// A type, as a part.
+#[inline(never)]
+fn type_part<F: Fields>(node: &F, refused: &mut bool, kind: TypeNode) -> Option<AnyPart>
+    requires { F.can node.now }
+    ensures { Kept refused.old refused.new (result ≡ option_map part.Type_ (spec.of_type (F.here node.now) kind)) }
+{
+    Some(AnyPart::Type_(of_type(node, refused, kind)?))
+}
+
+/// What stands in a path, as a part.
+#[inline(never)]
+fn path_part<F: Fields>(node: &F, refused: &mut bool, kind: PathNode) -> Option<AnyPart>
+    requires { F.can node.now }
+    ensures { Kept refused.old refused.new (result ≡ option_map part.Path (spec.of_path_part (F.here node.now) kind)) }
+{
+    Some(AnyPart::Path(of_path_part(node, refused, kind)?))
+}
+
+/// What stands at a node of a kind. Each sort has a frame of its own, so that a level takes no more than its own sort needs.
 #[tactic(auto, unfolding(crate::specs::Reading::of_kind))]
 fn of_kind<F: Fields>(node: &F, refused: &mut bool, kind: Kind) -> Option<AnyPart>
     requires { F.can node.now }
     ensures { Kept refused.old refused.new (result ≡ of_kind (F.here node.now) kind) }
 {
     match kind {
-        Kind::IfExpr => Some(AnyPart::Expr(of_if(node, refused)?)),
-        Kind::BlockExpr => Some(AnyPart::Expr(of_block(node, refused)?)),
+        Kind::IfExpr => if_part(node, refused),
+        Kind::BlockExpr => block_part(node, refused),
         Kind::Literal => Some(AnyPart::Expr(of_literal(node, refused)?)),
-        Kind::PathType => Some(AnyPart::Type_(of_path_type(node, refused)?)),
-        Kind::Expr(kind) => Some(AnyPart::Expr(of_expr(node, refused, kind)?)),
-        Kind::Stmt(kind) => Some(AnyPart::Code(of_stmt(node, refused, kind)?)),
-        Kind::Pat(kind) => Some(AnyPart::Pat(of_pat(node, refused, kind)?)),
-        Kind::Type_(kind) => Some(AnyPart::Type_(of_type(node, refused, kind)?)),
-        Kind::Path(kind) => Some(AnyPart::Path(of_path_part(node, refused, kind)?)),
+        Kind::PathType => path_type_part(node, refused),
+        Kind::Expr(kind) => expr_part(node, refused, kind),
+        Kind::Stmt(kind) => stmt_part(node, refused, kind),
+        Kind::Pat(kind) => pat_part(node, refused, kind),
+        Kind::Type_(kind) => type_part(node, refused, kind),
+        Kind::Path(kind) => path_part(node, refused, kind),
         Kind::Item(_) => None,
         Kind::Part(kind) => of_part(node, refused, kind),
     }
+}
+
+/// Lets go of what was read where memory was refused.
+#[inline(never)]
+fn refused_part<P: ReadParts>(
+    parts: &P,
+    part: Option<AnyPart>,
+) -> Result<Option<AnyPart>, AllocError>
+    ensures { IfOk result (λ _. ⊥) }
+{
+    if let Some(part) = part {
+        parts.let_go(part);
+    }
+    Err(AllocError)
 }
 
 /// What stands at a node of a kind, by its index and value.
@@ -184,13 +269,10 @@ pub fn part_at<P: ReadParts>(
 {
     let mut refused = false;
     let part = of_kind(&node_at(alloc, parts, value, at), &mut refused, kind);
-    if !refused {
-        return Ok(part);
+    if refused {
+        return refused_part(parts, part);
     }
-    if let Some(part) = part {
-        parts.let_go(part);
-    }
-    Err(AllocError)
+    Ok(part)
 }
 
 fn read_part(
