@@ -193,12 +193,12 @@ begins (w ∷ vs) n (suc i) v d within is =
 
 -- the members from such a place on
 pub from_start : (vs : List Value) (ms : List Member) (i : ℕ) (v : Value) (start : ℕ) → i < length vs → v ≡ get_or vs i v
-    → pairs ms ≡ all_pairs (items_view vs) → start ≡ get_or (starts_from 0 (items_view vs)) i start
+    → pairs ms ≡ all_pairs (items_view vs) → start ≡ get_or (starts_from 0 (items_view vs)) i 0
     → (start ≤ length ms) × ((more : List Named) × (pairs (drop start ms) ≡ pairs_of (view v) ++ more))
 from_start vs ms i v start within is all begin =
-    let b = begins vs 0 i v start within is in
+    let b = begins vs 0 i v 0 within is in
     let same : start ≡ b.past = omega (arith, begin, b.is) in
     let beside : drop start (pairs ms) ≡ pairs_of (view v) ++ b.more
     = ap (λ k. drop k (pairs ms)) same ∙ ap (drop b.past) all ∙ b.beside in
     let many : length (pairs ms) ≡ length ms = length-map ms pair_of in
-    (omega (arith, same, b.there, many, ap length all), b.more, sym (drop-map pair_of start ms) ∙ beside)
+    (omega (arith, same, b.there, many, ap length all), (b.more, sym (drop-map pair_of start ms) ∙ beside))

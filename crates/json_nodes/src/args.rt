@@ -90,8 +90,8 @@ pub fn of_args<F: Fields>(node: &F, refused: &mut bool, kind: PathNode) -> Optio
     requires { F.can node.now }
     ensures { Kept refused.old refused.new (result ≡ spec.of_args (F.here node.now) kind) }
 {
-    if let Some(part) = arg(node, refused, kind) {
-        return Some(part);
+    match kind {
+        PathNode::GenericArgList | PathNode::ParenArgs => arg_list(node, refused, kind),
+        _ => arg(node, refused, kind),
     }
-    arg_list(node, refused, kind)
 }

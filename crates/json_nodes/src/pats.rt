@@ -179,17 +179,21 @@ pub fn of_pat<F: Fields>(node: &F, refused: &mut bool, kind: PatNode) -> Option<
     requires { F.can node.now }
     ensures { Kept refused.old refused.new (result ≡ spec.of_pat (F.here node.now) kind) }
 {
-    if let Some(pat) = named(node, refused, kind) {
-        return Some(pat);
+    match kind {
+        PatNode::IdentPat | PatNode::TupleStructPat | PatNode::TuplePat | PatNode::PathPat => named(
+            node, refused, kind,
+        ),
+        PatNode::RefPat
+        | PatNode::OrPat
+        | PatNode::ParenPat
+        | PatNode::BoxPat
+        | PatNode::DerefPat => around(node, refused, kind),
+        PatNode::RecordPat | PatNode::SlicePat => pieces(node, refused, kind),
+        PatNode::LiteralPat | PatNode::RangePat | PatNode::MacroPat => values(node, refused, kind),
+        PatNode::CfgPredPat
+        | PatNode::WildcardPat
+        | PatNode::RestPat
+        | PatNode::NotNullPat
+        | PatNode::ConstBlockPat => partless_pat(node, refused, kind),
     }
-    if let Some(pat) = around(node, refused, kind) {
-        return Some(pat);
-    }
-    if let Some(pat) = pieces(node, refused, kind) {
-        return Some(pat);
-    }
-    if let Some(pat) = values(node, refused, kind) {
-        return Some(pat);
-    }
-    partless_pat(node, refused, kind)
 }

@@ -126,13 +126,20 @@ pub fn of_type<F: Fields>(node: &F, refused: &mut bool, kind: TypeNode) -> Optio
     requires { F.can node.now }
     ensures { Kept refused.old refused.new (result ≡ spec.of_type (F.here node.now) kind) }
 {
-    if let Some(ty) = over_types(node, refused, kind) {
-        return Some(ty);
+    match kind {
+        TypeNode::ParenType | TypeNode::SliceType | TypeNode::TupleType | TypeNode::PtrType =>
+            over_types(node, refused, kind),
+        TypeNode::RefType
+        | TypeNode::ArrayType
+        | TypeNode::FnPtrType
+        | TypeNode::ForType
+        | TypeNode::PatternType
+        | TypeNode::MacroType => beside_types(node, refused, kind),
+        TypeNode::ImplTraitType
+        | TypeNode::DynTraitType
+        | TypeNode::NeverType
+        | TypeNode::InferType => bounded(node, refused, kind),
     }
-    if let Some(ty) = beside_types(node, refused, kind) {
-        return Some(ty);
-    }
-    bounded(node, refused, kind)
 }
 
 /// A path as a type, which is told from other types, since it may also name a trait.

@@ -87,28 +87,40 @@ fn of_expr<F: Fields>(node: &F, refused: &mut bool, kind: ExprNode) -> Option<Ex
     requires { F.can node.now }
     ensures { Kept refused.old refused.new (result ≡ spec.of_expr (F.here node.now) kind) }
 {
-    if let Some(expr) = flow(node, refused, kind) {
-        return Some(expr);
+    match kind {
+        ExprNode::LoopExpr
+        | ExprNode::WhileExpr
+        | ExprNode::ForExpr
+        | ExprNode::TryExpr
+        | ExprNode::ContinueExpr
+        | ExprNode::BreakExpr => flow(node, refused, kind),
+        ExprNode::CallExpr
+        | ExprNode::MacroExpr
+        | ExprNode::PathExpr
+        | ExprNode::ParenExpr
+        | ExprNode::RangeExpr => plain(node, refused, kind),
+        ExprNode::LetExpr | ExprNode::MatchExpr => branching(node, refused, kind),
+        ExprNode::PrefixExpr | ExprNode::BinExpr | ExprNode::IndexExpr | ExprNode::RefExpr =>
+            operation(node, refused, kind),
+        ExprNode::MethodCallExpr
+        | ExprNode::FieldExpr
+        | ExprNode::TupleExpr
+        | ExprNode::ArrayExpr => member(node, refused, kind),
+        ExprNode::ReturnExpr
+        | ExprNode::BecomeExpr
+        | ExprNode::YieldExpr
+        | ExprNode::YeetExpr
+        | ExprNode::AwaitExpr => leaving(node, refused, kind),
+        ExprNode::CastExpr
+        | ExprNode::RecordExpr
+        | ExprNode::OffsetOfExpr
+        | ExprNode::ClosureExpr => typed(node, refused, kind),
+        ExprNode::CfgPredExpr
+        | ExprNode::UnderscoreExpr
+        | ExprNode::IncludeBytesExpr
+        | ExprNode::AsmExpr
+        | ExprNode::FormatArgsExpr => partless(node, refused, kind),
     }
-    if let Some(expr) = plain(node, refused, kind) {
-        return Some(expr);
-    }
-    if let Some(expr) = branching(node, refused, kind) {
-        return Some(expr);
-    }
-    if let Some(expr) = operation(node, refused, kind) {
-        return Some(expr);
-    }
-    if let Some(expr) = member(node, refused, kind) {
-        return Some(expr);
-    }
-    if let Some(expr) = leaving(node, refused, kind) {
-        return Some(expr);
-    }
-    if let Some(expr) = typed(node, refused, kind) {
-        return Some(expr);
-    }
-    partless(node, refused, kind)
 }
 
 /// A path, or what stands beside a name.
@@ -116,10 +128,10 @@ fn of_path_part<F: Fields>(node: &F, refused: &mut bool, kind: PathNode) -> Opti
     requires { F.can node.now }
     ensures { Kept refused.old refused.new (result ≡ spec.of_path_part (F.here node.now) kind) }
 {
-    if let Some(part) = of_path(node, refused, kind) {
-        return Some(part);
+    match kind {
+        PathNode::Path | PathNode::PathSegment => of_path(node, refused, kind),
+        _ => of_args(node, refused, kind),
     }
-    of_args(node, refused, kind)
 }
 
 /// A part of anything else.
@@ -128,25 +140,27 @@ fn of_part<F: Fields>(node: &F, refused: &mut bool, kind: PartNode) -> Option<An
     requires { F.can node.now }
     ensures { Kept refused.old refused.new (result ≡ spec.of_part (F.here node.now) kind) }
 {
-    if let Some(part) = of_bound(node, refused, kind) {
-        return Some(AnyPart::Type_(part));
+    match kind {
+        PartNode::TypeBound | PartNode::ForBinder | PartNode::RetType => Some(AnyPart::Type_(
+            of_bound(node, refused, kind)?,
+        )),
+        PartNode::MatchArm | PartNode::Guard | PartNode::LetElse => Some(AnyPart::Code(of_branch(
+            node, refused, kind,
+        )?)),
+        PartNode::RecordExprFieldList | PartNode::RecordExprField => Some(AnyPart::Code(of_record(
+            node, refused, kind,
+        )?)),
+        PartNode::MacroCall | PartNode::MacroStmts => Some(AnyPart::Code(of_macro(
+            node, refused, kind,
+        )?)),
+        PartNode::RecordPatField => Some(AnyPart::Pat(of_pat_field(node, refused, kind)?)),
+        PartNode::Param | PartNode::SelfParam | PartNode::ParamList => Some(AnyPart::Param(of_param(
+            node, refused, kind,
+        )?)),
+        PartNode::Label | PartNode::Lifetime | PartNode::Name => Some(AnyPart::Name(other(
+            node, refused, kind,
+        )?)),
     }
-    if let Some(part) = of_branch(node, refused, kind) {
-        return Some(AnyPart::Code(part));
-    }
-    if let Some(part) = of_record(node, refused, kind) {
-        return Some(AnyPart::Code(part));
-    }
-    if let Some(part) = of_macro(node, refused, kind) {
-        return Some(AnyPart::Code(part));
-    }
-    if let Some(part) = of_pat_field(node, refused, kind) {
-        return Some(AnyPart::Pat(part));
-    }
-    if let Some(part) = of_param(node, refused, kind) {
-        return Some(AnyPart::Param(part));
-    }
-    Some(AnyPart::Name(other(node, refused, kind)?))
 }
 
 /// An `if`, as a part.
