@@ -166,7 +166,6 @@ many_starts (v ∷ vs) n = ap suc (many_starts vs (n + length (pairs_of (view v)
 pub record Begins (vs : List Value) (n i : ℕ) (v : Value) (d : ℕ) : Type 0 where
   pub past : ℕ
   pub is : get_or (starts_from n (items_view vs)) i d ≡ n + past
-  pub there : past ≤ length (all_pairs (items_view vs))
   pub more : List Named
   pub beside : drop past (all_pairs (items_view vs)) ≡ pairs_of (view v) ++ more
 
@@ -175,7 +174,6 @@ begins [] n i v d within is = absurd (omega arith)
 begins (w ∷ vs) n zero v d within is = record {
   past = 0;
   is = omega arith;
-  there = omega arith;
   more = all_pairs (items_view vs);
   beside = ap (λ x. pairs_of (view x) ++ all_pairs (items_view vs)) (sym is);
 }
@@ -186,19 +184,33 @@ begins (w ∷ vs) n (suc i) v d within is =
     record {
       past = length own + b.past;
       is = omega (arith, b.is);
-      there = omega (arith, b.there, length-append own rest);
       more = b.more;
       beside = sym (drop-drop b.past (length own) (own ++ rest)) ∙ ap (drop b.past) (drop-append_seam own rest) ∙ b.beside;
     }
 
+start_within : (vs : List Value) (n i d : ℕ) → i < length vs
+    → get_or (starts_from n (items_view vs)) i d ≤ n + length (all_pairs (items_view vs))
+start_within [] n i d within = absurd (omega arith)
+start_within (w ∷ vs) n zero d within = omega arith
+start_within (w ∷ vs) n (suc i) d within =
+    let own = pairs_of (view w) in
+    omega (arith, start_within vs (n + length own) i d (omega arith), length-append own (all_pairs (items_view vs)))
+
+-- such a place is among the members
+pub start_among : (vs : List Value) (ms : List Member) (starts : List ℕ) (i : ℕ) → i < length vs → pairs ms ≡ all_pairs (items_view vs)
+    → starts ≡ starts_from 0 (items_view vs) → get_or starts i 0 ≤ length ms
+start_among vs ms starts i within all begin =
+    let many : length (pairs ms) ≡ length ms = length-map ms pair_of in
+    omega (arith, ap (λ xs. get_or xs i 0) begin, start_within vs 0 i 0 within, many, ap length all)
+
 -- the members from such a place on
-pub from_start : (vs : List Value) (ms : List Member) (i : ℕ) (v : Value) (start : ℕ) → i < length vs → v ≡ get_or vs i v
-    → pairs ms ≡ all_pairs (items_view vs) → start ≡ get_or (starts_from 0 (items_view vs)) i 0
-    → (start ≤ length ms) × ((more : List Named) × (pairs (drop start ms) ≡ pairs_of (view v) ++ more))
-from_start vs ms i v start within is all begin =
+pub from_start : (vs : List Value) (ms : List Member) (starts : List ℕ) (i : ℕ) (v : Value) → i < length vs → v ≡ get_or vs i v
+    → pairs ms ≡ all_pairs (items_view vs) → starts ≡ starts_from 0 (items_view vs)
+    → (more : List Named) × (pairs (drop (get_or starts i 0) ms) ≡ pairs_of (view v) ++ more)
+from_start vs ms starts i v within is all begin =
     let b = begins vs 0 i v 0 within is in
-    let same : start ≡ b.past = omega (arith, begin, b.is) in
+    let start = get_or starts i 0 in
+    let same : start ≡ b.past = omega (arith, ap (λ xs. get_or xs i 0) begin, b.is) in
     let beside : drop start (pairs ms) ≡ pairs_of (view v) ++ b.more
     = ap (λ k. drop k (pairs ms)) same ∙ ap (drop b.past) all ∙ b.beside in
-    let many : length (pairs ms) ≡ length ms = length-map ms pair_of in
-    (omega (arith, same, b.there, many, ap length all), (b.more, sym (drop-map pair_of start ms) ∙ beside))
+    (b.more, sym (drop-map pair_of start ms) ∙ beside)

@@ -1,7 +1,6 @@
-use Rattle.std.proofs.Common.{◌≡◌, ◌∙◌, ◌++◌, ap, arith, get_or, length}
-use Rattle.json_faults.specs.Members.{pairs, pairs_of, starts_from}
-use Rattle.serde_json.specs.View.{view}
-use Rattle.json_faults.proofs.Sides.{from_start, many_starts}
+use Rattle.std.proofs.Common.{◌∙◌, ap, arith, length}
+use Rattle.json_faults.specs.Members.{pairs}
+use Rattle.json_faults.proofs.Sides.{from_start, many_starts, start_among}
 use Rattle.json_faults.proofs.members.NodeList.at.Goals as goal
 
 pub bounds-self-at : goal.bounds-self-at
@@ -10,15 +9,11 @@ bounds-self-at c = omega (arith, c.if-at-self.false, ap length c.requires.starts
 pub split_at-requires : goal.split_at-requires
 split_at-requires c =
     let list = c.args.self.now in
-    let found = from_start list.nodes.now list.members.now c.args.at (get_or list.nodes.now c.args.at ?) (get_or list.starts.now c.args.at 0)
-    c.if-at-self.false ? c.requires.members (ap (λ xs. get_or xs c.args.at 0) c.requires.starts) in
-    found.0
+    start_among list.nodes.now list.members.now list.starts.now c.args.at c.if-at-self.false c.requires.members c.requires.starts
 
 pub own_of-requires : goal.own_of-requires
 own_of-requires c =
     let list = c.args.self.now in
-    let node = c.index-self-at.result in
-    let start = get_or list.starts.now c.args.at 0 in
-    let found = from_start list.nodes.now list.members.now c.args.at node start
-    c.if-at-self.false c.index-self-at.is c.requires.members (ap (λ xs. get_or xs c.args.at 0) c.requires.starts) in
-    (found.1.0, ap pairs c.split_at.ensures.back ∙ found.1.1)
+    let found = from_start list.nodes.now list.members.now list.starts.now c.args.at c.index-self-at.result c.if-at-self.false
+    c.index-self-at.is c.requires.members c.requires.starts in
+    (found.0, ap pairs c.split_at.ensures.back ∙ found.1)
