@@ -1,4 +1,4 @@
-use Rattle.std.proofs.Common.{◌≡◌, ◌∙◌, ap, arith, sym, take}
+use Rattle.std.proofs.Common.{◌∙◌, ap, arith, take}
 use Rattle.json_faults.specs.Members.{pairs, pairs_of}
 use Rattle.serde_json.specs.View.{view}
 use Rattle.json_faults.proofs.Sides.{enough_left, front}

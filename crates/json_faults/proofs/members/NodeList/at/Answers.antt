@@ -1,5 +1,6 @@
-use Rattle.std.proofs.Common.{◌∙◌, ap, arith, length}
-use Rattle.json_faults.specs.Members.{pairs}
+use Rattle.std.proofs.Common.{◌∙◌, ◌++◌, ap, arith, length}
+use Rattle.serde_json.specs.View.{view}
+use Rattle.json_faults.specs.Members.{pairs, pairs_of}
 use Rattle.json_faults.proofs.Sides.{from_start, many_starts, start_among}
 use Rattle.json_faults.proofs.members.NodeList.at.Goals as goal
 
@@ -16,4 +17,5 @@ own_of-requires c =
     let list = c.args.self.now in
     let found = from_start list.nodes.now list.members.now list.starts.now c.args.at c.index-self-at.result c.if-at-self.false
     c.index-self-at.is c.requires.members c.requires.starts in
-    (found.0, ap pairs c.split_at.ensures.back ∙ found.1)
+    let same = ap (λ v. pairs_of (view v) ++ found.0) c.index-self-at.is in
+    (found.0, ap pairs c.split_at.ensures.back ∙ found.1 ∙ same)
