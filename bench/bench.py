@@ -13,8 +13,10 @@ alone. A peak below some 16 MB is that of this script, which starts the program.
 """
 
 import argparse
+import itertools
 import json
 import os
+import struct
 import subprocess
 import sys
 import tempfile
@@ -213,6 +215,40 @@ def absences(size):
         nodes.all[fields]["fields"].append(nodes.add("IdentPat", name="x%d" % len(nodes.all)))
     while len(nodes.all) < size:
         nodes.all[pats]["pats"].append(nodes.add("WildcardPat"))
+    return nodes
+
+
+def alike(count):
+    """So many names that a hash without a secret, the one that the toolchain's maps have by default, takes to one number.
+
+    The hash multiplies two numbers of 8 bytes at a time, the first of which is joined by xor with what came before. Where
+    the first is that very number the product is 0, and the second doesn't matter.
+    """
+    mask = (1 << 64) - 1
+    factor = 0x9E37_79B9_7F4A_7C15
+
+    def fold(left, right):
+        product = left * right
+        return product & mask ^ product >> 64
+
+    # The number of the kind of the name is hashed first, then the text. It has six parts of 8 bytes.
+    begun = fold(0x243F_6A88_85A3_08D3, factor ^ 16) + 48 & mask
+    for tried in itertools.count():
+        first = b"%016d" % tried
+        left, right = struct.unpack("<2Q", first)
+        try:
+            third = struct.pack("<Q", fold(left ^ begun, right ^ factor)).decode()
+        except UnicodeDecodeError:
+            continue
+        return [first.decode() + third + "%08d" % number + "0" * 16 for number in range(count)]
+
+
+def collisions(size):
+    """One tuple of very many names, all of which a hash without a secret takes to one number."""
+    nodes = Nodes()
+    fields = nodes.add("TuplePat", fields=[])
+    for name in alike(size - 1):
+        nodes.all[fields]["fields"].append(nodes.add("IdentPat", name=name))
     return nodes
 
 
@@ -611,6 +647,7 @@ SHAPES = {
     "nested": nested,
     "alternatives": alternatives,
     "absences": absences,
+    "collisions": collisions,
     "arms": arms,
     "alias": alias,
     "alias_uses": alias_uses,
@@ -631,6 +668,7 @@ MODES = {
     "nested": "type",
     "alternatives": "pat",
     "absences": "pat",
+    "collisions": "pat",
     "alias": "fn",
     "alias_uses": "fn",
     "alias_names": "fn",

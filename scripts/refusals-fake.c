@@ -1,5 +1,6 @@
 // The program of refusals-test. It copies its input and asks for memory before
 // each byte; what it does where that is refused is the word that it is given.
+// It has tests, too, which ask twice.
 #include <stdlib.h>
 #include <string.h>
 #include <unistd.h>
@@ -31,10 +32,27 @@ static int refuse(size_t at) {
     return is("fails") ? 2 : 3;
 }
 
+// A test notices a refusal and passes, fails at the second one, or doesn't pass at all.
+static int test(void) {
+    for (int at = 0; at < 2; at++) {
+        char *volatile byte = malloc(1);
+        if (byte == NULL && at > 0 && is("calls::fails")) return 101;
+        free(byte);
+    }
+    if (is("calls::never")) return 101;
+    say(STDOUT_FILENO, "\ntest result: ok\n");
+    return 0;
+}
+
 int main(int count, char **words) {
     char text[100];
     size_t length = 0;
     word = count == 2 ? words[1] : "";
+    if (is("--list")) {
+        say(STDOUT_FILENO, "calls::passes: test\ncalls::fails: test\ncalls::never: test\nothers::fails: test\ntests: 4\n");
+        return 0;
+    }
+    if (strncmp(word, "calls::", 7) == 0) return test();
     for (;;) {
         // The compiler would leave out a request that nobody looks at.
         char *volatile byte = is("asks_nothing") ? text : malloc(1);

@@ -4,7 +4,9 @@
 //
 // LIBRARY is refuse.c as a library, and each line of ROWS is the path of a row
 // without an ending. Answers are compared here, out of the program's reach. A
-// row is given up where nothing is heard of it for so many seconds.
+// row is given up where nothing is heard of it for so many seconds. One with the
+// ending `.test` is a test, which itself says whether a refusal is answered as it
+// has to be: it ends as it does where none is.
 #define _GNU_SOURCE
 #include <errno.h>
 #include <fcntl.h>
@@ -38,7 +40,7 @@ struct row {
     char *words[MOST_WORDS + 2];
     int input, output;
     struct text mode, out, err;
-    int status;
+    int status, is_test;
 };
 
 // A worker's files for what a program writes.
@@ -122,6 +124,12 @@ static int output_of(const char *path, const struct worker *worker) {
     return named.bytes != NULL ? open_named(named, O_WRONLY | O_CREAT | O_TRUNC) : worker->out;
 }
 
+static int has_file(const char *path, const char *ending) {
+    struct text text = contents(path, ending);
+    free(text.bytes);
+    return text.bytes != NULL;
+}
+
 static int status_wanted(const char *path) {
     struct text text = contents(path, ".status");
     int status = text.bytes == NULL ? 0 : atoi(text.bytes);
@@ -148,6 +156,7 @@ static struct row read_row(const char *path, const struct worker *worker) {
         .input = input_of(path),
         .output = output_of(path, worker),
         .status = status_wanted(path),
+        .is_test = has_file(path, ".test"),
     };
     if (row.mode.bytes == NULL) fail(path);
     split_words(&row);
@@ -180,8 +189,9 @@ static int is_own_answer(const struct worker *worker, const struct row *row, int
         && holds(worker->err, row->err.bytes, row->err.length);
 }
 
-static int is_refusal(const struct worker *worker, int status) {
+static int is_refusal(const struct worker *worker, const struct row *row, int status) {
     static const char memory[] = "refused: memory\n";
+    if (row->is_test) return is_own_answer(worker, row, status);
     return status == 3 && holds(worker->out, NULL, 0) && holds(worker->err, memory, sizeof memory - 1);
 }
 
@@ -190,7 +200,7 @@ static int status_of(int status) { return WIFSIGNALED(status) ? 128 + WTERMSIG(s
 
 static void judge(const struct worker *worker, const struct row *row, struct seen *seen, int status) {
     seen->runs += 1;
-    if (seen->run_left && is_refusal(worker, status)) {
+    if (seen->run_left && is_refusal(worker, row, status)) {
         seen->refused += 1;
     } else if (!seen->run_left || !is_own_answer(worker, row, status)) {
         tell_wrong(worker->err, "WRONG %s: status %d with request %lu refused\n", row->path, status, seen->runs);

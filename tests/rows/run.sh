@@ -61,12 +61,13 @@ run_row() {
     diff "$want_err" "$work/err" | sed 's/^/  /'
 }
 
-# Runs the checks of a folder whose documents are made.
-run_made() {
-    sh "$1" "$tool" >"$work/made"
-    passed=$((passed + $(grep -c '^passed' "$work/made")))
-    failed=$((failed + $(grep -vc '^passed' "$work/made")))
-    grep -v '^passed' "$work/made"
+# Runs the rows in a folder.
+run_rows() {
+    for mode in "$1"/*.mode; do
+        if [ -f "$mode" ]; then
+            run_row "${mode%.mode}"
+        fi
+    done
 }
 
 for folder in "$@"; do
@@ -76,12 +77,13 @@ for folder in "$@"; do
         echo "run.sh: no folder $folder" >&2
         exit 2
     fi
-    for mode in "$folder"/*.mode; do
-        if [ -f "$mode" ]; then
-            run_row "${mode%.mode}"
-        fi
-    done
-    [ -f "$folder/made.sh" ] && run_made "$folder/made.sh"
+    run_rows "$folder"
+    if [ -f "$folder/made.sh" ]; then
+        rm -rf "$work/made"
+        mkdir "$work/made"
+        sh "$folder/made.sh" "$work/made"
+        run_rows "$work/made"
+    fi
 done
 
 echo "$passed passed, $failed failed"

@@ -6,7 +6,9 @@ use Rattle.std.proofs.lemmas.Option.{slice_get_within, slice_get_read, get_or_fr
 use Rattle.std.proofs.lemmas.List.{get_or_push}
 use Rattle.std.proofs.Math.ListN.{get_or-append}
 use Rattle.std.proofs.lemmas.Bool.{lt-ltb, ltb-true}
-use Rattle.std.proofs.lemmas.Bool.Decides.{eqb_tells}
+use Rattle.std.proofs.lemmas.Bool.Decides.{eqb_tells, nat_tests}
+use Rattle.std.specs.Ordering.{is_eq, nat_cmp}
+use Rattle.std.specs.declared.cmp.Ordering.TheVariants.{Less, Equal, Greater}
 use Rattle.hir_binding.specs.declared.binding.Mark.TheVariants.{Missing, Unmarked, Marked}
 use Rattle.hir_binding.specs.Steps.{unmark}
 use Rattle.hir_binding.specs.Seen.{mark_at}
@@ -38,6 +40,19 @@ pushed_before xs y p q e =
     slice_get_read (xs ++ y ∷ []) (length (xs ++ y ∷ [])) p q refl (omega (arith, length-append xs (y ∷ [])))
     (sym (get_or-append xs (y ∷ []) q p h ∙ get_or_from_slice_get xs p q q e))
 
+-- numbers that compare as equal are one
+differ : (x y : ℕ) → x < y → nat_eq x y ≡ false
+differ x y h = grind (arith, nat_tests)
+
+equal_only : (less equal : Bool) → (less ≡ true → equal ≡ false) → is_eq (cond less Less (cond equal Equal Greater)) ≡ equal
+equal_only true true h = let e : true ≡ false = h refl in cc
+equal_only true false h = refl
+equal_only false true h = refl
+equal_only false false h = refl
+
+pub same_number : (x y : ℕ) → is_eq (nat_cmp x y) ≡ nat_eq x y
+same_number x y = equal_only (nat_lt x y) (nat_eq x y) (λ t. differ x y (ltb-true x y t))
+
 -- a name that is marked last at the end of the places
 pub placed_push : (xs : List ℕ) (name q p : ℕ) (old new : Option ℕ) → new ≡ cond (nat_eq name q) (Some (length xs)) old →
     (old ≡ Some p → slice_get xs p ≡ Some q) → new ≡ Some p → slice_get (xs ++ name ∷ []) p ≡ Some q
@@ -56,8 +71,10 @@ pub mark_begun : (xs : List ℕ) (n previous start k : ℕ) (o : Option ℕ) →
 mark_begun xs n previous start k o e g h = rw e (unmark_all xs previous start k o g h)
 
 pub placed_last : (xs ys : List ℕ) (name place q p : ℕ) (old new : Option ℕ) → ys ≡ xs ++ name ∷ [] → place ≡ length xs →
-    new ≡ cond (nat_eq name q) (Some place) old → (old ≡ Some p → slice_get xs p ≡ Some q) → new ≡ Some p → slice_get ys p ≡ Some q
-placed_last xs ys name place q p old new e l u h n = rw e (placed_push xs name q p old new (rw l at u) h n)
+    new ≡ cond (is_eq (nat_cmp name q)) (Some place) old → (old ≡ Some p → slice_get xs p ≡ Some q) → new ≡ Some p
+    → slice_get ys p ≡ Some q
+placed_last xs ys name place q p old new e l u h n =
+    rw e (placed_push xs name q p old new (rw (l, same_number name q) at u) h n)
 
 pub placed_still : (xs ys : List ℕ) (name p q : ℕ) → ys ≡ xs ++ name ∷ [] → slice_get xs p ≡ Some q → slice_get ys p ≡ Some q
 placed_still xs ys name p q e h = rw e (pushed_before xs name p q h)

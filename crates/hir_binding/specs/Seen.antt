@@ -1,6 +1,7 @@
 -- What a set of seen names says of one name.
-use Rattle.std.specs.Prelude.{ℕ, Bool, false, Option, Some, None, if◌then◌else◌, nat_eq, nat_lt}
-use Rattle.std.specs.HashMap.{get}
+use Rattle.std.specs.Prelude.{ℕ, Bool, false, Option, Some, None, if◌then◌else◌, nat_lt}
+use Rattle.std.specs.BTreeMap.{get}
+use Rattle.std.specs.Ordering.{nat_cmp}
 use Rattle.hir_binding.specs.declared.binding.Mark.{Mark}
 use Rattle.hir_binding.specs.declared.binding.Mark.TheVariants.{Unseen, Missing, Unmarked, Marked}
 use Rattle.hir_binding.specs.declared.seen.SeenNames.{SeenNames}
@@ -13,7 +14,7 @@ mark_at previous start (Some place) =
     if nat_lt place previous then Missing else (if nat_lt place start then Unmarked else Marked)
 
 abbrev pub mark_of : SeenNames → ℕ → Mark
-mark_of s k = mark_at s.previous s.start (get nat_eq s.last k)
+mark_of s k = mark_at s.previous s.start (get nat_cmp s.last k)
 
 abbrev pub set_of : SeenNames → ℕ → Set
 set_of s k = record { mark = mark_of s k; later = s.later }

@@ -1,11 +1,12 @@
 //! Sets of seen names.
 
 ghost use Rattle.std.specs.Prelude.{◌≡◌, ◌≤◌, ◌<◌, ◌↔◌, ℕ, Some, nat_eq, vec_len, slice_get, OnOk, OnErr, false, true};
-ghost use Rattle.std.specs.HashMap.{get};
+ghost use Rattle.std.specs.BTreeMap.{get};
+ghost use Rattle.std.specs.Ordering.{nat_cmp};
 
 use crate::binding::Mark;
 use std::alloc::{AllocError, Global};
-use std::collections::HashMap;
+use std::collections::BTreeMap;
 
 /// The names that a top pattern or an or-pattern has used so far. Those of the alternative at hand are marked.
 pub struct SeenNames {
@@ -17,11 +18,11 @@ pub struct SeenNames {
     start: usize,
     /// Whether it is a later one.
     later: bool,
-    /// Where each name was marked last.
-    last: HashMap<usize, usize>,
+    /// Where each name was marked last. A document picks which names these are, so they are found by their order.
+    last: BTreeMap<usize, usize>,
     ghost in_turn: { previous ≤ start },
     ghost begun: { start ≤ vec_len marked },
-    ghost placed: { (k p : ℕ) → get nat_eq last k ≡ Some p → slice_get marked.items p ≡ Some k },
+    ghost placed: { (k p : ℕ) → get nat_cmp last k ≡ Some p → slice_get marked.items p ≡ Some k },
 }
 
 impl Drop for SeenNames {
@@ -49,7 +50,7 @@ impl SeenNames {
             previous: 0,
             start: 0,
             later: false,
-            last: HashMap::new(alloc),
+            last: BTreeMap::new(alloc),
         }
     }
 
@@ -79,6 +80,7 @@ impl SeenNames {
     }
 
     /// Marks the name.
+    #[tactic(auto, using(crate::proofs::Places::same_number))]
     pub fn mark(&mut self, name: usize) -> Result<(), AllocError>
         ensures ok { OnOk result ((k : ℕ) → set_of self.new k ≡ marked_if (nat_eq name k) (set_of self.old k)) }
         ensures err { OnErr result ((k : ℕ) → set_of self.new k ≡ set_of self.old k) }
@@ -124,7 +126,7 @@ impl SeenNames {
     /// The name that was marked at this place for the last time.
     pub fn last_marked_at(&self, place: usize) -> Option<usize>
         requires { place < vec_len self.now.marked }
-        ensures { (k : ℕ) → (result ≡ Some k) ↔ (get nat_eq self.now.last k ≡ Some place) }
+        ensures { (k : ℕ) → (result ≡ Some k) ↔ (get nat_cmp self.now.last k ≡ Some place) }
     {
         let name = self.marked[place];
         match self.last.get(&name) {

@@ -6,7 +6,9 @@ ghost use Rattle.hir_item_noted.specs.Laws.{ItemsMake, ItemsNote};
 ghost use Rattle.hir_item_noted.specs.Words.{SameWords};
 
 /// Lowering an item notes its parameters in the order of their numbers, by name or as those of `impl`s, its lifetime parameters, and the
-/// names of lifetimes by where they count, in the order in which its parts are read.
+/// names of lifetimes by where they count, in the order in which its parts are read. Of each parameter the default of a type and the type
+/// of a constant read back as they are written, the default of a constant came from the node of the written one, and the bodies in them do
+/// what the written ones do; of each that is a type the type that it is, is stored, and bears its number.
 pub fn items_note()
     ensures { ItemsNote }
 {}

@@ -16,11 +16,11 @@ use Rattle.hir_one_result.proofs.Rooms.{Takes}
 use Rattle.hir_one_result.proofs.Tellings.{takes_of}
 use Rattle.hir_one_result.proofs.Took.{Grew, Room, Took}
 use Rattle.hir_one_result.proofs.TreeRooms.{body_takes, part_takes, path_tells, type_part_takes}
-use Rattle.hir_told.specs.Bodies.{GradingBodies}
+use Rattle.hir_one_result.specs.Bodies.{GradingBodies}
 use Rattle.hir_told.specs.Silent.{silent}
-use Rattle.hir_told.proofs.Bodies.{GradedBodies, body_graded}
-use Rattle.hir_told.proofs.Graded.{Graded}
-use Rattle.hir_told.proofs.Tree.{expr_part_graded, part_graded, path_graded}
+use Rattle.hir_one_result.proofs.GradedBodies.{GradedBodies, body_graded}
+use Rattle.hir_one_result.proofs.Graded.{Graded}
+use Rattle.hir_one_result.proofs.GradedTree.{expr_part_graded, part_graded, path_graded}
 use Rattle.hir_item_result.specs.Exceeding.{FitsBehind, FitsIn, HadRoom, HasRoom, InLimits, RoomIsThere}
 use Rattle.hir_item_result.proofs.Limits.{Limited, LimitsTo, limited_binding, limited_block, limited_close, limited_define, limited_expr}
 use Rattle.hir_item_result.proofs.Limits.{limited_jump, limited_lifetime, limited_made, limited_made_pat, limited_note_down, limited_number}

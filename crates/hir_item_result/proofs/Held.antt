@@ -162,7 +162,7 @@ input_holds r xs = some_pushed {ids = a_type} {q = λ ts. steps.report_each xs >
     (λ ts. behind_reports xs ts) []
 
 -- the path of a coroutine's trait holds what it gives
-path_holds_given : (r : Inners) (k : CoroutineKind) (given : TypeRefId)
+pub path_holds_given : (r : Inners) (k : CoroutineKind) (given : TypeRefId)
     → of_type r (ty.Path (steps.coroutine_path k given)) ≡ r.type given
 path_holds_given r k given =
     let b = of_binding (steps.given_name k) None (Some given) [] in

@@ -18,7 +18,11 @@ pub mod Data
 pub mod Held
 pub mod Answered
 pub mod Later
+pub mod Costs
 pub mod Counting
-pub mod NamedSteps
+pub mod CountedSteps
+pub mod CountedItems
 pub mod Once
+pub mod Inside
+pub mod HeldApart
 pub mod Apart

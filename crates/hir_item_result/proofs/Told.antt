@@ -19,18 +19,17 @@ use Rattle.hir_steps.specs.Keeps.{Paired}
 use Rattle.hir_steps.proofs.Aside.{aside_type}
 use Rattle.hir_read_back.proofs.Tree.{path_reads}
 use Rattle.hir_one_result.proofs.Telling.{Listing, tells_aside, tells_pure}
-use Rattle.hir_one_result.proofs.TreeBlocks.{entered}
 use Rattle.hir_one_result.proofs.PathRooms.{option_seen}
 use Rattle.hir_told.specs.Expanded.{expansions}
-use Rattle.hir_told.specs.Grades.{grade_constant}
-use Rattle.hir_told.specs.Grading.{Grading, if_so}
-use Rattle.hir_told.specs.Laws.{blocks, faults}
+use Rattle.hir_one_result.specs.Grades.{grade_constant}
+use Rattle.hir_one_result.specs.Grading.{Grading, if_so}
+use Rattle.hir_one_result.specs.Lists.{blocks, faults}
 use Rattle.hir_told.proofs.AsExpansions.{expansions_graded}
-use Rattle.hir_told.proofs.AsTelling.{behind, reported, tells_graded}
-use Rattle.hir_told.proofs.Graded.{Graded, next}
-use Rattle.hir_told.proofs.ReadingBack.{PathFound}
-use Rattle.hir_told.proofs.Tree.{bound_graded, expr_part_graded, path_graded, type_graded}
-use Rattle.hir_told.proofs.TypeForms as forms
+use Rattle.hir_one_result.proofs.AsTelling.{behind, entered, reported, tells_graded}
+use Rattle.hir_one_result.proofs.Graded.{Graded, next}
+use Rattle.hir_one_result.proofs.ReadingBack.{PathFound}
+use Rattle.hir_one_result.proofs.GradedTree.{bound_graded, expr_part_graded, path_graded, type_graded}
+use Rattle.hir_one_result.proofs.GradedTypes as forms
 use Rattle.hir_item_result.specs.Parts as part
 use Rattle.hir_item_result.specs.Parts.{Part}
 use Rattle.hir_item_result.specs.Told.{grade_item, grade_item_part}

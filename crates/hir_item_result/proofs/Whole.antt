@@ -15,8 +15,7 @@ use Rattle.hir_one_result.proofs.Led.{leads_nowhere}
 use Rattle.hir_one_result.proofs.PatWays.{leads_back, targets_back}
 use Rattle.hir_one_result.proofs.Whole.{lead_back}
 use Rattle.hir_told.proofs.AsExpansions.{expansions_graded}
-use Rattle.hir_told.proofs.AsTelling.{reported, tells_graded}
-use Rattle.hir_one_result.proofs.TreeBlocks.{entered}
+use Rattle.hir_one_result.proofs.AsTelling.{entered, reported, tells_graded}
 use Rattle.hir_type_result.proofs.Behind.{ways_behind}
 use Rattle.hir_type_result.proofs.Named.{pats_once, types_came}
 use Rattle.hir_item_result.specs.ItemResult.{FirstResult, ItemResults}

@@ -9,7 +9,7 @@ use Rattle.hir_one_result.specs.Definitions.{DefinitionsAre}
 use Rattle.hir_one_result.specs.Leads.{Way, Covers, CoversBindings, CoversLabels, MapLeads, LeadBack, OwnersAre}
 use Rattle.hir_one_result.specs.Size.{calls_led, led_by, placed, sources_led, target_leads, targets_led}
 use Rattle.hir_told.specs.Expanded.{expansions}
-use Rattle.hir_told.specs.Laws.{blocks, faults}
+use Rattle.hir_one_result.specs.Lists.{blocks, faults}
 use Rattle.hir_type_result.specs.Named.{of_exprs, of_pats, of_pats_alone, of_types_alone}
 use Rattle.hir_type_result.specs.Pats.{of_types, pats_reached}
 use Rattle.hir_type_result.specs.Reached.{types_reached}
@@ -60,6 +60,7 @@ pub record ItemResult (store : Store) (source_map : SourceMap) (xs : List Part) 
   pub covers_bindings : CoversBindings ways 0 (length store.bindings)
   pub owner_ways : OwnersAre store.binding_owners ways
   pub leads : MapLeads source_map ways
+  -- of the entry functions `ReachesOnce` implies this: it says so of the same, together with all that is answered
   pub types_reached_once : (depth : ℕ) → length store.types ≤ depth → let l = of_types_alone (types_reached store.types depth) in
       Spread 0 (length store.types) (of_exprs l store.exprs ++ of_pats l store.pats)
   pub pats_reached_once : (depth : ℕ) → length store.pats ≤ depth → let l = of_pats_alone (pats_reached store.pats depth) in

@@ -12,3 +12,4 @@ pub mod Words
 pub mod Apart
 pub mod Numbers
 pub mod Once
+pub mod Inside

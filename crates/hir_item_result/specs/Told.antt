@@ -10,8 +10,8 @@ use Rattle.hir_one_result.specs.PathRoom.{whole_read}
 use Rattle.hir_one_result.specs.Leads.{Ways, No, ◌&◌}
 use Rattle.hir_one_result.specs.Stands.{BoundWays, Open, TypePartWays, WholeWays}
 use Rattle.hir_one_result.specs.StandsWhole.{ConstantWays}
-use Rattle.hir_told.specs.Grades.{grade_bound, grade_constant, grade_type, grade_whole}
-use Rattle.hir_told.specs.Grading.{Grading, if_so}
+use Rattle.hir_one_result.specs.Grades.{grade_bound, grade_constant, grade_type, grade_whole}
+use Rattle.hir_one_result.specs.Grading.{Grading, if_so}
 use Rattle.hir_item_result.specs.Parts as part
 use Rattle.hir_item_result.specs.Parts.{Part}
 

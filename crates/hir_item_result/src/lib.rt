@@ -6,6 +6,8 @@ ghost use Rattle.hir_item_result.specs.Answers.{AliasesRead, FunctionsRead, Impl
 ghost use Rattle.hir_item_result.specs.Apart.{ItemsApart};
 ghost use Rattle.hir_item_result.specs.Exceeding.{RoomIsThere};
 ghost use Rattle.hir_item_result.specs.Fits.{FittingItems, ItemsFit, RefusedItems};
+ghost use Rattle.hir_item_result.specs.Inside.{AliasesHoldOnce, FunctionsHoldOnce, GenericsHoldOnce, HeldApart, ImplsHoldOnce};
+ghost use Rattle.hir_item_result.specs.Inside.{TraitsHoldOnce, TwoDefaults};
 ghost use Rattle.hir_item_result.specs.ItemResult.{ItemResults};
 ghost use Rattle.hir_item_result.specs.Once.{AliasesOnce, FunctionsOnce, GenericsOnce, ImplsOnce, TraitsOnce};
 ghost use Rattle.hir_item_result.specs.Roots.{FirstItemRoots, ItemRoots};
@@ -68,6 +70,25 @@ pub fn answers_reach_once()
     ensures impls { ImplsOnce }
     ensures aliases { AliasesOnce }
     ensures functions { FunctionsOnce }
+{}
+
+/// The constants and the ends of ranges that are held by what an item is answered with, and by its parameters and predicates, reach
+/// expressions, and so does what one of those holds and doesn't run: each in one way only. So each is an expression of its own, as the
+/// defaults of two constant parameters are, and none stands in another one. Of what is asked of a parameter that an `impl` became nothing
+/// is said.
+pub fn answers_hold_once()
+    ensures generics { GenericsHoldOnce }
+    ensures traits { TraitsHoldOnce }
+    ensures impls { ImplsHoldOnce }
+    ensures aliases { AliasesHoldOnce }
+    ensures functions { FunctionsHoldOnce }
+{}
+
+/// Where each expression is reached in one way only by what is held, no two that are held are one. So the defaults of two constant
+/// parameters are two expressions, also where both are absent.
+pub fn held_are_apart()
+    ensures any { HeldApart }
+    ensures defaults { TwoDefaults }
 {}
 
 /// What stands in a description of what is answered for `Self`, for the names of a coroutine's trait and of what it gives, for the type

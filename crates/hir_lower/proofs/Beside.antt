@@ -1,7 +1,7 @@
 -- Beside the names of a path without a trait stands what is written behind their segments.
 use Rattle.std.proofs.Common.{◌≡◌, ◌∙◌, refl, sym, ap, subst, List, [], ◌∷◌, ◌++◌}
 use Rattle.std.proofs.Common.{Option, Some, None, Bool, true, false}
-use Rattle.std.specs.Prelude.{if◌then◌else◌, map, reverse, option_map, is_some, bytes_eq, codes}
+use Rattle.std.specs.Prelude.{if◌then◌else◌, map, reverse, is_some, bytes_eq, codes}
 use Rattle.std.proofs.lemmas.List.{reverse-append, reverse-reverse, map-append}
 use Rattle.hir_syntax.specs.declared.ast.Name.{Name as AstName}
 use Rattle.hir_syntax.specs.declared.ast.Path.{Path as AstPath, out-Path}
@@ -17,7 +17,7 @@ use Rattle.hir_env.specs.Answered.{OptionType, SegmentArgs, OptionArgs, OptionPa
 use Rattle.hir_env.specs.TypeLayers.{PathTypeReading}
 use Rattle.hir_env.specs.LocalPaths.{at_local_root, behind_root, is_bare, local_root}
 use Rattle.hir_env.specs.PathNames.{mod_path_of}
-use Rattle.hir_env.specs.Paths.{alias_at, called_path, context_at, crate_root_at, inside_projection, kinded_segment, qualified_segment}
+use Rattle.hir_env.specs.Paths.{alias_at, called_path, context_at, crate_root_at, kinded_segment, qualified_segment}
 use Rattle.hir_env.specs.Paths.{with_alias}
 use Rattle.hir_env.specs.Whole.{answered_path, answered_segment, path_part, segments_part, first_part, rest_part, path_type_part}
 use Rattle.hir_env.specs.Whole.{into, reader}
@@ -27,28 +27,24 @@ use Rattle.hir_data.specs.Data.{ArgumentsData, BindingsData, OptionArgsData, no_
 use Rattle.hir_data.specs.Rule as rule
 use Rattle.hir_data.specs.Rule.{Named, PathRead, Item, ends, ended, read, refused, names_of, read_of, path_read, data_of, names_data}
 use Rattle.hir_data.specs.Rule.{first_without_self, last_without_self, without_self}
-use Rattle.hir_data.specs.Written.{what, items, segments, path_of, written_path, list_data, parens_data, notation, first_list, yielded}
+use Rattle.hir_data.specs.Written.{what, items, segments, path_of, list_data, parens_data, notation, first_list, yielded}
 use Rattle.hir_data.specs.Written.{segment_args_data, arguments_of, bindings_of}
-use Rattle.hir_data.specs.Segments.{name_borne, segment_name, named_among, named_segments, trait_of, first_trait, replaced, all_present}
+use Rattle.hir_data.specs.Segments.{name_borne, segment_name, named_among, trait_of, first_trait, all_present}
 use Rattle.hir_data.specs.Segments.{none_missing, Whole}
-use Rattle.hir_lower.specs.Beside.{beside_names, beside, behind_name, args_behind}
+use Rattle.hir_lower.specs.Beside.{all_behind, args_behind, behind_name, in_projection}
 
 abbrev holds : Bool → Type 0
 holds true = Unit {0}
 holds false = ⊥
 
-clash : true ≡ false → ⊥
+pub clash : true ≡ false → ⊥
 clash h = subst holds h tt
 
-no_some : {A : Type 0} {x : A} → None ≡ Some x → ⊥
+pub no_some : {A : Type 0} {x : A} → None ≡ Some x → ⊥
 no_some h = clash (sym (ap is_some h))
 
-abbrev args_at : Named → OptionArgsData
+abbrev pub args_at : Named → OptionArgsData
 args_at n = n.args
-
--- what stands beside it once an argument for `Self` has gone
-abbrev left_at : Named → OptionArgsData
-left_at n = without_self n.args
 
 -- ---- no argument for `Self` is written
 
@@ -95,117 +91,105 @@ abbrev borne : Bool → OptionArgsData → List OptionArgsData
 borne false a = []
 borne true a = a ∷ []
 
--- what a segment has beside its names, as it stands and without an argument for `Self`
-module _ (f : Named → OptionArgsData) (same : (n : Named) → without_self n.args ≡ n.args → f n ≡ n.args) where
-  abbrev said : Bool → Segment → List OptionArgsData
-  said first s = map f (names_of (what first s))
+-- what a segment has beside its names
+abbrev said : Bool → Segment → List OptionArgsData
+said first s = map args_at (names_of (what first s))
 
-  named_said : (n : AstName) (a : SegmentArgs) → f (record { name = name.Text n.t; args = segment_args_data a }) ∷ []
-      ≡ segment_args_data a ∷ []
-  named_said n a = ap (λ x. x ∷ []) (same (record { name = name.Text n.t; args = segment_args_data a }) (segment_stays a))
+abbrev named_or_root : Spot → AstName → SegmentArgs → Bool → Segment
+named_or_root at n a b =
+    if b then tree.dollar_crate_segment (crate_root_at at.answers at.place n.id) else tree.name_segment (name.Text n.t) tt a
 
-  bare_said : f (record { name = name.Text (codes "Self"); args = no_args }) ∷ [] ≡ no_args ∷ []
-  bare_said = ap (λ x. x ∷ []) (same (record { name = name.Text (codes "Self"); args = no_args }) refl)
+dollar_said : (at : Spot) (first : Bool) (n : AstName) (a : SegmentArgs) (b : Bool)
+    → said first (named_or_root at n a b)
+    ≡ borne (is_some (if b then None else Some (name.Text n.t))) (behind_name (named_or_root at n a b))
+dollar_said at false n a true = refl
+dollar_said at true n a true = refl
+dollar_said at first n a false = refl
 
-  abbrev named_or_root : Spot → AstName → SegmentArgs → Bool → Segment
-  named_or_root at n a b =
-      if b then tree.dollar_crate_segment (crate_root_at at.answers at.place n.id) else tree.name_segment (name.Text n.t) tt a
+qualified_behind : (ty : OptionType) (t : Option PathTypeReading) → said false (qualified_segment ty t) ≡ []
+qualified_behind tree.no_type t = refl
+qualified_behind (tree.some_type ty) None = refl
+qualified_behind (tree.some_type ty) (Some t) = refl
 
-  dollar_said : (at : Spot) (first : Bool) (n : AstName) (a : SegmentArgs) (b : Bool)
-      → said first (named_or_root at n a b)
-      ≡ borne (is_some (if b then None else Some (name.Text n.t))) (behind_name (named_or_root at n a b))
-  dollar_said at false n a true = refl
-  dollar_said at true n a true = refl
-  dollar_said at first n a false = named_said n a
+said_behind : (at : Spot) (k : Option SegmentKind) (n : Option AstName) (a : SegmentArgs) (ty : OptionType) (t : Option PathTypeReading)
+    → let s = kinded_segment at.answers at.place k n a ty t in said false s ≡ borne (is_some (name_borne k n)) (behind_name s)
+said_behind at None n a ty t = refl
+said_behind at (Some word.Name) None a ty t = refl
+said_behind at (Some word.Name) (Some n) a ty t = dollar_said at false n a (bytes_eq n.t (codes "$crate"))
+said_behind at (Some word.SelfKw) n a ty t = refl
+said_behind at (Some word.CrateKw) n a ty t = refl
+said_behind at (Some word.SuperKw) n a ty t = refl
+said_behind at (Some word.SelfTypeKw) n a ty t = refl
+said_behind at (Some word.Qualified) n a ty t = qualified_behind ty t
 
-  qualified_behind : (ty : OptionType) (t : Option PathTypeReading) → said false (qualified_segment ty t) ≡ []
-  qualified_behind tree.no_type t = refl
-  qualified_behind (tree.some_type ty) None = refl
-  qualified_behind (tree.some_type ty) (Some t) = refl
+qualified_alone : (ty : OptionType) → said true (qualified_segment ty None) ≡ []
+qualified_alone tree.no_type = refl
+qualified_alone (tree.some_type ty) = refl
 
-  said_behind : (at : Spot) (k : Option SegmentKind) (n : Option AstName) (a : SegmentArgs) (ty : OptionType) (t : Option PathTypeReading)
-      → let s = kinded_segment at.answers at.place k n a ty t in said false s ≡ borne (is_some (name_borne k n)) (behind_name s)
-  said_behind at None n a ty t = refl
-  said_behind at (Some word.Name) None a ty t = refl
-  said_behind at (Some word.Name) (Some n) a ty t = dollar_said at false n a (bytes_eq n.t (codes "$crate"))
-  said_behind at (Some word.SelfKw) n a ty t = refl
-  said_behind at (Some word.CrateKw) n a ty t = refl
-  said_behind at (Some word.SuperKw) n a ty t = refl
-  said_behind at (Some word.SelfTypeKw) n a ty t = bare_said
-  said_behind at (Some word.Qualified) n a ty t = qualified_behind ty t
+said_first : (at inner : Spot) (k : Option SegmentKind) (n : Option AstName) (a : SegmentArgs) (ty : OptionType) (t : Option AstPathType)
+    → trait_of k t ≡ None → let s = kinded_segment at.answers at.place k n a ty (path_type_part inner t) in
+    said true s ≡ borne (is_some (name_borne k n)) (behind_name s)
+said_first at inner None n a ty t h = refl
+said_first at inner (Some word.Name) None a ty t h = refl
+said_first at inner (Some word.Name) (Some n) a ty t h = dollar_said at true n a (bytes_eq n.t (codes "$crate"))
+said_first at inner (Some word.SelfKw) n a ty t h = refl
+said_first at inner (Some word.CrateKw) n a ty t h = refl
+said_first at inner (Some word.SuperKw) n a ty t h = refl
+said_first at inner (Some word.SelfTypeKw) n a ty t h = refl
+said_first at inner (Some word.Qualified) n a ty t h = ap (λ x. said true (qualified_segment ty (path_type_part inner x))) h
+    ∙ qualified_alone ty
 
-  qualified_alone : (ty : OptionType) → said true (qualified_segment ty None) ≡ []
-  qualified_alone tree.no_type = refl
-  qualified_alone (tree.some_type ty) = refl
+segment_behind : (at : Spot) (s : AstSegment) → said false (answered_segment at s) ≡ borne (is_some (segment_name s)) (args_behind at s)
+segment_behind at s =
+    let o = out-PathSegment s in
+    ap (said false) (segment_is_level at s)
+    ∙ (said_behind at o.seg o.name _ _ _ ∙ ap (λ x. borne (is_some (segment_name s)) (behind_name x)) (sym (segment_is_level at s)))
 
-  -- where the type and the trait of a projection are read
-  abbrev in_projection : Spot → Spot
-  in_projection at = record at { place = inside_projection at.place }
+segment_first : (at : Spot) (s : AstSegment) → trait_of (out-PathSegment s).seg (out-PathSegment s).trait_ ≡ None
+    → said true (answered_segment at s) ≡ borne (is_some (segment_name s)) (args_behind at s)
+segment_first at s h =
+    let o = out-PathSegment s in
+    ap (said true) (segment_is_level at s)
+    ∙ (said_first at (in_projection at) o.seg o.name _ _ o.trait_ h
+    ∙ ap (λ x. borne (is_some (segment_name s)) (behind_name x)) (sym (segment_is_level at s)))
 
-  said_first : (at inner : Spot) (k : Option SegmentKind) (n : Option AstName) (a : SegmentArgs) (ty : OptionType) (t : Option AstPathType)
-      → trait_of k t ≡ None → let s = kinded_segment at.answers at.place k n a ty (path_type_part inner t) in
-      said true s ≡ borne (is_some (name_borne k n)) (behind_name s)
-  said_first at inner None n a ty t h = refl
-  said_first at inner (Some word.Name) None a ty t h = refl
-  said_first at inner (Some word.Name) (Some n) a ty t h = dollar_said at true n a (bytes_eq n.t (codes "$crate"))
-  said_first at inner (Some word.SelfKw) n a ty t h = refl
-  said_first at inner (Some word.CrateKw) n a ty t h = refl
-  said_first at inner (Some word.SuperKw) n a ty t h = refl
-  said_first at inner (Some word.SelfTypeKw) n a ty t h = bare_said
-  said_first at inner (Some word.Qualified) n a ty t h = ap (λ x. said true (qualified_segment ty (path_type_part inner x))) h
-      ∙ qualified_alone ty
+-- ---- beside all of them
 
-  segment_behind : (at : Spot) (s : AstSegment) → said false (answered_segment at s) ≡ borne (is_some (segment_name s)) (args_behind at s)
-  segment_behind at s =
-      let o = out-PathSegment s in
-      ap (said false) (segment_is_level at s)
-      ∙ (said_behind at o.seg o.name _ _ _ ∙ ap (λ x. borne (is_some (segment_name s)) (behind_name x)) (sym (segment_is_level at s)))
+abbrev pub all_args : List Item → List OptionArgsData
+all_args is = map args_at (rule.names is)
 
-  segment_first : (at : Spot) (s : AstSegment) → trait_of (out-PathSegment s).seg (out-PathSegment s).trait_ ≡ None
-      → said true (answered_segment at s) ≡ borne (is_some (segment_name s)) (args_behind at s)
-  segment_first at s h =
-      let o = out-PathSegment s in
-      ap (said true) (segment_is_level at s)
-      ∙ (said_first at (in_projection at) o.seg o.name _ _ o.trait_ h
-      ∙ ap (λ x. borne (is_some (segment_name s)) (behind_name x)) (sym (segment_is_level at s)))
+abbrev pub front : Bool → Segment → Item
+front leading s = record { leading = leading; what = what true s }
 
-  -- ---- beside all of them
+one_more : (at : Spot) (as' : List OptionArgsData) (s : AstSegment) (ss : List AstSegment) (b : Bool) → as' ≡ map (args_behind at) ss
+    → borne b (args_behind at s) ++ as' ≡ map (args_behind at) (if b then s ∷ ss else ss)
+one_more at as' s ss false e = e
+one_more at as' s ss true e = ap (λ l. args_behind at s ∷ l) e
 
-  abbrev all_args : List Item → List OptionArgsData
-  all_args is = map f (rule.names is)
+one_said : (at : Spot) (i : Item) (is : List Item) (s : AstSegment) (ss : List AstSegment)
+    → map args_at (names_of i.what) ≡ borne (is_some (segment_name s)) (args_behind at s) → all_args is ≡ map (args_behind at) ss
+    → all_args (i ∷ is) ≡ map (args_behind at) (if is_some (segment_name s) then s ∷ ss else ss)
+one_said at i is s ss h e =
+    map-append args_at (names_of i.what) (rule.names is)
+    ∙ (ap (λ l. l ++ all_args is) h ∙ one_more at (all_args is) s ss (is_some (segment_name s)) e)
 
-  abbrev front : Bool → Segment → Item
-  front leading s = record { leading = leading; what = what true s }
+pub args_of_rest : (at : Spot) (ss : List (Option AstSegment)) → all_present ss ≡ true
+    → all_args (items (segments_part at ss) []) ≡ map (args_behind at) (named_among ss)
+args_of_rest at [] h = refl
+args_of_rest at (None ∷ ss) h = absurd (clash (sym h))
+args_of_rest at (Some s ∷ ss) h = one_said at (record { leading = false; what = what false (answered_segment at s) })
+    (items (segments_part at ss) []) s (named_among ss) (segment_behind at s) (args_of_rest at ss h)
 
-  one_more : (at : Spot) (as' : List OptionArgsData) (s : AstSegment) (ss : List AstSegment) (b : Bool) → as' ≡ map (args_behind at) ss
-      → borne b (args_behind at s) ++ as' ≡ map (args_behind at) (if b then s ∷ ss else ss)
-  one_more at as' s ss false e = e
-  one_more at as' s ss true e = ap (λ l. args_behind at s ∷ l) e
-
-  one_said : (at : Spot) (i : Item) (is : List Item) (s : AstSegment) (ss : List AstSegment)
-      → map f (names_of i.what) ≡ borne (is_some (segment_name s)) (args_behind at s) → all_args is ≡ map (args_behind at) ss
-      → all_args (i ∷ is) ≡ map (args_behind at) (if is_some (segment_name s) then s ∷ ss else ss)
-  one_said at i is s ss h e =
-      map-append f (names_of i.what) (rule.names is)
-      ∙ (ap (λ l. l ++ all_args is) h ∙ one_more at (all_args is) s ss (is_some (segment_name s)) e)
-
-  args_of_rest : (at : Spot) (ss : List (Option AstSegment)) → all_present ss ≡ true
-      → all_args (items (segments_part at ss) []) ≡ map (args_behind at) (named_among ss)
-  args_of_rest at [] h = refl
-  args_of_rest at (None ∷ ss) h = absurd (clash (sym h))
-  args_of_rest at (Some s ∷ ss) h = one_said at (record { leading = false; what = what false (answered_segment at s) })
-      (items (segments_part at ss) []) s (named_among ss) (segment_behind at s) (args_of_rest at ss h)
-
-  args_of_all : (at : Spot) (leading : Bool) (ss : List (Option AstSegment)) → none_missing ss ≡ true → first_trait ss ≡ None
-      → all_args (front leading (first_part at ss) ∷ items (rest_part at ss) []) ≡ map (args_behind at) (named_among ss)
-  args_of_all at leading [] h t = absurd (clash (sym h))
-  args_of_all at leading (None ∷ ss) h t = absurd (clash (sym h))
-  args_of_all at leading (Some s ∷ ss) h t = one_said at (front leading (answered_segment at s))
-      (items (segments_part at ss) []) s (named_among ss) (segment_first at s t) (args_of_rest at ss h)
+args_of_all : (at : Spot) (leading : Bool) (ss : List (Option AstSegment)) → none_missing ss ≡ true → first_trait ss ≡ None
+    → all_args (front leading (first_part at ss) ∷ items (rest_part at ss) []) ≡ map (args_behind at) (named_among ss)
+args_of_all at leading [] h t = absurd (clash (sym h))
+args_of_all at leading (None ∷ ss) h t = absurd (clash (sym h))
+args_of_all at leading (Some s ∷ ss) h t = one_said at (front leading (answered_segment at s))
+    (items (segments_part at ss) []) s (named_among ss) (segment_first at s t) (args_of_rest at ss h)
 
 -- ---- a path that is read
 
-map_reverse : {A B : Type 0} (f : A → B) (xs : List A) → map f (reverse xs) ≡ reverse (map f xs)
+pub map_reverse : {A B : Type 0} (f : A → B) (xs : List A) → map f (reverse xs) ≡ reverse (map f xs)
 map_reverse f [] = refl
 map_reverse f (x ∷ xs) =
     ap (map f) (reverse-append (x ∷ []) xs)
@@ -217,26 +201,48 @@ abbrev head_or : OptionArgsData → List OptionArgsData → OptionArgsData
 head_or a [] = a
 head_or a (x ∷ xs) = x
 
-first_left : (ns : List Named) → map left_at ns ≡ map args_at ns → map args_at (first_without_self ns) ≡ map args_at ns
-first_left [] h = refl
-first_left (n ∷ ns) h = ap (λ a. a ∷ map args_at ns) (ap (head_or no_args) h)
+abbrev pub first_without : List OptionArgsData → List OptionArgsData
+first_without [] = []
+first_without (a ∷ as') = without_self a ∷ as'
 
--- where no name has an argument for `Self` beside it, none goes
-last_left : (ns : List Named) → map left_at ns ≡ map args_at ns → map args_at (last_without_self ns) ≡ map args_at ns
-last_left ns h = map_reverse args_at (first_without_self (reverse ns))
-    ∙ (ap reverse (first_left (reverse ns) (map_reverse left_at ns ∙ (ap reverse h ∙ sym (map_reverse args_at ns)))
-    ∙ map_reverse args_at ns)
-    ∙ reverse-reverse (map args_at ns))
+-- the last without an argument for `Self`
+abbrev pub last_without : List OptionArgsData → List OptionArgsData
+last_without as' = reverse (first_without (reverse as'))
+
+-- where none has one, none goes
+first_stands : (as' : List OptionArgsData) → map without_self as' ≡ as' → first_without as' ≡ as'
+first_stands [] h = refl
+first_stands (a ∷ as') h = ap (λ x. x ∷ as') (ap (head_or no_args) h)
+
+pub last_stands : (as' : List OptionArgsData) → map without_self as' ≡ as' → last_without as' ≡ as'
+last_stands as' h =
+    ap reverse (first_stands (reverse as') (map_reverse without_self as' ∙ ap reverse h)) ∙ reverse-reverse as'
+
+first_args : (ns : List Named) → map args_at (first_without_self ns) ≡ first_without (map args_at ns)
+first_args [] = refl
+first_args (n ∷ ns) = refl
+
+last_args : (ns : List Named) → map args_at (last_without_self ns) ≡ last_without (map args_at ns)
+last_args ns = map_reverse args_at (first_without_self (reverse ns))
+    ∙ ap reverse (first_args (reverse ns) ∙ ap first_without (map_reverse args_at ns))
+
+-- what is written has none
+behind_stay : (at : Spot) (ss : List AstSegment) → map without_self (map (args_behind at) ss) ≡ map (args_behind at) ss
+behind_stay at [] = refl
+behind_stay at (s ∷ ss) = λ j. name_stays (answered_segment at s) j ∷ behind_stay at ss j
+
+pub written_stays : (at : Spot) (ss : List (Option AstSegment)) → last_without (all_behind at ss) ≡ all_behind at ss
+written_stays at ss = last_stands (all_behind at ss) (behind_stay at (named_among ss))
 
 abbrev names_found : Option PathRead → List Named
 names_found None = []
 names_found (Some x) = x.names
 
-read_args : (is : List Item) (x : PathRead) → path_read is ≡ Some x → x.names ≡ last_without_self (rule.names is)
+pub read_args : (is : List Item) (x : PathRead) → path_read is ≡ Some x → map args_at x.names ≡ last_without (all_args is)
 read_args is x h = by (refused is) h
   where
-    by : (b : Bool) → (if b then None else Some (read_of is)) ≡ Some x → x.names ≡ last_without_self (rule.names is)
-    by false e = sym (ap names_found e)
+    by : (b : Bool) → (if b then None else Some (read_of is)) ≡ Some x → map args_at x.names ≡ last_without (all_args is)
+    by false e = sym (ap (λ y. map args_at (names_found y)) e) ∙ last_args (rule.names is)
     by true e = absurd (no_some e)
 
 behind_goes_on : (s : Segment) (ns : List Named) → ends (what false s) ns ≡ false
@@ -258,14 +264,11 @@ all_go_on (tree.more_segments s ss) = rw (behind_goes_on s (rule.names (items ss
 read_all : (i : Item) (ss : Segments) → read (i ∷ items ss []) ≡ i ∷ items ss []
 read_all i ss = rw (all_go_on ss) refl
 
-abbrev item : Bool → Segment → Item
-item leading s = record { leading = leading; what = what true s }
-
 level_read : (leading : Bool) (first : Segment) (rest : Segments) (use_ : OptionPath) (x : PathRead) → use_ ≡ tree.no_path
-    → path_of (tree.some_path (tree.path None leading first rest use_)) ≡ Some x → path_read (item leading first ∷ items rest []) ≡ Some x
+    → path_of (tree.some_path (tree.path None leading first rest use_)) ≡ Some x → path_read (front leading first ∷ items rest []) ≡ Some x
 level_read leading first rest use_ x u e =
-    let is = item leading first ∷ items rest [] in
-    let whole : read (segments (tree.path None leading first rest use_) []) ≡ is = rw u (read_all (item leading first) rest) in
+    let is = front leading first ∷ items rest [] in
+    let whole : read (segments (tree.path None leading first rest use_) []) ≡ is = rw u (read_all (front leading first) rest) in
     ap path_read (sym whole) ∙ e
 
 no_use : (at : Spot) (x : Option AstPath) → x ≡ None → path_part at x ≡ tree.no_path
@@ -273,24 +276,24 @@ no_use at x h = ap (path_part at) h
 
 rooted_read : (root : Option CrateId) (leading : Bool) (first : Segment) (x : PathRead)
     → path_of (tree.some_path (behind_root root (tree.path None leading first tree.no_segments tree.no_path))) ≡ Some x
-    → (Q : List Named → Type 0) → ((y : PathRead) → path_read (item leading first ∷ []) ≡ Some y → Q y.names) → Q x.names
-rooted_read root leading first x e Q k = by (ended (item leading first ∷ [])) e
+    → (Q : List Named → Type 0) → ((y : PathRead) → path_read (front leading first ∷ []) ≡ Some y → Q y.names) → Q x.names
+rooted_read root leading first x e Q k = by (ended (front leading first ∷ [])) e
   where
     all : List Item
-    all = item false (tree.dollar_crate_segment root) ∷ item leading first ∷ []
+    all = front false (tree.dollar_crate_segment root) ∷ front leading first ∷ []
 
     whole : (b : Bool) → (if b then None else Some (read_of all)) ≡ Some x
-        → ((y : PathRead) → (if b then None else Some (read_of (item leading first ∷ []))) ≡ Some y → Q y.names) → Q x.names
+        → ((y : PathRead) → (if b then None else Some (read_of (front leading first ∷ []))) ≡ Some y → Q y.names) → Q x.names
     whole true h l = absurd (no_some h)
-    whole false h l = subst Q (ap names_found h) (l (read_of (item leading first ∷ [])) refl)
+    whole false h l = subst Q (ap names_found h) (l (read_of (front leading first ∷ [])) refl)
 
-    by : (b : Bool) → path_read (if b then item leading first ∷ [] else all) ≡ Some x → Q x.names
+    by : (b : Bool) → path_read (if b then front leading first ∷ [] else all) ≡ Some x → Q x.names
     by true h = k x h
-    by false h = whole (refused (item leading first ∷ [])) h k
+    by false h = whole (refused (front leading first ∷ [])) h k
 
 local_read : (root : Option (Option CrateId)) (leading : Bool) (first : Segment) (x : PathRead)
     → path_of (tree.some_path (at_local_root root (tree.path None leading first tree.no_segments tree.no_path))) ≡ Some x
-    → (Q : List Named → Type 0) → ((y : PathRead) → path_read (item leading first ∷ []) ≡ Some y → Q y.names) → Q x.names
+    → (Q : List Named → Type 0) → ((y : PathRead) → path_read (front leading first ∷ []) ≡ Some y → Q y.names) → Q x.names
 local_read None leading first x e Q k = k x e
 local_read (Some root) leading first x e Q k = by (is_bare (mod_path_of (tree.some_path plain))) e
   where
@@ -306,7 +309,7 @@ called_read : (at : Spot) (in_macro leading : Bool) (ss : List (Option AstSegmen
     → path_of (tree.some_path (called_path at.answers (reader at.answers (into at)) in_macro leading ss u at.place
     (tree.path None leading (first_part at ss) (rest_part at ss) (path_part at u)))) ≡ Some x
     → (Q : List Named → Type 0)
-    → ((y : PathRead) → path_read (item leading (first_part at ss) ∷ items (rest_part at ss) []) ≡ Some y → Q y.names) → Q x.names
+    → ((y : PathRead) → path_read (front leading (first_part at ss) ∷ items (rest_part at ss) []) ≡ Some y → Q y.names) → Q x.names
 called_read at false leading ss u x h m e Q k =
     k x (level_read leading (first_part at ss) (rest_part at ss) (path_part at u) x (no_use at u h) e)
 called_read at true leading [] u x h m e Q k = absurd (clash (sym m))
@@ -322,35 +325,24 @@ called_read at true leading (Some s ∷ t ∷ ss) u x h m e Q k =
 aliased_read : (alias : Option (List Bool)) (y : Path) → path_of (tree.some_path (with_alias alias y)) ≡ path_of (tree.some_path y)
 aliased_read alias (tree.path _ leading first rest use_) = refl
 
--- beside the names that are read is what is written, where the path has no trait
-plain_args : (at : Spot) (p : AstPath) (x : PathRead) → Whole p → first_trait (out-Path p).segs ≡ None
-    → path_of (tree.some_path (answered_path at p)) ≡ Some x → map args_at x.names ≡ map (args_behind at) (named_among (out-Path p).segs)
-plain_args at p x w t e =
+-- the names that are read are those of the path where it stands in no call
+pub answered_read : (at : Spot) (p : AstPath) (x : PathRead) → Whole p → path_of (tree.some_path (answered_path at p)) ≡ Some x
+    → (Q : List Named → Type 0)
+    → ((y : PathRead) → path_read (front (out-Path p).leading (first_part at (out-Path p).segs) ∷ items (rest_part at (out-Path p).segs) [])
+    ≡ Some y → Q y.names)
+    → Q x.names
+answered_read at p x w e =
     let o = out-Path p in
     let plain = tree.path None o.leading (first_part at o.segs) (rest_part at o.segs) (path_part at o.use_) in
     let called = called_path at.answers (reader at.answers (into at)) o.in_macro o.leading o.segs o.use_ at.place plain in
     called_read at o.in_macro o.leading o.segs o.use_ x w.0 w.1 (sym (aliased_read (alias_at at.answers at.place called) called)
     ∙ (ap (λ y. path_of (tree.some_path y)) (sym (path_is_level at p)) ∙ e))
-    (λ ns. map args_at ns ≡ map (args_behind at) (named_among o.segs)) (λ y h.
-    let is = item o.leading (first_part at o.segs) ∷ items (rest_part at o.segs) [] in
-    let stay = args_of_all args_at (λ n k. refl) at o.leading o.segs w.1 t in
-    let go = args_of_all left_at (λ n k. k) at o.leading o.segs w.1 t in
-    ap (map args_at) (read_args is y h) ∙ (last_left (rule.names is) (go ∙ sym stay) ∙ stay))
 
-listed : (ns : List Named) → beside_names (names_data ns) ≡ map args_at ns
-listed [] = refl
-listed (n ∷ ns) = ap (λ l. n.args ∷ l) (listed ns)
-
-abbrev beside_data : Option PathData → List OptionArgsData
-beside_data None = []
-beside_data (Some d) = beside d
-
-pub beside_law : (at : Spot) (p : AstPath) (d : PathData) → Whole p → first_trait (out-Path p).segs ≡ None
-    → written_path (tree.some_path (answered_path at p)) ≡ Some d → beside d ≡ map (args_behind at) (named_segments p)
-beside_law at p d w t e = by (path_of (tree.some_path (answered_path at p))) refl e
-  where
-    by : (y : Option PathRead) → path_of (tree.some_path (answered_path at p)) ≡ y → option_map data_of y ≡ Some d
-        → beside d ≡ map (args_behind at) (named_segments p)
-    by None h k = absurd (no_some k)
-    by (Some x) h k = sym (ap beside_data k) ∙ (listed x.names ∙ (plain_args at p x w t h
-        ∙ ap (λ q. map (args_behind at) (replaced q (out-Path p).segs)) (sym t)))
+-- beside the names that are read is what is written, where the path has no trait
+pub plain_args : (at : Spot) (p : AstPath) (x : PathRead) → Whole p → first_trait (out-Path p).segs ≡ None
+    → path_of (tree.some_path (answered_path at p)) ≡ Some x → map args_at x.names ≡ all_behind at (out-Path p).segs
+plain_args at p x w t e =
+    let o = out-Path p in
+    answered_read at p x w e (λ ns. map args_at ns ≡ all_behind at o.segs) (λ y h.
+    read_args (front o.leading (first_part at o.segs) ∷ items (rest_part at o.segs) []) y h
+    ∙ (ap last_without (args_of_all at o.leading o.segs w.1 t) ∙ written_stays at o.segs))

@@ -47,7 +47,7 @@ use Rattle.hir_lower.specs.Beside.{TakesArguments}
 use Rattle.hir_lower.specs.Calls.{Outside, refusal}
 use Rattle.hir_lower.specs.Means.{BearsNames, ConstantsLive, PathRooted, ReadsBack, whole_path}
 use Rattle.hir_lower.specs.Stays.{Stays}
-use Rattle.hir_lower.proofs.Beside.{beside_law}
+use Rattle.hir_lower.proofs.BesideTraits.{beside_law}
 use Rattle.hir_lower.proofs.Onward.{Went, went}
 use Rattle.hir_lower.proofs.TreeWays.{option_path_leads}
 

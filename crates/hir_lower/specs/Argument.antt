@@ -23,7 +23,8 @@ module _ (def : GenericDefId) (at : Pointer) (bounds : List TypeBound) where
   abbrev pub walk_step : Lowering TypeRefId
   walk_step = becoming at in_argument bounds
 
-  -- What `lower` promises, where it answers this number: what is stored, the lists behind, and that there was room.
+  -- What `lower` promises where it answers this number, its clauses `adds`, `lists` and `fits` in one: what is stored, the lists behind,
+  -- and that there was room.
   pub record Lowered (old new : Stored) (lists behind : GenericLists) (i : TypeRefId) : Type 0 where
     pub adds : AddsType old new i (becomes in_argument (Some lists) bounds) at
     pub notes : Some behind ≡ lists_behind in_argument (Some lists) i bounds

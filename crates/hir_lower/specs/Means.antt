@@ -56,10 +56,10 @@ use Rattle.hir_one_result.specs.Room.{size_part, whole_size}
 use Rattle.hir_one_result.specs.Size.{owned, placed}
 use Rattle.hir_one_result.specs.Leads.{OwnedBy, OwnersAre, Way}
 use Rattle.hir_one_result.specs.Stands.{StandsPart, WholeWays}
-use Rattle.hir_told.specs.Bodies.{grade_body}
+use Rattle.hir_one_result.specs.Bodies.{grade_body}
 use Rattle.hir_told.specs.Expanded as told
 use Rattle.hir_told.specs.StoredData.{DataAdded}
-use Rattle.hir_told.specs.Grades.{grade_expr_part, grade_part, grade_whole}
+use Rattle.hir_one_result.specs.Grades.{grade_expr_part, grade_part, grade_whole}
 use Rattle.hir_item_result.specs.Answers.{parameter_type}
 use Rattle.hir_lower.specs.declared.body.Param.{Param}
 use Rattle.hir_lower.specs.Data.{data_in, data_in_path}

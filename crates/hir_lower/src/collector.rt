@@ -19,6 +19,7 @@ ghost use Rattle.hir_item_result.specs.Exceeding.{FitsBehind, InLimits};
 ghost use Rattle.hir_lower_handlers.specs.Spots.{spot_at};
 ghost use Rattle.hir_lower.specs.Beside.{TakesArguments};
 ghost use Rattle.hir_lower.specs.Calls.{Calls, Outside};
+ghost use Rattle.hir_lower.specs.Collected.{Collected, OfCalls};
 ghost use Rattle.hir_lower.specs.Means.{AddsType, BearsNames, MadeOnce, NoRoomForType, PathRooted, ReadsBack, RoomForType, Rooted};
 ghost use Rattle.hir_lower.specs.Means.{whole_path, with_impl};
 ghost use Rattle.hir_lower.specs.Named.{none_named};
@@ -31,7 +32,7 @@ use crate::named::NamedLifetimeStore;
 use hir_base::Seq;
 use hir_base::node::{AstPtr, HirFileId, InFile};
 use hir_env::env::LowerEnv;
-use hir_env::place::{ImplTrait, LifetimeScope, LoweringMode, Place};
+use hir_env::place::{ImplTrait, LifetimeScope, LoweringMode, Place, inside_constant};
 use hir_lower_form::builder::BodyBuilder;
 use hir_lower_form::generics::GenericLists;
 use hir_lower_knot::knot::{collect_expr, lower_path};
@@ -58,17 +59,6 @@ fn unboxed(expr: &Option<Boxed<ast::Expr>>) -> Option<&ast::Expr>
     match expr {
         None => None,
         Some(expr) => Some(expr.get()),
-    }
-}
-
-/// Where the expression of a constant is read that stands at this place.
-fn inside_constant(place: Place) -> Place
-    ensures { result ≡ inside_constant place }
-{
-    Place {
-        impl_trait: ImplTrait::Error,
-        await_location: Some(AwaitLocation::Constant),
-        ..place
     }
 }
 
@@ -126,6 +116,8 @@ pub(crate) fn lower_root<E: LowerEnv>(
     ensures defined { Paired state.old.stored → MayBeOwned state.old.stored → Defined state.old.stored
         → IfOk result (λ i. Defined state.new.stored) }
     ensures mapped { Paired state.old.stored → ∥ Mapped state.old.stored ∥₁ → IfOk result (λ i. ∥ Mapped state.new.stored ∥₁) }
+    ensures collected { Paired state.old.stored → MayBeOwned state.old.stored → ∥ Collected state.old.stored ∥₁
+        → IfOk result (λ i. ∥ Collected state.new.stored ∥₁) }
     ensures outside { IfOk result (λ i. Outside state.new) }
     ensures apart { Paired state.old.stored → ∥ MadeApart state.old.names state.old.stored ∥₁
         → IfOk result (λ i. ∥ MadeApart state.new.names state.new.stored ∥₁) }
@@ -161,6 +153,8 @@ fn lower_whole_path<E: LowerEnv>(
     ensures defined { Paired state.old.stored → MayBeOwned state.old.stored → Outside state.old → Defined state.old.stored
         → IfOk result (λ r. Defined state.new.stored) }
     ensures mapped { Paired state.old.stored → ∥ Mapped state.old.stored ∥₁ → IfOk result (λ r. ∥ Mapped state.new.stored ∥₁) }
+    ensures collected { Paired state.old.stored → MayBeOwned state.old.stored → Outside state.old → ∥ Collected state.old.stored ∥₁
+        → IfOk result (λ r. ∥ Collected state.new.stored ∥₁) }
     ensures outside { Outside state.old → IfOk result (λ r. Outside state.new) }
     ensures apart { Paired state.old.stored → ∥ MadeApart state.old.names state.old.stored ∥₁
         → IfOk result (λ r. ∥ MadeApart state.new.names state.new.stored ∥₁) }
@@ -195,6 +189,7 @@ fn add_type(
     ensures owners { MayBeOwned state.old.stored → IfOk result (λ i. MayBeOwned state.new.stored) }
     ensures defined { Defined state.old.stored → IfOk result (λ i. Defined state.new.stored) }
     ensures mapped { ∥ Mapped state.old.stored ∥₁ → IfOk result (λ i. ∥ Mapped state.new.stored ∥₁) }
+    ensures collected { ∥ Collected state.old.stored ∥₁ → IfOk result (λ i. ∥ Collected state.new.stored ∥₁) }
     ensures outside { Outside state.old → IfOk result (λ i. Outside state.new) }
     ensures apart { Paired state.old.stored → ∥ MadeApart state.old.names state.old.stored ∥₁
         → IfOk result (λ i. ∥ MadeApart state.new.names state.new.stored ∥₁) }
@@ -262,6 +257,7 @@ fn add_param(
     ensures owners { MayBeOwned state.old.stored → IfOk result (λ i. MayBeOwned state.new.stored) }
     ensures defined { Defined state.old.stored → IfOk result (λ i. Defined state.new.stored) }
     ensures mapped { ∥ Mapped state.old.stored ∥₁ → IfOk result (λ i. ∥ Mapped state.new.stored ∥₁) }
+    ensures collected { ∥ Collected state.old.stored ∥₁ → IfOk result (λ i. ∥ Collected state.new.stored ∥₁) }
     ensures outside { Outside state.old → IfOk result (λ i. Outside state.new) }
     ensures apart { Paired state.old.stored → ∥ MadeApart state.old.names state.old.stored ∥₁
         → IfOk result (λ i. ∥ MadeApart state.new.names state.new.stored ∥₁) }
@@ -295,6 +291,7 @@ pub struct ExprCollector<'db, E: LowerEnv> {
     ghost owners: { failed ≡ false → MayBeOwned state.stored },
     ghost defined: { failed ≡ false → Defined state.stored },
     ghost mapped: { failed ≡ false → ∥ Mapped state.stored ∥₁ },
+    ghost collected: { failed ≡ false → ∥ Collected state.stored ∥₁ },
     ghost outside: { failed ≡ false → Outside state },
     ghost apart: { failed ≡ false → ∥ MadeApart state.names state.stored ∥₁ },
     ghost within: { failed ≡ false → InLimits state },
@@ -410,16 +407,16 @@ impl<'db, E: LowerEnv> ExprCollector<'db, E> {
     ///
     /// It has the names of all segments that are read, those of use trees around it in front, with the arguments that stand beside them,
     /// and begins where they say. Where no use tree stands around it or its trait, no segment of either is missing, and the trait has no
-    /// qualified type, its names are those of the written segments that bear one; and where it has no trait, beside each stands what is
-    /// written behind its segment. `Memory` where a growth was refused, `Full` where an arena has no room for its types, lifetimes and
-    /// constants and the patterns in them, or it has more `super`s, a pattern in it more parts in front of its two dots, a block in it more
-    /// definitions of one name by `macro_rules`, or more names are made up, or more `impl`s become parameters, than 32 bits count,
-    /// `Failed` after an error. It isn't `Ok` where there is no room for what the path becomes, nor for the names and the parameters. All
-    /// that was
-    /// stored is stored still, unless memory was refused, and nothing comes behind it but the path's types, its lifetimes and its
-    /// constants, each of which is recorded as a root, with the patterns and bindings in them, what is wrong in it, the blocks in its
-    /// constants, and the calls of macros that are entered, each behind what else was expanded for it; so it is also where the path is
-    /// refused. Each of these bindings is owned by the innermost closure, coroutine, `const` block, length or argument around it.
+    /// qualified type, its names are those of the written segments that bear one, and beside each stands what is written behind its
+    /// segment: of the last one of a trait behind the type that the trait is of, or nothing, where no name stands behind it. `Memory`
+    /// where a growth was refused, `Full` where an arena has no room for its types, lifetimes and constants and the patterns in them, or
+    /// it has more `super`s, a pattern in it more parts in front of its two dots, a block in it more definitions of one name by
+    /// `macro_rules`, or more names are made up, or more `impl`s become parameters, than 32 bits count, `Failed` after an error. It isn't
+    /// `Ok` where there is no room for what the path becomes, nor for the names and the parameters. All that was stored is stored still,
+    /// unless memory was refused, and nothing comes behind it but the path's types, its lifetimes and its constants, each of which is
+    /// recorded as a root, with the patterns and bindings in them, what is wrong in it, the blocks in its constants, and the calls of
+    /// macros that are entered, each behind what else was expanded for it; so it is also where the path is refused. Each of these
+    /// bindings is owned by the innermost closure, coroutine, `const` block, length or argument around it.
     pub fn lower_path<I: ImplTraitLower>(
         &mut self,
         path: &ast::Path,
@@ -535,14 +532,19 @@ impl<'db, E: LowerEnv> ExprCollector<'db, E> {
         &self.named
     }
 
-    /// The store and its source map, in which each number is in range, each binding has the patterns that make it, and no name is made up
-    /// twice, but for those that the parameters of a closure with `async` or `gen` are handed in by, or `Failed` after an error. It takes
-    /// no memory.
-    #[tactic(auto, using(crate::proofs::MadeNames::once_of, crate::proofs::Meanings::definitions_of))]
+    /// The store and its source map, or `Failed` after an error. It takes no memory.
+    ///
+    /// In them is what the calls left, one behind the other, and nothing else: each entry, each source and each way from a node or back
+    /// is that of one of the trees that were lowered, or of a type that an `impl` became, as the call of it says. A node of a type or of a
+    /// lifetime leads to one, and no other node leads to a lifetime. Each number is in range, each binding has the patterns that make it,
+    /// and no name is made up twice, but for those that the parameters of a closure with `async` or `gen` are handed in by.
+    #[tactic(auto, using(crate::proofs::MadeNames::once_of, crate::proofs::Meanings::definitions_of, crate::proofs::OneStore::calls_of))]
     pub fn into_store(self) -> Result<(ExpressionStore, ExpressionStoreSourceMap), LowerError>
         ensures failed { self.entry.failed ≡ true → result ≡ Err LowerError.Failed }
         ensures works { self.entry.failed ≡ false
             → IsOkAnd result (λ r. (r.0 ≡ store_of self.entry.state.stored) × (r.1 ≡ map_of self.entry.state.stored)) }
+        ensures collected { IfOk result (λ r. ∥ OfCalls r.0 r.1 ∥₁) }
+        ensures mapped { IfOk result (λ r. ∥ Mapped self.entry.state.stored ∥₁) }
         ensures definitions { IfOk result (λ r. DefinitionsAre r.0.pats (length r.0.bindings) r.1.binding_definitions) }
         ensures made_once { IfOk result (λ r. ∥ MadeOnce r.0 [] ∥₁) }
         ensures in_range { IfOk result (λ r. InRange r.0 r.1) }

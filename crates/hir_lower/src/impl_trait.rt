@@ -147,7 +147,7 @@ impl ImplTraitLower for ArgumentImplTrait<'_> {
 
 /// What `ArgumentImplTrait::lower` stores, answers and adds to its lists is what the walk of an item stores, answers and notes of an `impl`
 /// in an argument: from the same store and behind the same lists each of the two says all of what the other does, and both are refused just
-/// where there is no room for a type or for a parameter. A law, which does nothing.
+/// where there is no room for a type or for a parameter, but for memory, and after an error. A law, which does nothing.
 pub fn arguments_are_one()
     ensures { ArgumentsAreOne }
 {}

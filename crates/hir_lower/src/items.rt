@@ -5,6 +5,7 @@ ghost use Rattle.hir_store.specs.Past.{Within};
 ghost use Rattle.hir_store.specs.Range.{InRange};
 ghost use Rattle.hir_store.specs.declared.ids.GenericDefId.TheVariants as definition;
 ghost use Rattle.hir_item_result.specs.Answers.{AliasReads, FunctionReads, ImplReads};
+ghost use Rattle.hir_item_result.specs.Inside.{HoldsOnce, held_by_alias, held_by_function, held_by_impl, none_held, with_held_params};
 ghost use Rattle.hir_item_result.specs.ItemResult.{ItemResult};
 ghost use Rattle.hir_item_result.specs.Once.{ReachesOnce, named_by_alias, named_by_function, named_by_impl, none_named};
 ghost use Rattle.hir_item_result.specs.Once.{with_params};
@@ -39,20 +40,22 @@ use std::alloc::Global;
 /// clause asks.
 ///
 /// A condition is asked about each parameter at its own node; one that is disabled leaves a fault alone. An `impl` in a bound becomes an
-/// unnamed parameter, behind those inside of its own bounds. A bound that is an error or a `use<..>` becomes no predicate, nor does a trait
-/// of a lifetime. Each lifetime is early bound. Each number in store and source map is in range, and so is each in what is answered beside
-/// them.
+/// unnamed parameter, behind those inside of its own bounds, and each of its bounds a predicate. Of a written type or parameter a bound
+/// that is an error or a `use<..>` becomes none, nor does a trait of a lifetime. Each lifetime is early bound. Each number in store and
+/// source map is in range, and so is each in what is answered beside them.
 ///
 /// Store and source map are one result of the item (clause `result`): what is stored comes from just those of its nodes that become
 /// something, in the order in which its parts are read, and nothing besides; each constant, also one that nothing reaches, is a root, in
 /// the order in which they are done, and runs as it is written; bindings are owned, nodes lead, faults are told, blocks are entered and
-/// calls of macros are recorded as the parts say. The parameters are those that are written, and those that `impl`s become, in the order
-/// of their numbers: types and defaults read back, and the bodies inside them run so. The type that an `impl` becomes names the parameter
-/// of its number. Of each bound there is one predicate, in their order: it reads back with what it is of, and the bodies inside them run
-/// so (clause `params`). Each type that defaults, types of constants, what is bound, and bounds reach is reached in one way only; what
-/// several predicates are of is counted once, and of what is asked of a parameter that an `impl` became nothing is said (`reached_once`).
-/// All stored types and all lifetimes, in their order, read back as what is written or made, also those that nothing reaches: so the
-/// type that a parameter is, and the lifetime of a lifetime parameter, which bears its name (`stored`).
+/// calls of macros are recorded as the parts say. The parameters are those that are written, and those that `impl`s become, in the order of
+/// their numbers: types and defaults read back, and the bodies inside them run so. The type that an `impl` becomes names the parameter of
+/// its number. Of each bound that becomes one there is a predicate, in their order: it reads back with what it is of, and the bodies inside
+/// them run so (clause `params`). Each type that defaults, types of constants, what is bound, and bounds reach is reached in one way only;
+/// what several predicates are of is counted once, and of what is asked of a parameter that an `impl` became nothing is said
+/// (`reached_once`). Of constants the same is so: each default of a constant parameter, and each constant that these types and bounds hold,
+/// is an expression of its own, which no other one reaches, by running or by what it holds (`inside_reached_once`). All stored types and
+/// all lifetimes, in their order, read back as what is written or made, also those that nothing reaches: so the type that a parameter is,
+/// and the lifetime of a lifetime parameter, which bears its name (`stored`).
 ///
 /// `Memory` where a growth was refused; `Full` only where the item becomes more types, lifetimes, expressions, labels, patterns, bindings
 /// or parameters than there is room for, or something in it counts further than 32 bits do; never `Failed`. What was stored until then
@@ -77,6 +80,7 @@ pub fn lower_generic_params<E: LowerEnv>(
         let x = read_generics (E.answers db.now) file_id inside mode def ps (option_copied where_clause.entry) in
         IfOk result (λ r. GenericsHave r.0 r.2 def x r.1) }
     ensures reached_once { IfOk result (λ r. ReachesOnce r.0 (with_params r.0 r.2 r.1 none_named)) }
+    ensures inside_reached_once { IfOk result (λ r. HoldsOnce r.0 (with_held_params r.0 r.2 r.1 none_held)) }
     ensures made_once { IfOk result (λ r. MadeOnce r.0 []) }
     ensures in_range { IfOk result (λ r. InRange r.0 r.2) }
     ensures params_in_range { IfOk result (λ r. Within r.0 (past_params r.1)) }
@@ -104,9 +108,10 @@ pub fn lower_generic_params<E: LowerEnv>(
 /// and what its where clause asks.
 ///
 /// The trait is read only where it is written as a path as it stands; none is answered for another form, nor for a path that is absent or
-/// refused. Type and trait read back as they are written, and the bodies inside them run so (clause
-/// `reads`); each type that they, or parameters and predicates, reach is reached in one way only (`reached_once`). Of parameters and
-/// predicates, of all that is stored, of ranges and of what is claimed, the same is so as for `lower_generic_params`.
+/// refused. Type and trait read back as they are written, and the bodies inside them run so (clause `reads`); each type that they, or
+/// parameters and predicates, reach is reached in one way only (`reached_once`), and each constant that they hold is an expression of its
+/// own (`inside_reached_once`). Of parameters and predicates, of all that is stored, of ranges and of what is claimed, the same is so as
+/// for `lower_generic_params`.
 ///
 /// `Memory` where a growth was refused; `Full` only where the item becomes more types, lifetimes, expressions, labels, patterns, bindings
 /// or parameters than there is room for, or something in it counts further than 32 bits do; never `Failed`. What was stored until then
@@ -136,6 +141,7 @@ pub fn lower_impl<E: LowerEnv>(
     ensures reads { let x = read_impl (E.answers db.now) item.entry.file_id inside id item.entry.value.now in
         IfOk result (λ r. ImplReads r.0 r.1 x r.2 r.3) }
     ensures reached_once { IfOk result (λ r. ReachesOnce r.0 (with_params r.0 r.1 r.4 (named_by_impl r.2 r.3))) }
+    ensures inside_reached_once { IfOk result (λ r. HoldsOnce r.0 (with_held_params r.0 r.1 r.4 (held_by_impl r.2 r.3))) }
     ensures made_once { IfOk result (λ r. MadeOnce r.0 []) }
     ensures in_range { IfOk result (λ r. InRange r.0 r.1) }
     ensures answer_in_range { IfOk result (λ r. Within r.0 (past_impl r.2 r.3)) }
@@ -171,6 +177,7 @@ pub fn lower_trait<E: LowerEnv>(
     ensures params { let x = read_trait (E.answers db.now) item.entry.file_id inside id item.entry.value.now in
         IfOk result (λ r. TraitHas r.0 r.1 (definition.TraitId id) x r.2) }
     ensures reached_once { IfOk result (λ r. ReachesOnce r.0 (with_params r.0 r.1 r.2 none_named)) }
+    ensures inside_reached_once { IfOk result (λ r. HoldsOnce r.0 (with_held_params r.0 r.1 r.2 none_held)) }
     ensures made_once { IfOk result (λ r. MadeOnce r.0 []) }
     ensures in_range { IfOk result (λ r. InRange r.0 r.1) }
     ensures params_in_range { IfOk result (λ r. Within r.0 (past_params r.2)) }
@@ -188,8 +195,8 @@ pub fn lower_trait<E: LowerEnv>(
 ///
 /// An alias of a module or an `impl` owes a type; where it lacks one, that is told last. Bounds and type read back as they are
 /// written, and the bodies inside them run so (clause `reads`); each type that they, or parameters and predicates, reach is reached in one
-/// way only (`reached_once`). Of parameters and predicates, of all that is stored, of ranges and of what is claimed, the same is so as for
-/// `lower_generic_params`.
+/// way only (`reached_once`), and each constant that they hold is an expression of its own (`inside_reached_once`). Of parameters and
+/// predicates, of all that is stored, of ranges and of what is claimed, the same is so as for `lower_generic_params`.
 ///
 /// `Memory` where a growth was refused; `Full` only where the item becomes more types, lifetimes, expressions, labels, patterns, bindings
 /// or parameters than there is room for, or something in it counts further than 32 bits do; never `Failed`. What was stored until then
@@ -219,6 +226,7 @@ pub fn lower_type_alias<E: LowerEnv>(
     ensures reads { let x = read_alias (E.answers db.now) item.entry.file_id container id item.entry.value.now in
         IfOk result (λ r. AliasReads r.0 r.1 x r.3 r.4) }
     ensures reached_once { IfOk result (λ r. ReachesOnce r.0 (with_params r.0 r.1 r.2 (named_by_alias r.3 r.4))) }
+    ensures inside_reached_once { IfOk result (λ r. HoldsOnce r.0 (with_held_params r.0 r.1 r.2 (held_by_alias r.3 r.4))) }
     ensures made_once { IfOk result (λ r. MadeOnce r.0 []) }
     ensures in_range { IfOk result (λ r. InRange r.0 r.1) }
     ensures answer_in_range { IfOk result (λ r. Within r.0 (past_alias r.3 r.4)) }
@@ -243,8 +251,8 @@ pub fn lower_type_alias<E: LowerEnv>(
 /// A lifetime parameter is late bound, unless a bound names it, or what is returned names it and nothing that is given does: a projection
 /// doesn't count, and of an alias only the lifetimes that its type names. The types of what is given and of what is returned read
 /// back as they are written, and the bodies inside them run so (clause `reads`); each type that they, or parameters and predicates, reach
-/// is reached in one way only (`reached_once`). Of parameters and predicates, of all that is stored, of ranges and of what is claimed, the
-/// same is so as for `lower_generic_params`.
+/// is reached in one way only (`reached_once`), and each constant that they hold is an expression of its own (`inside_reached_once`). Of
+/// parameters and predicates, of all that is stored, of ranges and of what is claimed, the same is so as for `lower_generic_params`.
 ///
 /// `Memory` where a growth was refused; `Full` only where the item becomes more types, lifetimes, expressions, labels, patterns, bindings
 /// or parameters than there is room for, or something in it counts further than 32 bits do; never `Failed`. What was stored until then
@@ -276,6 +284,7 @@ pub fn lower_function<E: LowerEnv>(
     ensures reads { let x = read_function (E.answers db.now) item.entry.file_id inside id item.entry.value.now in
         IfOk result (λ r. FunctionReads r.0 r.1 x r.3 r.4 r.5 r.6) }
     ensures reached_once { IfOk result (λ r. ReachesOnce r.0 (with_params r.0 r.1 r.2 (named_by_function r.3 r.4))) }
+    ensures inside_reached_once { IfOk result (λ r. HoldsOnce r.0 (with_held_params r.0 r.1 r.2 (held_by_function r.3 r.4))) }
     ensures made_once { IfOk result (λ r. MadeOnce r.0 []) }
     ensures in_range { IfOk result (λ r. InRange r.0 r.1) }
     ensures answer_in_range { IfOk result (λ r. Within r.0 (past_function r.3 r.4)) }

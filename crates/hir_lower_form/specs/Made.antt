@@ -1,5 +1,6 @@
--- The forms that lowering makes up nodes for: `for`, `?` and `try` (rust-analyzer, `collect_for_loop`, `collect_try_operator` and
--- `desugar_try_block`; Rust Reference, iterator loops and the question mark operator).
+-- The forms that lowering makes up nodes for: the condition of a `while`, `for`, `?` and `try` (rust-analyzer, `collect_while_loop`,
+-- `collect_for_loop`, `collect_try_operator` and `desugar_try_block`; Rust Reference, predicate and iterator loops, the question mark
+-- operator).
 use Rattle.std.specs.Prelude.{ℕ, Bool, false, true, if◌then◌else◌, [], ◌∷◌, Option, Some, None}
 use Rattle.hir_binding.specs.declared.binding.BindingAnnotation.{BindingAnnotation}
 use Rattle.hir_binding.specs.declared.binding.BindingAnnotation.TheVariants.{Mutable, Unannotated}

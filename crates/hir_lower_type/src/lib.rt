@@ -8,6 +8,6 @@ mod functions;
 pub mod lifetimes;
 pub mod one_arg;
 mod part;
-pub mod places;
+mod places;
 mod simple;
 pub mod types;

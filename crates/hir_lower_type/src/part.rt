@@ -13,7 +13,7 @@ ghost use Rattle.hir_env.specs.Whole.{constant_part, pat_part, type_part, types_
 ghost use Rattle.hir_lower_form.specs.Methods.{LowersConstant, LowersParts, LowersTypeOpt, LowersTypePat, at_place};
 ghost use Rattle.hir_lower_form.specs.Nests.{Each, IfPresent, const_expr};
 
-use crate::places::inside_constant;
+use hir_env::place::inside_constant;
 use hir_lower_form::builder::BodyBuilder;
 use hir_lower_form::parts::{LowerParts, Lowerer};
 use hir_lower_pat::type_pats::lower_type_pat;

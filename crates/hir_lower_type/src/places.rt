@@ -1,10 +1,9 @@
-//! Places inside of an `impl`, inside of a written binding, where another `impl` may stand, and inside of a constant.
+//! Places inside of an `impl`, and inside of a written binding, where another `impl` may stand.
 
 ghost use Rattle.std.specs.Prelude.{◌≡◌};
 ghost use Rattle.hir_env.specs.Paths as spec;
 
-use hir_env::place::{ImplTrait, LifetimeScope, Place};
-use hir_store::diagnostics::AwaitLocation;
+use hir_env::place::{LifetimeScope, Place};
 
 /// Where a lifetime counts in an `impl`.
 fn in_impl_scope(scope: LifetimeScope) -> LifetimeScope
@@ -34,17 +33,6 @@ pub(crate) fn outside_impl(place: Place) -> Place
 {
     Place {
         in_impl: false,
-        ..place
-    }
-}
-
-/// Where the expression of a constant is read that is written at this place.
-pub fn inside_constant(place: Place) -> Place
-    ensures { result ≡ spec.inside_constant place }
-{
-    Place {
-        impl_trait: ImplTrait::Error,
-        await_location: Some(AwaitLocation::Constant),
         ..place
     }
 }

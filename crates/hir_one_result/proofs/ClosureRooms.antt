@@ -7,24 +7,21 @@ use Rattle.hir_store.specs.declared.hir.CoroutineKind.{CoroutineKind}
 use Rattle.hir_store.specs.declared.ids.BindingId.{BindingId}
 use Rattle.hir_store.specs.declared.ids.BlockId.{BlockId}
 use Rattle.hir_store.specs.declared.ids.ExprId.{ExprId}
-use Rattle.hir_store.specs.declared.ids.PatId.{PatId}
 use Rattle.hir_store.specs.declared.ids.TypeRefId.{TypeRefId}
-use Rattle.hir_store.specs.declared.type_ref.ConstRef.{ConstRef}
 use Rattle.hir_lower_form.specs.Builder.{Builder}
 use Rattle.hir_lower_form.specs.declared.closures.ClosureParams.{ClosureParams}
-use Rattle.hir_lower_form.specs.Lower.{ExprSteps, StoredContents, closure_form, const_form, constant_form, coroutine_block_form}
-use Rattle.hir_lower_form.specs.Lower.{coroutine_form, param_form, yield_form}
+use Rattle.hir_lower_form.specs.Lower.{ExprSteps, StoredContents, closure_form, constant_form, coroutine_block_form}
+use Rattle.hir_lower_form.specs.Lower.{coroutine_form}
 use Rattle.hir_lower_form.specs.Lowering.{Checked, go_on, Lowering, bindings_end, own, owning}
 use Rattle.hir_lower_form.specs.Forms.{coroutine_around_form}
 use Rattle.hir_meaning.specs.InnerWritten.{InnerBody}
 use Rattle.hir_one_result.specs.Size.{Size, a_body, an_expr, owned, ◌∪◌}
-use Rattle.hir_one_result.proofs.ExprRooms.{const_takes}
 use Rattle.hir_one_result.proofs.Knowing.{Known, TakesIf, takes_always, takes_any}
 use Rattle.hir_one_result.proofs.Last.{EndsWith, IsLast, Last, constant_last, coroutine_last}
-use Rattle.hir_one_result.proofs.LastTree.{closure_last, const_last, coroutine_block_last}
+use Rattle.hir_one_result.proofs.LastTree.{closure_last, coroutine_block_last}
 use Rattle.hir_one_result.proofs.Owners.{as_many_owned, last_owns}
 use Rattle.hir_one_result.proofs.Rooms.{Takes, takes_alloc, takes_barrier, takes_begin, takes_block, takes_close_barrier, takes_constant}
-use Rattle.hir_one_result.proofs.Rooms.{takes_end, takes_note, takes_pure, takes_then}
+use Rattle.hir_one_result.proofs.Rooms.{takes_end, takes_pure, takes_then}
 use Rattle.hir_one_result.proofs.Took.{Room}
 
 -- ---- what owns
@@ -90,9 +87,6 @@ unfolding coroutine_form
 behind_takes h = takes_begin takes_barrier (λ outside. takes_end h (λ id. takes_end (takes_close_barrier outside) (λ y. takes_pure id)))
 
 module _ (at : Pointer) where
-  pub const_block_takes : {n : Size} {c : Lowering ConstRef} → Takes n c → Takes (owned (n ∪ an_expr)) (owning (λ i. i) (const_form at c))
-  const_block_takes h = takes_owning (const_last at _) (const_takes at h)
-
   bordered_takes : (moves is_static : Bool) {n k j : Size} {p : Lowering ClosureParams} {t : Lowering (Option TypeRefId)} {e : ExprSteps}
       → Takes n p → Takes k t → Takes j e → Takes (n ∪ (k ∪ (j ∪ an_expr))) (closure_form at moves is_static p t e)
   unfolding closure_form
@@ -116,13 +110,3 @@ module _ (at : Pointer) where
       → Takes (owned (n ∪ (an_expr ∪ an_expr))) (owning (λ i. i) (coroutine_form (coroutine_block_form at kind moves number c)))
   coroutine_takes kind moves number h =
       takes_owning (coroutine_last (coroutine_block_last at kind moves number _)) (behind_takes (coroutine_block_takes kind moves number h))
-
-  -- that one stands here is only noted
-  pub yield_takes : {n : Size} {e : Lowering (Option ExprId)} → Takes n e → Takes (n ∪ an_expr) (yield_form at e)
-  unfolding yield_form
-  yield_takes h = takes_begin takes_note (λ u. takes_then h (λ v. takes_alloc _ (Some at)))
-
-pub param_takes : (l : ClosureParams) {n k : Size} {p : Lowering PatId} {t : Lowering (Option TypeRefId)} → Takes n p → Takes k t
-    → Takes (n ∪ k) (param_form l p t)
-unfolding param_form
-param_takes l hp ht = takes_then hp (λ i. takes_end ht (λ r. takes_pure _))

@@ -1,24 +1,20 @@
--- What a closure and its parameters tell, and a coroutine block: as much as their parts do behind a barrier.
+-- What a closure tells, and a coroutine block: as much as their parts do behind a barrier.
 use Rattle.std.proofs.Common.{◌∙◌, ap, List, ◌∷◌, ◌++◌, Bool, Option, Some, None}
 use Rattle.hir_store.specs.Pointers.{Pointer}
 use Rattle.hir_store.specs.declared.hir.CoroutineKind.{CoroutineKind}
 use Rattle.hir_store.specs.declared.ids.BlockId.{BlockId}
-use Rattle.hir_store.specs.declared.ids.ExprId.{ExprId}
-use Rattle.hir_store.specs.declared.ids.PatId.{PatId}
 use Rattle.hir_store.specs.declared.ids.TypeRefId.{TypeRefId}
 use Rattle.hir_scope.specs.Ribs.{barrier_rib}
 use Rattle.hir_scope.specs.Scopes.{Scope, barrier}
 use Rattle.hir_lower_form.specs.declared.closures.ClosureParams.{ClosureParams}
 use Rattle.hir_lower_form.specs.Forms.{stored_closure}
-use Rattle.hir_lower_form.specs.Lower.{ExprSteps, StoredContents, closure_form, coroutine_block_form, coroutine_form, param_form}
-use Rattle.hir_lower_form.specs.Lower.{yield_form}
+use Rattle.hir_lower_form.specs.Lower.{ExprSteps, StoredContents, closure_form, coroutine_block_form, coroutine_form}
 use Rattle.hir_lower_form.specs.Lowering.{Lowering, owning}
 use Rattle.hir_lower_form.specs.Forms.{coroutine_around_form}
-use Rattle.hir_store.specs.declared.hir.Expr.TheVariants as hir
-use Rattle.hir_steps.proofs.Barriers.{correct_closure, correct_coroutine, correct_yield}
+use Rattle.hir_steps.proofs.Barriers.{correct_closure, correct_coroutine}
 use Rattle.hir_steps.proofs.Steps.{Correct, correct_as}
 use Rattle.hir_one_result.proofs.Telling.{Listing, Tells, added_none, added_then, last_none, owning_tells, tells_alloc, tells_bind}
-use Rattle.hir_one_result.proofs.Telling.{tells_end, tells_enter_block, tells_pure, value_tells}
+use Rattle.hir_one_result.proofs.Telling.{tells_end, tells_enter_block}
 
 module _ {X : Type 0} (L : Listing X) where
   pub closure_tells : (at : Pointer) (moves is_static : Bool) {D E F : List Scope → List X} {p : Lowering ClosureParams}
@@ -48,12 +44,3 @@ module _ {X : Type 0} (L : Listing X) where
   coroutine_tells at kind moves number h = owning_tells L (λ i. i)
       (correct_as (correct_coroutine (coroutine_block_tells at kind moves number h))
       (λ final ps m m' i g row. record { told = λ ss e. row.inside.told (barrier ∷ ss) (ap (λ y. barrier_rib ∷ y) e) }))
-
-  pub param_tells : (l : ClosureParams) {D E : List Scope → List X} {p : Lowering PatId} {t : Lowering (Option TypeRefId)}
-      → Correct p (Tells L D) → Correct t (Tells L E) → Correct (param_form l p t) (Tells L (λ ss. D ss ++ E ss))
-  unfolding param_form
-  param_tells l hp ht = tells_bind L hp (λ i. tells_end L ht (λ r. tells_pure L _))
-
-  pub yield_tells : (at : Pointer) {D : List Scope → List X} {e : Lowering (Option ExprId)} → Correct e (Tells L D)
-      → Correct (yield_form at e) (Tells L D)
-  yield_tells at h = correct_yield at _ (value_tells L at hir.Yield h)

@@ -35,8 +35,7 @@ use Rattle.hir_steps.proofs.PatSteps.{correct_alloc_beside, put_made_pat, source
 use Rattle.hir_steps.proofs.Preludes.{correct_binding_of, correct_own_name_of}
 use Rattle.hir_steps.proofs.Steps.{Correct, correct_as}
 use Rattle.hir_one_result.specs.Formals.{coroutine_body, each_formal, in_function, lower_self}
-use Rattle.hir_one_result.proofs.MadeTelling.{tells_number}
-use Rattle.hir_one_result.proofs.PatTelling.{tells_binding, tells_define, tells_pat}
+use Rattle.hir_one_result.proofs.PatTelling.{tells_binding, tells_define, tells_number, tells_pat}
 use Rattle.hir_one_result.proofs.Telling.{Listing, Tells, added_none, added_then, last_none, nothing, owning_tells, tells_alloc, tells_bind}
 use Rattle.hir_one_result.proofs.Telling.{tells_end, tells_pure}
 

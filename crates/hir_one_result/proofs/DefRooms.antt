@@ -2,9 +2,7 @@
 use Rattle.std.proofs.Common.{◌≡◌, refl, ℕ, suc, ◌≤◌, ◌^◌, Bool, true, false, nat_lt, if◌then◌else◌, Option, Some}
 use Rattle.std.proofs.lemmas.Bool.{ltb-false}
 use Rattle.hir_store.specs.declared.ids.MacroDefId.{MacroDefId}
-use Rattle.hir_env.specs.Answered as tree
-use Rattle.hir_env.specs.Answered.{Stmt}
-use Rattle.hir_lower_form.specs.Calls.{behind, define_form, defined, inside_macro}
+use Rattle.hir_lower_form.specs.Calls.{define_form, defined, inside_macro}
 use Rattle.hir_lower_form.specs.Lowering.{Lowering, pure, count_def, count_out, open_macro}
 use Rattle.hir_one_result.specs.Size.{Size, a_def, nothing}
 use Rattle.hir_one_result.proofs.PathRooms.{counts_out, counts_so_far}
@@ -30,7 +28,3 @@ takes_open_macro d = record { takes = λ b e. took_besides _ _ refl refl refl re
 pub inside_takes : {A : Type 0} {n : Size} (d : MacroDefId) {p : Lowering A} → Takes n p → Takes n (inside_macro d p)
 unfolding inside_macro
 inside_takes d h = takes_begin (takes_open_macro d) (λ u. takes_end h (λ x. takes_end takes_close (λ v. takes_pure x)))
-
-pub behind_stmt_takes : {A : Type 0} {n : Size} (s : Stmt) {p : Lowering A} → Takes n p → Takes n (behind s p)
-behind_stmt_takes (tree.macro_stmt k (Some d)) h = inside_takes d h
-behind_stmt_takes s h = h

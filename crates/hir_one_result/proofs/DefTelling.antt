@@ -1,15 +1,12 @@
 -- Definitions of macros add nothing to a list of what is told, and what is behind one adds to it in one scope more.
-use Rattle.std.proofs.Common.{ap, ℕ, List, ◌∷◌, Option, Some}
+use Rattle.std.proofs.Common.{ap, ℕ, List, ◌∷◌, Option}
 use Rattle.hir_store.specs.declared.ids.MacroDefId.{MacroDefId}
-use Rattle.hir_env.specs.Answered as tree
-use Rattle.hir_env.specs.Answered.{Stmt}
 use Rattle.hir_scope.specs.Scopes.{Scope, macro_scope}
-use Rattle.hir_lower_form.specs.Calls.{behind, define_form, inside_macro}
+use Rattle.hir_lower_form.specs.Calls.{define_form, inside_macro}
 use Rattle.hir_lower_form.specs.Lowering.{Lowering}
 use Rattle.hir_steps.proofs.Definitions.{correct_define, correct_inside_macro}
 use Rattle.hir_steps.proofs.Frames.{ribs}
 use Rattle.hir_steps.proofs.Steps.{Correct, correct_as}
-use Rattle.hir_one_result.specs.Diagnostics.{behind_stmt}
 use Rattle.hir_one_result.proofs.Around.{macro_is_rib}
 use Rattle.hir_one_result.proofs.Telling.{Listing, Tells, added_none, nothing}
 
@@ -22,8 +19,3 @@ module _ {X : Type 0} (L : Listing X) where
       → Correct (inside_macro d p) (Tells L (λ ss. D (macro_scope d ∷ ss)))
   inside_tells d h = correct_as (correct_inside_macro d h) (λ final ps m m' x g row.
       record { told = λ ss e. row.told (macro_scope d ∷ ss) ((macro_is_rib d).around ss (ribs ps) e) })
-
-  pub behind_tells : (s : Stmt) {A : Type 0} {D : List Scope → List X} {p : Lowering A} → Correct p (Tells L D)
-      → Correct (behind s p) (Tells L (λ ss. D (behind_stmt s ss)))
-  behind_tells (tree.macro_stmt k (Some d)) h = inside_tells d h
-  behind_tells s h = h

@@ -10,7 +10,7 @@ use Rattle.hir_one_result.proofs.Took.{Room, may_be_owned}
 use Rattle.hir_one_result.proofs.Tellings.{takes_of}
 use Rattle.hir_one_result.proofs.TreeRooms.{body_takes, part_takes, path_tells, type_part_takes}
 
-fits : {A : Type 0} {n : Size} {p : Lowering A} → Takes n p → (old : Builder) → Paired old.stored
+pub fits : {A : Type 0} {n : Size} {p : Lowering A} → Takes n p → (old : Builder) → Paired old.stored
     → GrownUnless n old (p old).0 (p old).1
 fits {A = A} {n = n} {p = p} h old d = by (p old).0 (p old).1 (h.takes old d)
   where

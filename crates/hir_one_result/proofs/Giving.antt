@@ -15,13 +15,9 @@ use Rattle.hir_lower_form.specs.Calls.{define_form, defined, inside_macro}
 use Rattle.hir_lower_form.specs.Forms.{let_stmt_form}
 use Rattle.hir_lower_form.specs.Lower.{ExprSteps, StoredContents, kept, kept_part, lower, lower_stmts, push_some, settled, some}
 use Rattle.hir_lower_form.specs.Lowering.{Checked, go_on, Lowering, ◌>>=◌, pure, close, open_macro}
-use Rattle.hir_one_result.specs.Size.{Size}
 use Rattle.hir_one_result.specs.Stands.{statement_of}
 use Rattle.hir_one_result.proofs.Contents.{IsThere, IsEmpty, Settled, before, of_expr, empty_expr, has_value}
 use Rattle.hir_one_result.proofs.PatStanding.{push_append}
-use Rattle.hir_one_result.proofs.Rooms.{Takes}
-use Rattle.hir_one_result.proofs.Took.{Room}
-use Rattle.hir_one_result.proofs.Tellings.{Told, Tells}
 
 -- of an answer, where there is one
 abbrev OfAnswer : {A : Type 0} → (A → Type 0) → Checked A → Type 0
@@ -55,14 +51,6 @@ gives_any {A = A} p = record { gives = λ b. by (p b).0 }
     by : (o : Checked A) → OfAnswer (λ a. Unit {0}) o
     by (Ok a) = tt
     by (Err e) = tt
-
--- with how much is stored
-pub tells_given : {A : Type 0} {n : Size} {P : A → Type 0} {p : Lowering A} → Takes n p → Gives P p → Tells n P p
-tells_given {A = A} {n = n} {P = P} {p = p} h k = record { tells = λ b d. by b (p b).0 (p b).1 (h.takes b d) (k.gives b) }
-  where
-    by : (b : Builder) (o : Checked A) (c : Builder) → Room n b o c → OfAnswer P o → Told n P b o c
-    by b (Ok a) c x y = (x, y)
-    by b (Err e) c x y = x
 
 -- ---- parts that are kept
 

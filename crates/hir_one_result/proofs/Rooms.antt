@@ -15,17 +15,16 @@ use Rattle.hir_store.specs.declared.ids.BindingId.{BindingId}
 use Rattle.hir_store.specs.declared.ids.PatId.{PatId}
 use Rattle.hir_store.specs.declared.fault.StoreFault.TheVariants.{Full}
 use Rattle.hir_store.specs.declared.diagnostics.ExpressionStoreDiagnostics.{ExpressionStoreDiagnostics}
-use Rattle.hir_store.specs.declared.diagnostics.AwaitLocation.{AwaitLocation}
 use Rattle.hir_store.specs.declared.hir.Expr.{Expr}
-use Rattle.hir_store.specs.declared.hir.Label.{Label as HirLabel}
 use Rattle.hir_store.specs.declared.ids.ExprId.{ExprId}
 use Rattle.hir_store.specs.declared.ids.LabelId.{LabelId}
 use Rattle.hir_store.specs.declared.ids.BlockId.{BlockId}
 use Rattle.hir_env.specs.Answered.{Label, Jump}
 use Rattle.hir_scope.specs.Ribs.{Target, reachable, unreachable, undeclared, target}
+use Rattle.hir_store.specs.declared.hir.Label.{Label as HirLabel}
 use Rattle.hir_lower_form.specs.Builder.{Builder}
 use Rattle.hir_lower_form.specs.Lowering.{Checked, go_on, Lowering, ◌>>=◌, pure, alloc_expr, point, point_field, report, enter_block}
-use Rattle.hir_lower_form.specs.Lowering.{open_label, close, jump_target, found_or_fault, open_as, report_await, open_barrier, enter_root}
+use Rattle.hir_lower_form.specs.Lowering.{open_label, close, jump_target, found_or_fault, open_as, open_barrier, enter_root}
 use Rattle.hir_lower_form.specs.Lowering.{leave_root, outside_root, record_root, alloc_type, alloc_lifetime, alloc_pat, alloc_made_pat}
 use Rattle.hir_lower_form.specs.Lowering.{alloc_binding, define, set_problem, point_pat_field, close_barrier, note_yield}
 use Rattle.hir_lower_form.specs.Lower.{ExprSteps, constant_form}
@@ -95,11 +94,6 @@ takes_only h = record {
   takes = λ b d. subst (λ r. Room nothing b r.0 r.1) (sym (h.is b))
       (took_besides _ _ refl refl refl refl refl refl refl refl refl refl refl refl refl);
 }
-
-pub takes_report_await : (at : Pointer) (location : Option AwaitLocation) → Takes nothing (report_await at location)
-unfolding report_await
-takes_report_await at None = takes_pure tt
-takes_report_await at (Some l) = takes_report _
 
 pub takes_block : (n : Option BlockId) → Takes nothing (enter_block n)
 unfolding enter_block storing.enter_block

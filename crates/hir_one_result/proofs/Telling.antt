@@ -1,51 +1,32 @@
--- Steps that add to one of the lists of what is stored: which they are, and what the forms add that are made of them.
-use Rattle.std.proofs.Common.{◌≡◌, ◌∙◌, refl, sym, ap, subst, List, [], ◌∷◌, ◌++◌, append_assoc, append-nil, Option, Some, None, option_map}
-use Rattle.std.proofs.Common.{Bool, true, false, ◌⊎◌, inl, inr}
+-- Steps that add to one of the lists of what is stored: which they are, and what a label, an owner and a body inside add around them.
+use Rattle.std.proofs.Common.{◌≡◌, ◌∙◌, refl, sym, ap, subst, List, [], ◌∷◌, ◌++◌, append_assoc, append-nil, Option, Some, None}
+use Rattle.std.proofs.Common.{◌⊎◌, inl, inr}
 use Rattle.hir_store.specs.Pointers.{Pointer}
-use Rattle.hir_store.specs.Stored.{Stored, store_of, map_of}
+use Rattle.hir_store.specs.Stored.{Stored}
 use Rattle.hir_store.specs.declared.hir.Expr.{Expr as HirExpr}
-use Rattle.hir_store.specs.declared.hir.LoopSource.{LoopSource}
 use Rattle.hir_store.specs.declared.ids.ExprId.{ExprId}
 use Rattle.hir_store.specs.declared.ids.LabelId.{LabelId}
 use Rattle.hir_store.specs.declared.ids.BlockId.{BlockId}
-use Rattle.hir_store.specs.declared.ids.HygieneId.{HygieneId}
-use Rattle.hir_store.specs.declared.path.Path.{Path}
 use Rattle.hir_store.specs.declared.diagnostics.ExpressionStoreDiagnostics.{ExpressionStoreDiagnostics}
 use Rattle.hir_store.specs.declared.diagnostics.ExpressionStoreDiagnostics.TheVariants.{UndeclaredLabel, UnreachableLabel}
-use Rattle.hir_store.specs.declared.diagnostics.ExpressionStoreDiagnostics.TheVariants.{AwaitOutsideOfAsync}
-use Rattle.hir_store.specs.declared.diagnostics.AwaitLocation.{AwaitLocation}
-use Rattle.hir_store.specs.declared.name.Name.{Name}
-use Rattle.hir_env.specs.Answered as tree
-use Rattle.hir_env.specs.Answered.{Label, Jump, OptionPath}
+use Rattle.hir_env.specs.Answered.{Label, Jump}
 use Rattle.hir_scope.specs.Ribs.{Rib, label_rib, Target, reachable, unreachable, undeclared, target, map_ribs, map_target, barrier_rib}
 use Rattle.hir_scope.specs.Scopes as scope
-use Rattle.hir_scope.specs.Scopes.{Scope, loop_scope, block_scope, scopes_in_block, barrier}
+use Rattle.hir_scope.specs.Scopes.{Scope, barrier}
 use Rattle.hir_scope.proofs.Ribs.{target_map}
-use Rattle.hir_lower_form.specs.Lowering.{Lowering, ◌>>=◌, pure, alloc_expr, point, report, report_await, enter_block, open_label, close}
+use Rattle.hir_lower_form.specs.Lowering.{Lowering, ◌>>=◌, pure, alloc_expr, point, report, enter_block, open_label, close}
 use Rattle.hir_lower_form.specs.Lowering.{jump_target, owning, point_field}
-use Rattle.hir_lower_form.specs.Lower.{ExprSteps, StoredContents, missing, some, if_form, loop_form, turn_form, call_form}
-use Rattle.hir_lower_form.specs.Lower.{continue_form, break_form}
-use Rattle.hir_lower_form.specs.Lower.{operand_form, operands_form, value_form, list_form, method_call_form, await_form, paren_form}
-use Rattle.hir_lower_form.specs.Lower.{path_form, block_form, labelled, StoredFields, lower_path, cast_form, offset_of_form}
-use Rattle.hir_lower_form.specs.Lower.{record_contents, record_of, record_form, field_form, constant_form, repeat_form, const_form}
-use Rattle.hir_store.specs.declared.hir.RecordLitField.{RecordLitField}
-use Rattle.hir_store.specs.declared.hir.RecordSpread.{RecordSpread}
-use Rattle.hir_store.specs.declared.path.GenericArgs.{GenericArgs}
-use Rattle.hir_store.specs.declared.type_ref.ConstRef.{ConstRef}
-use Rattle.hir_data.specs.Reading.{stored_path}
-use Rattle.hir_data.specs.Written.{written_path}
-use Rattle.hir_read_back.proofs.Now.{path_now}
-use Rattle.hir_lower_form.specs.Types.{TypeSteps}
-use Rattle.hir_one_result.specs.Blocks.{where_some}
-use Rattle.hir_steps.proofs.Steps.{correct_both, correct_point_field, with_field, Mark, Correct, correct_bind, correct_as, correct_pure}
-use Rattle.hir_steps.proofs.Steps.{correct_report, correct_report_await, correct_point, correct_enter_block, correct_alloc, correct_opened}
-use Rattle.hir_steps.proofs.Steps.{correct_target, with_fault, with_block, with_expr, with_await, with_label, pointing, with_target}
+use Rattle.hir_lower_form.specs.Lower.{ExprSteps}
+use Rattle.hir_lower_form.specs.Lower.{constant_form}
+use Rattle.hir_steps.proofs.Steps.{correct_point_field, with_field, Mark, Correct, correct_bind, correct_as, correct_pure}
+use Rattle.hir_steps.proofs.Steps.{correct_report, correct_point, correct_enter_block, correct_alloc, correct_opened}
+use Rattle.hir_steps.proofs.Steps.{correct_target, with_fault, with_block, with_expr, with_label, pointing, with_target}
 use Rattle.hir_steps.proofs.Steps.{with_jump}
 use Rattle.hir_steps.specs.Calls.{Expansions, with_told}
 use Rattle.hir_steps.proofs.Aside.{Aside}
-use Rattle.hir_steps.proofs.Frames.{Frame, loop_at, block_at, ribs}
-use Rattle.hir_one_result.specs.Diagnostics.{forget, Around, target_faults, jump_faults, await_faults}
-use Rattle.hir_one_result.proofs.Around.{IsRib, in_loop, loop_is_rib, block_is_rib}
+use Rattle.hir_steps.proofs.Frames.{Frame, ribs}
+use Rattle.hir_one_result.specs.Diagnostics.{forget, Around, target_faults, jump_faults}
+use Rattle.hir_one_result.proofs.Around.{IsRib}
 use Rattle.hir_lower_form.specs.Ranges.{inner_form}
 use Rattle.hir_steps.proofs.Constants.{correct_constant, correct_inner, with_root}
 use Rattle.hir_steps.proofs.Owning.{owning_keeps, with_owned}
@@ -126,9 +107,6 @@ module _ {X : Type 0} (L : Listing X) where
   tells_pure a =
       correct_as (correct_pure a) (λ final ps m m' b g row. record { told = λ ss e. added_none (ap (λ x. L.list x.stored) row.still) })
 
-  pub tells_some : {A : Type 0} {D : List Scope → List X} {p : Lowering A} → Correct p (Tells D) → Correct (some p) (Tells D)
-  tells_some h = tells_end h (λ a. tells_pure (Some a))
-
   pub tells_alloc : (e : HirExpr) (at : Option Pointer) → Correct (alloc_expr e at) (Tells nothing)
   tells_alloc e at =
       correct_as (correct_alloc e at) (λ final ps m m' i g row.
@@ -189,20 +167,6 @@ module _ {X : Type 0} (L : Listing X) where
   tells_target j = correct_as (correct_target j) (λ final ps m m' n g row.
       record { told = λ ss e. added_these (L.of_faults (jump_faults ss j)) (ap L.list row.stored ∙ jump_adds j ss (ribs ps) e m.stored) })
 
-  -- awaits
-
-  await_adds : (at : Pointer) (location : Option AwaitLocation) (s : Stored)
-      → L.list (with_await at location s) ≡ L.list s ++ L.of_faults (await_faults at location)
-  await_adds at None s = none_more s
-  await_adds at (Some location) s = L.fault (AwaitOutsideOfAsync at location) s
-
-  pub tells_report_await : (at : Pointer) (location : Option AwaitLocation)
-      → Correct (report_await at location) (Tells (λ ss. L.of_faults (await_faults at location)))
-  tells_report_await at location =
-      correct_as (correct_report_await at location) (λ final ps m m' u g row. record {
-        told = λ ss e. added_these (L.of_faults (await_faults at location)) (ap L.list row.stored ∙ await_adds at location m.stored);
-      })
-
   -- a label around steps
 
   pub last_none : {xs : List X} {a b : Stored} → Added (xs ++ []) a b → Added xs a b
@@ -221,28 +185,6 @@ module _ {X : Type 0} (L : Listing X) where
         last_none (added_then (added_then entered (row.first.told (c ∷ ss) inner)) (row.second.told ss e));
   })
 
-  -- where the path became this
-  kept_where : {A B : Type 0} (f : A → B) (o : Option A) (d : Option B) → option_map f o ≡ d → (xs : List X)
-      → where_some o xs ≡ where_some d xs
-  kept_where {A = A} f o d e xs = by o ∙ ap (λ k. where_some k xs) e
-    where
-      by : (k : Option A) → where_some k xs ≡ where_some (option_map f k) xs
-      by None = refl
-      by (Some a) = refl
-
-  -- what is added where the path is read, behind what the path adds
-  pub where_tells : (p : OptionPath) {A : Type 0} {W D : List Scope → List X} {f : Option Path → Lowering A}
-      → Correct (lower_path p) (Tells W) → ((o : Option Path) → Correct (f o) (Tells (λ ss. where_some o (D ss))))
-      → Correct (lower_path p >>= f) (Tells (λ ss. W ss ++ where_some (written_path p) (D ss)))
-  where_tells p {W = W} {D = D} hp h = correct_as
-      (correct_bind (correct_both hp (path_now p)) h)
-      (λ final ps m m' i g row. record {
-        told = λ ss e.
-            let added = added_then (row.first.one.told ss e) (row.second.told ss e) in
-            let is = kept_where (stored_path (store_of final) (map_of final)) row.one (written_path p) row.first.other.is (D ss) in
-            subst (λ xs. Added (W ss ++ xs) m.stored m'.stored) is added;
-      })
-
   -- whatever owns bindings
   pub owning_tells : {A : Type 0} (owner : A → ExprId) {D : List Scope → List X} {p : Lowering A} → Correct p (Tells D)
       → Correct (owning owner p) (Tells D)
@@ -252,148 +194,6 @@ module _ {X : Type 0} (L : Listing X) where
             (added_none (L.unchanged left.stored (with_owned start id left.stored) refl refl refl)));
       })
       h
-
-  -- forms
-
-  pub missing_tells : Correct missing (Tells nothing)
-  unfolding missing
-  missing_tells = tells_alloc _ _
-
-  module _ (at : Pointer) where
-    -- the branches first
-    pub if_tells : {C T E : List Scope → List X} {c t : ExprSteps} {e : Lowering (Option ExprId)} → Correct c (Tells C)
-        → Correct t (Tells T)
-        → Correct e (Tells E)
-        → Correct (if_form at c t e) (Tells (λ ss. T ss ++ (E ss ++ C ss)))
-    unfolding if_form
-    if_tells hc ht he = tells_bind ht (λ i. tells_bind he (λ j. tells_end hc (λ k. tells_alloc _ _)))
-
-    pub loop_tells : (from : LoopSource) (label : Option Label) {D : List Scope → List X} {b : ExprSteps} → Correct b (Tells D)
-        → Correct (loop_form at from label b) (Tells (λ ss. D (loop_scope label ∷ ss)))
-    unfolding loop_form
-    loop_tells from None h = tells_end
-        (correct_as h (λ final ps m m' a g row. record { told = λ ss e. row.told (loop_scope None ∷ ss) (in_loop ss (ribs ps) e) }))
-        (λ i. tells_alloc _ _)
-    loop_tells from (Some l) h =
-        opened_tells loop_at l (loop_scope (Some l)) (λ n ps. refl) (λ n. loop_is_rib l n) (λ n. h) (λ n i. tells_alloc _ _)
-
-    -- the body first
-    pub turn_tells : {C B : List Scope → List X} {c b : ExprSteps} → Correct c (Tells C) → Correct b (Tells B)
-        → Correct (turn_form at c b) (Tells (λ ss. B ss ++ C ss))
-    unfolding turn_form
-    turn_tells hc hb = tells_bind hb (λ i. tells_end hc (λ k. tells_end (tells_alloc _ _) (λ o. tells_alloc _ _)))
-
-    pub call_tells : {D E : List Scope → List X} {f : ExprSteps} {xs : Lowering (List ExprId)} → Correct f (Tells D) → Correct xs (Tells E)
-        → Correct (call_form at f xs) (Tells (λ ss. D ss ++ E ss))
-    unfolding call_form
-    call_tells hf hx = tells_bind hf (λ i. tells_end hx (λ js. tells_alloc _ _))
-
-    pub continue_tells : (j : Option Jump) → Correct (continue_form at j) (Tells (λ ss. L.of_faults (jump_faults ss j)))
-    unfolding continue_form
-    continue_tells j = tells_end (tells_target j) (λ n. tells_alloc _ _)
-
-    pub break_tells : (j : Option Jump) {D : List Scope → List X} {e : Lowering (Option ExprId)} → Correct e (Tells D)
-        → Correct (break_form at j e) (Tells (λ ss. L.of_faults (jump_faults ss j) ++ D ss))
-    unfolding break_form
-    break_tells j h = tells_bind (tells_target j) (λ n. tells_end h (λ v. tells_alloc _ _))
-
-    pub paren_tells : {D : List Scope → List X} {e : ExprSteps} → Correct e (Tells D) → Correct (paren_form at e) (Tells D)
-    unfolding paren_form
-    paren_tells h = tells_end h (λ i. tells_end (tells_point at i) (λ u. tells_pure i))
-
-    pub path_tells : (h : HygieneId) {D : List Scope → List X} {p : Lowering (Option Path)} → Correct p (Tells D)
-        → Correct (path_form at h p) (Tells D)
-    unfolding path_form
-    path_tells h hp = tells_end hp (λ r. tells_alloc _ _)
-
-    pub operand_tells : (form : ExprId → HirExpr) {D : List Scope → List X} {e : ExprSteps} → Correct e (Tells D)
-        → Correct (operand_form at form e) (Tells D)
-    unfolding operand_form
-    operand_tells form h = tells_end h (λ i. tells_alloc _ _)
-
-    pub operands_tells : (form : ExprId → ExprId → HirExpr) {D E : List Scope → List X} {a b : ExprSteps} → Correct a (Tells D)
-        → Correct b (Tells E) → Correct (operands_form at form a b) (Tells (λ ss. D ss ++ E ss))
-    unfolding operands_form
-    operands_tells form ha hb = tells_bind ha (λ i. tells_end hb (λ j. tells_alloc _ _))
-
-    pub value_tells : (form : Option ExprId → HirExpr) {D : List Scope → List X} {e : Lowering (Option ExprId)} → Correct e (Tells D)
-        → Correct (value_form at form e) (Tells D)
-    unfolding value_form
-    value_tells form h = tells_end h (λ v. tells_alloc _ _)
-
-    pub list_tells : (form : tree.Listing) {D : List Scope → List X} {xs : Lowering (List ExprId)} → Correct xs (Tells D)
-        → Correct (list_form at form xs) (Tells D)
-    unfolding list_form
-    list_tells (tree.tuple_of false) h = tells_end h (λ is. tells_alloc _ _)
-    list_tells (tree.tuple_of true) h = tells_end h (λ is. tells_end missing_tells (λ i. tells_alloc _ _))
-    list_tells tree.array_of h = tells_end h (λ is. tells_alloc _ _)
-
-    pub repeat_tells : {D E : List Scope → List X} {e : ExprSteps} {c : Lowering ConstRef} → Correct e (Tells D) → Correct c (Tells E)
-        → Correct (repeat_form at e c) (Tells (λ ss. D ss ++ E ss))
-    unfolding repeat_form
-    repeat_tells he hc = tells_bind he (λ i. tells_end hc (λ c. tells_alloc _ _))
-
-    pub const_tells : {D : List Scope → List X} {c : Lowering ConstRef} → Correct c (Tells D)
-        → Correct (owning (λ i. i) (const_form at c)) (Tells D)
-    unfolding const_form
-    const_tells h = owning_tells (λ i. i) (tells_end h (λ c. tells_alloc _ _))
-
-    pub method_call_tells : (name : Name) {D E F : List Scope → List X} {e : ExprSteps} {xs : Lowering (List ExprId)}
-        {as' : Lowering (Option GenericArgs)} → Correct e (Tells D) → Correct xs (Tells E) → Correct as' (Tells F)
-        → Correct (method_call_form at e name xs as') (Tells (λ ss. D ss ++ (E ss ++ F ss)))
-    unfolding method_call_form
-    method_call_tells name he hx ha =
-        tells_bind he (λ i. tells_bind hx (λ is. tells_end ha (λ g. tells_alloc _ _)))
-
-    pub cast_tells : {D E : List Scope → List X} {e : ExprSteps} {t : TypeSteps} → Correct e (Tells D) → Correct t (Tells E)
-        → Correct (cast_form at e t) (Tells (λ ss. D ss ++ E ss))
-    unfolding cast_form
-    cast_tells he ht = tells_bind he (λ i. tells_end ht (λ t. tells_alloc _ _))
-
-    pub offset_of_tells : (names : List Name) {D : List Scope → List X} {t : TypeSteps} → Correct t (Tells D)
-        → Correct (offset_of_form at t names) (Tells D)
-    unfolding offset_of_form
-    offset_of_tells names ht = tells_end ht (λ t. tells_alloc _ _)
-
-    record_of_tells : {D : List Scope → List X} {c : Lowering StoredFields} → Correct c (Tells D) → (p : Option Path)
-        → Correct (record_of at c p) (Tells (λ ss. where_some p (D ss)))
-    record_of_tells h None = missing_tells
-    record_of_tells h (Some p) = tells_end h (λ r. tells_alloc _ _)
-
-    pub record_tells : (p : OptionPath) {W D : List Scope → List X} {c : Lowering StoredFields} → Correct (lower_path p) (Tells W)
-        → Correct c (Tells D)
-        → Correct (record_form at (lower_path p) c) (Tells (λ ss. W ss ++ where_some (written_path p) (D ss)))
-    unfolding record_form
-    record_tells p hp h = where_tells p hp (λ o. record_of_tells h o)
-
-    pub field_tells : (name : Name) {D : List Scope → List X} {e : ExprSteps} → Correct e (Tells D)
-        → Correct (field_form at name e) (Tells D)
-    unfolding field_form
-    field_tells name h = tells_end h (λ i. tells_end (tells_point_field i at) (λ u. tells_pure _))
-
-    pub await_tells : (location : Option AwaitLocation) {D : List Scope → List X} {e : ExprSteps} → Correct e (Tells D)
-        → Correct (await_form at location e) (Tells (λ ss. D ss ++ L.of_faults (await_faults at location)))
-    unfolding await_form
-    await_tells location h = tells_bind h (λ i. tells_end (tells_report_await at location) (λ u. tells_alloc _ _))
-
-    pub block_form_tells : (is_unsafe : Bool) (label : Option LabelId) (number : Option BlockId) {D : List Scope → List X}
-        {c : Lowering StoredContents} → Correct c (Tells D)
-        → Correct (block_form at is_unsafe label number c) (Tells (λ ss. L.of_block number ++ D ss))
-    unfolding block_form
-    block_form_tells is_unsafe label number h = tells_bind (tells_enter_block number) (λ u. tells_end h (λ r. tells_alloc _ _))
-
-  pub contents_tells : {D E : List Scope → List X} {fs : Lowering (List RecordLitField)} {s : Lowering RecordSpread} → Correct fs (Tells D)
-      → Correct s (Tells E) → Correct (record_contents fs s) (Tells (λ ss. D ss ++ E ss))
-  unfolding record_contents
-  contents_tells hf hs = tells_bind hf (λ fs. tells_end hs (λ s. tells_pure (fs, s)))
-
-  pub labelled_tells : (label : Option Label) {D : List Scope → List X} {f : Option LabelId → ExprSteps}
-      → ((n : Option LabelId) → Correct (f n) (Tells D))
-      → Correct (labelled label f) (Tells (λ ss. D (scopes_in_block label ss)))
-  unfolding labelled
-  labelled_tells None h = h None
-  labelled_tells (Some l) h =
-      opened_tells block_at l (block_scope l) (λ n ps. refl) (λ n. block_is_rib l n) (λ n. h (Some n)) (λ n i. tells_pure i)
 
   -- constants
 

@@ -60,11 +60,3 @@ takes_of {A = A} {n = n} {P = P} {p = p} h = record { takes = λ b d. by b (p b)
     by : (b : Builder) (o : Checked A) (c : Builder) → Told n P b o c → Room n b o c
     by b (Ok a) c x = x.0
     by b (Err e) c x = x
-
--- less of what is known
-pub tells_less : {A : Type 0} {n : Size} {P Q : A → Type 0} {p : Lowering A} → ((a : A) → P a → Q a) → Tells n P p → Tells n Q p
-tells_less {A = A} {n = n} {P = P} {Q = Q} {p = p} less h = record { tells = λ b d. by b (p b).0 (p b).1 (h.tells b d) }
-  where
-    by : (b : Builder) (o : Checked A) (c : Builder) → Told n P b o c → Told n Q b o c
-    by b (Ok a) c x = (x.0, less a x.1)
-    by b (Err e) c x = x

@@ -3,23 +3,22 @@
 ghost use Rattle.std.specs.Prelude.{◌≡◌, OnOk, OnErr, []};
 ghost use Rattle.hir_store.specs.FirstMap.{found_by, with_first_by};
 
-use indexmap::IndexMap;
+use crate::keyed::Keyed;
 use std::alloc::{AllocError, Global};
-use std::hash::Hash;
 use std::marker::Model;
 
 /// Answers by key. The first that is said of a key counts.
-pub struct FirstMap<K: Copy + Eq + Hash, T> {
-    entries: IndexMap<K, T>,
+pub struct FirstMap<K: Copy + Ord, T> {
+    entries: Keyed<K, T>,
 }
 
-impl<K: Copy + Eq + Hash, T: Drop> Drop for FirstMap<K, T> {
+impl<K: Copy + Ord, T: Drop> Drop for FirstMap<K, T> {
     fn drop(self) {
         let FirstMap { entries: _ } = self;
     }
 }
 
-impl<K: Copy + Eq + Hash, T> Model for FirstMap<K, T> {
+impl<K: Copy + Ord, T> Model for FirstMap<K, T> {
     ghost use Rattle.std.specs.Prelude.{List};
     ghost use Rattle.std.specs.Coded.{coded×, coded_list};
 
@@ -27,15 +26,15 @@ impl<K: Copy + Eq + Hash, T> Model for FirstMap<K, T> {
 
     ghost coded = { coded_list (coded× K.code T.code) };
 
-    ghost view = { λ m. m.entries.entries };
+    ghost view = { λ m. m.entries };
 }
 
-impl<K: Copy + Eq + Hash, T: Copy> FirstMap<K, T> {
+impl<K: Copy + Ord, T: Copy> FirstMap<K, T> {
     pub fn new(alloc: Global) -> FirstMap<K, T>
         ensures { result ≡ [] }
     {
         FirstMap {
-            entries: IndexMap::new(alloc),
+            entries: Keyed::new(alloc),
         }
     }
 
@@ -45,7 +44,7 @@ impl<K: Copy + Eq + Hash, T: Copy> FirstMap<K, T> {
         ensures err { OnErr result (self.new ≡ self.old) }
     {
         if self.get(key).is_none() {
-            self.entries.insert(key, answer)?;
+            self.entries.insert(key, key, answer)?;
         }
         Ok(())
     }
@@ -54,6 +53,7 @@ impl<K: Copy + Eq + Hash, T: Copy> FirstMap<K, T> {
     pub fn get(&self, key: K) -> Option<T>
         ensures { result ≡ found_by K.eq self.now key }
     {
-        self.entries.get(&key).copied()
+        let (_, answer) = self.entries.find(&key)?;
+        Some(answer)
     }
 }

@@ -28,10 +28,10 @@ use Rattle.hir_steps.proofs.Noted.{correct_aliased, correct_becoming, correct_no
 use Rattle.hir_steps.proofs.Steps.{Correct, correct_as}
 use Rattle.hir_steps.proofs.TargetSteps.{made_pat_apart}
 use Rattle.hir_told.specs.Silent.{silent}
-use Rattle.hir_told.proofs.Answering.{Answering}
-use Rattle.hir_told.proofs.CorrectWhere.{correct_where}
-use Rattle.hir_told.proofs.Graded.{Graded}
-use Rattle.hir_told.proofs.Tree.{expr_part_graded}
+use Rattle.hir_one_result.proofs.Answering.{Answering}
+use Rattle.hir_one_result.proofs.CorrectWhere.{correct_where}
+use Rattle.hir_one_result.proofs.Graded.{Graded}
+use Rattle.hir_one_result.proofs.GradedTree.{expr_part_graded}
 
 pub apart_where : {A B : Type 0} {P : A → Type 0} {p : Lowering A} {f : A → Lowering B} → Correct p Apart → Answering P p
     → ((a : A) → P a → Correct (f a) Apart) → Correct (p >>= f) Apart

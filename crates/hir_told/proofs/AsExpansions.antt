@@ -8,7 +8,7 @@ use Rattle.hir_store.specs.declared.type_ref.TypeBound.{TypeBound}
 use Rattle.hir_env.specs.declared.place.ImplTrait.{ImplTrait}
 use Rattle.hir_env.specs.declared.place.ImplTrait.TheVariants as becomes
 use Rattle.hir_lower_form.specs.Lowering.{becoming}
-use Rattle.hir_told.specs.Grading.{grade_impl}
+use Rattle.hir_one_result.specs.Grading.{grade_impl}
 use Rattle.hir_lower_form.specs.Builder.{Builder}
 use Rattle.hir_lower_form.specs.Lowering.{Lowering}
 use Rattle.hir_data.specs.Data as datum
@@ -21,10 +21,10 @@ use Rattle.hir_one_result.proofs.CoroutineTelling.{coroutine_body_tells}
 use Rattle.hir_one_result.proofs.Telling.{Listing, Tells, tells_bind}
 use Rattle.hir_told.specs.Expanded.{bodies_expanded, expansions}
 use Rattle.hir_told.specs.Laws.{BodiesExpand, ExprsExpand, PathsExpand, TypesExpand}
-use Rattle.hir_told.proofs.AsTelling.{behind, tells_graded}
-use Rattle.hir_told.proofs.Bodies.{GradedBodies, body_graded}
-use Rattle.hir_told.proofs.Graded.{Graded}
-use Rattle.hir_told.proofs.Tree.{expr_part_graded, part_graded, path_graded}
+use Rattle.hir_one_result.proofs.AsTelling.{behind, tells_graded}
+use Rattle.hir_one_result.proofs.GradedBodies.{GradedBodies, body_graded}
+use Rattle.hir_one_result.proofs.Graded.{Graded}
+use Rattle.hir_one_result.proofs.GradedTree.{expr_part_graded, part_graded, path_graded}
 
 pub none_in_block : (n : Option BlockId) (s : Stored) → (with_block n s).expansions ≡ s.expansions ++ []
 none_in_block None s = sym (append-nil s.expansions)

@@ -25,19 +25,19 @@ use Rattle.hir_steps.proofs.PatSteps.{correct_alloc_made_pat, correct_point_pat_
 use Rattle.hir_steps.proofs.Steps.{Correct, correct_as, correct_bind, correct_both, correct_point, correct_point_field, correct_report}
 use Rattle.hir_one_result.specs.OneResult.{fresh_owing, in_root_of, with_root}
 use Rattle.hir_one_result.proofs.AfterLowering.{after_lowering}
-use Rattle.hir_told.specs.Grading.{grade_impl}
+use Rattle.hir_one_result.specs.Grading.{grade_impl}
 use Rattle.hir_told.specs.StoredData.{DataAdded, StoredData, bodies_stored, no_data, stored_data}
 use Rattle.hir_told.specs.StoredLaws.{BodiesStore, ExprsStore, PathsStore, PatsStore, TypesStore, WholeBodiesStore, WholeTypesStore}
-use Rattle.hir_told.proofs.Bodies.{GradedBodies, body_graded}
-use Rattle.hir_told.proofs.CorrectWhere.{correct_where}
-use Rattle.hir_told.proofs.Graded.{Graded, TypeIs}
+use Rattle.hir_one_result.proofs.GradedBodies.{GradedBodies, body_graded}
+use Rattle.hir_one_result.proofs.CorrectWhere.{correct_where}
+use Rattle.hir_one_result.proofs.Graded.{Graded, TypeIs}
 use Rattle.hir_told.proofs.Storing.{More, Stores, binding_stores, block_stores, closure_stores, coroutine_stores, data_of, define_stores}
 use Rattle.hir_told.proofs.Storing.{dots_stored, expr_stores, inner_stores, jump_stores, lifetime_stores, made_bind_stores, more_last}
 use Rattle.hir_told.proofs.Storing.{more_then, opened_stores, owning_stores, pat_stores, pure_stores, rooted_stores, settle_stores, still}
 use Rattle.hir_told.proofs.Storing.{stores_begin, stores_end, stores_opened, stores_then, stores_where, super_stored, try_stores}
 use Rattle.hir_told.proofs.Storing.{type_stores}
 use Rattle.hir_told.proofs.StoringPreludes.{coroutine_body_stores, coroutine_closure_stores, number_stores}
-use Rattle.hir_told.proofs.Tree.{expr_part_graded, part_graded, path_graded, top_graded}
+use Rattle.hir_one_result.proofs.GradedTree.{expr_part_graded, part_graded, path_graded, top_graded}
 
 pub impls : (at : Pointer) (mode : ImplTrait) (bounds : List TypeBound) (shape : Shape) → let t = datum.typed (Some at) shape in
     Correct (becoming at mode bounds) (λ final ps m m' i.

@@ -7,7 +7,7 @@ use Rattle.hir_store.specs.declared.type_ref.TypeBound.{TypeBound}
 use Rattle.hir_env.specs.declared.place.ImplTrait.{ImplTrait}
 use Rattle.hir_env.specs.declared.place.ImplTrait.TheVariants as becomes
 use Rattle.hir_lower_form.specs.Lowering.{becoming}
-use Rattle.hir_told.specs.Grading.{grade_impl}
+use Rattle.hir_one_result.specs.Grading.{grade_impl}
 use Rattle.hir_env.specs.Answered as tree
 use Rattle.hir_lower_form.specs.Builder.{Builder}
 use Rattle.hir_lower_form.specs.Forms.{ExprSteps, StoredContents}
@@ -39,11 +39,11 @@ use Rattle.hir_steps.proofs.Yields.{still_point_pat_field}
 use Rattle.hir_steps.proofs.Yields.{still_report, still_try_target, still_type}
 use Rattle.hir_told.specs.Laws.{ExprsNote, PatsNote, TargetsNote, TypesNote}
 use Rattle.hir_told.specs.Yields.{yields}
-use Rattle.hir_told.proofs.Answering.{Answering, AnsweredTo}
+use Rattle.hir_one_result.proofs.Answering.{Answering, AnsweredTo}
 use Rattle.hir_data.specs.Data.{TypeData}
 use Rattle.hir_told.proofs.AsApart.{apart_graded, apart_where, impl_apart}
-use Rattle.hir_told.proofs.Graded.{Graded}
-use Rattle.hir_told.proofs.Tree.{expr_part_graded, part_graded, target_graded, top_graded}
+use Rattle.hir_one_result.proofs.Graded.{Graded}
+use Rattle.hir_one_result.proofs.GradedTree.{expr_part_graded, part_graded, target_graded, top_graded}
 
 abbrev pub Notes : {A : Type 0} → Bool → Lowering A → Type 0
 Notes y p = Correct p Apart × Raises y p

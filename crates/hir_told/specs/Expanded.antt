@@ -1,8 +1,8 @@
 -- Which calls of macros are entered, each behind what else was expanded for it, in the order of lowering.
 use Rattle.std.specs.Prelude.{[], ◌++◌}
 use Rattle.hir_steps.specs.Calls.{Expansions, expansions_of_called, expansions_of_entered, expansions_of_gone}
-use Rattle.hir_told.specs.Bodies.{GradingBodies}
-use Rattle.hir_told.specs.Grading.{Grading}
+use Rattle.hir_one_result.specs.Bodies.{GradingBodies}
+use Rattle.hir_one_result.specs.Grading.{Grading}
 
 abbrev pub expansions : Grading {0}
 expansions = record {

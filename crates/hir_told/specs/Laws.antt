@@ -1,8 +1,6 @@
 -- What is told of a tree, claimed of its lowering from whatever builder.
 use Rattle.std.specs.Prelude.{Bool, Option, ◌≡◌, ◌||◌, ◌++◌, [], List, None, Ok, option_to_list}
-use Rattle.hir_store.specs.declared.diagnostics.ExpressionStoreDiagnostics.{ExpressionStoreDiagnostics}
 use Rattle.hir_store.specs.declared.hir.CoroutineKind.{CoroutineKind}
-use Rattle.hir_store.specs.declared.ids.BlockId.{BlockId}
 use Rattle.hir_store.specs.declared.ids.ExprId.{ExprId}
 use Rattle.hir_store.specs.declared.ids.PatId.{PatId}
 use Rattle.hir_store.specs.declared.ids.TypeRefId.{TypeRefId}
@@ -15,12 +13,11 @@ use Rattle.hir_steps.specs.Keeps.{Paired}
 use Rattle.hir_one_result.specs.Diagnostics.{Around}
 use Rattle.hir_one_result.specs.Formals.{Given, lower_body}
 use Rattle.hir_one_result.specs.Laws.{GrownUnless, WhereLowered}
-use Rattle.hir_told.specs.Bodies.{grade_body}
+use Rattle.hir_one_result.specs.Bodies.{grade_body}
 use Rattle.hir_told.specs.Expanded.{bodies_expanded, expansions}
-use Rattle.hir_told.specs.Grades.{grade_expr_part, grade_part, grade_part_in, grade_target, grade_top, grade_whole}
-use Rattle.hir_told.specs.Grading.{Grading}
-use Rattle.hir_told.specs.Lists.{bodies_listed, listed}
-use Rattle.hir_told.specs.Sizes.{bodies_sized, sizes}
+use Rattle.hir_one_result.specs.Grades.{grade_expr_part, grade_part, grade_part_in, grade_target, grade_top, grade_whole}
+use Rattle.hir_one_result.specs.Lists.{blocks, bodies_listed, faults}
+use Rattle.hir_one_result.specs.Sizes.{bodies_sized, sizes}
 use Rattle.hir_told.specs.Yields.{yields}
 
 -- ---- a `yield` is noted where one is told of, and nowhere else
@@ -41,12 +38,6 @@ TargetsNote = (t : Target) (old new : Builder) (i : PatId) → Paired old.stored
     → new.yields ≡ (old.yields || grade_target yields t)
 
 -- ---- faults and numbers of blocks come behind those that were there, in the order in which they are told, in whatever scopes
-
-abbrev pub faults : Grading {0}
-faults = listed {X = ExpressionStoreDiagnostics} (λ ds. ds) (λ n. []) (λ es ds. ds)
-
-abbrev pub blocks : Grading {0}
-blocks = listed {X = BlockId} (λ ds. []) option_to_list (λ es ds. [])
 
 abbrev pub ExprsReport : Type 0
 ExprsReport = WhereLowered (λ e old id new. (ss : List Scope) → Around ss old.scopes

@@ -1,11 +1,6 @@
-pub mod Grading
-pub mod Grades
-pub mod Bodies
 pub mod Silent
 pub mod Yields
-pub mod Lists
 pub mod Expanded
-pub mod Sizes
 pub mod StoredData
 pub mod Laws
 pub mod StoredLaws

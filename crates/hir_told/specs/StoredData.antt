@@ -4,8 +4,8 @@ use Rattle.hir_store.specs.Stored.{SourceMap, Store, Stored, store_of, map_of}
 use Rattle.hir_store.specs.Storing.{Extends, lifetime_id, type_id}
 use Rattle.hir_data.specs.Data.{LifetimeData, TypeData}
 use Rattle.hir_data.specs.Reading.{stored_lifetime, stored_type}
-use Rattle.hir_told.specs.Bodies.{GradingBodies}
-use Rattle.hir_told.specs.Grading.{Grading}
+use Rattle.hir_one_result.specs.Bodies.{GradingBodies}
+use Rattle.hir_one_result.specs.Grading.{Grading}
 
 pub record StoredData : Type 0 where
   pub types : List TypeData

@@ -13,9 +13,9 @@ use Rattle.hir_scope.specs.Scopes.{Scope}
 use Rattle.hir_steps.specs.Calls.{Expansions}
 use Rattle.hir_one_result.specs.Size.{assigned_at, stored_from}
 use Rattle.hir_told.specs.Expanded.{expansions}
-use Rattle.hir_told.specs.Grades.{grade_target}
-use Rattle.hir_told.specs.Laws.{faults}
-use Rattle.hir_told.specs.Sizes.{sizes}
+use Rattle.hir_one_result.specs.Grades.{grade_target}
+use Rattle.hir_one_result.specs.Lists.{faults}
+use Rattle.hir_one_result.specs.Sizes.{sizes}
 use Rattle.hir_told.specs.WorkedOrders.{call_alone, expr_call, recorded}
 
 -- a call of a macro that isn't found

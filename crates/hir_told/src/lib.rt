@@ -1,7 +1,6 @@
 //! What lowering tells, by one induction for all that is told of its steps. A law is a function whose contract is the law.
 #![tactic(auto)]
 
-ghost use Rattle.hir_one_result.specs.Laws.{BlocksAre, DiagnosticsAre};
 ghost use Rattle.hir_told.specs.Laws.{BodiesEnter, BodiesExpand, BodiesFit, BodiesReport};
 ghost use Rattle.hir_told.specs.Laws.{ExprsEnter, ExprsExpand, ExprsFit, ExprsNote, ExprsReport};
 ghost use Rattle.hir_told.specs.Laws.{PathsExpand, PatsNote, TargetsNote, TypesExpand, TypesNote};
@@ -97,16 +96,6 @@ pub fn types_store()
 pub fn bodies_store()
     ensures bodies { BodiesStore }
     ensures whole { WholeBodiesStore }
-{}
-
-/// What is claimed of the numbers of blocks by `hir_one_result` follows from what is told.
-pub fn blocks_follow()
-    ensures { BlocksAre }
-{}
-
-/// And what is claimed of the faults.
-pub fn faults_follow()
-    ensures { DiagnosticsAre }
 {}
 
 /// Small trees with calls of macros: what was expanded for one stands before it, a call before those in what it stands for, and of what is

@@ -1,2 +1,3 @@
 mod Calls
+mod Numbers
 pub mod Listed

@@ -3,6 +3,7 @@
 mod expansions;
 mod lines;
 mod numbering;
+mod opens;
 mod owners;
 mod pats;
 mod printer;

@@ -57,6 +57,33 @@ fn the_rest_of_a_page_takes_no_memory(rt: HostRuntime) {
     assert!(rt; fills_its_page(rt.alloc()));
 }
 
+/// Whether each of so many calls is answered with the next number, up to the limit, or is refused for memory and changes nothing.
+pub fn after_each_refusal(alloc: Global, limit: u32, calls: u32) -> bool {
+    let mut arena = Arena::with_limit(alloc, limit);
+    let mut holds = true;
+    for _ in 0..calls {
+        let len = arena.len();
+        let spare = arena.spare();
+        match arena.alloc(LifetimeRef::Error) {
+            Ok(id) => if id != LifetimeRefId(len) || len >= limit {
+                holds = false;
+            },
+            Err(fault) => {
+                let own = if len < limit {
+                    StoreFault::Memory
+                } else {
+                    StoreFault::Full
+                };
+                if fault != own || arena.len() != len || arena.spare() != spare {
+                    holds = false;
+                }
+            }
+        }
+    }
+    drop(arena);
+    holds
+}
+
 #[test]
 fn a_limit_cuts_what_is_spare(rt: HostRuntime) {
     let alloc = rt.alloc();

@@ -13,7 +13,7 @@ use lower_json::fault::ReadError;
 use std::alloc::Global;
 
 /// `f(m!(), n!())`, where each call stands for itself: the call in what it stands for has its number, in its file.
-const ENDLESS: &str = r#"{
+pub const ENDLESS: &str = r#"{
     "owner": "const",
     "nodes": [
         {"k": "Fn", "body": 1},
@@ -34,7 +34,7 @@ const ENDLESS: &str = r#"{
 }"#;
 
 /// `m!()`, of which none may be entered.
-const NONE_ENTERED: &str = r#"{
+pub const NONE_ENTERED: &str = r#"{
     "owner": "const",
     "nodes": [
         {"k": "Fn", "body": 1},
@@ -54,7 +54,7 @@ pub fn counted(source_map: &ExpressionStoreSourceMap) -> (usize, usize) {
     )
 }
 
-fn counted_of_body(_body: &Body, source_map: &BodySourceMap) -> (usize, usize) {
+pub fn counted_of_body(_body: &Body, source_map: &BodySourceMap) -> (usize, usize) {
     counted(&source_map.store)
 }
 
@@ -71,7 +71,7 @@ fn no_call_is_entered_where_the_limit_is_zero(rt: HostRuntime) {
 }
 
 /// `'a: loop { macro_rules! m {..} m!() }`, where m stands for `break 'a`, whose label's context was made in itself.
-const ITS_OWN_PARENT: &str = r#"{
+pub const ITS_OWN_PARENT: &str = r#"{
     "nodes": [
         {"k": "Fn", "body": 1},
         {"k": "BlockExpr", "tail": 2},
@@ -100,7 +100,7 @@ fn a_search_ends_in_a_context_that_is_its_own_parent(rt: HostRuntime) {
 }
 
 /// `m!()` as an expression, which is expanded to a type.
-const OTHER_KIND: &str = r#"{
+pub const OTHER_KIND: &str = r#"{
     "owner": "const",
     "nodes": [
         {"k": "Fn", "body": 1},

@@ -2,7 +2,7 @@
 
 use hir_base::node::HirFileId;
 use hir_env::place::LoweringMode;
-use hir_lower::{ErrorImplTrait, ExprCollector, LowerError};
+use hir_lower::{ErrorImplTrait, ExprCollector, ImplTraitLower, LowerError};
 use hir_store::ids::{ItemContainerId, ModuleId};
 use hir_store::source_map::ExpressionStoreSourceMap;
 use hir_store::store::ExpressionStore;
@@ -51,13 +51,22 @@ pub fn with_store<R, F: Fn(&ExpressionStore, &ExpressionStoreSourceMap) -> R>(
     Ok(of_both(store, source_map, ask))
 }
 
-/// Whether the path has a lowered form, or why that isn't said.
+/// Whether the path has a lowered form, where the caller chooses what an `impl` becomes, or why that isn't said.
+pub fn lowered_with<I: ImplTraitLower>(
+    collector: &mut ExprCollector<'_, TableEnv>,
+    path: &Path,
+    choice: &mut I,
+) -> Result<bool, LowerError> {
+    let lowered = collector.lower_path(path, choice)?;
+    let is_some = lowered.is_some();
+    drop(lowered);
+    Ok(is_some)
+}
+
+/// The same where an `impl` is an error.
 pub fn lowered(
     collector: &mut ExprCollector<'_, TableEnv>,
     path: &Path,
 ) -> Result<bool, LowerError> {
-    let lowered = collector.lower_path(path, &mut ErrorImplTrait)?;
-    let is_some = lowered.is_some();
-    drop(lowered);
-    Ok(is_some)
+    lowered_with(collector, path, &mut ErrorImplTrait)
 }

@@ -12,7 +12,7 @@ use lower_json::document::{Document, Root};
 use std::alloc::Global;
 
 /// `A<{a::<{b}>}>`, which becomes two expressions.
-const PATH: &str = r#"{"nodes": [
+pub const PATH: &str = r#"{"nodes": [
     {"k": "Path", "segs": [1]},
     {"k": "PathSegment", "seg": "name", "name": "A", "generics": 2},
     {"k": "GenericArgList", "args": [3]},
@@ -28,7 +28,7 @@ const PATH: &str = r#"{"nodes": [
 ]}"#;
 
 /// The first argument beside the path's only name, where it is a constant.
-fn constant_of(path: &Path) -> Option<&ConstArg> {
+pub fn constant_of(path: &Path) -> Option<&ConstArg> {
     match path.segs.as_slice() {
         [Some(segment)] => match segment.generics.as_ref()?.as_slice() {
             [GenericArg::ConstArg(constant)] => Some(constant),
@@ -111,7 +111,7 @@ fn a_path_does_not_fit_where_its_constants_do_not(rt: HostRuntime) {
 }
 
 /// `A<{ let (x, y); }>`, whose constant becomes one expression, three patterns and two bindings.
-const LET: &str = r#"{"nodes": [
+pub const LET: &str = r#"{"nodes": [
     {"k": "Path", "segs": [1]},
     {"k": "PathSegment", "seg": "name", "name": "A", "generics": 2},
     {"k": "GenericArgList", "args": [3]},
@@ -124,14 +124,14 @@ const LET: &str = r#"{"nodes": [
 ]}"#;
 
 /// Where the expressions, the patterns and the bindings of a root end.
-type Ends = (ExprId, PatId, BindingId);
+pub type Ends = (ExprId, PatId, BindingId);
 
 fn ends_of(root: &ExprRoot) -> Ends {
     (root.exprs_end, root.pats_end, root.bindings_end)
 }
 
 /// The ends of the first root that is recorded in a store.
-fn first_ends(store: &ExpressionStore, _source_map: &ExpressionStoreSourceMap) -> Option<Ends> {
+pub fn first_ends(store: &ExpressionStore, _source_map: &ExpressionStoreSourceMap) -> Option<Ends> {
     store.expr_roots().first().map(ends_of)
 }
 

@@ -8,7 +8,7 @@ use hir_store::ids::{BindingId, ExprId, PatId};
 use hir_store::store::ExpressionStore;
 
 /// `async fn f(self, x: A, (y, z): B) {}`
-const FUNCTION: &str = r#"{"nodes": [
+pub const FUNCTION: &str = r#"{"nodes": [
     {"k": "Fn", "params": 1, "body": 15, "async": true},
     {"k": "ParamList", "self": 2, "params": [3, 8]},
     {"k": "SelfParam", "name": "self"},
@@ -28,7 +28,7 @@ const FUNCTION: &str = r#"{"nodes": [
 ]}"#;
 
 /// `fn f() { async |x| x }`
-const CLOSURE: &str = r#"{"nodes": [
+pub const CLOSURE: &str = r#"{"nodes": [
     {"k": "Fn", "body": 1},
     {"k": "BlockExpr", "tail": 2},
     {"k": "ClosureExpr", "params": [3], "body": 5, "async": true},
@@ -83,7 +83,7 @@ fn written_and_bound(body: &Body) -> Option<(Received, Received)> {
 }
 
 /// Whether what was written is what the first two `let`s bind; none where one of these isn't there.
-fn is_bound_by_lets(body: &Body, _source_map: &BodySourceMap) -> Option<bool> {
+pub fn is_bound_by_lets(body: &Body, _source_map: &BodySourceMap) -> Option<bool> {
     let (written, bound) = written_and_bound(body)?;
     Some(written == bound)
 }
@@ -94,7 +94,7 @@ fn what_was_written_is_bound_by_the_lets_in_front_of_the_body(rt: HostRuntime) {
 }
 
 /// The numbers of the closure that node 2 leads to, and of the coroutine in it.
-fn closure_and_coroutine(body: &Body, source_map: &BodySourceMap) -> Option<(ExprId, ExprId)> {
+pub fn closure_and_coroutine(body: &Body, source_map: &BodySourceMap) -> Option<(ExprId, ExprId)> {
     let id = expr_at(source_map, 2)?;
     match body.store.expr(id) {
         Some(Expr::Closure { body, .. }) => Some((id, *body)),

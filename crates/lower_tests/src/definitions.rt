@@ -5,7 +5,7 @@ use hir_lower::{Body, BodySourceMap};
 use hir_store::ids::{BindingId, PatId};
 
 /// A function with the one parameter `(x, x)` and no body.
-const TWICE: &str = r#"{"nodes": [
+pub const TWICE: &str = r#"{"nodes": [
     {"k": "Fn", "params": 1},
     {"k": "ParamList", "params": [2]},
     {"k": "Param", "pat": 3},
@@ -51,7 +51,7 @@ const FOR: &str = r#"{"nodes": [
 ]}"#;
 
 /// The first three.
-type Definitions = [Option<PatId>; 3];
+pub type Definitions = [Option<PatId>; 3];
 
 fn definitions(source_map: &BodySourceMap, binding: BindingId) -> Option<Definitions> {
     let patterns = source_map.store.binding_definitions(binding)?.as_slice();
@@ -60,6 +60,10 @@ fn definitions(source_map: &BodySourceMap, binding: BindingId) -> Option<Definit
         patterns.get(1).copied(),
         patterns.get(2).copied(),
     ])
+}
+
+pub fn patterns_of_first(_body: &Body, source_map: &BodySourceMap) -> Option<Definitions> {
+    definitions(source_map, BindingId(0))
 }
 
 /// The patterns of the first two bindings, and how many patterns and bindings there are.

@@ -1,179 +1,26 @@
-//! An object by which each call of a macro is expanded to another one, in a file of its own, in every place where a call is entered.
-
-ghost use Rattle.std.specs.Prelude.{◌≡◌};
-ghost use Rattle.lower_tests.specs.Endless as spec;
+//! Calls of macros in every place where a call is entered, each of which is expanded to another one.
 
 use crate::calls::counted;
-use crate::documents::with_document;
-use crate::lowered::{asked, lowered_item};
+use crate::lowered::{Lowered, lowered_of, with_lowered_as};
 use crate::ways::{expr_at, node};
-use hir_alias::signature::AliasSignature;
-use hir_base::node::{HirFileId, InFile, NodeId, PredId};
 use hir_env::env::LowerEnv;
-use hir_env::expand::{Expansion, FragmentKind, OuterMacro};
-use hir_env::lang::LangItems;
-use hir_env::resolved::{Resolved, Shadow};
 use hir_lower::{Body, BodySourceMap};
-use hir_store::ids::{
-    BlockId, CfgId, CrateId, CtxId, DefWithBodyId, ExprId, HygieneId, ItemContainerId, MacroDefId,
-    ModuleId, PatId, TypeAliasId, TypeRefId,
-};
-use hir_store::name::Name;
-use hir_store::path::ModPath;
-use hir_syntax::ast;
-use lower_json::document::{Document, Root, Tree};
-use lower_json::fault::ReadError;
+use hir_odd_envs::endless::Endless;
+use hir_store::ids::{ExprId, PatId, TypeRefId};
+use lower_json::document::Document;
 use std::alloc::Global;
 
-/// Each call is expanded to a tree of the kind that is wanted, by the number of the kind in file 9 of another environment.
-#[derive(Clone, Copy)]
-struct Endless<'a, E> {
-    behind: &'a E,
-}
-
-fn tree_of(kind: FragmentKind) -> InFile<NodeId>
-    ensures { result ≡ spec.tree_of kind }
-{
-    let number = match kind {
-        FragmentKind::Expr => 0,
-        FragmentKind::Stmts => 1,
-        FragmentKind::Pat => 2,
-        FragmentKind::Type_ => 3,
-    };
-    InFile {
-        file_id: HirFileId(9),
-        value: NodeId(number),
-    }
-}
-
-fn file_behind(node: InFile<NodeId>) -> HirFileId
-    ensures { result ≡ spec.file_behind node }
-{
-    HirFileId(node.file_id.0.saturating_add(node.value.0))
-}
-
-impl<'a, E: LowerEnv> LowerEnv for Endless<'a, E> {
-    ghost use Rattle.lower_tests.specs.Endless.{endless_answers};
-
-    ghost answers = { λ env. endless_answers (E.answers env.behind.now) };
-
-    fn cfg(&self, node: InFile<NodeId>) -> Result<(), CfgId> {
-        self.behind.cfg(node)
-    }
-
-    fn cfg_pred(&self, pred: Option<PredId>) -> Option<bool> {
-        self.behind.cfg_pred(pred)
-    }
-
-    fn hygiene(&self, node: InFile<NodeId>) -> HygieneId {
-        self.behind.hygiene(node)
-    }
-
-    fn context(&self, node: InFile<NodeId>) -> CtxId {
-        self.behind.context(node)
-    }
-
-    fn crate_root(&self, context: CtxId) -> Option<CrateId> {
-        self.behind.crate_root(context)
-    }
-
-    fn context_parent(&self, context: CtxId) -> CtxId {
-        self.behind.context_parent(context)
-    }
-
-    fn opaque(&self, context: CtxId) -> HygieneId {
-        self.behind.opaque(context)
-    }
-
-    fn outer_macro(&self, context: CtxId) -> Option<OuterMacro> {
-        self.behind.outer_macro(context)
-    }
-
-    fn block(&self, node: InFile<NodeId>, inside: ModuleId) -> Option<(BlockId, ModuleId)> {
-        self.behind.block(node, inside)
-    }
-
-    fn skip(&self, owner: DefWithBodyId) -> bool {
-        self.behind.skip(owner)
-    }
-
-    fn container(&self, owner: DefWithBodyId) -> ItemContainerId {
-        self.behind.container(owner)
-    }
-
-    fn module_of(&self, container: ItemContainerId) -> ModuleId {
-        self.behind.module_of(container)
-    }
-
-    fn resolve(&self, inside: ModuleId, path: &ModPath, shadow: Shadow) -> Resolved {
-        self.behind.resolve(inside, path, shadow)
-    }
-
-    fn alias(&self, id: TypeAliasId) -> Option<&AliasSignature> {
-        self.behind.alias(id)
-    }
-
-    fn lang_items(&self) -> &LangItems {
-        self.behind.lang_items()
-    }
-
-    fn new_range(&self, inside: ModuleId) -> bool {
-        self.behind.new_range(inside)
-    }
-
-    fn expand(
-        &self,
-        node: InFile<NodeId>,
-        call: &ast::MacroCall,
-        inside: ModuleId,
-        kind: FragmentKind,
-    ) -> Expansion<'_> {
-        match self.behind.expand(tree_of(kind), call, inside, kind) {
-            Expansion::Expanded(_, root, eager) => {
-                Expansion::Expanded(file_behind(node), root, eager)
-            }
-            Expansion::Unresolved(path) => Expansion::Unresolved(path),
-            Expansion::NoExpansion => Expansion::NoExpansion,
-        }
-    }
-
-    fn macro_def(&self, inside: ModuleId, name: &Name) -> Option<MacroDefId> {
-        self.behind.macro_def(inside, name)
-    }
-
-    fn legacy_macro(&self, inside: ModuleId, name: &Name, place: u32) -> Option<MacroDefId> {
-        self.behind.legacy_macro(inside, name, place)
-    }
-
-    fn expansion_limit(&self) -> u32 {
-        self.behind.expansion_limit()
-    }
-}
-
-fn lowered_endlessly(alloc: Global, document: &Document) -> Option<(Body, BodySourceMap)> {
+/// The lowered body of the item that a document is, where each call of a macro is expanded to another one.
+pub fn lowered_endlessly(alloc: Global, document: &Document) -> Lowered {
     let endless = Endless {
         behind: &document.env,
     };
     let object: &dyn LowerEnv = &endless;
-    match &document.tree {
-        Tree::Fn(item) => lowered_item(alloc, &object, document.owner, item),
-        Tree::Path(_) | Tree::Type_(_) | Tree::Pat(_) => None,
-    }
-}
-
-fn with_lowered_endlessly<R, F: Fn(&Body, &BodySourceMap) -> R>(
-    alloc: Global,
-    text: &str,
-    ask: &F,
-) -> Result<Option<R>, ReadError>
-    requires { F.IsAlwaysCallable ask.now }
-{
-    let lowered = with_document(alloc, Root::Fn, text, &lowered_endlessly)?;
-    Ok(asked(lowered, ask))
+    lowered_of(alloc, &object, document)
 }
 
 /// `f(m!(), n!())`, of which each is expanded to a call, and that to a call, and so on.
-const ARGUMENTS: &str = r#"{
+pub const ARGUMENTS: &str = r#"{
     "owner": "const",
     "nodes": [
         {"k": "Fn", "body": 1},
@@ -228,13 +75,42 @@ const EVERYWHERE: &str = r#"{
 }"#;
 
 /// How many expressions there are, how many expansions are recorded, and how many faults.
-fn held(body: &Body, source_map: &BodySourceMap) -> (u32, (usize, usize)) {
+pub fn held(body: &Body, source_map: &BodySourceMap) -> (u32, (usize, usize)) {
     (body.store.exprs_len(), counted(&source_map.store))
 }
 
 #[test]
 fn each_argument_is_entered_up_to_the_limit(rt: HostRuntime) {
-    assert!(rt; with_lowered_endlessly(rt.alloc(), ARGUMENTS, &held) == Ok(Some((4, (6, 0)))));
+    assert!(rt;
+        with_lowered_as(rt.alloc(), ARGUMENTS, &lowered_endlessly, &held) == Ok(Some((4, (6, 0))))
+    );
+}
+
+/// The same, of which none may be entered.
+pub const NO_ARGUMENTS: &str = r#"{
+    "owner": "const",
+    "nodes": [
+        {"k": "Fn", "body": 1},
+        {"k": "CallExpr", "expr": 2, "args": [5, 7]},
+        {"k": "PathExpr", "path": 3},
+        {"k": "Path", "segs": [4]},
+        {"k": "PathSegment", "seg": "name", "name": "f"},
+        {"k": "MacroExpr", "call": 6},
+        {"k": "MacroCall", "id": 100},
+        {"k": "MacroExpr", "call": 8},
+        {"k": "MacroCall", "id": 200},
+        {"k": "MacroExpr", "call": 10},
+        {"k": "MacroCall", "id": 1}
+    ],
+    "env": {"limit": 0, "macros": [[9, 0, "file", 0, 9]]}
+}"#;
+
+#[test]
+fn no_argument_is_entered_where_the_limit_is_zero(rt: HostRuntime) {
+    assert!(rt;
+        with_lowered_as(rt.alloc(), NO_ARGUMENTS, &lowered_endlessly, &held)
+            == Ok(Some((4, (0, 0))))
+    );
 }
 
 /// How many expressions, patterns and types there are, how many expansions are recorded, and how many faults.
@@ -291,6 +167,7 @@ fn each_place_is_entered_up_to_the_limit(rt: HostRuntime) {
         tail: None,
     };
     assert!(rt;
-        with_lowered_endlessly(rt.alloc(), EVERYWHERE, &sizes_and_ways) == Ok(Some((sizes, led)))
+        with_lowered_as(rt.alloc(), EVERYWHERE, &lowered_endlessly, &sizes_and_ways)
+            == Ok(Some((sizes, led)))
     );
 }

@@ -2,7 +2,9 @@
 
 use hir_base::node::{NodeId, TextRange};
 use hir_base::{Boxed, Seq, Text};
-use hir_items::ast::{GenericParam, GenericParamList, Impl, Trait, TypeAlias, WherePred};
+use hir_items::ast::{
+    GenericParam, GenericParamList, Impl, Trait, TypeAlias, WhereClause, WherePred,
+};
 use hir_syntax::ast::{
     BoundKind, GenericArg, GenericArgList, Name, Path, PathSegment, PathType, SegmentKind, Type_,
     TypeBound, TypeKind,
@@ -112,21 +114,8 @@ pub fn bounded_param(alloc: Global) -> Result<GenericParamList, AllocError> {
     param(alloc, bounds(alloc, "A")?)
 }
 
-/// `trait Tr<T>: A {}`.
-pub fn trait_item(alloc: Global) -> Result<Trait, AllocError> {
-    Ok(Trait {
-        id: NodeId(8),
-        range: RANGE,
-        bounds: bounds(alloc, "A")?,
-        generics: Some(param(alloc, Seq::new(alloc))?),
-        where_: None,
-    })
-}
-
-/// `impl<T> Tr<T> for S where T: A {}`.
-pub fn impl_item(alloc: Global) -> Result<Impl, AllocError> {
-    let mut args = Seq::new(alloc);
-    args.push(GenericArg::TypeArg(Some(path_type(alloc, "T", None)?)))?;
+/// `where T: A`, by the name of the trait.
+pub fn where_clause(alloc: Global, text: &str) -> Result<WhereClause, AllocError> {
     let mut preds = Seq::new(alloc);
     preds.push(WherePred {
         id: NodeId(9),
@@ -134,15 +123,108 @@ pub fn impl_item(alloc: Global) -> Result<Impl, AllocError> {
         ty: Some(path_type(alloc, "T", None)?),
         lifetime: None,
         binder: None,
-        bounds: bounds(alloc, "A")?,
+        bounds: bounds(alloc, text)?,
     })?;
+    Ok(preds)
+}
+
+/// A part of an item that a broken text may lack.
+#[derive(Clone, Copy, PartialEq, Eq)]
+pub enum Part {
+    Bounds,
+    Generics,
+    Where,
+    SelfType,
+    Trait,
+    Type_,
+}
+
+/// `A`, unless the item lacks its bounds.
+fn bounds_but(alloc: Global, lacks: Option<Part>) -> Result<Seq<TypeBound>, AllocError> {
+    if lacks == Some(Part::Bounds) {
+        Ok(Seq::new(alloc))
+    } else {
+        bounds(alloc, "A")
+    }
+}
+
+/// `<T>`, unless the item lacks it.
+fn generics_but(
+    alloc: Global,
+    lacks: Option<Part>,
+) -> Result<Option<GenericParamList>, AllocError> {
+    if lacks == Some(Part::Generics) {
+        Ok(None)
+    } else {
+        Ok(Some(param(alloc, Seq::new(alloc))?))
+    }
+}
+
+/// `where T: A`, unless the item lacks it.
+fn where_but(alloc: Global, lacks: Option<Part>) -> Result<Option<WhereClause>, AllocError> {
+    if lacks == Some(Part::Where) {
+        Ok(None)
+    } else {
+        Ok(Some(where_clause(alloc, "A")?))
+    }
+}
+
+/// The type that is this name, unless the item lacks this part.
+fn type_but(
+    alloc: Global,
+    lacks: Option<Part>,
+    part: Part,
+    text: &str,
+) -> Result<Option<Boxed<Type_>>, AllocError> {
+    if lacks == Some(part) {
+        Ok(None)
+    } else {
+        Ok(Some(path_type(alloc, text, None)?))
+    }
+}
+
+/// `Tr<T>`, unless the item lacks it.
+fn trait_but(alloc: Global, lacks: Option<Part>) -> Result<Option<Boxed<Type_>>, AllocError> {
+    if lacks == Some(Part::Trait) {
+        return Ok(None);
+    }
+    let mut args = Seq::new(alloc);
+    args.push(GenericArg::TypeArg(Some(path_type(alloc, "T", None)?)))?;
+    Ok(Some(path_type(alloc, "Tr", Some(args))?))
+}
+
+/// `trait Tr<T>: A where T: A {}`, but for a part.
+pub fn trait_item(alloc: Global, lacks: Option<Part>) -> Result<Trait, AllocError> {
+    Ok(Trait {
+        id: NodeId(8),
+        range: RANGE,
+        bounds: bounds_but(alloc, lacks)?,
+        generics: generics_but(alloc, lacks)?,
+        where_: where_but(alloc, lacks)?,
+    })
+}
+
+/// `impl<T> Tr<T> for S where T: A {}`, but for a part.
+pub fn impl_item(alloc: Global, lacks: Option<Part>) -> Result<Impl, AllocError> {
     Ok(Impl {
         id: NodeId(10),
         range: RANGE,
-        self_ty: Some(path_type(alloc, "S", None)?),
-        trait_: Some(path_type(alloc, "Tr", Some(args))?),
-        generics: Some(param(alloc, Seq::new(alloc))?),
-        where_: Some(preds),
+        self_ty: type_but(alloc, lacks, Part::SelfType, "S")?,
+        trait_: trait_but(alloc, lacks)?,
+        generics: generics_but(alloc, lacks)?,
+        where_: where_but(alloc, lacks)?,
+    })
+}
+
+/// `type X<T>: A where T: A = U;`, but for a part.
+pub fn whole_alias(alloc: Global, lacks: Option<Part>) -> Result<TypeAlias, AllocError> {
+    Ok(TypeAlias {
+        id: NodeId(11),
+        range: RANGE,
+        bounds: bounds_but(alloc, lacks)?,
+        generics: generics_but(alloc, lacks)?,
+        where_: where_but(alloc, lacks)?,
+        ty: type_but(alloc, lacks, Part::Type_, "U")?,
     })
 }
 

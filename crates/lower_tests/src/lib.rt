@@ -26,6 +26,8 @@ mod errors;
 #[cfg(test)]
 mod generics;
 #[cfg(test)]
+mod in_range;
+#[cfg(test)]
 mod inner;
 #[cfg(test)]
 mod item_trees;
@@ -44,19 +46,27 @@ mod nodes;
 #[cfg(test)]
 mod objects;
 #[cfg(test)]
+mod odd;
+#[cfg(test)]
 mod owners;
 #[cfg(test)]
 mod paths;
 #[cfg(test)]
 mod patterns;
 #[cfg(test)]
+mod refused;
+#[cfg(test)]
 mod rewritten;
+#[cfg(test)]
+mod small;
 #[cfg(test)]
 mod stacks;
 #[cfg(test)]
 mod streams;
 #[cfg(test)]
 mod targets;
+#[cfg(test)]
+mod tried;
 #[cfg(test)]
 mod types;
 #[cfg(test)]

@@ -4,24 +4,27 @@ use crate::documents::with_document;
 use hir_base::node::{AstPtr, HirFileId};
 use hir_env::env::LowerEnv;
 use hir_items::ast as items;
-use hir_lower::{Body, BodySourceMap, lower_body};
+use hir_lower::{Body, BodySourceMap, LowerError, lower_body};
 use hir_store::ids::{DefWithBodyId, ModuleId};
 use lower_json::document::{Document, Root, Tree};
 use lower_json::fault::ReadError;
 use std::alloc::Global;
 
-/// The lowered body of an item, none where lowering answers an error.
-pub fn lowered_item<E: LowerEnv>(
+/// A lowered body with its source map, or why there is none.
+pub type Lowered = Result<(Body, BodySourceMap), LowerError>;
+
+/// The lowered body of an item.
+fn lowered_item<E: LowerEnv>(
     alloc: Global,
     env: &E,
     owner: DefWithBodyId,
     item: &items::Fn,
-) -> Option<(Body, BodySourceMap)> {
+) -> Lowered {
     let body = match &item.body {
         Some(body) => Some(body.get()),
         None => None,
     };
-    let lowered = lower_body(
+    lower_body(
         alloc,
         env,
         owner,
@@ -35,27 +38,25 @@ pub fn lowered_item<E: LowerEnv>(
         body,
         item.async_,
         item.gen_,
-    );
-    match lowered {
-        Ok(both) => Some(both),
-        Err(_) => None,
+    )
+}
+
+/// The lowered body of the item that a document is, where this environment answers.
+pub fn lowered_of<E: LowerEnv>(alloc: Global, env: &E, document: &Document) -> Lowered {
+    match &document.tree {
+        Tree::Fn(item) => lowered_item(alloc, env, document.owner, item),
+        Tree::Path(_) | Tree::Type_(_) | Tree::Pat(_) => Err(LowerError::Failed),
     }
 }
 
-fn lowered_document(alloc: Global, document: &Document) -> Option<(Body, BodySourceMap)> {
-    match &document.tree {
-        Tree::Fn(item) => lowered_item(alloc, &document.env, document.owner, item),
-        Tree::Path(_) | Tree::Type_(_) | Tree::Pat(_) => None,
-    }
+pub fn lowered_document(alloc: Global, document: &Document) -> Lowered {
+    lowered_of(alloc, &document.env, document)
 }
 
 /// The same where an object answers.
-fn lowered_by_object(alloc: Global, document: &Document) -> Option<(Body, BodySourceMap)> {
+pub fn lowered_by_object(alloc: Global, document: &Document) -> Lowered {
     let object: &dyn LowerEnv = &document.env;
-    match &document.tree {
-        Tree::Fn(item) => lowered_item(alloc, &object, document.owner, item),
-        Tree::Path(_) | Tree::Type_(_) | Tree::Pat(_) => None,
-    }
+    lowered_of(alloc, &object, document)
 }
 
 /// What is answered of a body, if there is one. No other function owns a body.
@@ -76,6 +77,19 @@ pub fn asked<R, F: Fn(&Body, &BodySourceMap) -> R>(
     }
 }
 
+/// What is answered of the body that the item in the document of a text is lowered to by a function.
+pub fn with_lowered_as<R, L: Fn(Global, &Document) -> Lowered, F: Fn(&Body, &BodySourceMap) -> R>(
+    alloc: Global,
+    text: &str,
+    lower: &L,
+    ask: &F,
+) -> Result<Option<R>, ReadError>
+    requires { L.IsAlwaysCallable lower.now × F.IsAlwaysCallable ask.now }
+{
+    let lowered = with_document(alloc, Root::Fn, text, lower)?;
+    Ok(asked(lowered.ok(), ask))
+}
+
 /// What is answered of the lowered body of the item in the document that a text is.
 pub fn with_lowered<R, F: Fn(&Body, &BodySourceMap) -> R>(
     alloc: Global,
@@ -85,7 +99,7 @@ pub fn with_lowered<R, F: Fn(&Body, &BodySourceMap) -> R>(
     requires { F.IsAlwaysCallable ask.now }
 {
     let lowered = with_document(alloc, Root::Fn, text, &lowered_document)?;
-    Ok(asked(lowered, ask))
+    Ok(asked(lowered.ok(), ask))
 }
 
 /// The same where an object answers what lowering asks.
@@ -97,5 +111,5 @@ pub fn with_lowered_by_object<R, F: Fn(&Body, &BodySourceMap) -> R>(
     requires { F.IsAlwaysCallable ask.now }
 {
     let lowered = with_document(alloc, Root::Fn, text, &lowered_by_object)?;
-    Ok(asked(lowered, ask))
+    Ok(asked(lowered.ok(), ask))
 }

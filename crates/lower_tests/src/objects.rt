@@ -9,13 +9,13 @@ use lower_run::listing::body_listing;
 use std::alloc::{AllocError, Global};
 use std::test::Fail;
 
-const BLOCK_IN_BLOCK: &str = r#"{
+pub const BLOCK_IN_BLOCK: &str = r#"{
     "nodes": [{"k": "Fn", "body": 1}, {"k": "BlockExpr", "tail": 2}, {"k": "BlockExpr"}],
     "env": {"blocks": [[0, 1, 3, 1], [0, 2, 4, 2]]}
 }"#;
 
 /// The first three.
-fn entered(_body: &Body, source_map: &BodySourceMap) -> [Option<BlockId>; 3] {
+pub fn entered(_body: &Body, source_map: &BodySourceMap) -> [Option<BlockId>; 3] {
     let scopes = source_map.store.block_scopes();
     [
         scopes.first().copied(),

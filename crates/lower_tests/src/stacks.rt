@@ -7,7 +7,7 @@ use hir_store::name::Name;
 use std::alloc::{AllocError, Global};
 
 /// The label that is found, and how many entries were looked at.
-type Found = (Option<LabelId>, u128);
+pub type Found = (Option<LabelId>, u128);
 
 /// So many labels of different names, each inside the one before.
 fn nested(alloc: Global, labels: u32) -> Result<LabelStacks, AllocError> {
@@ -19,7 +19,7 @@ fn nested(alloc: Global, labels: u32) -> Result<LabelStacks, AllocError> {
 }
 
 /// What a jump by that name finds inside all of so many labels.
-fn found_inside(alloc: Global, labels: u32, name: u32) -> Result<Found, AllocError> {
+pub fn found_inside(alloc: Global, labels: u32, name: u32) -> Result<Found, AllocError> {
     let stacks = nested(alloc, labels)?;
     let env = table(alloc);
     let mut looks = Looks::new();

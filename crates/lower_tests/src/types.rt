@@ -21,13 +21,13 @@ use lower_run::listing::{Listed, path_listing, type_listing};
 use std::alloc::Global;
 use std::test::Fail;
 
-const POINTER: AstPtr = AstPtr {
+pub const POINTER: AstPtr = AstPtr {
     node: NodeId(4),
     range: TextRange { start: 4, end: 5 },
 };
 
 /// `A<impl B>`.
-const IMPL_IN_A_PATH: &str = r#"{"nodes": [
+pub const IMPL_IN_A_PATH: &str = r#"{"nodes": [
     {"k": "Path", "segs": [1]},
     {"k": "PathSegment", "seg": "name", "name": "A", "generics": 2},
     {"k": "GenericArgList", "args": [3]},

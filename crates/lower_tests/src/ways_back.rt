@@ -12,7 +12,7 @@ use lower_json::document::{Document, Root};
 use std::alloc::Global;
 
 /// `A<T, 'x, B = u8, 3>`.
-const ARGUMENTS: &str = r#"{"nodes": [
+pub const ARGUMENTS: &str = r#"{"nodes": [
     {"k": "Path", "segs": [1]},
     {"k": "PathSegment", "seg": "name", "name": "A", "generics": 2},
     {"k": "GenericArgList", "args": [3, 7, 8, 12]},
@@ -52,7 +52,7 @@ fn binding_node(list: &GenericArgList, at: u32) -> Option<NodeId> {
 }
 
 /// The first four arguments, the one behind `Self`, and the first two bindings.
-type Lent = ([Option<NodeId>; 4], Option<NodeId>, [Option<NodeId>; 2]);
+pub type Lent = ([Option<NodeId>; 4], Option<NodeId>, [Option<NodeId>; 2]);
 
 fn lent(list: &GenericArgList) -> Lent {
     let args = [
@@ -65,25 +65,27 @@ fn lent(list: &GenericArgList) -> Lent {
     (args, first_node_behind_self(list), bindings)
 }
 
-fn lent_in(_alloc: Global, document: &Document) -> Option<Lent> {
+pub fn lent_in(_alloc: Global, document: &Document) -> Option<Lent> {
     match path_in(document)?.segs.as_slice() {
         [Some(segment)] => Some(lent(segment.generics.as_ref()?)),
         _ => None,
     }
 }
 
+/// What is lent of the path above.
+pub const LENT: Lent = (
+    [Some(NodeId(4)), Some(NodeId(7)), Some(NodeId(13)), None],
+    Some(NodeId(4)),
+    [Some(NodeId(8)), None],
+);
+
 #[test]
 fn arguments_and_bindings_are_lent(rt: HostRuntime) {
-    let args = [Some(NodeId(4)), Some(NodeId(7)), Some(NodeId(13)), None];
-    let bindings = [Some(NodeId(8)), None];
-    assert!(rt;
-        with_document(rt.alloc(), Root::Path, ARGUMENTS, &lent_in)
-            == Ok(Some((args, Some(NodeId(4)), bindings)))
-    );
+    assert!(rt; with_document(rt.alloc(), Root::Path, ARGUMENTS, &lent_in) == Ok(Some(LENT)));
 }
 
 /// The constant `S { a: b }`.
-const RECORD: &str = r#"{"owner": "const", "nodes": [
+pub const RECORD: &str = r#"{"owner": "const", "nodes": [
     {"k": "Fn", "body": 1},
     {"k": "RecordExpr", "path": 2, "list": 4},
     {"k": "Path", "segs": [3]},
@@ -103,7 +105,7 @@ fn first_value(store: &ExpressionStore, record: ExprId) -> Option<ExprId> {
 }
 
 /// The node of the field that the first value of the body's record comes from.
-fn field_node(body: &Body, source_map: &BodySourceMap) -> Option<NodeId> {
+pub fn field_node(body: &Body, source_map: &BodySourceMap) -> Option<NodeId> {
     let record = body.store.expr_roots().last()?.root;
     let value = first_value(&body.store, record)?;
     Some(source_map.store.field_syntax(value)?.value.node)

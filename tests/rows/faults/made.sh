@@ -1,111 +1,77 @@
 #!/bin/sh
-# Documents that are too large or too many to stand here as files.
+# Writes rows that are too large or too many to stand here as files.
 #
-#   sh made.sh TOOL
+#   sh made.sh FOLDER
 #
-# Prints one line for each check, beginning with `passed` or `FAILED`.
+# FOLDER is there, and empty. A row with the ending `.once` is too large to be run with each of its requests for memory refused.
 
-tool=$1
+folder=$1
 first=$(dirname "$0")/../first_body/labelled_loop_with_sources.json
-work=$(mktemp -d) || exit 2
-trap 'rm -rf "$work"' EXIT
-trap 'exit 2' HUP INT TERM
 
-# Does the program answer $work/document with status 2, no output and the fault in $work/fault?
-refused() {
-    "$tool" body <"$work/document" >"$work/out" 2>"$work/err"
-    [ $? -eq 2 ] && [ ! -s "$work/out" ] && cmp -s "$work/fault" "$work/err"
+# The row of this name has this listing, which is standard input.
+listed() {
+    echo body >"$folder/$1.mode"
+    cat >"$folder/$1.out"
 }
 
-echo "fault: too many nodes" >"$work/fault"
-awk 'BEGIN {
-    printf "{\"nodes\":[{\"k\":\"Fn\"}"
-    for (i = 1; i <= 1000000; i++) printf ",{\"k\":\"Item\"}"
-    printf "]}"
-}' >"$work/document"
-if refused; then
-    echo "passed one_node_too_many"
-else
-    echo "FAILED one_node_too_many: $(head -c 200 "$work/err")"
-fi
+# The row of this name is this fault.
+refused() {
+    listed "$1" </dev/null
+    echo "fault: $2" >"$folder/$1.err"
+    echo 2 >"$folder/$1.status"
+}
 
-echo "fault: node 1: unused" >"$work/fault"
-awk 'BEGIN {
-    printf "{\"nodes\":[{\"k\":\"Fn\"}"
-    for (i = 1; i < 1000000; i++) printf ",{\"k\":\"Item\"}"
-    printf "]}"
-}' >"$work/document"
-if refused; then
-    echo "passed as_many_nodes_as_allowed"
-else
-    echo "FAILED as_many_nodes_as_allowed: $(head -c 200 "$work/err")"
-fi
+# The document of the row of this name has so many nodes behind its first one.
+many_nodes() {
+    awk -v "behind=$2" 'BEGIN {
+        printf "{\"nodes\":[{\"k\":\"Fn\"}"
+        for (i = 1; i <= behind; i++) printf ",{\"k\":\"Item\"}"
+        printf "]}"
+    }' >"$folder/$1.json"
+    : >"$folder/$1.once"
+}
 
-# Every beginning of a document, up to its last brace.
-echo "fault: not JSON" >"$work/fault"
-whole=$(tr -d '\n' <"$first" | wc -c)
-tr -d '\n' <"$first" >"$work/whole"
+many_nodes one_node_too_many 1000000
+refused one_node_too_many "too many nodes"
+
+many_nodes as_many_nodes_as_allowed 999999
+refused as_many_nodes_as_allowed "node 1: unused"
+
+# Every beginning of a document that is one line, up to its last brace.
+whole=$(tr -d ' \n' <"$first")
 length=0
-wrong=
-while [ "$length" -lt "$whole" ]; do
-    head -c "$length" "$work/whole" >"$work/document"
-    refused || wrong="$wrong $length"
+while [ "$length" -lt "${#whole}" ]; do
+    printf '%s' "$whole" | head -c "$length" >"$folder/first_${length}_bytes_of_a_document.json"
+    refused "first_${length}_bytes_of_a_document" "not JSON"
     length=$((length + 1))
 done
-if [ -z "$wrong" ]; then
-    echo "passed every_beginning_of_a_document"
-else
-    echo "FAILED every_beginning_of_a_document: of length$wrong"
-fi
 
-echo "fault: not JSON" >"$work/fault"
-printf '{"nodes":[{"k":"Fn"}],"x":"\377"}' >"$work/document"
-if refused; then
-    echo "passed not_utf8"
-else
-    echo "FAILED not_utf8: $(head -c 200 "$work/err")"
-fi
+printf '{"nodes":[{"k":"Fn"}],"x":"\377"}' >"$folder/not_utf8.json"
+refused not_utf8 "not JSON"
 
-# A constant that is a call, whose expansion is this many nodes inside one another, and this behind it.
+# The document of the row of this name is a constant that is a call, whose expansion is this many nodes inside one another, and this
+# behind it.
 expansion() {
-    awk -v "levels=$1" -v "behind=$2" 'BEGIN {
+    awk -v "levels=$2" -v "behind=$3" 'BEGIN {
         printf "{\"owner\":\"const\",\"nodes\":[{\"k\":\"Fn\",\"body\":1},{\"k\":\"MacroExpr\",\"call\":2},{\"k\":\"MacroCall\"}"
         for (i = 1; i < levels; i++) printf ",{\"k\":\"ParenExpr\",\"expr\":%d}", i + 3
         printf ",{\"k\":\"Literal\",\"lit\":\"int\",\"t\":\"1\"}%s],", behind
         printf "\"env\":{\"macros\":[[0,2,\"file\",1,3]]}}"
-    }' >"$work/document"
-}
-
-# Whether the body in the document has the listing.
-listed() {
-    "$tool" body <"$work/document" >"$work/out" 2>"$work/err" &&
-        [ ! -s "$work/err" ] && cmp -s "$work/listing" "$work/out"
+    }' >"$folder/$1.json"
 }
 
 # The tree of an expansion begins at level 1, wherever its call stands.
-expansion 256 ""
-printf 'body r0=(Literal 1)\nexpansion @2 1\n' >"$work/listing"
-if listed; then
-    echo "passed expansion_as_deep_as_allowed"
-else
-    echo "FAILED expansion_as_deep_as_allowed: $(head -c 200 "$work/err")"
-fi
+expansion expansion_as_deep_as_allowed 256 ""
+listed expansion_as_deep_as_allowed <<'END'
+body r0=(Literal 1)
+expansion @2 1
+END
 
-expansion 257 ""
-echo "fault: node 259: too deep" >"$work/fault"
-if refused; then
-    echo "passed expansion_too_deep"
-else
-    echo "FAILED expansion_too_deep: $(head -c 200 "$work/err")"
-fi
+expansion expansion_too_deep 257 ""
+refused expansion_too_deep "node 259: too deep"
 
-expansion 257 ",{\"k\":\"Item\"}"
-echo "fault: node 260: unused" >"$work/fault"
-if refused; then
-    echo "passed unused_before_expansion_too_deep"
-else
-    echo "FAILED unused_before_expansion_too_deep: $(head -c 200 "$work/err")"
-fi
+expansion unused_before_expansion_too_deep 257 ",{\"k\":\"Item\"}"
+refused unused_before_expansion_too_deep "node 260: unused"
 
 # A call at the last level of the tree, whose expansion is as deep again.
 awk 'BEGIN {
@@ -115,42 +81,30 @@ awk 'BEGIN {
     for (i = 256; i <= 510; i++) printf ",{\"k\":\"ParenExpr\",\"expr\":%d}", i + 1
     printf ",{\"k\":\"Literal\",\"lit\":\"int\",\"t\":\"1\"}],"
     printf "\"env\":{\"macros\":[[0,255,\"file\",1,256]]}}"
-}' >"$work/document"
-printf 'body r0=(Literal 1)\nexpansion @255 1\n' >"$work/listing"
-if listed; then
-    echo "passed expansion_of_a_call_as_deep_as_allowed"
-else
-    echo "FAILED expansion_of_a_call_as_deep_as_allowed: $(head -c 200 "$work/err")"
-fi
+}' >"$folder/expansion_of_a_call_as_deep_as_allowed.json"
+listed expansion_of_a_call_as_deep_as_allowed <<'END'
+body r0=(Literal 1)
+expansion @255 1
+END
 
-# A call in another place, behind five nodes, whose expansion is this many nodes inside one another: these five, the place of its root,
-# what each of the others is, and the innermost.
+# The document of the row of this name has a call in another place, behind five nodes, whose expansion is this many nodes inside one
+# another: these five, the place of its root, what each of the others is, and the innermost.
 fragment() {
-    awk -v "levels=$1" -v "front=$2" -v "root=$3" -v "kind=$4" -v "field=$5" -v "leaf=$6" 'BEGIN {
+    awk -v "levels=$2" -v "front=$3" -v "root=$4" -v "kind=$5" -v "field=$6" -v "leaf=$7" 'BEGIN {
         printf "{\"owner\":\"const\",\"nodes\":[%s", front
         for (i = 5; i < levels + root - 1; i++) printf ",{\"k\":\"%s\",\"%s\":%d}", kind, field, i + 1
         printf ",{%s}],\"env\":{\"macros\":[[0,3,\"file\",1,%d]]}}", leaf, root
-    }' >"$work/document"
+    }' >"$folder/$1.json"
 }
 
 # As deep as allowed it has this listing; one level more is too deep.
 deep_fragment() {
-    printf '%s\nexpansion @3 1\n' "$2" >"$work/listing"
     name=$1
+    printf '%s\nexpansion @3 1\n' "$2" | listed "${name}_as_deep_as_allowed"
     shift 2
-    fragment 256 "$@"
-    if listed; then
-        echo "passed ${name}_as_deep_as_allowed"
-    else
-        echo "FAILED ${name}_as_deep_as_allowed: $(head -c 200 "$work/err")"
-    fi
-    fragment 257 "$@"
-    echo "fault: node $((256 + $2)): too deep" >"$work/fault"
-    if refused; then
-        echo "passed ${name}_too_deep"
-    else
-        echo "FAILED ${name}_too_deep: $(head -c 200 "$work/err")"
-    fi
+    fragment "${name}_as_deep_as_allowed" 256 "$@"
+    fragment "${name}_too_deep" 257 "$@"
+    refused "${name}_too_deep" "node $((256 + $2)): too deep"
 }
 
 function='{"k":"Fn","body":1}'

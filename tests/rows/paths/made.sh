@@ -1,29 +1,11 @@
 #!/bin/sh
-# Paths that are too large to stand here as files.
+# Writes rows of paths that are too large to stand here as files.
 #
-#   sh made.sh TOOL
+#   sh made.sh FOLDER
 #
-# Prints one line for each check, beginning with `passed` or `FAILED`.
+# FOLDER is there, and empty. A row with the ending `.once` is too large to be run with each of its requests for memory refused.
 
-tool=$1
-work=$(mktemp -d) || exit 2
-trap 'rm -rf "$work"' EXIT
-trap 'exit 2' HUP INT TERM
-
-# Does the program print $work/listing for $work/document?
-printed() {
-    "$tool" path <"$work/document" >"$work/out" 2>"$work/err"
-    [ $? -eq 0 ] && [ ! -s "$work/err" ] && cmp -s "$work/listing" "$work/out"
-}
-
-# Tells of the check.
-told() {
-    if printed; then
-        echo "passed $1"
-    else
-        echo "FAILED $1: $(head -c 200 "$work/err")"
-    fi
-}
+folder=$1
 
 # Use trees on as many levels as a tree may have, the segment of the outermost on the last one.
 awk 'BEGIN {
@@ -36,14 +18,14 @@ awk 'BEGIN {
     }
     for (i = 0; i < most; i++) printf "%s{\"k\":\"PathSegment\",\"seg\":\"name\",\"name\":\"a%d\"}", i ? "," : "", i
     printf "]}"
-}' >"$work/document"
+}' >"$folder/use_trees_on_all_levels.json"
 awk 'BEGIN {
     printf "path "
     for (i = 254; i >= 0; i--) printf "a%d%s", i, i ? "::" : "\n"
     print "segment 0 a0"
     print "segment 1 None"
-}' >"$work/listing"
-told use_trees_on_all_levels
+}' >"$folder/use_trees_on_all_levels.out"
+echo path >"$folder/use_trees_on_all_levels.mode"
 
 # A module very far above.
 awk 'BEGIN {
@@ -53,12 +35,13 @@ awk 'BEGIN {
     printf "]}"
     for (i = 0; i < most; i++) printf ",{\"k\":\"PathSegment\",\"seg\":\"super\"}"
     printf ",{\"k\":\"PathSegment\",\"seg\":\"name\",\"name\":\"a\"}]}"
-}' >"$work/document"
+}' >"$folder/very_many_supers.json"
 awk 'BEGIN {
     printf "path "
     for (i = 0; i < 100000; i++) printf "super::"
     print "a"
     print "segment 0 a"
     print "segment 1 None"
-}' >"$work/listing"
-told very_many_supers
+}' >"$folder/very_many_supers.out"
+echo path >"$folder/very_many_supers.mode"
+: >"$folder/very_many_supers.once"

@@ -1,4 +1,4 @@
-use Rattle.hir_told.proofs.AsRooms.{bodies_fit as proved}
+use Rattle.hir_told.proofs.Fitting.{bodies_fit as proved}
 use Rattle.hir_told.proofs.bodies_fit.Goals as goal
 
 pub returns : goal.returns

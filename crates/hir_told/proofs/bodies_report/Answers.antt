@@ -1,4 +1,4 @@
-use Rattle.hir_told.proofs.AsTelling.{bodies_report as proved}
+use Rattle.hir_told.proofs.Listed.{bodies_report as proved}
 use Rattle.hir_told.proofs.bodies_report.Goals as goal
 
 pub returns : goal.returns

@@ -1,4 +1,4 @@
-use Rattle.hir_told.proofs.AsTelling.{exprs_enter as proved}
+use Rattle.hir_told.proofs.Listed.{exprs_enter as proved}
 use Rattle.hir_told.proofs.exprs_enter.Goals as goal
 
 pub returns : goal.returns

@@ -1,4 +1,4 @@
-use Rattle.hir_told.proofs.AsTelling.{exprs_report as proved}
+use Rattle.hir_told.proofs.Listed.{exprs_report as proved}
 use Rattle.hir_told.proofs.exprs_report.Goals as goal
 
 pub returns : goal.returns

@@ -47,22 +47,23 @@ pub fn segments(writer: &mut Writer, path: &Path) -> Result<(), AllocError> {
     segment_line(writer, number, "None")
 }
 
-/// Adds a line for each of these bindings, the k-th with the number k. It ends with the number of what owns the binding.
+/// Adds a line for each of these bindings of the store, the k-th with the number k. It ends with the number of what owns the binding.
 pub fn bindings(
     writer: &mut Writer,
     owners: &mut Owners,
-    bindings: &[BindingId],
+    bindings: &[u32],
     store: &ExpressionStore,
 ) -> Result<(), AllocError> {
-    for (number, id) in bindings.iter().enumerate() {
+    for (number, stored) in bindings.iter().enumerate() {
+        let id = BindingId(*stored);
         writer.numbered("binding ", number)?;
-        if let Some(binding) = store.binding(*id) {
+        if let Some(binding) = store.binding(id) {
             writer.named(" ", &binding.name)?;
             writer.word(mode_word(binding.mode))?;
             writer.word(problem_word(binding.problems))?;
         }
-        owner(writer, owners, store.binding_owner(*id))?;
-        writer.word("\n")?;
+        owner(writer, owners, store.binding_owner(id))?;
+        writer.mark('\n')?;
     }
     Ok(())
 }
@@ -82,19 +83,20 @@ fn owner(
     }
 }
 
-/// Adds a line for each of these labels, the k-th with the number k.
+/// Adds a line for each of these labels of the store, the k-th with the number k.
 pub fn labels(
     writer: &mut Writer,
-    labels: &[LabelId],
+    labels: &[u32],
     store: &ExpressionStore,
     source_map: &ExpressionStoreSourceMap,
 ) -> Result<(), AllocError> {
-    for (number, id) in labels.iter().enumerate() {
+    for (number, stored) in labels.iter().enumerate() {
+        let id = LabelId(*stored);
         writer.numbered("label ", number)?;
-        if let Some(label) = store.label(*id) {
+        if let Some(label) = store.label(id) {
             writer.named(" ", &label.name)?;
         }
-        writer.end_line(source_map.label_syntax(*id))?;
+        writer.end_line(source_map.label_syntax(id))?;
     }
     Ok(())
 }

@@ -5,7 +5,7 @@ use super::owners::Owners;
 use super::pats::type_or_absent;
 use super::shown::Shown;
 use super::waiting::{Piece, Waiting, arg_piece};
-use super::words::{expr_word, lang_word, pat_word, statement_word};
+use super::words::lang_word;
 use super::writer::Writer;
 use super::{Listed, expansions, lines};
 use hir_lower::Param;
@@ -25,10 +25,10 @@ pub struct Printer<'a> {
     alloc: Global,
     pub(super) listed: Listed<'a>,
     pub(super) writer: Writer,
-    bindings: Numbering<BindingId>,
-    labels: Numbering<LabelId>,
-    owners: Owners,
-    waiting: Waiting<'a>,
+    bindings: Numbering,
+    labels: Numbering,
+    pub(super) owners: Owners,
+    pub(super) waiting: Waiting<'a>,
 }
 
 impl Drop for Printer<'_> {
@@ -76,13 +76,12 @@ impl<'a> Printer<'a> {
     /// Prints the whole listing: the lines of what is shown, then its bindings and labels by number, then what calls were
     /// expanded to, then the diagnostics.
     ///
-    /// Where bindings in it have owners, the lines are printed once more, with the owners' numbers. All other numbers are those
-    /// of the first time, since the order is.
+    /// Where bindings in it have owners, the owners' numbers are put into the lines when all of them are printed.
     pub fn listing(&mut self, shown: Shown<'a>) -> Result<(), AllocError> {
         self.shown(shown)?;
-        if self.owners.all_found() {
-            self.writer.clear();
-            self.shown(shown)?;
+        if self.owners.are_any() {
+            let text = self.owners.marked(self.writer.text())?;
+            self.writer.replace(text);
         }
         self.others()
     }
@@ -128,7 +127,7 @@ impl<'a> Printer<'a> {
     /// Prints a piece and ends the line.
     pub(super) fn line(&mut self, piece: Piece<'a>) -> Result<(), AllocError> {
         self.whole(piece)?;
-        self.writer.word("\n")
+        self.writer.mark('\n')
     }
 
     /// Prints a line for each parameter.
@@ -169,7 +168,7 @@ impl<'a> Printer<'a> {
             Some(root) => self.whole(Piece::Expr(root.root))?,
             None => self.writer.word("-")?,
         }
-        self.writer.word("\n")
+        self.writer.mark('\n')
     }
 
     /// Prints a piece with all that it reaches.
@@ -178,66 +177,78 @@ impl<'a> Printer<'a> {
     pub(super) fn whole(&mut self, piece: Piece<'a>) -> Result<(), AllocError> {
         self.waiting.push(piece)?;
         for _ in 0..u64::MAX {
-            let Some(piece) = self.waiting.pop() else {
+            let Some(next) = self.waiting.pop() else {
                 break;
             };
-            self.piece(piece)?;
+            if next.spaced {
+                self.writer.mark(' ')?;
+            }
+            self.piece(&next.piece)?;
         }
         Ok(())
     }
 
-    fn piece(&mut self, piece: Piece<'a>) -> Result<(), AllocError> {
-        match piece {
+    fn piece(&mut self, piece: &Piece<'a>) -> Result<(), AllocError> {
+        match *piece {
             Piece::Word(text) => self.writer.word(text),
+            Piece::Close => self.writer.mark(')'),
             Piece::Expr(id) => self.open_expr(id),
-            Piece::Exprs(exprs) => self.exprs("[", exprs, "[]"),
-            Piece::MoreExprs(exprs) => self.exprs(" ", exprs, "]"),
-            Piece::Statement(statement) => self.open_statement(statement),
-            Piece::Statements(statements) => self.statements("[", statements, "[]"),
-            Piece::MoreStatements(statements) => self.statements(" ", statements, "]"),
-            _ => self.plain_piece(piece),
-        }
-    }
-
-    /// What is neither a word nor an expression nor a statement.
-    fn plain_piece(&mut self, piece: Piece<'a>) -> Result<(), AllocError> {
-        match piece {
+            Piece::Exprs(exprs) => self.exprs('[', exprs, "[]"),
+            Piece::MoreExprs(exprs) => self.exprs(' ', exprs, "]"),
+            Piece::Statements(statements) => self.statements('[', statements, "[]"),
+            Piece::MoreStatements(statements) => self.statements(' ', statements, "]"),
             Piece::Label(id) => self.label(id),
-            Piece::Block(id) => self.writer.numbered("b", id.0),
             Piece::Name(name) => self.writer.name(name),
-            Piece::Literal(literal) => self.writer.literal(literal),
             Piece::Names(names) => self.writer.names(names),
             Piece::Number(number) => self.writer.numbered("", number),
             Piece::FieldList(fields) => self.waiting.push_field_list(fields),
             Piece::Fields(before, fields) => self.fields(before, fields),
+            Piece::Arms(arms) => self.arms('[', arms, "[]"),
+            Piece::MoreArms(arms) => self.arms(' ', arms, "]"),
             _ => self.pat_piece(piece),
         }
     }
 
-    /// A piece of a pattern, or of what holds one.
-    fn pat_piece(&mut self, piece: Piece<'a>) -> Result<(), AllocError> {
-        match piece {
+    /// A piece of a pattern, of the parameters of a closure, or of a path.
+    fn pat_piece(&mut self, piece: &Piece<'a>) -> Result<(), AllocError> {
+        match *piece {
             Piece::Pat(id) => self.open_pat(id),
-            Piece::Pats(pats) => self.pats("[", pats, "[]"),
-            Piece::MorePats(pats) => self.pats(" ", pats, "]"),
+            Piece::Pats(pats) => self.pats('[', pats, "[]"),
+            Piece::MorePats(pats) => self.pats(' ', pats, "]"),
             Piece::Binding(id) => self.binding(id),
             Piece::PatFieldList(fields) => self.waiting.push_pat_field_list(fields),
             Piece::PatFields(before, fields) => self.pat_fields(before, fields),
-            Piece::Arms(arms) => self.arms("[", arms, "[]"),
-            Piece::MoreArms(arms) => self.arms(" ", arms, "]"),
-            Piece::Arm(arm) => self.open_arm(arm),
-            _ => self.closure_piece(piece),
-        }
-    }
-
-    /// A piece of the parameters of a closure, or of a path.
-    fn closure_piece(&mut self, piece: Piece<'a>) -> Result<(), AllocError> {
-        match piece {
             Piece::ClosureParamList(pats, types) => {
                 self.waiting.push_closure_param_list(pats, types)
             }
             Piece::ClosureParams(before, pats, types) => self.closure_params(before, pats, types),
-            _ => self.path_piece(piece),
+            Piece::Path(path, hygiene) => self.waiting.push_path_of(path, hygiene),
+            Piece::PlainPath(path) => self.waiting.push_path(path),
+            Piece::LangItem(item) => self.writer.word(lang_word(self.listed.lang_items, item)),
+            Piece::Hygiene(hygiene) => self.writer.hygiene(hygiene),
+            Piece::PathKind(kind) => self.writer.path_kind(kind),
+            Piece::ModPath(path) => self.writer.mod_path(path),
+            Piece::Segments(before, names, args) => self.segments(before, names, args),
+            _ => self.type_piece(piece),
+        }
+    }
+
+    /// A piece of a list of arguments, or of a type.
+    fn type_piece(&mut self, piece: &Piece<'a>) -> Result<(), AllocError> {
+        match *piece {
+            Piece::GenericArgs(args) => self.waiting.push_generic_args(args),
+            Piece::Args(before, args) => self.args(before, args),
+            Piece::TypeBindings(before, bindings) => self.type_bindings(before, bindings),
+            Piece::TypeBinding(binding) => self.waiting.push_binding(binding),
+            Piece::Type_(id) => self.open_type(id),
+            Piece::Types(before, types) => self.types(before, types),
+            Piece::Params(before, types, names) => self.fn_params(before, types, names),
+            Piece::Lifetime(id) => self.lifetime(id),
+            Piece::Binder(names) => self.writer.binder(names),
+            Piece::Bounds(before, bounds) => self.bounds(before, bounds),
+            Piece::Bound(bound) => self.waiting.push_bound(bound),
+            Piece::UseArgs(before, args) => self.use_args(before, args),
+            _ => Ok(()),
         }
     }
 
@@ -263,7 +274,7 @@ impl<'a> Printer<'a> {
             Piece::ClosureParams(" ", pats, types),
         ])?;
         self.writer.word(before)?;
-        self.writer.word("(")
+        self.writer.mark('(')
     }
 
     /// Prints what stands before the first of these, and lets them wait.
@@ -283,55 +294,7 @@ impl<'a> Printer<'a> {
             Piece::Fields(" ", rest),
         ])?;
         self.writer.word(before)?;
-        self.writer.word("(")
-    }
-
-    /// A piece of a path, or of a type.
-    fn path_piece(&mut self, piece: Piece<'a>) -> Result<(), AllocError> {
-        match piece {
-            Piece::Path(path, hygiene) => self.waiting.push_path_of(path, hygiene),
-            Piece::PlainPath(path) => self.waiting.push_path(path),
-            Piece::LangItem(item) => self.writer.word(lang_word(self.listed.lang_items, item)),
-            Piece::Hygiene(hygiene) => self.writer.hygiene(hygiene),
-            Piece::PathKind(kind) => self.writer.path_kind(kind),
-            Piece::ModPath(path) => self.writer.mod_path(path),
-            Piece::Segments(before, names, args) => self.segments(before, names, args),
-            _ => self.args_piece(piece),
-        }
-    }
-
-    /// A piece of a list of arguments, or of a type.
-    fn args_piece(&mut self, piece: Piece<'a>) -> Result<(), AllocError> {
-        match piece {
-            Piece::GenericArgs(args) => self.waiting.push_generic_args(args),
-            Piece::Args(before, args) => self.args(before, args),
-            Piece::TypeBindings(before, bindings) => self.type_bindings(before, bindings),
-            Piece::TypeBinding(binding) => self.waiting.push_binding(binding),
-            _ => self.type_piece(piece),
-        }
-    }
-
-    /// A piece of a type.
-    fn type_piece(&mut self, piece: Piece<'a>) -> Result<(), AllocError> {
-        match piece {
-            Piece::Type_(id) => self.open_type(id),
-            Piece::TypeParam(id) => self.type_param(id),
-            Piece::Types(before, types) => self.types(before, types),
-            Piece::Params(before, types, names) => self.fn_params(before, types, names),
-            Piece::Lifetime(id) => self.lifetime(id),
-            Piece::Binder(names) => self.writer.binder(names),
-            _ => self.bound_piece(piece),
-        }
-    }
-
-    /// A piece of bounds.
-    fn bound_piece(&mut self, piece: Piece<'a>) -> Result<(), AllocError> {
-        match piece {
-            Piece::Bounds(before, bounds) => self.bounds(before, bounds),
-            Piece::Bound(bound) => self.waiting.push_bound(bound),
-            Piece::UseArgs(before, args) => self.use_args(before, args),
-            _ => Ok(()),
-        }
+        self.writer.mark('(')
     }
 
     /// Prints what stands before the first of these names, and lets it wait with its arguments, and the others.
@@ -435,36 +398,28 @@ impl<'a> Printer<'a> {
         self.writer.word(before)
     }
 
-    /// Lets the parts of a type wait. A number past the store's end, which no store holds, prints as an error.
-    fn open_type(&mut self, id: TypeRefId) -> Result<(), AllocError> {
-        match self.listed.store.type_ref(id) {
-            Some(ty) => self.waiting.push_type(ty),
-            None => self.writer.word("{error}"),
-        }
-    }
-
-    /// Prints a lifetime, likewise.
-    fn lifetime(&mut self, id: LifetimeRefId) -> Result<(), AllocError> {
+    /// Prints a lifetime. A number past the store's end, which no store holds, prints as an error.
+    pub(super) fn lifetime(&mut self, id: LifetimeRefId) -> Result<(), AllocError> {
         match self.listed.store.lifetime(id) {
             Some(lifetime) => self.writer.lifetime(lifetime),
             None => self.writer.word("'{error}"),
         }
     }
 
-    /// Prints what stands before the first of these, and lets them wait; prints the end where there are none.
-    fn exprs(&mut self, before: &str, exprs: &'a [ExprId], end: &str) -> Result<(), AllocError> {
+    /// Prints what stands before the first of these, opens it, and lets the others wait; prints the end where there are none.
+    fn exprs(&mut self, before: char, exprs: &'a [ExprId], end: &str) -> Result<(), AllocError> {
         let Some((first, rest)) = exprs.split_first() else {
             return self.writer.word(end);
         };
         self.waiting.push(Piece::MoreExprs(rest))?;
-        self.waiting.push(Piece::Expr(*first))?;
-        self.writer.word(before)
+        self.writer.mark(before)?;
+        self.open_expr(*first)
     }
 
     /// The same of statements.
     fn statements(
         &mut self,
-        before: &str,
+        before: char,
         statements: &'a [Statement],
         end: &str,
     ) -> Result<(), AllocError> {
@@ -472,27 +427,27 @@ impl<'a> Printer<'a> {
             return self.writer.word(end);
         };
         self.waiting.push(Piece::MoreStatements(rest))?;
-        self.waiting.push(Piece::Statement(first))?;
-        self.writer.word(before)
+        self.writer.mark(before)?;
+        self.open_statement(first)
     }
 
     /// The same of patterns, and of arms.
-    fn pats(&mut self, before: &str, pats: &'a [PatId], end: &str) -> Result<(), AllocError> {
+    fn pats(&mut self, before: char, pats: &'a [PatId], end: &str) -> Result<(), AllocError> {
         let Some((first, rest)) = pats.split_first() else {
             return self.writer.word(end);
         };
         self.waiting.push(Piece::MorePats(rest))?;
-        self.waiting.push(Piece::Pat(*first))?;
-        self.writer.word(before)
+        self.writer.mark(before)?;
+        self.open_pat(*first)
     }
 
-    fn arms(&mut self, before: &str, arms: &'a [MatchArm], end: &str) -> Result<(), AllocError> {
+    fn arms(&mut self, before: char, arms: &'a [MatchArm], end: &str) -> Result<(), AllocError> {
         let Some((first, rest)) = arms.split_first() else {
             return self.writer.word(end);
         };
         self.waiting.push(Piece::MoreArms(rest))?;
-        self.waiting.push(Piece::Arm(first))?;
-        self.writer.word(before)
+        self.writer.mark(before)?;
+        self.open_arm(first)
     }
 
     /// Prints what stands before the first of these fields, and lets them wait.
@@ -512,79 +467,17 @@ impl<'a> Printer<'a> {
             Piece::PatFields(" ", rest),
         ])?;
         self.writer.word(before)?;
-        self.writer.word("(")
+        self.writer.mark('(')
     }
 
-    fn binding(&mut self, id: BindingId) -> Result<(), AllocError> {
+    pub(super) fn binding(&mut self, id: BindingId) -> Result<(), AllocError> {
         self.owners.find(self.listed.store.binding_owner(id))?;
-        let number = self.bindings.number(id)?;
+        let number = self.bindings.number(id.0)?;
         self.writer.numbered("#", number)
     }
 
-    fn label(&mut self, id: LabelId) -> Result<(), AllocError> {
-        let number = self.labels.number(id)?;
+    pub(super) fn label(&mut self, id: LabelId) -> Result<(), AllocError> {
+        let number = self.labels.number(id.0)?;
         self.writer.numbered("L", number)
-    }
-
-    /// Prints what stands before an expression's parts, and lets the parts wait. A number past the store's end, which
-    /// no store holds, prints as a missing expression.
-    fn open_expr(&mut self, id: ExprId) -> Result<(), AllocError> {
-        self.root_mark(id)?;
-        self.owner_mark(id)?;
-        let Some(expr) = self.listed.store.expr(id) else {
-            return self.writer.word("(Missing)");
-        };
-        self.writer
-            .open(expr_word(expr), self.listed.source_map.expr_syntax(id))?;
-        self.waiting.push_expr_parts(expr)
-    }
-
-    /// The same of a pattern.
-    fn open_pat(&mut self, id: PatId) -> Result<(), AllocError> {
-        let Some(pat) = self.listed.store.pat(id) else {
-            return self.writer.word("(Missing)");
-        };
-        self.writer
-            .open(pat_word(pat), self.listed.source_map.pat_syntax(id))?;
-        self.waiting.push_pat_parts(pat)
-    }
-
-    fn open_arm(&mut self, arm: &'a MatchArm) -> Result<(), AllocError> {
-        self.writer.open("Arm", None)?;
-        self.waiting.push_arm_parts(arm)
-    }
-
-    fn open_statement(&mut self, statement: &'a Statement) -> Result<(), AllocError> {
-        self.writer.open(statement_word(statement), None)?;
-        self.waiting.push_statement_parts(statement)
-    }
-
-    /// Prints `rk=` where the expression is the k-th recorded root.
-    ///
-    /// What a root reaches is stored behind all of the root before it, so that the numbers of the roots grow.
-    fn root_mark(&mut self, id: ExprId) -> Result<(), AllocError> {
-        let number = self
-            .listed
-            .store
-            .expr_roots()
-            .binary_search_by_key(&id.0, |root| root.root.0);
-        match number {
-            Ok(number) => {
-                self.writer.numbered("r", number)?;
-                self.writer.word("=")
-            }
-            Err(_) => Ok(()),
-        }
-    }
-
-    /// Prints `ok=` where the expression owns a binding that is printed, the k-th to do so.
-    fn owner_mark(&mut self, id: ExprId) -> Result<(), AllocError> {
-        match self.owners.number(id)? {
-            Some(number) => {
-                self.writer.numbered("o", number)?;
-                self.writer.word("=")
-            }
-            None => Ok(()),
-        }
     }
 }

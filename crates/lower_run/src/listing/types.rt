@@ -1,13 +1,12 @@
 //! The parts of types, paths, arguments and bounds, in the order in which they are printed.
 
 use super::waiting::{Piece, Waiting};
-use super::words::{extern_word, type_word};
-use hir_store::hir::Mutability;
+use super::words::extern_word;
 use hir_store::ids::TypeRefId;
 use hir_store::path::{
     AssociatedTypeBinding, GenericArgs, GenericArgsParentheses, NormalPath, Path, PathKind,
 };
-use hir_store::type_ref::{ArrayType, FnType, RefType, TraitBoundModifier, TypeBound, TypeRef};
+use hir_store::type_ref::{ArrayType, FnType, TraitBoundModifier, TypeBound};
 use std::alloc::AllocError;
 
 const NOTHING: Piece<'static> = Piece::Word("");
@@ -22,61 +21,16 @@ pub fn before_first_name(kind: PathKind) -> &'static str {
 
 /// What is let wait here waits before all others.
 impl<'a> Waiting<'a> {
-    /// Lets the parts of a type wait.
-    pub fn push_type(&mut self, ty: &'a TypeRef) -> Result<(), AllocError> {
-        match ty {
-            TypeRef::Never | TypeRef::Placeholder | TypeRef::Error => {
-                self.push(Piece::Word(type_word(ty)))
-            }
-            TypeRef::Path(path) => self.push_path(path),
-            TypeRef::ImplTrait(bounds) => self.push_bounds("impl", bounds.as_slice()),
-            TypeRef::DynTrait(bounds) => self.push_bounds("dyn", bounds.as_slice()),
-            TypeRef::Fn(pointer) => self.push_function(pointer),
-            TypeRef::TypeParam(id) => self.push(Piece::TypeParam(*id)),
-            TypeRef::Pattern(ty, pat) => self.push_all(&[
-                Piece::Type_(*ty),
-                Piece::Word(" is "),
-                Piece::Pat(*pat),
-            ]),
-            TypeRef::Tuple(_)
-            | TypeRef::RawPtr(_, _)
-            | TypeRef::Reference(_)
-            | TypeRef::Array(_)
-            | TypeRef::Slice(_) => self.push_type_over(ty),
-        }
-    }
-
-    /// The same of a type that is made of other types.
-    fn push_type_over(&mut self, ty: &'a TypeRef) -> Result<(), AllocError> {
-        match ty {
-            TypeRef::Tuple(types) => self.push_tuple(types.as_slice()),
-            TypeRef::Slice(ty) => self.push_slice(*ty),
-            TypeRef::Array(array) => self.push_array(array),
-            TypeRef::RawPtr(ty, mutability) => self.push_pointer(*ty, *mutability),
-            TypeRef::Reference(reference) => self.push_reference(reference),
-            _ => Ok(()),
-        }
-    }
-
-    /// The word stands alone where there are no bounds.
-    fn push_bounds(
-        &mut self,
-        word: &'static str,
-        bounds: &'a [TypeBound],
-    ) -> Result<(), AllocError> {
-        self.push_all(&[Piece::Word(word), Piece::Bounds(" ", bounds)])
-    }
-
-    fn push_tuple(&mut self, types: &'a [TypeRefId]) -> Result<(), AllocError> {
+    pub fn push_tuple(&mut self, types: &'a [TypeRefId]) -> Result<(), AllocError> {
         self.push_all(&[Piece::Word("("), Piece::Types("", types), Piece::Word(")")])
     }
 
-    fn push_slice(&mut self, ty: TypeRefId) -> Result<(), AllocError> {
+    pub fn push_slice(&mut self, ty: TypeRefId) -> Result<(), AllocError> {
         self.push_all(&[Piece::Word("["), Piece::Type_(ty), Piece::Word("]")])
     }
 
     /// The length is an expression of the same store.
-    fn push_array(&mut self, array: &ArrayType) -> Result<(), AllocError> {
+    pub fn push_array(&mut self, array: &ArrayType) -> Result<(), AllocError> {
         self.push_all(&[
             Piece::Word("["),
             Piece::Type_(array.ty),
@@ -86,34 +40,8 @@ impl<'a> Waiting<'a> {
         ])
     }
 
-    fn push_pointer(&mut self, ty: TypeRefId, mutability: Mutability) -> Result<(), AllocError> {
-        let word = match mutability {
-            Mutability::Shared => "*const ",
-            Mutability::Mut => "*mut ",
-        };
-        self.push_all(&[Piece::Word(word), Piece::Type_(ty)])
-    }
-
-    fn push_reference(&mut self, reference: &RefType) -> Result<(), AllocError> {
-        let (lifetime, space) = match reference.lifetime {
-            Some(id) => (Piece::Lifetime(id), Piece::Word(" ")),
-            None => (NOTHING, NOTHING),
-        };
-        let word = match reference.mutability {
-            Mutability::Shared => "",
-            Mutability::Mut => "mut ",
-        };
-        self.push_all(&[
-            Piece::Word("&"),
-            lifetime,
-            space,
-            Piece::Word(word),
-            Piece::Type_(reference.ty),
-        ])
-    }
-
     /// The last of the types is what the function answers.
-    fn push_function(&mut self, pointer: &'a FnType) -> Result<(), AllocError> {
+    pub fn push_function(&mut self, pointer: &'a FnType) -> Result<(), AllocError> {
         let Some((answer, params)) = pointer.params.as_slice().split_last() else {
             return Ok(());
         };

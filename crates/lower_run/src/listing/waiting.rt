@@ -1,14 +1,11 @@
 //! What is still to be printed, and the order in which the parts of a form are.
 
-use super::words::{
-    binary_word, loop_word, mutability_word, rawness_word, unary_word, unsafe_word,
-};
+use super::words::loop_word;
 use hir_store::hir::{
-    Array, Expr, Literal, MatchArm, RecordFieldPat, RecordLitField, RecordSpread, Statement,
+    Array, Expr, MatchArm, RecordFieldPat, RecordLitField, RecordSpread, Statement,
 };
 use hir_store::ids::{
-    BindingId, BlockId, ExprId, HygieneId, LabelId, LangItemId, LifetimeRefId, PatId, TypeParamId,
-    TypeRefId,
+    BindingId, ExprId, HygieneId, LabelId, LangItemId, LifetimeRefId, PatId, TypeRefId,
 };
 use hir_store::name::Name;
 use hir_store::path::{AssociatedTypeBinding, GenericArg, GenericArgs, ModPath, Path, PathKind};
@@ -20,12 +17,13 @@ use std::alloc::{AllocError, Global};
 pub enum Piece<'a> {
     /// A text that stands for itself.
     Word(&'static str),
+    /// The bracket behind the parts of a form.
+    Close,
     Expr(ExprId),
     /// A list.
     Exprs(&'a [ExprId]),
     /// What is left of a list after its first items.
     MoreExprs(&'a [ExprId]),
-    Statement(&'a Statement),
     Statements(&'a [Statement]),
     MoreStatements(&'a [Statement]),
     Pat(PatId),
@@ -34,16 +32,13 @@ pub enum Piece<'a> {
     /// The arms of a `match` as a list.
     Arms(&'a [MatchArm]),
     MoreArms(&'a [MatchArm]),
-    Arm(&'a MatchArm),
     Number(u32),
     Binding(BindingId),
     Label(LabelId),
-    Block(BlockId),
     Name(&'a Name),
     Path(&'a Path, HygieneId),
     /// A path that no hygiene follows.
     PlainPath(&'a Path),
-    Literal(&'a Literal),
     /// Names as a list.
     Names(&'a [Name]),
     /// The fields of a record as a list.
@@ -65,7 +60,6 @@ pub enum Piece<'a> {
     TypeBindings(&'static str, &'a [AssociatedTypeBinding]),
     TypeBinding(&'a AssociatedTypeBinding),
     Type_(TypeRefId),
-    TypeParam(TypeParamId),
     Types(&'static str, &'a [TypeRefId]),
     /// The parameters of a closure as a list, and a type for each that has one.
     ClosureParamList(&'a [PatId], &'a [Option<TypeRefId>]),
@@ -97,13 +91,6 @@ fn label_or_absent(label: Option<LabelId>) -> Piece<'static> {
     }
 }
 
-fn block_or_absent(block: Option<BlockId>) -> Piece<'static> {
-    match block {
-        Some(id) => Piece::Block(id),
-        None => ABSENT,
-    }
-}
-
 fn args_or_absent(args: &Option<GenericArgs>) -> Piece<'_> {
     match args {
         Some(args) => Piece::GenericArgs(args),
@@ -128,10 +115,17 @@ fn spread_or_absent(spread: RecordSpread) -> Piece<'static> {
     }
 }
 
+/// A piece that waits, and whether a space stands before it.
+#[derive(Clone, Copy)]
+pub struct Next<'a> {
+    pub spaced: bool,
+    pub piece: Piece<'a>,
+}
+
 /// The pieces that wait. The next one stands last.
 #[derive(Drop)]
 pub struct Waiting<'a> {
-    pieces: Vec<Piece<'a>>,
+    pieces: Vec<Next<'a>>,
 }
 
 impl<'a> Waiting<'a> {
@@ -142,13 +136,16 @@ impl<'a> Waiting<'a> {
     }
 
     /// Takes the next piece.
-    pub fn pop(&mut self) -> Option<Piece<'a>> {
+    pub fn pop(&mut self) -> Option<Next<'a>> {
         self.pieces.pop()
     }
 
     /// Lets a piece wait before all others.
     pub fn push(&mut self, piece: Piece<'a>) -> Result<(), AllocError> {
-        self.pieces.push(piece)?;
+        self.pieces.push(Next {
+            spaced: false,
+            piece,
+        })?;
         Ok(())
     }
 
@@ -175,12 +172,9 @@ impl<'a> Waiting<'a> {
         self.push_path(path)
     }
 
-    /// Lets the parts of an expression wait, and the bracket after them.
+    /// Lets the parts of an expression wait, and the bracket after them: of one that has at most one, or many of one sort.
     pub fn push_expr_parts(&mut self, expr: &'a Expr) -> Result<(), AllocError> {
         match expr {
-            Expr::Missing | Expr::Underscore | Expr::IncludeBytes => self.push_parts(&[]),
-            Expr::Path { path, hygiene } => self.push_parts(&[Piece::Path(path, *hygiene)]),
-            Expr::Literal(literal) => self.push_parts(&[Piece::Literal(literal)]),
             Expr::Become { expr } | Expr::Await { expr } => self.push_parts(&[Piece::Expr(*expr)]),
             Expr::Return { expr } | Expr::Yield { expr } | Expr::Yeet { expr } => self.push_parts(&[
                 expr_or_absent(*expr),
@@ -188,25 +182,7 @@ impl<'a> Waiting<'a> {
             Expr::Const(constant) => self.push_parts(&[Piece::Expr(constant.expr)]),
             Expr::Tuple { exprs } => self.push_parts(&[Piece::Exprs(exprs.as_slice())]),
             Expr::Array(array) => self.push_array_parts(array),
-            Expr::If { .. }
-            | Expr::Block { .. }
-            | Expr::Loop { .. }
-            | Expr::Continue { .. }
-            | Expr::Break { .. } => self.push_flow_parts(expr),
-            Expr::Call { .. }
-            | Expr::MethodCall { .. }
-            | Expr::Field { .. }
-            | Expr::UnaryOp { .. }
-            | Expr::BinaryOp { .. }
-            | Expr::Index { .. }
-            | Expr::Ref { .. } => self.push_operation_parts(expr),
-            Expr::Cast { .. } | Expr::RecordLit { .. } | Expr::OffsetOf { .. } => {
-                self.push_typed_parts(expr)
-            }
-            Expr::Let { .. }
-            | Expr::Match { .. }
-            | Expr::Assignment { .. }
-            | Expr::Closure { .. } => self.push_branch_parts(expr),
+            _ => self.push_parts(&[]),
         }
     }
 
@@ -223,51 +199,8 @@ impl<'a> Waiting<'a> {
         }
     }
 
-    /// The same of what steers the order of running.
-    fn push_flow_parts(&mut self, expr: &'a Expr) -> Result<(), AllocError> {
-        match expr {
-            Expr::If {
-                condition,
-                then_branch,
-                else_branch,
-            } => self.push_parts(&[
-                Piece::Expr(*condition),
-                Piece::Expr(*then_branch),
-                expr_or_absent(*else_branch),
-            ]),
-            Expr::Block {
-                is_unsafe,
-                label,
-                id,
-                statements,
-                tail,
-            } => self.push_parts(&[
-                Piece::Word(unsafe_word(*is_unsafe)),
-                label_or_absent(*label),
-                block_or_absent(*id),
-                Piece::Statements(statements.as_slice()),
-                expr_or_absent(*tail),
-            ]),
-            Expr::Loop {
-                body,
-                label,
-                source,
-            } => self.push_parts(&[
-                Piece::Expr(*body),
-                label_or_absent(*label),
-                Piece::Word(loop_word(*source)),
-            ]),
-            Expr::Continue { label } => self.push_parts(&[label_or_absent(*label)]),
-            Expr::Break { label, expr } => self.push_parts(&[
-                label_or_absent(*label),
-                expr_or_absent(*expr),
-            ]),
-            _ => self.push_parts(&[]),
-        }
-    }
-
-    /// The same of what is made of operands.
-    fn push_operation_parts(&mut self, expr: &'a Expr) -> Result<(), AllocError> {
+    /// The same of what begins with an expression.
+    pub fn push_operation_parts(&mut self, expr: &'a Expr) -> Result<(), AllocError> {
         match expr {
             Expr::Call { callee, args } => self.push_parts(&[
                 Piece::Expr(*callee),
@@ -285,34 +218,38 @@ impl<'a> Waiting<'a> {
                 Piece::Exprs(args.as_slice()),
             ]),
             Expr::Field { expr, name } => self.push_parts(&[Piece::Expr(*expr), Piece::Name(name)]),
-            Expr::UnaryOp { op, expr } => self.push_parts(&[
-                Piece::Word(unary_word(*op)),
-                Piece::Expr(*expr),
-            ]),
-            Expr::BinaryOp { op, lhs, rhs } => self.push_parts(&[
-                Piece::Word(binary_word(*op)),
-                Piece::Expr(*lhs),
-                Piece::Expr(*rhs),
-            ]),
             Expr::Index { base, index } => self.push_parts(&[
                 Piece::Expr(*base),
                 Piece::Expr(*index),
             ]),
-            Expr::Ref {
-                rawness,
-                mutability,
-                expr,
+            Expr::If {
+                condition,
+                then_branch,
+                else_branch,
             } => self.push_parts(&[
-                Piece::Word(rawness_word(*rawness)),
-                Piece::Word(mutability_word(*mutability)),
+                Piece::Expr(*condition),
+                Piece::Expr(*then_branch),
+                expr_or_absent(*else_branch),
+            ]),
+            Expr::Loop {
+                body,
+                label,
+                source,
+            } => self.push_parts(&[
+                Piece::Expr(*body),
+                label_or_absent(*label),
+                Piece::Word(loop_word(*source)),
+            ]),
+            Expr::Match { expr, arms } => self.push_parts(&[
                 Piece::Expr(*expr),
+                Piece::Arms(arms.as_slice()),
             ]),
             _ => self.push_parts(&[]),
         }
     }
 
     /// The same of what holds a type or a path beside its operands.
-    fn push_typed_parts(&mut self, expr: &'a Expr) -> Result<(), AllocError> {
+    pub fn push_typed_parts(&mut self, expr: &'a Expr) -> Result<(), AllocError> {
         match expr {
             Expr::Cast { expr, type_ref } => self.push_parts(&[
                 Piece::Expr(*expr),
@@ -337,10 +274,12 @@ impl<'a> Waiting<'a> {
 
     /// Lets these parts wait, each after a space, and then a bracket.
     pub fn push_parts(&mut self, parts: &[Piece<'a>]) -> Result<(), AllocError> {
-        self.push(Piece::Word(")"))?;
+        self.push(Piece::Close)?;
         for part in parts.iter().rev() {
-            self.push(*part)?;
-            self.push(Piece::Word(" "))?;
+            self.pieces.push(Next {
+                spaced: true,
+                piece: *part,
+            })?;
         }
         Ok(())
     }

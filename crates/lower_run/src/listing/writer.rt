@@ -9,14 +9,14 @@ use hir_store::name::Name;
 use hir_store::path::{ModPath, PathKind};
 use hir_store::type_ref::LifetimeRef;
 use hir_syntax::ast::LiteralKind;
+use itoa::{Buffer, Integer};
 use std::alloc::{AllocError, Global};
-use std::fmt::Display;
 
 /// A listing as far as it is written.
 pub struct Writer {
     out: String,
     sources: bool,
-    generated: Numbering<u32>,
+    generated: Numbering,
 }
 
 impl Drop for Writer {
@@ -39,12 +39,17 @@ impl Writer {
         }
     }
 
-    /// Forgets the text written so far, but no number of a name.
-    pub fn clear(&mut self) {
-        self.out.clear();
+    /// The text written so far.
+    pub fn text(&self) -> &str {
+        self.out.as_str()
     }
 
-    /// The text written so far.
+    /// Takes another text in place of the one so far.
+    pub fn replace(&mut self, text: String) {
+        self.out = text;
+    }
+
+    /// The whole text.
     pub fn finish(self) -> String {
         let Writer {
             out,
@@ -54,14 +59,21 @@ impl Writer {
         out
     }
 
+    /// Adds one character.
+    pub fn mark(&mut self, mark: char) -> Result<(), AllocError> {
+        self.out.push(mark)
+    }
+
     /// Adds a text as it stands.
     pub fn word(&mut self, text: &str) -> Result<(), AllocError> {
         self.out.push_str(text)
     }
 
     /// Adds a text and a number.
-    pub fn numbered<N: Display + Drop>(&mut self, text: &str, number: N) -> Result<(), AllocError> {
-        write!(self.out, "{}{}", text, number)
+    pub fn numbered<N: Integer>(&mut self, text: &str, number: N) -> Result<(), AllocError> {
+        self.out.push_str(text)?;
+        let mut digits = Buffer::new();
+        self.out.push_str(digits.format(number))
     }
 
     /// Adds a text and a name.
@@ -70,16 +82,24 @@ impl Writer {
         self.name(name)
     }
 
-    /// Adds the bracket and the kind that a form begins with, and the node that it came from.
+    /// Adds the bracket and the kind that a form begins with, and the node that it came from where sources are shown.
     pub fn open(&mut self, kind: &str, node: Option<InFile<AstPtr>>) -> Result<(), AllocError> {
-        write!(self.out, "({}", kind)?;
-        self.source("", node)
+        self.out.push_str(kind)?;
+        match node {
+            Some(node) if self.sources => self.source(node),
+            _ => Ok(()),
+        }
     }
 
-    /// Ends a line by the node that it is about.
+    /// Ends a line by the node that it is about where sources are shown.
     pub fn end_line(&mut self, node: Option<InFile<AstPtr>>) -> Result<(), AllocError> {
-        self.source(" ", node)?;
-        self.word("\n")
+        if let Some(node) = node
+            && self.sources
+        {
+            self.mark(' ')?;
+            self.source(node)?;
+        }
+        self.mark('\n')
     }
 
     /// Adds a name: its text, `?` for the missing one, `$k` for the k-th generated one by first printing.
@@ -156,7 +176,7 @@ impl Writer {
             PathKind::Crate => self.word("crate"),
             PathKind::DollarCrate(root) => {
                 self.numbered("$crate(", root.0)?;
-                self.word(")")
+                self.mark(')')
             }
         }
     }
@@ -177,7 +197,7 @@ impl Writer {
     /// with a fraction stand as they were written.
     pub fn literal(&mut self, literal: &Literal) -> Result<(), AllocError> {
         if literal.negative {
-            self.word("-")?;
+            self.mark('-')?;
         }
         let text = literal.text.as_str();
         match literal.kind {
@@ -208,23 +228,20 @@ impl Writer {
     /// Adds a node, `@n`, or `@f.n` where its file f isn't 0.
     pub fn node(&mut self, node: InFile<NodeId>) -> Result<(), AllocError> {
         match node.file_id.0 {
-            0 => write!(self.out, "@{}", node.value.0),
-            file => write!(self.out, "@{}.{}", file, node.value.0),
+            0 => self.numbered("@", node.value.0),
+            file => {
+                self.numbered("@", file)?;
+                self.numbered(".", node.value.0)
+            }
         }
     }
 
-    /// Adds the node that something came from. Nothing, where sources aren't shown.
-    fn source(&mut self, before: &str, node: Option<InFile<AstPtr>>) -> Result<(), AllocError> {
-        match node {
-            Some(InFile { file_id, value }) if self.sources => {
-                self.word(before)?;
-                self.node(InFile {
-                    file_id,
-                    value: value.node,
-                })
-            }
-            _ => Ok(()),
-        }
+    fn source(&mut self, node: InFile<AstPtr>) -> Result<(), AllocError> {
+        let InFile { file_id, value } = node;
+        self.node(InFile {
+            file_id,
+            value: value.node,
+        })
     }
 }
 

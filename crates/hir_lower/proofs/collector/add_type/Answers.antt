@@ -1,3 +1,4 @@
+use Rattle.hir_lower.proofs.Collecting.{type_collected}
 use Rattle.hir_lower.proofs.TypeMeanings.{adds_if, apart_type_if, ends_of_type_if, may_be_owned_type_if, no_room_if, outside_type_if}
 use Rattle.hir_lower.proofs.TypeMeanings.{defined_type_if, mapped_type_if, names_of_type_if, room_if, scopes_if, unchanged_if}
 use Rattle.hir_lower.proofs.TypeMeanings.{within_type_if}
@@ -41,3 +42,6 @@ returns-clause-fits c = room_if _ _ _ _ c.alloc_type.result c.alloc_type.ensures
 
 pub returns-clause-within : goal.returns-clause-within
 returns-clause-within c = λ w. within_type_if _ _ _ _ c.alloc_type.result c.alloc_type.ensures w
+
+pub returns-clause-collected : goal.returns-clause-collected
+returns-clause-collected c = λ k. type_collected _ _ _ _ c.alloc_type.result (adds_if _ _ _ _ c.alloc_type.result c.alloc_type.ensures) k

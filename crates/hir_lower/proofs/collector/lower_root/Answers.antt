@@ -1,3 +1,4 @@
+use Rattle.hir_lower.proofs.Collecting.{constant_collected}
 use Rattle.hir_lower.proofs.Meanings.{apart_if, defined_if, mapped_if, may_be_owned_if, names_if, outside_if, rooted_if, stays_unless}
 use Rattle.hir_lower.proofs.Meanings.{fits_if, too_large_if, within_if}
 use Rattle.hir_lower.proofs.collector.lower_root.Goals as goal
@@ -34,3 +35,8 @@ returns-clause-fits g c = λ d w. fits_if _ _ _ c.root_steps.result c.root_steps
 
 pub returns-clause-within : goal.returns-clause-within
 returns-clause-within g c = λ d w. within_if _ _ _ c.root_steps.result c.root_steps.ensures d w
+
+pub returns-clause-collected : goal.returns-clause-collected
+returns-clause-collected g c = λ d m k. constant_collected _ _ _ c.root_steps.result
+    (rooted_if _ _ _ c.root_steps.result c.root_steps.ensures d m)
+    (λ n. stays_unless _ _ _ c.root_steps.result c.root_steps.ensures m n) k

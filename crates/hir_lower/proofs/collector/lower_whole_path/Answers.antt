@@ -1,3 +1,4 @@
+use Rattle.hir_lower.proofs.Collecting.{path_collected}
 use Rattle.hir_lower.proofs.PathMeanings.{arguments_if, data_if, ends_if, names_if, outside_path_if, path_apart_if, path_defined_if}
 use Rattle.hir_lower.proofs.PathMeanings.{path_mapped_if, path_may_be_owned_if, path_names_if, path_stays_if, path_too_large_if}
 use Rattle.hir_lower.proofs.PathMeanings.{path_fits_if, path_within_if, rooted_path_if}
@@ -47,3 +48,8 @@ returns-clause-fits g c = λ d w. path_fits_if _ _ _ _ c.lower_path.result c.low
 
 pub returns-clause-within : goal.returns-clause-within
 returns-clause-within g c = λ d w. path_within_if _ _ _ _ c.lower_path.result c.lower_path.ensures d w
+
+pub returns-clause-collected : goal.returns-clause-collected
+returns-clause-collected g c = λ d m out k. path_collected _ _ _ c.lower_path.result
+    (rooted_path_if _ _ _ _ c.lower_path.result c.lower_path.ensures d m out)
+    (λ n. path_stays_if _ _ _ _ c.lower_path.result c.lower_path.ensures m n) k

@@ -10,6 +10,7 @@ use Rattle.hir_item_noted.specs.Fold.{noted_in_function}
 use Rattle.hir_item_noted.specs.Noted.{by_kind}
 use Rattle.hir_item_noted.proofs.Laws.{items_make}
 use Rattle.hir_item_result.specs.Answers.{FunctionReads}
+use Rattle.hir_item_result.specs.Inside.{HoldsOnce, held_by_function, with_held_params}
 use Rattle.hir_item_result.specs.ItemResult.{ItemResult}
 use Rattle.hir_item_result.specs.Numbers.{past_params}
 use Rattle.hir_item_result.specs.Once.{ReachesOnce, named_by_function, with_params}
@@ -21,6 +22,7 @@ use Rattle.hir_item_result.proofs.Apart.{items_apart}
 use Rattle.hir_item_result.proofs.Data.{first_items_store}
 use Rattle.hir_item_result.proofs.Fitting.{fitting_items}
 use Rattle.hir_item_result.proofs.Took.{refused_items}
+use Rattle.hir_item_result.proofs.Inside.{functions_hold_once}
 use Rattle.hir_item_result.proofs.Once.{functions_once}
 use Rattle.hir_item_result.proofs.Whole.{item_results}
 use Rattle.hir_told.specs.StoredData.{ReadsAs}
@@ -115,4 +117,14 @@ returns-clause-reached_once g c =
     let x = read_function env c.args.item.file_id c.args.inside c.args.id c.args.item.value.now in
     from_if (lower_function def x) of_kinds 4294967295 (λ r. signature r.3 r.4 r.5 r.6) (λ r. r.2) (λ r. r.0) (λ r. r.1)
     (λ ps s m a. ReachesOnce s (with_params s m ps (named_by_function a.args a.ret))) (λ b a is. functions_once def x 4294967295 b a is)
+    c.function_steps.result c.function_steps.ensures.made
+
+pub returns-clause-inside_reached_once : goal.returns-clause-inside_reached_once
+returns-clause-inside_reached_once g c =
+    let env = g.E.LowerEnv.answers c.args.db.now in
+    let def = definition.FunctionId c.args.id in
+    let x = read_function env c.args.item.file_id c.args.inside c.args.id c.args.item.value.now in
+    from_if (lower_function def x) of_kinds 4294967295 (λ r. signature r.3 r.4 r.5 r.6) (λ r. r.2) (λ r. r.0) (λ r. r.1)
+    (λ ps s m a. HoldsOnce s (with_held_params s m ps (held_by_function a.args a.ret)))
+    (λ b a is. functions_hold_once def x 4294967295 b a is)
     c.function_steps.result c.function_steps.ensures.made

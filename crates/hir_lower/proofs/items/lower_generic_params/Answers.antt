@@ -8,6 +8,7 @@ use Rattle.hir_item_asked.proofs.Laws.{items_ask}
 use Rattle.hir_item_noted.specs.Fold.{noted_in_generics}
 use Rattle.hir_item_noted.specs.Noted.{all_early}
 use Rattle.hir_item_noted.proofs.Laws.{items_make}
+use Rattle.hir_item_result.specs.Inside.{HoldsOnce, none_held, with_held_params}
 use Rattle.hir_item_result.specs.ItemResult.{ItemResult}
 use Rattle.hir_item_result.specs.Numbers.{past_params}
 use Rattle.hir_item_result.specs.Once.{ReachesOnce, none_named, with_params}
@@ -18,6 +19,7 @@ use Rattle.hir_item_result.proofs.Apart.{items_apart}
 use Rattle.hir_item_result.proofs.Data.{first_items_store}
 use Rattle.hir_item_result.proofs.Fitting.{fitting_items}
 use Rattle.hir_item_result.proofs.Took.{refused_items}
+use Rattle.hir_item_result.proofs.Inside.{generics_hold_once}
 use Rattle.hir_item_result.proofs.Once.{generics_once}
 use Rattle.hir_item_result.proofs.Whole.{item_results}
 use Rattle.hir_told.specs.StoredData.{ReadsAs}
@@ -112,4 +114,14 @@ returns-clause-reached_once g c =
     let x = read_generics env c.args.file_id c.args.inside c.args.mode def ps (option_copied c.args.where_clause) in
     from_if (lower_generics def x) as_noted 4294967295 (λ r. tt) (λ r. r.1) (λ r. r.0) (λ r. r.2)
     (λ ps s m a. ReachesOnce s (with_params s m ps none_named)) (λ b a is. generics_once def x 4294967295 b a is)
+    c.generic_params_steps.result c.generic_params_steps.ensures.made
+
+pub returns-clause-inside_reached_once : goal.returns-clause-inside_reached_once
+returns-clause-inside_reached_once g c =
+    let env = g.E.LowerEnv.answers c.args.db.now in
+    let def = c.args.def in
+    let ps = option_copied c.args.param_list in
+    let x = read_generics env c.args.file_id c.args.inside c.args.mode def ps (option_copied c.args.where_clause) in
+    from_if (lower_generics def x) as_noted 4294967295 (λ r. tt) (λ r. r.1) (λ r. r.0) (λ r. r.2)
+    (λ ps s m a. HoldsOnce s (with_held_params s m ps none_held)) (λ b a is. generics_hold_once def x 4294967295 b a is)
     c.generic_params_steps.result c.generic_params_steps.ensures.made

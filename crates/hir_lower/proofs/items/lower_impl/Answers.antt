@@ -9,6 +9,7 @@ use Rattle.hir_item_noted.specs.Fold.{noted_in_impl}
 use Rattle.hir_item_noted.specs.Noted.{all_early}
 use Rattle.hir_item_noted.proofs.Laws.{items_make}
 use Rattle.hir_item_result.specs.Answers.{ImplReads}
+use Rattle.hir_item_result.specs.Inside.{HoldsOnce, held_by_impl, with_held_params}
 use Rattle.hir_item_result.specs.ItemResult.{ItemResult}
 use Rattle.hir_item_result.specs.Numbers.{past_params}
 use Rattle.hir_item_result.specs.Once.{ReachesOnce, named_by_impl, with_params}
@@ -20,6 +21,7 @@ use Rattle.hir_item_result.proofs.Apart.{items_apart}
 use Rattle.hir_item_result.proofs.Data.{first_items_store}
 use Rattle.hir_item_result.proofs.Fitting.{fitting_items}
 use Rattle.hir_item_result.proofs.Took.{refused_items}
+use Rattle.hir_item_result.proofs.Inside.{impls_hold_once}
 use Rattle.hir_item_result.proofs.Once.{impls_once}
 use Rattle.hir_item_result.proofs.Whole.{item_results}
 use Rattle.hir_told.specs.StoredData.{ReadsAs}
@@ -114,4 +116,13 @@ returns-clause-reached_once g c =
     let x = read_impl env c.args.item.file_id c.args.inside c.args.id c.args.item.value.now in
     from_if (lower_impl def x) as_noted 4294967295 (λ r. (r.2, r.3)) (λ r. r.4) (λ r. r.0) (λ r. r.1)
     (λ ps s m a. ReachesOnce s (with_params s m ps (named_by_impl a.0 a.1))) (λ b a is. impls_once def x 4294967295 b a is)
+    c.impl_steps.result c.impl_steps.ensures.made
+
+pub returns-clause-inside_reached_once : goal.returns-clause-inside_reached_once
+returns-clause-inside_reached_once g c =
+    let env = g.E.LowerEnv.answers c.args.db.now in
+    let def = definition.ImplId c.args.id in
+    let x = read_impl env c.args.item.file_id c.args.inside c.args.id c.args.item.value.now in
+    from_if (lower_impl def x) as_noted 4294967295 (λ r. (r.2, r.3)) (λ r. r.4) (λ r. r.0) (λ r. r.1)
+    (λ ps s m a. HoldsOnce s (with_held_params s m ps (held_by_impl a.0 a.1))) (λ b a is. impls_hold_once def x 4294967295 b a is)
     c.impl_steps.result c.impl_steps.ensures.made

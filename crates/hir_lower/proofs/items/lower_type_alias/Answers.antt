@@ -9,6 +9,7 @@ use Rattle.hir_item_noted.specs.Fold.{noted_in_alias}
 use Rattle.hir_item_noted.specs.Noted.{all_early}
 use Rattle.hir_item_noted.proofs.Laws.{items_make}
 use Rattle.hir_item_result.specs.Answers.{AliasReads}
+use Rattle.hir_item_result.specs.Inside.{HoldsOnce, held_by_alias, with_held_params}
 use Rattle.hir_item_result.specs.ItemResult.{ItemResult}
 use Rattle.hir_item_result.specs.Numbers.{past_params}
 use Rattle.hir_item_result.specs.Once.{ReachesOnce, named_by_alias, with_params}
@@ -20,6 +21,7 @@ use Rattle.hir_item_result.proofs.Apart.{items_apart}
 use Rattle.hir_item_result.proofs.Data.{first_items_store}
 use Rattle.hir_item_result.proofs.Fitting.{fitting_items}
 use Rattle.hir_item_result.proofs.Took.{refused_items}
+use Rattle.hir_item_result.proofs.Inside.{aliases_hold_once}
 use Rattle.hir_item_result.proofs.Once.{aliases_once}
 use Rattle.hir_item_result.proofs.Whole.{item_results}
 use Rattle.hir_told.specs.StoredData.{ReadsAs}
@@ -114,4 +116,13 @@ returns-clause-reached_once g c =
     let x = read_alias env c.args.item.file_id c.args.container c.args.id c.args.item.value.now in
     from_if (lower_alias def x) as_noted 4294967295 (λ r. (r.3, r.4)) (λ r. r.2) (λ r. r.0) (λ r. r.1)
     (λ ps s m a. ReachesOnce s (with_params s m ps (named_by_alias a.0 a.1))) (λ b a is. aliases_once def x 4294967295 b a is)
+    c.alias_steps.result c.alias_steps.ensures.made
+
+pub returns-clause-inside_reached_once : goal.returns-clause-inside_reached_once
+returns-clause-inside_reached_once g c =
+    let env = g.E.LowerEnv.answers c.args.db.now in
+    let def = definition.TypeAliasId c.args.id in
+    let x = read_alias env c.args.item.file_id c.args.container c.args.id c.args.item.value.now in
+    from_if (lower_alias def x) as_noted 4294967295 (λ r. (r.3, r.4)) (λ r. r.2) (λ r. r.0) (λ r. r.1)
+    (λ ps s m a. HoldsOnce s (with_held_params s m ps (held_by_alias a.0 a.1))) (λ b a is. aliases_hold_once def x 4294967295 b a is)
     c.alias_steps.result c.alias_steps.ensures.made

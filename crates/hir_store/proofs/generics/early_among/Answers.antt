@@ -14,4 +14,5 @@ pub returns : goal.returns
 returns c =
     let left = c.loop-left.left.now in
     let behind = none left c.in_default.len_below in
-    all_counted (early_among c.args.left.now) (early_among left) c.loop-left.count behind c.loop-left.invariant.few c.loop-left.invariant.so_far
+    let loop = c.loop-left in
+    all_counted (early_among c.args.left.now) (early_among left) loop.count behind loop.invariant.few loop.invariant.so_far

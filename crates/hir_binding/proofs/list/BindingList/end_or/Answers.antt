@@ -1,5 +1,6 @@
-use Rattle.std.proofs.Common.{◌≡◌, Some, sym, ◌∙◌, ap, arith, nat_eq}
-use Rattle.std.specs.HashMap.{get}
+use Rattle.std.proofs.Common.{◌≡◌, Some, sym, ◌∙◌, ap, arith}
+use Rattle.std.specs.BTreeMap.{get}
+use Rattle.std.specs.Ordering.{nat_cmp}
 use Rattle.hir_binding.specs.declared.list.BindingList.{BindingList}
 use Rattle.hir_binding.specs.Bindings.{noted, seen_at}
 use Rattle.hir_binding.proofs.Loops.{is_seen}
@@ -10,13 +11,13 @@ use Rattle.hir_binding.proofs.list.BindingList.end_or.Goals as goal
 
 pub see-requires : goal.see-requires
 see-requires c = c.loop-place.invariant.known c.in-Some.name (is_seen c.close-names.result.previous c.close-names.result.start
-    c.loop-place.place (get nat_eq c.close-names.result.last c.in-Some.name) ((c.last_marked_at.ensures c.in-Some.name).0 c.in-Some.is))
+    c.loop-place.place (get nat_cmp c.close-names.result.last c.in-Some.name) ((c.last_marked_at.ensures c.in-Some.name).0 c.in-Some.is))
 
 pub loop-place-preserved : goal.loop-place-preserved
 loop-place-preserved c = elim c.match-last_marked_at.branch [
   | in-Some+in_ok-see w ↦ record {
     noted = λ k.
-        seen_step c.loop-place.place w.in-Some.name k (get nat_eq c.close-names.result.last k) (noted c.close-names.new.self k)
+        seen_step c.loop-place.place w.in-Some.name k (get nat_cmp c.close-names.result.last k) (noted c.close-names.new.self k)
         (noted c.loop-place.self k) (noted c.match-last_marked_at.self k)
         (ap (λ (b : BindingList). noted b k) w.self-is ∙ w.in_ok-see.ensures.noted k) (c.loop-place.invariant.noted k)
         (λ e. rw (← e) ((c.last_marked_at.ensures w.in-Some.name).0 w.in-Some.is))
@@ -26,7 +27,7 @@ loop-place-preserved c = elim c.match-last_marked_at.branch [
     depth = rw w.self-is (w.in_ok-see.ensures.depth ∙ c.loop-place.invariant.depth);
   }
   | in_default w ↦ record {
-    noted = λ k. ap (λ (b : BindingList). noted b k) w.self-is ∙ seen_not c.loop-place.place k (get nat_eq c.close-names.result.last k)
+    noted = λ k. ap (λ (b : BindingList). noted b k) w.self-is ∙ seen_not c.loop-place.place k (get nat_cmp c.close-names.result.last k)
         (noted c.close-names.new.self k) (noted c.loop-place.self k) (c.loop-place.invariant.noted k)
         (λ e. w.in_default.not-Some k ((c.last_marked_at.ensures k).1 e));
     known = λ k h. rw w.self-is (c.loop-place.invariant.known k h);
@@ -38,7 +39,7 @@ loop-place-preserved c = elim c.match-last_marked_at.branch [
 pub returns-clause-noted : goal.returns-clause-noted
 returns-clause-noted c = λ k. c.loop-place.invariant.noted k ∙ (ap (λ b. seen_at b (noted c.close-names.new.self k))
     (before_end c.close-names.result.marked.items c.loop-place.place c.close-names.result.previous c.close-names.result.start k
-    (get nat_eq c.close-names.result.last k) (let e = c.place_count-place-end.ensures in let f =
+    (get nat_cmp c.close-names.result.last k) (let e = c.place_count-place-end.ensures in let f =
     c.close-names.result.marked.ok.0 in omega arith) (λ p e. slice_get_within c.close-names.result.marked.items p k
     (c.close-names.result.placed k p e)))
     ∙ sym (c.close-names.ensures.noted k))

@@ -1,5 +1,6 @@
-use Rattle.std.proofs.Common.{◌≡◌, ◌≢◌, ◌<◌, ℕ, nat_eq}
-use Rattle.std.specs.HashMap.{get}
+use Rattle.std.proofs.Common.{◌≡◌, ◌≢◌, ◌<◌, ℕ}
+use Rattle.std.specs.BTreeMap.{get}
+use Rattle.std.specs.Ordering.{nat_cmp}
 use Rattle.hir_binding.specs.declared.binding.Mark.TheVariants.{Unseen}
 use Rattle.hir_binding.specs.Seen.{mark_of}
 use Rattle.hir_binding.specs.Bindings.{noted, name_count, depth, seen_at}
@@ -8,7 +9,7 @@ use Rattle.hir_binding.proofs.list.BindingList.end_or.Given as goal
 
 abbrev pub invariant-loop-place : goal.invariant-loop-place
 invariant-loop-place l = record {
-  noted : (k : ℕ) → noted l.self k ≡ seen_at (is_before l.place (get nat_eq l.names.last k)) (noted l.initial.self k);
+  noted : (k : ℕ) → noted l.self k ≡ seen_at (is_before l.place (get nat_cmp l.names.last k)) (noted l.initial.self k);
   known : (k : ℕ) → mark_of l.names k ≢ Unseen → k < name_count l.self;
   count : name_count l.self ≡ name_count l.initial.self;
   depth : depth l.self ≡ depth l.initial.self;

@@ -1,5 +1,6 @@
-use Rattle.std.proofs.Common.{◌∙◌, ap, nat_eq, true}
-use Rattle.std.specs.HashMap.{get}
+use Rattle.std.proofs.Common.{◌∙◌, ap, true}
+use Rattle.std.specs.BTreeMap.{get}
+use Rattle.std.specs.Ordering.{nat_cmp}
 use Rattle.hir_binding.specs.Steps.{Set}
 use Rattle.hir_binding.specs.declared.binding.Mark.{Mark}
 use Rattle.hir_binding.proofs.Places.{mark_begun}
@@ -8,5 +9,5 @@ use Rattle.hir_binding.proofs.seen.SeenNames.begin_alternative.Goals as goal
 pub returns : goal.returns
 returns c = λ k. ap (λ (m : Mark). let s : Set = record { mark = m; later = true } in s)
     (mark_begun c.args.self.now.marked.items c.len-self.result c.args.self.now.previous c.args.self.now.start k
-    (get nat_eq c.args.self.now.last k) (c.len-self.ensures ∙ c.args.self.now.marked.ok.0) c.args.self.now.in_turn
+    (get nat_cmp c.args.self.now.last k) (c.len-self.ensures ∙ c.args.self.now.marked.ok.0) c.args.self.now.in_turn
     (c.args.self.now.placed k))

@@ -1,4 +1,5 @@
 use Rattle.std.proofs.Common.{rules}
+use Rattle.hir_lower.proofs.Collecting.{fresh_collected}
 use Rattle.hir_lower.proofs.MadeNames.{fresh_apart, fresh_defined, fresh_limits, fresh_mapped}
 use Rattle.hir_lower.proofs.collector.ExprCollector.with_limit.Goals as goal
 
@@ -19,3 +20,6 @@ invariant_of-result-clause-apart g c = λ works. fresh_apart _ _ c.new.ensures
 
 pub invariant_of-result-clause-within : goal.invariant_of-result-clause-within
 invariant_of-result-clause-within g c = λ works. fresh_limits _ _ c.new.ensures
+
+pub invariant_of-result-clause-collected : goal.invariant_of-result-clause-collected
+invariant_of-result-clause-collected g c = λ works. fresh_collected _ _ c.new.ensures

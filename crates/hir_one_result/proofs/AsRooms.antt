@@ -1,0 +1,289 @@
+-- As much as is told is stored, or there is no room for it: an instance. Of steps that make an expression it is claimed besides that it is
+-- the last one.
+use Rattle.std.proofs.Common.{◌≡◌, refl, sym, subst, add-one, ℕ, suc, ◌^◌, nat_lt, if◌then◌else◌, Bool, true, false}
+use Rattle.std.proofs.Common.{[], Option, Some, None, Ok, Err, List}
+use Rattle.std.proofs.lemmas.Bool.{ltb-false}
+use Rattle.hir_binding.specs.declared.binding.BindingAnnotation.{BindingAnnotation}
+use Rattle.hir_store.specs.Pointers.{Pointer}
+use Rattle.hir_store.specs.declared.hir.Expr.TheVariants as hir
+use Rattle.hir_store.specs.declared.ids.ExprId.{ExprId}
+use Rattle.hir_store.specs.declared.ids.LabelId.{LabelId}
+use Rattle.hir_store.specs.declared.ids.PatId.{PatId}
+use Rattle.hir_store.specs.declared.hir.CoroutineKind.{CoroutineKind}
+use Rattle.hir_env.specs.Answered as tree
+use Rattle.hir_env.specs.Answered.{Formals, Label, OptionExpr, SelfFormal}
+use Rattle.hir_data.specs.Data as datum
+use Rattle.hir_data.specs.Data.{Shape}
+use Rattle.hir_data.specs.Patterns.{moved_by}
+use Rattle.hir_lower_form.specs.Lower.{lower_part}
+use Rattle.hir_lower_form.specs.Builder.{Builder}
+use Rattle.hir_lower_form.specs.Forms.{ExprSteps, StoredContents, paren_form, value_form, yield_form}
+use Rattle.hir_lower_form.specs.Lowering.{Checked, go_on, Lowering, ◌>>=◌, pure, close, count_out, made_number, note_yield}
+use Rattle.hir_store.specs.declared.type_ref.TypeBound.{TypeBound}
+use Rattle.hir_env.specs.declared.place.ImplTrait.{ImplTrait}
+use Rattle.hir_env.specs.declared.place.ImplTrait.TheVariants as becomes
+use Rattle.hir_lower_form.specs.Lowering.{becoming}
+use Rattle.hir_one_result.specs.Grading.{grade_impl}
+use Rattle.hir_one_result.proofs.NoteRooms.{aliased_takes, becoming_takes, takes_noted}
+use Rattle.hir_lower_form.specs.Lowering.{open_label, open_try, point}
+use Rattle.hir_lower_form.specs.Made.{made_bind_form}
+use Rattle.hir_lower_form.specs.Pats.{counted_dots, counted_place, moved_dots, new_binding, small_place}
+use Rattle.hir_meaning.specs.InnerWritten.{constant_body, limit_body}
+use Rattle.hir_one_result.specs.Formals.{coroutine_body, each_formal, lower_self}
+use Rattle.hir_one_result.specs.Room.{self_size}
+use Rattle.hir_one_result.specs.Size.{Size, dots_behind, nothing, a_label, a_made_name, ◌∪◌}
+use Rattle.hir_steps.proofs.Calls.{only_note}
+use Rattle.hir_one_result.proofs.CallRooms.{takes_called_type, takes_gone, takes_told, tells_called}
+use Rattle.hir_one_result.proofs.DefRooms.{define_takes, inside_takes}
+use Rattle.hir_one_result.proofs.FunctionRooms.{coroutine_body_takes}
+use Rattle.hir_one_result.proofs.ClosureRooms.{closure_takes, coroutine_takes, takes_owned, takes_owning}
+use Rattle.hir_one_result.proofs.CoroutineRooms.{coroutine_closure_takes}
+use Rattle.hir_one_result.proofs.Last.{EndsWith, IsLast, coroutine_last, hands_pure, hands_then, last_alloc}
+use Rattle.hir_one_result.proofs.Last.{last_hands, last_made, last_then, owning_last, paren_last, quiet_close}
+use Rattle.hir_one_result.proofs.LastTree.{closure_last, coroutine_block_last, coroutine_closure_last}
+use Rattle.hir_one_result.proofs.MadeRooms.{made_bind_takes, takes_made, takes_number, takes_target, takes_try}
+use Rattle.hir_one_result.proofs.PatRooms.{settle_takes}
+use Rattle.hir_one_result.proofs.PathRooms.{counted_tells, counts_out}
+use Rattle.hir_one_result.proofs.Rooms.{Takes, takes_alloc, takes_as, takes_begin, takes_binding, takes_block, takes_close, takes_constant}
+use Rattle.hir_one_result.proofs.Rooms.{takes_only}
+use Rattle.hir_one_result.proofs.Rooms.{takes_define, takes_end, takes_inner, takes_jump, takes_lifetime, takes_made_pat, takes_note}
+use Rattle.hir_one_result.proofs.Rooms.{takes_open, takes_pat}
+use Rattle.hir_one_result.proofs.Rooms.{takes_point, takes_point_field, takes_point_pat_field, takes_pure, takes_report}
+use Rattle.hir_one_result.proofs.Rooms.{takes_then, takes_type}
+use Rattle.hir_one_result.proofs.TargetRooms.{takes_pointed}
+use Rattle.hir_one_result.proofs.Tellings as known
+use Rattle.hir_one_result.proofs.Tellings.{takes_of, tells_any, tells_then}
+use Rattle.hir_one_result.proofs.Took.{Room, Same, nothing_first}
+use Rattle.hir_one_result.specs.Sizes.{bodies_sized, sizes}
+use Rattle.hir_one_result.specs.Bodies.{grade_self}
+use Rattle.hir_one_result.proofs.Answering.{Answering, AnsweredTo}
+use Rattle.hir_one_result.proofs.GradedBodies.{GradedBodies}
+use Rattle.hir_one_result.proofs.Graded.{Graded}
+
+pub given : {A : Type 0} {P : A → Type 0} {n : Size} {p : Lowering A} → Takes n p → Answering P p → known.Tells n P p
+given {A = A} {P = P} {n = n} {p = p} h t = record { tells = λ b d. by b (p b).0 (p b).1 (h.takes b d) (t.answers b) }
+  where
+    by : (b : Builder) (o : Checked A) (c : Builder) → Room n b o c → AnsweredTo P o → known.Told n P b o c
+    by b (Ok a) c x y = (x, y)
+    by b (Err e) c x y = x
+
+-- ---- what an `impl` becomes
+
+pub impls : (at : Pointer) (mode : ImplTrait) (bounds : List TypeBound) (shape : Shape)
+    → Takes (grade_impl sizes mode (datum.typed (Some at) shape)) (becoming at mode bounds)
+impls at becomes.Error bounds shape = becoming_takes at becomes.Error bounds
+impls at becomes.Opaque bounds shape = becoming_takes at becomes.Opaque bounds
+impls at (becomes.Argument def) bounds shape = becoming_takes at (becomes.Argument def) bounds
+
+-- ---- two dots
+
+counts : (n : Option ℕ) → Same nothing (dots_behind n)
+counts None = record {
+  exprs = refl;
+  labels = refl;
+  bindings = refl;
+  owners = refl;
+  names = refl;
+  params = refl;
+  pats = refl;
+  types = refl;
+  lifetimes = refl;
+  pat_leads = refl;
+  type_leads = refl;
+  overcounts = λ x. x;
+}
+counts (Some n) = record {
+  exprs = refl;
+  labels = refl;
+  bindings = refl;
+  owners = refl;
+  names = refl;
+  params = refl;
+  pats = refl;
+  types = refl;
+  lifetimes = refl;
+  pat_leads = refl;
+  type_leads = refl;
+  overcounts = λ x. absurd x;
+}
+
+place_takes : (comma : Bool) (n k : ℕ) → moved_dots comma n ≡ k → Takes (dots_behind (Some k)) (counted_place (small_place comma n))
+unfolding count_out
+place_takes comma n k e = subst (λ j. Takes (dots_behind (Some j)) (counted_place (small_place comma n))) e
+    (by (nat_lt (moved_dots comma n) (2 ^ 32)) refl)
+  where
+    by : (b : Bool) → nat_lt (moved_dots comma n) (2 ^ 32) ≡ b
+        → Takes (dots_behind (Some (moved_dots comma n))) (counted_place (if b then Some (moved_dots comma n) else None))
+    by true is = takes_as (counts (Some (moved_dots comma n))) (takes_pure _)
+    by false is = record {
+      takes = λ b d. counts_out (dots_behind (Some (moved_dots comma n))) b (ltb-false (moved_dots comma n) (2 ^ 32) is);
+    }
+
+pub dots_take : (comma : Bool) (d : Option ℕ) → Takes (dots_behind (moved_by comma d)) (counted_dots comma d)
+dots_take false None = takes_pure None
+dots_take true None = takes_pure None
+dots_take false (Some n) = place_takes false n n refl
+dots_take true (Some n) = place_takes true n (suc n) (add-one n)
+
+-- ---- the last expression
+
+pub last_where : {A : Type 0} {P : A → Type 0} {p : Lowering A} {f : A → ExprSteps} → Answering P p → ((a : A) → P a → IsLast (f a))
+    → IsLast (p >>= f)
+last_where {A = A} {P = P} {p = p} {f = f} t h = record { last = λ b. by (p b).0 (p b).1 (t.answers b) }
+  where
+    by : (o : Checked A) (c : Builder) → AnsweredTo P o → EndsWith (λ i. i) (go_on o c f).0 (go_on o c f).1
+    by (Ok a) c x = (h a x).last c
+    by (Err e) c x = tt
+
+pub pointed_last : (at : Pointer) {p : ExprSteps} → IsLast p → IsLast (p >>= (λ i. point at i >>= (λ _. pure i)))
+unfolding paren_form
+pointed_last at h = paren_last at h
+
+pub loop_last : (l : Label) (p : ExprSteps) {f : LabelId → ExprId → ExprSteps} → ((n : LabelId) (i : ExprId) → IsLast (f n i))
+    → IsLast (open_label l >>= (λ n. p >>= (λ i. close >>= (λ _. f n i))))
+loop_last l p k = last_then (open_label l) (λ n. last_then p (λ i. last_then close (λ u. k n i)))
+
+pub labelled_last : (l : Label) {f : LabelId → ExprSteps} → ((n : LabelId) → IsLast (f n))
+    → IsLast (open_label l >>= (λ n. f n >>= (λ i. close >>= (λ _. pure i))))
+labelled_last l k = last_then (open_label l) (λ n. last_hands (k n) (λ i. hands_then quiet_close (λ u. hands_pure i refl)))
+
+try_last : (at : Pointer) (typed : Bool) (s : Lowering (Unit {0})) (p : Lowering StoredContents) {f : LabelId → StoredContents → ExprSteps}
+    → ((n : LabelId) (r : StoredContents) → IsLast (f n r))
+    → IsLast (open_try at typed >>= (λ n. s >>= (λ _. p >>= (λ r. close >>= (λ _. f n r)))))
+try_last at typed s p k =
+    last_then (open_try at typed) (λ n. last_then s (λ u. last_then p (λ r. last_then close (λ v. k n r))))
+
+pub named_last : (mode : BindingAnnotation) {f : ℕ → PatId → ExprSteps} → ((n : ℕ) (q : PatId) → IsLast (f n q))
+    → IsLast (made_number >>= (λ n. made_bind_form mode n >>= (λ q. f n q)))
+named_last mode k = last_then made_number (λ n. last_then (made_bind_form mode n) (λ q. k n q))
+
+pub named_past_last : (mode : BindingAnnotation) {A : Type 0} (p : Lowering A) {f : ℕ → A → PatId → ExprSteps}
+    → ((n : ℕ) (a : A) (q : PatId) → IsLast (f n a q))
+    → IsLast (made_number >>= (λ n. p >>= (λ a. made_bind_form mode n >>= (λ q. f n a q))))
+named_past_last mode p k = last_then made_number (λ n. last_then p (λ a. last_then (made_bind_form mode n) (λ q. k n a q)))
+
+-- ---- a `yield`, and a `try`
+
+pub yield_takes : (at : Pointer) (e : Lowering (Option ExprId)) {n : Size} → Takes n (value_form at hir.Yield e) → Takes n (yield_form at e)
+unfolding value_form yield_form
+yield_takes at e h = takes_begin takes_note (λ u. h)
+
+pub yield_last : (at : Pointer) (e : Lowering (Option ExprId)) → IsLast (value_form at hir.Yield e) → IsLast (yield_form at e)
+unfolding value_form yield_form
+yield_last at e h = last_then note_yield (λ u. h)
+
+pub try_takes : (at : Pointer) (typed : Bool) {n m : Size} (k : Bool → Size) (of : StoredContents → Bool) (b : Bool)
+    {s : Lowering (Unit {0})} {p : Lowering StoredContents} {f : LabelId → StoredContents → ExprSteps} → Takes n s → Takes m p
+    → Answering (λ r. of r ≡ b) p → ((l : LabelId) (r : StoredContents) → Takes (k (of r)) (f l r) × IsLast (f l r))
+    → let steps : ExprSteps = open_try at typed >>= (λ l. s >>= (λ _. p >>= (λ r. close >>= (λ _. f l r)))) in
+    Takes ((a_made_name ∪ a_label) ∪ (n ∪ (m ∪ k b))) steps × IsLast steps
+try_takes at typed k of b {s = s} {p = p} {f = f} hs hp t more = (
+  takes_then (takes_try at typed) (λ l. takes_then hs (λ u.
+      takes_of (tells_then (given hp t) (λ r is. tells_any (takes_begin takes_close (λ v.
+      subst (λ x. Takes (k x) (f l r)) is (more l r).0)))))),
+  try_last at typed s p (λ l r. (more l r).1),
+)
+
+abbrev pub rooms_graded : Graded sizes
+rooms_graded = record {
+  Claim = λ n p. Takes n p;
+  Made = λ n p. Takes n p × IsLast p;
+  Hands = λ t n p. Takes n p;
+  made_is = λ h. h.0;
+  pure_is = λ a. takes_pure a;
+  bind_is = λ h t k. takes_of (tells_then (given h t) (λ a x. tells_any (k a x)));
+  makes_is = λ h t k. (takes_of (tells_then (given h t) (λ a x. tells_any (k a x).0)), last_where t (λ a x. (k a x).1));
+  end_is = λ h k. takes_end h k;
+  hands_pure_is = λ a t u e. takes_pure (a, u);
+  hands_as_is = λ t u e h. h;
+  hands_bind_is = λ table h t k. takes_of (tells_then (given h t) (λ a x. tells_any (k a x)));
+  beside_is = λ table h t k. takes_of (tells_then (given h t) (λ a x. tells_any (k a x)));
+  hands_end_is = λ table h k. takes_end h k;
+  beside_end_is = λ table h k. takes_end h k;
+  new_name_is = λ u is t with_it e. takes_end (takes_binding (new_binding u)) (λ b. takes_pure (b, with_it b));
+  top_is = λ h. takes_end h (λ r. takes_end (settle_takes r.1) (λ u. takes_pure r.0));
+  Where = λ C n p. Takes n p;
+  where_is = λ is h. h;
+  where_any = λ h. h;
+  where_less = λ is h. h;
+  where_next = λ h k. takes_then h k;
+  where_known = λ h t is k. takes_of (tells_then (given h t) (λ a x. tells_any (k a x)));
+  where_first = λ h k. takes_then h k;
+  where_end = λ h k. takes_end h k;
+  type_is = λ t at shape. takes_type t at;
+  lifetime_is = λ l at. takes_lifetime l at;
+  noted_down_is = λ f k h. takes_noted f k h;
+  aliased_is = λ alias h. aliased_takes alias h;
+  impl_is = λ at mode bounds shape. impls at mode bounds shape;
+  pat_is = λ p at. takes_pat p at;
+  made_pat_is = λ p at. takes_made_pat p at;
+  expr_is = λ e at. (takes_alloc e at, last_alloc e at);
+  made_expr_is = λ e at. (takes_made e at, last_made e at);
+  point_is = λ at h. (takes_end h.0 (λ i. takes_end (takes_point at i) (λ u. takes_pure i)), pointed_last at h.1);
+  point_field_is = λ i at. takes_point_field i at;
+  binding_is = λ u is. takes_binding (new_binding u);
+  define_is = λ b p. takes_define b p;
+  field_is = λ p at. takes_point_pat_field p at;
+  fault_is = λ d. takes_report d;
+  noted_is = λ c. takes_only (only_note c);
+  told_is = λ c. takes_told c;
+  gone_is = λ why. takes_gone why;
+  type_call_is = λ at l h. takes_called_type at l h;
+  pat_call_is = λ at l h. takes_of (tells_called at (λ i. i) l (tells_any h));
+  target_way_is = λ at l h. takes_pointed at l h;
+  hands_call_is = λ at t l h. takes_of (tells_called at (λ r. r.0) l (tells_any h));
+  super_is = λ w. takes_of (counted_tells w);
+  dots_is = λ comma place. dots_take comma place;
+  def_is = λ k d. define_takes k d;
+  block_is = λ n. takes_block n;
+  jump_is = λ j. takes_jump j;
+  yield_is = λ at e h. (yield_takes at e h.0, yield_last at e h.1);
+  asked_is = λ k. (takes_begin takes_target (λ t. (k t).0), last_then _ (λ t. (k t).1));
+  named_is = λ mode k. takes_then takes_number (λ n. takes_then (made_bind_takes mode n) (λ q. k n q));
+  made_named_is = λ mode k. (
+    takes_then takes_number (λ n. takes_then (made_bind_takes mode n) (λ q. (k n q).0)),
+    named_last mode (λ n q. (k n q).1),
+  );
+  named_past_is = λ mode h k. (
+    takes_then takes_number (λ n. takes_then h (λ a. takes_then (made_bind_takes mode n) (λ q. (k n a q).0))),
+    named_past_last mode _ (λ n a q. (k n a q).1),
+  );
+  bare_is = λ h k. (takes_as (nothing_first _) (takes_then h (λ i. (k i).0)), last_then _ (λ i. (k i).1));
+  loop_is = λ l is p h k. (
+    takes_then (takes_open l) (λ n. takes_then h (λ i. takes_begin takes_close (λ u. (k n i).0))),
+    loop_last l p (λ n i. (k n i).1),
+  );
+  labelled_is = λ l is k. (
+    takes_then (takes_open l) (λ n. takes_end (k n).0 (λ i. takes_end takes_close (λ u. takes_pure i))),
+    labelled_last l (λ n. (k n).1),
+  );
+  defined_is = λ d h. inside_takes d h;
+  try_is = λ at typed k of b hs hp t more. try_takes at typed k of b hs hp t more;
+  inner_is = λ l h. takes_inner (limit_body l) h.0;
+  constant_is = λ e h. takes_owned (constant_body e) h.1 h.0;
+  rooted_is = λ e h. takes_constant (constant_body e) h.0;
+  closure_is = λ at moves is_static hp ht he.
+      (closure_takes at moves is_static hp ht he.0, owning_last (closure_last at moves is_static _ _ _));
+  coroutine_closure_is = λ at kind moves xs t e hp ht he.
+      (coroutine_closure_takes kind xs t e hp ht he.0 at moves, owning_last (coroutine_closure_last at kind moves _ _ _));
+  coroutine_is = λ at kind moves number h.
+      (coroutine_takes at kind moves number h, owning_last (coroutine_last (coroutine_block_last at kind moves number _)));
+  owning_is = λ h. (takes_owning h.1 h.0, owning_last h.1);
+}
+
+-- ---- functions that are coroutines
+
+pub self_is : (s : SelfFormal) → grade_self sizes s ≡ self_size s
+self_is tree.no_self = refl
+self_is (tree.disabled_self at by) = refl
+self_is (tree.self_formal at u _) = refl
+
+pub body_takes : (kind : CoroutineKind) (skipped : Bool) (f : Formals) (e : OptionExpr) {n k : Size}
+    → Takes (grade_self sizes f.receiver) (lower_self f.receiver) → Takes n (each_formal skipped [] f.formals) → Takes k (lower_part e)
+    → Takes (bodies_sized.coroutine_body skipped f (grade_self sizes f.receiver) n k) (coroutine_body kind skipped f e)
+body_takes kind skipped f e {n = n} {k = k} hs hf he =
+    subst (λ m. Takes (bodies_sized.coroutine_body skipped f m n k) (coroutine_body kind skipped f e)) (sym (self_is f.receiver))
+    (coroutine_body_takes kind skipped f e (subst (λ m. Takes m (lower_self f.receiver)) (self_is f.receiver) hs) hf he)
+
+abbrev pub rooms_bodies : GradedBodies rooms_graded bodies_sized
+rooms_bodies = record { coroutine_body_is = λ kind skipped f e hs hf he. body_takes kind skipped f e hs hf he.0 }
