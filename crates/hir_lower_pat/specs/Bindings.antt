@@ -11,11 +11,11 @@ use Rattle.hir_lower_form.specs.Pats.{Table}
 use Rattle.hir_lower_pat.specs.declared.bindings.Bindings.{Bindings}
 
 abbrev pub table_of : Bindings → Table
-table_of b = record { bindings = b.ids.entries; noted = noted b.list }
+table_of b = record { bindings = b.ids; noted = noted b.list }
 
 -- as many names are noted as have a binding, and each binding exists
 abbrev pub HasNames : Stored → Bindings → Type 0
-HasNames s b = (name_count b.list ≡ length b.ids.entries) × (past (λ e. suc e.1.0) b.ids.entries ≤ length s.bindings.entries)
+HasNames s b = (name_count b.list ≡ length b.ids) × (past (λ e. suc e.1.0) b.ids ≤ length s.bindings.entries)
 
 -- as many or-patterns are open as before
 abbrev pub SameDepth : Bindings → Bindings → Type 0

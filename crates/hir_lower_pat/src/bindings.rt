@@ -15,15 +15,15 @@ use hir_lower_form::builder::BodyBuilder;
 use hir_store::fault::StoreFault;
 use hir_store::hir::Binding;
 use hir_store::ids::{BindingId, HygieneId};
+use hir_store::keyed::Keyed;
 use hir_store::name::Name;
-use indexmap::IndexMap;
 use std::alloc::{AllocError, Global};
 
 /// The bindings of the names of one top pattern, in the order of first use, and what is noted of each. A name with another hygiene
 /// is another name; its place in the order is its number. After a refused call they may be dropped, and nothing is said of them.
 #[derive(Drop)]
 pub struct Bindings {
-    ids: IndexMap<(Name, HygieneId), BindingId>,
+    ids: Keyed<(Name, HygieneId), BindingId>,
     list: BindingList,
 }
 
@@ -35,7 +35,7 @@ impl Bindings {
         ensures names { (s : Stored) → HasNames s result }
     {
         Bindings {
-            ids: IndexMap::new(alloc),
+            ids: Keyed::new(alloc),
             list: BindingList::new(alloc),
         }
     }
@@ -44,10 +44,9 @@ impl Bindings {
     fn find(&self, key: &(Name, HygieneId)) -> Option<(usize, BindingId)>
         ensures binding { option_map (λ found. found.1) result ≡ binding_of key.now (table_of self.now) }
         ensures number { IfSome result (λ found. found.0 ≡ number_of key.now (table_of self.now)) }
-        ensures known { IfSome result (λ found. found.0 < length self.now.ids.entries) }
+        ensures known { IfSome result (λ found. found.0 < length self.now.ids) }
     {
-        let (number, _, id) = self.ids.get_full(key)?;
-        Some((number, *id))
+        self.ids.find(key)
     }
 
     /// Notes a use of the name with this number.
@@ -65,11 +64,11 @@ impl Bindings {
     /// The binding of a name that has none is this one from now on.
     fn insert(&mut self, key: (Name, HygieneId), id: BindingId) -> Result<(), AllocError>
         requires { binding_of key (table_of self.old) ≡ None }
-        ensures ids { OnOk result (self.new.ids.entries ≡ self.old.ids.entries ++ (key, id) ∷ []) }
+        ensures ids { OnOk result (self.new.ids ≡ self.old.ids ++ (key, id) ∷ []) }
         ensures list { self.new.list ≡ self.old.list }
     {
-        self.ids.insert(key, id)?;
-        Ok(())
+        let same = (key.0.clone()?, key.1);
+        self.ids.insert(key, same, id)
     }
 
     /// The first use of a name makes its binding.
