@@ -21,8 +21,8 @@ use Rattle.hir_item_result.proofs.Items.{items_read}
 use Rattle.hir_item_result.proofs.Reading.{Reading}
 use Rattle.hir_item_result.proofs.Steps.{correct_lifetime_param, correct_param}
 
-record ApartAll {A : Type 0} (xs : List Part) (p : Lowering A) : Type 0 where
-  apart : Correct p Apart
+pub record ApartAll {A : Type 0} (xs : List Part) (p : Lowering A) : Type 0 where
+  pub apart : Correct p Apart
 
 record ApartOne {A : Type 0} (x : Part) (p : Lowering A) : Type 0 where
   apart : Correct p Apart
@@ -65,7 +65,7 @@ apart = record {
   lifetime_param_is = λ x. record { apart = correct_lifetime_param x (pure_apart tt) };
 }
 
-items_stand_apart : OfItems (λ A xs p. ApartAll xs p)
+pub items_stand_apart : OfItems (λ A xs p. ApartAll xs p)
 unfolding apart
 items_stand_apart def = items_read apart def
 

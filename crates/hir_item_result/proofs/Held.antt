@@ -34,10 +34,10 @@ use Rattle.hir_same_meaning.proofs.HeldTree.{part_holds, path_holds}
 use Rattle.hir_same_meaning.proofs.HeldTypes.{a_bound, a_path, path_bound_held, unit_held}
 use Rattle.hir_same_meaning.proofs.Holding.{Holds, Ids, a_type, each, holds_behind, holds_none, holds_one, maybe, more_held, none_held}
 use Rattle.hir_same_meaning.proofs.Holding.{inners_in, same_append, same_ids, type0, type_held}
-use Rattle.hir_type_result.proofs.Naming.{quiet_report}
+use Rattle.hir_steps.proofs.Apart.{report_apart}
 use Rattle.hir_item_result.specs.Answers.{arguments_bodies, output_bodies, receiver_bodies, trait_bodies}
 use Rattle.hir_item_result.proofs.Reading.{bind_assoc, bind_pure}
-use Rattle.hir_item_result.proofs.ReadsBack.{generics_quiet, missing_quiet, reports_quiet}
+use Rattle.hir_item_result.proofs.ReadsBack.{generics_apart, missing_apart, reports_apart}
 
 -- ---- a trait
 
@@ -70,7 +70,7 @@ impl_holder r a = r.type a.0 ++ a_trait r a.1
 pub impl_holds : (def : GenericDefId) (x : Impl)
     → Correct (steps.lower_impl def x) (Holds impl_holder (part_bodies x.self_type ++ trait_bodies x.trait_))
 impl_holds def x = correct_as (correct_bind (part_holds None x.self_type) (λ self. correct_bind (trait_holds x.trait_)
-    (λ t. correct_bind (generics_quiet def x.generics) (λ u. correct_pure (self, t)))))
+    (λ t. correct_bind (generics_apart def x.generics) (λ u. correct_pure (self, t)))))
     (λ final ps m m' a g row. let s = row.second in let u = s.second in rw (u.second.is, u.second.still) (record {
       same = λ d le. let r = inners_in final d in
           same_append final (r.type row.one) (a_trait r s.one) (part_bodies x.self_type) (trait_bodies x.trait_)
@@ -101,8 +101,8 @@ alias_holder r a = each a_bound r a.0 ++ maybe a_type r a.1
 
 pub alias_holds : (def : GenericDefId) (x : Alias)
     → Correct (steps.lower_alias def x) (Holds alias_holder (bounds_bodies x.bounds ++ part_bodies x.type_))
-alias_holds def x = correct_as (correct_bind (pushed_all (bounds_hold x.bounds [])) (λ bs. correct_bind (generics_quiet def x.generics)
-    (λ u. correct_bind (present_holds x.type_) (λ t. correct_bind (missing_quiet x.missing) (λ v. correct_pure (bs, t))))))
+alias_holds def x = correct_as (correct_bind (pushed_all (bounds_hold x.bounds [])) (λ bs. correct_bind (generics_apart def x.generics)
+    (λ u. correct_bind (present_holds x.type_) (λ t. correct_bind (missing_apart x.missing) (λ v. correct_pure (bs, t))))))
     (λ final ps m m' a g row. let s = row.second in let u = s.second in let v = u.second in rw (v.second.is, v.second.still) (record {
       same = λ d le. let r = inners_in final d in
           same_append final (each a_bound r row.one) (maybe a_type r u.one) (bounds_bodies x.bounds) (part_bodies x.type_)
@@ -136,7 +136,7 @@ self_holds (Some m) l = correct_as (correct_bind self_held (λ self. correct_bin
 
 receiver_holds : (x : Receiver) → Correct (steps.lower_receiver x) (Holds (maybe a_type) (receiver_bodies x))
 receiver_holds item.no_receiver = holds_none None (λ r. refl)
-receiver_holds (item.disabled_receiver at by) = holds_behind (quiet_report _) (λ u. holds_none None (λ r. refl))
+receiver_holds (item.disabled_receiver at by) = holds_behind (report_apart _) (λ u. holds_none None (λ r. refl))
 receiver_holds (item.typed_receiver t) = holds_one Some (λ r i. refl) (type_holds t)
 receiver_holds (item.self_receiver borrow l) = holds_one Some (λ r i. refl) (self_holds borrow l)
 
@@ -154,7 +154,7 @@ arguments_hold (item.argument t ∷ xs) done =
 -- behind the faults of all
 behind_reports : (xs : List Argument) (done : List TypeRefId)
     → GoesOn done (arguments_bodies xs) (steps.report_each xs >>= (λ u. steps.argument_types done xs))
-behind_reports xs done = correct_as (correct_bind (reports_quiet xs) (λ u. arguments_hold xs done))
+behind_reports xs done = correct_as (correct_bind (reports_apart xs) (λ u. arguments_hold xs done))
     (λ final ps m m' r g row. let s = row.second in record { new = s.new; is = s.is; rel = record { same = s.rel.same } })
 
 input_holds : (r : Receiver) (xs : List Argument) → GoesOn [] (receiver_bodies r ++ arguments_bodies xs) (steps.input_types r xs)
@@ -200,7 +200,7 @@ function_holder r a = each a_type r a.args ++ maybe a_type r a.ret
 
 pub function_holds : (def : GenericDefId) (x : Function) → Correct (steps.lower_function def x)
     (Holds function_holder ((receiver_bodies x.receiver ++ arguments_bodies x.arguments) ++ output_bodies x.ret))
-function_holds def x = correct_as (correct_bind (generics_quiet def x.generics) (λ u. correct_bind
+function_holds def x = correct_as (correct_bind (generics_apart def x.generics) (λ u. correct_bind
     (pushed_all (input_holds x.receiver x.arguments)) (λ args. correct_bind (output_holds x.kind x.ret) (λ ret. correct_pure
     (record { args = args; ret = ret; has_self = steps.is_received x.receiver; has_variadic = steps.any_variadic x.arguments })))))
     (λ final ps m m' a g row. let s = row.second in let u = s.second in rw (u.second.is, u.second.still) (record {

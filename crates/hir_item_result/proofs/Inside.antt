@@ -65,6 +65,7 @@ whole final v = view final v.0 v.1 v.0 (held_deep final) (length final.pats.entr
 
 exprs : Sort
 exprs = record {
+  all = false;
   View = ℕ × ℕ;
   Deep = λ now final v. length final.exprs.entries ≤ v.0;
   meter = λ final v. of_view (whole final v);
@@ -89,7 +90,7 @@ part_of {now = now} {cost = cost} h le = record {
       part (cost a (of_view (whole final v))) (now a (whole final v)) _ _ x (le a (whole final v));
 }
   where
-    part : (a n u w : ℕ) → n + u ≤ 0 + w → a ≤ n → a + (0 + u) ≤ 0 + w
+    part : (a n u w : ℕ) → n + u ≤ 0 + w → a ≤ n → a + (0 + (0 + u)) ≤ 0 + (0 + w)
     part a n u w g h = omega (arith, g, h)
 
 -- ---- its parts
@@ -172,14 +173,14 @@ module _ (w : ExprId → ℕ) (r : Inners) where
       let e = present_held (of_constant r) x.default in omega (arith, a, e)
 
   one_held : (i a : Bool) (xs ys : List Inside) (n : ℕ) → sum w ys ≡ n
-      → sum w (if i then [] else ((if a then [] else xs) ++ ys)) ≡ unless i (unless a (sum w xs) + n)
+      → sum w (if i then [] else ((if a then [] else xs) ++ ys)) ≡ unless i (unless a (sum w xs)) + unless i n
   one_held true a xs ys n h = refl
   one_held false true xs ys n h = omega (arith, h)
   one_held false false xs ys n h = let e = sum_append w xs ys in omega (arith, e, h)
 
   module _ (store : Store) (source_map : SourceMap) where
     predicates_held : (seen : List TypeRefId) (ps : List WherePredicate)
-        → sum w (held_by_predicates store source_map seen ps r) ≡ predicates store source_map seen ps meter_of
+        → sum w (held_by_predicates store source_map seen ps r) ≡ predicates false store source_map seen ps meter_of
     predicates_held seen [] = refl
     predicates_held seen (predicate.TypeBound binder t b ∷ ps) =
         let i = is_of_impl store source_map t in
@@ -190,7 +191,7 @@ module _ (w : ExprId → ℕ) (r : Inners) where
     predicates_held seen (predicate.Lifetime l m ∷ ps) = predicates_held seen ps
 
     pub params_held : (xs : List TypeOrConstParamData) (ps : List WherePredicate)
-        → sum w (held_by_params store source_map xs ps r) ≡ params xs meter_of + predicates store source_map [] ps meter_of
+        → sum w (held_by_params store source_map xs ps r) ≡ params xs meter_of + predicates false store source_map [] ps meter_of
     params_held xs ps =
         let a = sum_append w (all_of (λ x. held_by_param x r) xs) (held_by_predicates store source_map [] ps r) in
         let e = each_held (λ x. held_by_param x r) (λ x. a_param x meter_of) param_held xs in
@@ -261,7 +262,7 @@ hold_once {cost = cost} held same h limit new a is depth le =
     let params = held_by_params s m lists.type_or_consts lists.where_predicates r in
     counted_spread 0 (length final.exprs.entries) (of_each (reached_to s depth) (exprs_of (held a r ++ params))) (λ k.
     let w : ExprId → ℕ = λ i. times k (reached_to s depth i) in
-    sums (cost a (meter_of w r)) (noted final new.notes (meter_of w r)) _ (g.counted final (extends_refl final) (depth, k) le)
+    sums (cost a (meter_of w r)) (noted false final new.notes (meter_of w r)) _ (g.counted final (extends_refl final) (depth, k) le)
     (same a w r) (params_held w r s m lists.type_or_consts lists.where_predicates) (sum_append w (held a r) params)
     (weighed (reached_to s depth) k (held a r ++ params)))
 

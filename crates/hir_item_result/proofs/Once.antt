@@ -1,5 +1,5 @@
 -- What an item is answered with, and its parameters and predicates, reach each type in one way only.
-use Rattle.std.proofs.Common.{◌≡◌, ap, refl, arith, ℕ, ◌+◌, ◌≤◌, Bool, true, false, if◌then◌else◌, length, List, [], ◌∷◌, ◌++◌}
+use Rattle.std.proofs.Common.{◌≡◌, ap, refl, arith, ℕ, ◌+◌, ◌≤◌, Bool, true, false, ◌||◌, if◌then◌else◌, length, List, [], ◌∷◌, ◌++◌}
 use Rattle.std.proofs.Common.{Option, Some, None, length-append}
 use Rattle.hir_store.specs.Arenas.{Prefix}
 use Rattle.hir_store.specs.Generics.{of_binding as binding_of_parts}
@@ -28,12 +28,10 @@ use Rattle.hir_lower_form.specs.Builder.{fresh}
 use Rattle.hir_lower_form.specs.Lowering.{Lowering, ◌>>=◌, alloc_type, param_type}
 use Rattle.hir_lower_form.specs.Lower.{lower_bound}
 use Rattle.hir_lower_item.specs.Lower as steps
-use Rattle.hir_steps.proofs.Steps.{Correct}
-use Rattle.hir_one_result.proofs.AfterLowering.{after_lowering}
 use Rattle.hir_type_result.specs.Named.{of_exprs, of_pats, of_types_alone}
 use Rattle.hir_type_result.specs.Reached.{of_args, of_binding, of_bound, of_each, of_path, of_present, types_reached}
-use Rattle.hir_type_result.proofs.Adding.{Adds, Numbers, adds_from, adds_lifetime, adds_pure, adds_then, adds_type, named, none}
-use Rattle.hir_type_result.proofs.Adding.{the_types}
+use Rattle.hir_type_result.proofs.Adding.{Numbers, named, none, the_types}
+use Rattle.hir_type_result.proofs.Asked.{Adds, Correct, adds_from, adds_lifetime, adds_pure, adds_then, adds_type, after_lowering, asked_by}
 use Rattle.hir_type_result.proofs.Counted.{counted_spread, less, times, times_append, ◌⊑◌}
 use Rattle.hir_type_result.proofs.Naming.{quiet_report}
 use Rattle.hir_type_result.proofs.Numbers as numbers
@@ -41,9 +39,9 @@ use Rattle.hir_type_result.proofs.Owned.{a_bound as bound_numbers, a_type as typ
 use Rattle.hir_type_result.proofs.Owned.{maybe_type as maybe_numbers, path_bound_adds, unit_adds, uses_add}
 use Rattle.hir_type_result.proofs.TreeNamed.{part_adds, path_adds}
 use Rattle.hir_item_result.specs.Once.{AliasesOnce, AnswersOnce, FunctionsOnce, GenericsOnce, ImplsOnce, Naming, TraitsOnce, among}
-use Rattle.hir_item_result.specs.Once.{is_of_impl, named_by_alias, named_by_bound, named_by_function, named_by_impl, named_by_param}
+use Rattle.hir_item_result.specs.Once.{is_of_impl, named_by_alias, named_by_function, named_by_impl, named_by_param}
 use Rattle.hir_item_result.specs.Once.{named_by_params, named_by_predicates, none_named}
-use Rattle.hir_item_result.proofs.Costs.{Cost, Meter, a_bound, a_param, a_trait, each, free, maybe_type, params}
+use Rattle.hir_item_result.proofs.Costs.{Cost, Meter, a_bound, a_param, a_trait, asked, each, free, maybe_type, params}
 use Rattle.hir_item_result.proofs.Costs.{predicates, present, unless}
 use Rattle.hir_item_result.proofs.Counting.{Counts, Part, Sort, noted, to_answer}
 use Rattle.hir_item_result.proofs.CountedItems.{alias_counts, by_alias, by_function, by_impl, function_counts, impl_counts, trait_counts}
@@ -63,6 +61,7 @@ longer {xs = xs} p = let l = ap length p.is in let m = length-append xs p.more i
 -- so deep, for this number
 types : Sort
 types = record {
+  all = true;
   View = ℕ × ℕ;
   Deep = λ now final v. length now.types.entries ≤ v.0;
   meter = λ final v. of_look (types_reached final.types.entries v.0) v.1;
@@ -70,6 +69,25 @@ types = record {
   given = λ v s. less v.1 (length s.types.entries);
   deep_before = λ b c final v e deep. let l = longer e.types.entries in omega (arith, l, deep);
 }
+
+-- a bound costs what it names
+module _ (f : TypeRefId → List ℕ) (k : ℕ) where
+  bound_named : (b : TypeBound) → times k (of_bound f b) ≡ a_bound b (of_look f k)
+  bound_named (bound.Path t m) = refl
+  bound_named (bound.ForLifetime ns t) = refl
+  bound_named (bound.Lifetime l) = refl
+  bound_named (bound.Use us) = refl
+  bound_named bound.Error = refl
+
+-- what is asked costs what it names
+asked_named : (f : TypeRefId → List ℕ) (k : ℕ) (ps : List WherePredicate)
+    → times k (of_each (asked_by (of_types_alone f)) ps) ≡ asked ps (of_look f k)
+asked_named f k [] = refl
+asked_named f k (predicate.TypeBound binder t b ∷ ps) =
+    let a = times_append k (of_bound f b) (of_each (asked_by (of_types_alone f)) ps) in
+    let e = bound_named f k b in
+    let r = asked_named f k ps in omega (arith, a, e, r)
+asked_named f k (predicate.Lifetime l m ∷ ps) = asked_named f k ps
 
 part_of : {A : Type 0} {now : A → Numbers} {cost : A → Cost} {p : Lowering A} → Correct p (Adds none now)
     → ((a : A) (f : TypeRefId → List ℕ) (k : ℕ) → cost a (of_look f k) ≤ times k (now a (of_types_alone f)))
@@ -80,11 +98,12 @@ part_of {now = now} {cost = cost} h le = record {
       let f = types_reached final.types.entries v.0 in
       let row = after_lowering h b a c d is final e in
       let x = (row.earlier the_types v.0 v.0 deep deep).counted v.1 in
-      part (cost a (of_look f v.1)) (times v.1 (now a (of_types_alone f))) _ _ _ _ x (le a f v.1);
+      part (cost a (of_look f v.1)) (times v.1 (now a (of_types_alone f))) _ _ _ _ _ _ _ _ x (le a f v.1)
+      (asked_named f v.1 b.notes.generics.where_predicates) (asked_named f v.1 c.notes.generics.where_predicates);
 }
   where
-    part : (a n x y u v : ℕ) → n + (x + u) ≤ 0 + (y + v) → a ≤ n → a + (x + u) ≤ y + v
-    part a n x y u v g h = omega (arith, g, h)
+    part : (a n x y u v p q o r : ℕ) → n + ((x + p) + u) ≤ 0 + ((y + q) + v) → a ≤ n → q ≡ r → p ≡ o → a + (o + (x + u)) ≤ r + (y + v)
+    part a n x y u v p q o r g h i j = omega (arith, g, h, i, j)
 
 -- ---- its parts
 
@@ -156,13 +175,6 @@ module _ (f : TypeRefId → List ℕ) (k : ℕ) where
   each_named g c h (x ∷ xs) =
       let a = times_append k (g x) (of_each g xs) in let e = h x in let r = each_named g c h xs in omega (arith, a, e, r)
 
-  bound_named : (b : TypeBound) → times k (of_bound f b) ≡ a_bound b (of_look f k)
-  bound_named (bound.Path t m) = refl
-  bound_named (bound.ForLifetime ns t) = refl
-  bound_named (bound.Lifetime l) = refl
-  bound_named (bound.Use us) = refl
-  bound_named bound.Error = refl
-
   constants_free : (o : Option ConstRef) → present (λ c. 0) o ≡ 0
   constants_free None = refl
   constants_free (Some c) = refl
@@ -171,27 +183,29 @@ module _ (f : TypeRefId → List ℕ) (k : ℕ) where
   param_named (param.TypeParamData x) = present_named f x.default
   param_named (param.ConstParamData x) = let e = constants_free x.default in omega (arith, e)
 
-  one_named : (i a : Bool) (xs ys : List ℕ) (n : ℕ) → times k ys ≡ n
-      → times k (if i then [] else ((if a then [] else xs) ++ ys)) ≡ unless i (unless a (times k xs) + n)
-  one_named true a xs ys n h = refl
-  one_named false true xs ys n h = omega (arith, h)
-  one_named false false xs ys n h = let e = times_append k xs ys in omega (arith, e, h)
+  one_named : (i a : Bool) (xs : List ℕ) → times k (if i || a then [] else xs) ≡ unless i (unless a (times k xs))
+  one_named true a xs = refl
+  one_named false true xs = refl
+  one_named false false xs = refl
 
   module _ (store : Store) (source_map : SourceMap) where
     predicates_named : (seen : List TypeRefId) (ps : List WherePredicate)
-        → times k (named_by_predicates store source_map seen ps f) ≡ predicates store source_map seen ps (of_look f k)
+        → times k (named_by_predicates store source_map seen ps f) ≡ predicates true store source_map seen ps (of_look f k)
     predicates_named seen [] = refl
     predicates_named seen (predicate.TypeBound binder t b ∷ ps) =
         let i = is_of_impl store source_map t in
-        let here = if i then [] else named_by_bound seen t b f in
-        let a = times_append k here (named_by_predicates store source_map (t ∷ seen) ps f) in
-        let e = one_named i (among t seen) (f t) (of_bound f b) (a_bound b (of_look f k)) (bound_named b) in
-        let r = predicates_named (t ∷ seen) ps in omega (arith, a, e, r)
+        let here = if i || among t seen then [] else f t in
+        let others = named_by_predicates store source_map (t ∷ seen) ps f in
+        let a = times_append k here (of_bound f b ++ others) in
+        let x = times_append k (of_bound f b) others in
+        let e = one_named i (among t seen) (f t) in
+        let y = bound_named f k b in
+        let r = predicates_named (t ∷ seen) ps in omega (arith, a, x, e, y, r)
     predicates_named seen (predicate.Lifetime l m ∷ ps) = predicates_named seen ps
 
     params_named : (xs : List TypeOrConstParamData) (ps : List WherePredicate)
         → times k (named_by_params store source_map xs ps f)
-        ≡ params xs (of_look f k) + predicates store source_map [] ps (of_look f k)
+        ≡ params xs (of_look f k) + predicates true store source_map [] ps (of_look f k)
     params_named xs ps =
         let a = times_append k (of_each (λ x. named_by_param x f) xs) (named_by_predicates store source_map [] ps f) in
         let e = each_named (λ x. named_by_param x f) (λ x. a_param x (of_look f k)) param_named xs in
@@ -205,7 +219,7 @@ module _ (f : TypeRefId → List ℕ) (k : ℕ) where
   alias_named : (bs : List TypeBound) (t : Option TypeRefId) → times k (named_by_alias bs t f) ≡ by_alias bs t (of_look f k)
   alias_named bs t =
       let a = times_append k (of_each (of_bound f) bs) (of_present f t) in
-      let e = each_named (of_bound f) (λ b. a_bound b (of_look f k)) bound_named bs in
+      let e = each_named (of_bound f) (λ b. a_bound b (of_look f k)) (bound_named f k) bs in
       let r = present_named f t in omega (arith, a, e, r)
 
   function_named : (args : List TypeRefId) (ret : Option TypeRefId)
@@ -259,7 +273,7 @@ once {cost = cost} now same h limit new a is depth le =
     let exprs = of_exprs l new.stored.exprs.entries in
     let pats = of_pats l new.stored.pats.entries in
     counted_spread 0 (length new.stored.types.entries) ((now a f ++ params) ++ (exprs ++ pats)) (λ k.
-    sums (cost a (of_look f k)) (noted new.stored new.notes (of_look f k)) (times k exprs) (times k pats) _ _
+    sums (cost a (of_look f k)) (noted true new.stored new.notes (of_look f k)) (times k exprs) (times k pats) _ _
     (g.counted new.stored (extends_refl new.stored) (depth, k) le) (same a f k)
     (params_named f k s m lists.type_or_consts lists.where_predicates) (times_append k (now a f ++ params) (exprs ++ pats))
     (times_append k (now a f) params) (times_append k exprs pats))

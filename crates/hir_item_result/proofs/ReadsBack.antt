@@ -45,17 +45,16 @@ use Rattle.hir_read_back.proofs.Tree.{bounds_read, part_reads, path_reads, type_
 use Rattle.hir_read_back.proofs.Tree as back
 use Rattle.hir_read_back.proofs.Types.{lifetime_option_reads, present_reads, types_more, types_none, unit_type_reads}
 use Rattle.hir_read_back.proofs.Walk.{Answers, matches_read}
-use Rattle.hir_type_result.proofs.Adding.{Quiet}
-use Rattle.hir_type_result.proofs.Naming.{quiet_pure, quiet_report, quiet_then}
+use Rattle.hir_steps.proofs.Apart.{Apart, pure_apart, report_apart, then_apart}
 use Rattle.hir_item_result.specs.Answers.{arguments_data, borrowed_data, coroutine_data, coroutine_path_data, output_data, receiver_data}
 use Rattle.hir_item_result.specs.Answers.{keeps_self, keeps_variadic, self_data, trait_data}
-use Rattle.hir_item_result.proofs.Quiet.{items_are_quiet}
+use Rattle.hir_item_result.proofs.Apart.{items_stand_apart}
 use Rattle.hir_item_result.proofs.Reading.{bind_assoc, bind_pure}
 use Rattle.hir_item_result.proofs.Words.{same_self, same_variadic}
 
 -- the parameters, whatever is in them
-pub generics_quiet : (def : GenericDefId) (g : Generics) → Correct (steps.lower_generics def g) Quiet
-generics_quiet def g = ((items_are_quiet def).0 g).quiet
+pub generics_apart : (def : GenericDefId) (g : Generics) → Correct (steps.lower_generics def g) Apart
+generics_apart def g = ((items_stand_apart def).0 g).apart
 
 -- ---- a trait
 
@@ -103,7 +102,7 @@ impl_answer final r a = (r.type a.0, maybe_trait final r a.1)
 pub impl_reads : (def : GenericDefId) (x : Impl)
     → Correct (steps.lower_impl def x) (Reads impl_answer (written_type x.self_type, trait_data x.trait_))
 impl_reads def x = correct_as (correct_bind (part_reads None x.self_type) (λ self. correct_bind (trait_reads x.trait_)
-    (λ t. correct_bind (generics_quiet def x.generics) (λ u. correct_pure (self, t)))))
+    (λ t. correct_bind (generics_apart def x.generics) (λ u. correct_pure (self, t)))))
     (λ final ps m m' a g row. let s = row.second in let u = s.second in rw (u.second.is, u.second.still) (record {
       is = λ d le. λ j. (
         row.first.is d (omega (le, s.before.entries, u.before.entries, arith)) j,
@@ -114,14 +113,14 @@ impl_reads def x = correct_as (correct_bind (part_reads None x.self_type) (λ se
 abbrev pub alias_answer : Layer (List TypeBound × Option TypeRefId) (BoundsData × OptionTypeData)
 alias_answer final r a = (many_bounds final r a.0, maybe_type final r a.1)
 
-pub missing_quiet : (f : Option (Pointer × MissingBodyItemKind)) → Correct (steps.report_missing f) Quiet
-missing_quiet None = quiet_pure tt
-missing_quiet (Some f) = quiet_report _
+pub missing_apart : (f : Option (Pointer × MissingBodyItemKind)) → Correct (steps.report_missing f) Apart
+missing_apart None = pure_apart tt
+missing_apart (Some f) = report_apart _
 
 pub alias_reads : (def : GenericDefId) (x : Alias)
     → Correct (steps.lower_alias def x) (Reads alias_answer (bounds_data x.bounds, written_option_type x.type_))
-alias_reads def x = correct_as (correct_bind (pushed_all (bounds_read x.bounds [])) (λ bs. correct_bind (generics_quiet def x.generics)
-    (λ u. correct_bind (back.present_reads x.type_) (λ t. correct_bind (missing_quiet x.missing) (λ v. correct_pure (bs, t))))))
+alias_reads def x = correct_as (correct_bind (pushed_all (bounds_read x.bounds [])) (λ bs. correct_bind (generics_apart def x.generics)
+    (λ u. correct_bind (back.present_reads x.type_) (λ t. correct_bind (missing_apart x.missing) (λ v. correct_pure (bs, t))))))
     (λ final ps m m' a g row. let s = row.second in let u = s.second in let v = u.second in rw (v.second.is, v.second.still) (record {
       is = λ d le. λ j. (
         row.first.is d (omega (le, s.before.entries, u.before.entries, v.before.entries, arith)) j,
@@ -143,11 +142,11 @@ self_reads None l = correct_as (correct_bind self_stored (λ self. correct_bind 
 self_reads (Some m) l = type2 None (λ t i. ty.Reference (record { ty = t; lifetime = i; mutability = m }))
     (λ x y. datum.reference_shape x y m) self_stored (lifetime_option_reads l) (λ final r a b. refl)
 
-pub reports_quiet : (xs : List Argument) → Correct (steps.report_each xs) Quiet
-reports_quiet [] = quiet_pure tt
-reports_quiet (item.disabled_argument at by ∷ xs) = quiet_then (quiet_report _) (λ u. reports_quiet xs)
-reports_quiet (item.variadic_argument ∷ xs) = reports_quiet xs
-reports_quiet (item.argument t ∷ xs) = reports_quiet xs
+pub reports_apart : (xs : List Argument) → Correct (steps.report_each xs) Apart
+reports_apart [] = pure_apart tt
+reports_apart (item.disabled_argument at by ∷ xs) = then_apart (report_apart _) (λ u. reports_apart xs)
+reports_apart (item.variadic_argument ∷ xs) = reports_apart xs
+reports_apart (item.argument t ∷ xs) = reports_apart xs
 
 -- lists of types that go on behind these
 abbrev GoesOn : List TypeRefId → TypesData → Lowering (List TypeRefId) → Type 0
@@ -170,7 +169,7 @@ arguments_read (item.argument t ∷ xs) done =
 -- behind the faults of all
 behind_reports : (xs : List Argument) (done : List TypeRefId)
     → GoesOn done (arguments_data xs) (steps.report_each xs >>= (λ u. steps.argument_types done xs))
-behind_reports xs done = correct_as (correct_bind (reports_quiet xs) (λ u. arguments_read xs done))
+behind_reports xs done = correct_as (correct_bind (reports_apart xs) (λ u. arguments_read xs done))
     (λ final ps m m' r g row. let s = row.second in record { new = s.new; is = s.is; rel = record { is = s.rel.is } })
 
 -- none in front of these
@@ -179,7 +178,7 @@ none_behind xs = behind_reports xs []
 
 behind_report : (d : ExpressionStoreDiagnostics) {x : TypesData} {q : Lowering (List TypeRefId)} → GoesOn [] x q
     → GoesOn [] x (report d >>= (λ u. q))
-behind_report d h = correct_as (correct_bind (quiet_report d) (λ u. h))
+behind_report d h = correct_as (correct_bind (report_apart d) (λ u. h))
     (λ final ps m m' r g row. let s = row.second in record { new = s.new; is = s.is; rel = record { is = s.rel.is } })
 
 input_reads : (r : Receiver) (xs : List Argument) → GoesOn [] (receiver_data r (arguments_data xs)) (steps.input_types r xs)
@@ -272,7 +271,7 @@ function_data x = (
 
 pub function_reads : (def : GenericDefId) (x : Function)
     → Correct (steps.lower_function def x) (Reads function_answer (function_data x))
-function_reads def x = correct_as (correct_bind (generics_quiet def x.generics) (λ u. correct_bind
+function_reads def x = correct_as (correct_bind (generics_apart def x.generics) (λ u. correct_bind
     (pushed_all (input_reads x.receiver x.arguments)) (λ args. correct_bind (output_reads x.kind x.ret) (λ ret. correct_pure
     (record { args = args; ret = ret; has_self = steps.is_received x.receiver; has_variadic = steps.any_variadic x.arguments })))))
     (λ final ps m m' a g row. let s = row.second in let u = s.second in rw (u.second.is, u.second.still) (record {

@@ -17,11 +17,10 @@ use Rattle.hir_one_result.proofs.Whole.{lead_back}
 use Rattle.hir_told.proofs.AsExpansions.{expansions_graded}
 use Rattle.hir_one_result.proofs.AsTelling.{entered, reported, tells_graded}
 use Rattle.hir_type_result.proofs.Behind.{ways_behind}
-use Rattle.hir_type_result.proofs.Named.{pats_once, types_came}
 use Rattle.hir_item_result.specs.ItemResult.{FirstResult, ItemResults}
 use Rattle.hir_item_result.specs.Parts.{Part}
 use Rattle.hir_item_result.specs.Sizes.{parts_size}
-use Rattle.hir_item_result.proofs.Quiet.{QuietAll, items_are_quiet}
+use Rattle.hir_item_result.proofs.Quiet.{QuietAll, items_are_quiet, pats_apart, types_apart}
 use Rattle.hir_item_result.proofs.Reading.{nothing_paired}
 use Rattle.hir_item_result.proofs.Roots.{Records, first_of, items_record, kept_of}
 use Rattle.hir_item_result.proofs.Told.{TellsAll, first_blocks, first_expansions, first_faults, items_enter, items_expand}
@@ -99,9 +98,9 @@ result {xs = xs} h limit new a is =
       covers_bindings = left.moved.covers_bindings;
       owner_ways = (left.moved.owners refl).are;
       leads = left.moved.led [] (leads_nowhere refl refl refl refl);
-      types_reached_once = λ depth le. types_came (λ a f. []) h.quiet.quiet (λ a f k. omega arith) old new a none is new.stored stays
+      types_reached_once = λ depth le. types_apart h.quiet.quiet old new a none is new.stored stays
           depth le new.stored.exprs.entries refl new.stored.pats.entries refl;
-      pats_reached_once = λ depth le. pats_once (λ a. []) h.quiet.quiet (λ a l k. omega arith) old new a none is new.stored stays
+      pats_reached_once = λ depth le. pats_apart h.quiet.quiet old new a none is new.stored stays
           depth le new.stored.exprs.entries refl new.stored.types.entries refl;
       roots = first_of h.records limit new a is;
       blocks = first_blocks limit new a none is h.blocks;

@@ -55,7 +55,7 @@ abbrev pub held_by_bound : List TypeRefId → TypeRefId → TypeBound → Holdin
 held_by_bound before t b r = (if among t before then [] else r.type t) ++ of_bound r b
 
 module _ (store : Store) (source_map : SourceMap) where
-  -- Like what is named by predicates: those of what an `impl` became aren't counted.
+  -- Like what is named by predicates, but those of what an `impl` became aren't counted.
   abbrev pub held_by_predicates : List TypeRefId → List WherePredicate → Holding
   held_by_predicates before [] r = []
   held_by_predicates before (predicate.TypeBound binder t b ∷ ps) r =

@@ -55,10 +55,6 @@ abbrev pub among : TypeRefId → List TypeRefId → Bool
 among t [] = false
 among t (u ∷ us) = nat_eq t.0 u.0 || among t us
 
--- what one is of, unless one before was of it too, and its bound
-abbrev pub named_by_bound : List TypeRefId → TypeRefId → TypeBound → Naming
-named_by_bound before t b f = (if among t before then [] else f t) ++ of_bound f b
-
 -- whether an `impl` became it: it is a parameter that comes from a node
 abbrev pub impl_became : Option TypeRef → Option (Option Pointer) → Bool
 impl_became (Some (type.TypeParam p)) (Some (Some at)) = true
@@ -68,12 +64,12 @@ module _ (store : Store) (source_map : SourceMap) where
   abbrev pub is_of_impl : TypeRefId → Bool
   is_of_impl t = impl_became (slice_get store.types t.0) (slice_get source_map.type_sources t.0)
 
-  -- What predicates are of is named once, by the first that is of it. Those of what an `impl` became aren't counted: it is named where it
-  -- stands.
+  -- What predicates are of is named once, by the first that is of it, unless an `impl` became it, which is named where it stands; and the
+  -- bound of each is.
   abbrev pub named_by_predicates : List TypeRefId → List WherePredicate → Naming
   named_by_predicates before [] f = []
   named_by_predicates before (predicate.TypeBound binder t b ∷ ps) f =
-      (if is_of_impl t then [] else named_by_bound before t b f) ++ named_by_predicates (t ∷ before) ps f
+      (if is_of_impl t || among t before then [] else f t) ++ (of_bound f b ++ named_by_predicates (t ∷ before) ps f)
   named_by_predicates before (predicate.Lifetime l m ∷ ps) f = named_by_predicates before ps f
 
   abbrev pub named_by_params : List TypeOrConstParamData → List WherePredicate → Naming

@@ -41,11 +41,11 @@ use Rattle.hir_noted.proofs.Steps.{notes_owning, notes_pat}
 notes_seen : {A : Type 0} (tells : Stored → A) → Notes none (λ b. (Ok (tells b.stored), b))
 notes_seen tells = record { at = λ b d. (d, noted_none (λ p. p) (extends_refl b.stored) refl) }
 
-notes_own_name : (p : PatId) → Notes none (forms.own_name_of p)
+pub notes_own_name : (p : PatId) → Notes none (forms.own_name_of p)
 unfolding forms.own_name_of
 notes_own_name p = notes_seen (λ s. forms.own_in s (slice_get s.pats.entries p.0))
 
-notes_bound : (i : BindingId) → Notes none (forms.binding_of i)
+pub notes_bound : (i : BindingId) → Notes none (forms.binding_of i)
 unfolding forms.binding_of
 notes_bound i = notes_seen (λ s. slice_get s.bindings.entries i.0)
 
@@ -53,7 +53,7 @@ notes_source : (p : PatId) → Notes none (pat_source p)
 unfolding pat_source
 notes_source p = notes_seen (λ s. flattened (slice_get s.pats.sources p.0))
 
-notes_beside : (x : Pat) (p : PatId) → Notes none (alloc_beside x p)
+pub notes_beside : (x : Pat) (p : PatId) → Notes none (alloc_beside x p)
 unfolding alloc_beside
 notes_beside x p = notes_begin (notes_source p) (λ at. notes_made_pat x at)
 

@@ -275,7 +275,7 @@ notes_jump_target j = notes_quiet (correct_target j) (quiet_jump_target j)
 
 -- calls
 
-only_quiet : {es : Expansions} {ds : List ExpressionStoreDiagnostics} {p : Lowering (Unit {0})} → Only es ds p → Notes none p
+pub only_quiet : {es : Expansions} {ds : List ExpressionStoreDiagnostics} {p : Lowering (Unit {0})} → Only es ds p → Notes none p
 only_quiet h = notes_quiet (correct_only h) (record { quiet = λ b. subst (λ r. LeavesTo b r.0 r.1) (sym (h.is b)) refl })
 
 pub notes_note : (c : Entered) → Notes none (note c)
@@ -289,7 +289,7 @@ notes_gone why = only_quiet (only_gone why)
 
 -- whatever owns bindings
 
-notes_own : (start : BindingId) (i : ExprId) → Notes none (own start i)
+pub notes_own : (start : BindingId) (i : ExprId) → Notes none (own start i)
 unfolding own
 notes_own start i = notes_stored (storing.own start i) (correct_own start i)
 

@@ -65,7 +65,7 @@ unit_notes = notes_type _ None
 
 -- ---- lifetimes
 
-notes_lifetime : (l : LifetimeRef) (at : Option Pointer) → Notes none (alloc_lifetime l at)
+pub notes_lifetime : (l : LifetimeRef) (at : Option Pointer) → Notes none (alloc_lifetime l at)
 unfolding alloc_lifetime
 notes_lifetime l at = notes_stored (storing.alloc_lifetime l at) (correct_alloc_lifetime l at)
 

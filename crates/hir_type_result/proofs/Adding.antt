@@ -54,7 +54,7 @@ look the_types final d = of_types_alone (types_reached final.types.entries d)
 look the_pats final d = of_pats_alone (pats_reached final.pats.entries d)
 
 -- patterns name patterns as those that are counted, which reach them
-abbrev chosen : Sort → List HirPat → List HirPat
+abbrev pub chosen : Sort → List HirPat → List HirPat
 chosen the_types ps = ps
 chosen the_pats ps = []
 
@@ -565,3 +565,35 @@ pub adds_pat_beside : {was : Numbers} (p : HirPat) (own : PatId) → ((l : Look)
     → Correct (alloc_beside p own) (Adds was (λ i l. l.pats i))
 adds_pat_beside p own h = correct_as (correct_alloc_beside p own) (λ final ps m m' i g row.
     pat_adds p row g (ap (λ x. x.pats.entries) row.stored) (λ s d k. ap (λ x. named s final d x k) row.stored) h)
+
+pub expr_is_at_once : {was : Numbers} (e : HirExpr) (at : Option Pointer) → ((l : Look) → of_expr l e ⊑ was l)
+    → Correct (alloc_expr e at) (AtOnce was (λ i. none))
+expr_is_at_once e at h = correct_as (correct_alloc e at) (λ final ps m m' i g row.
+    expr_at_once e g (ap (λ x. x.pats.entries) row.stored) (λ s d k. ap (λ x. named s final d x k) row.stored) h)
+
+-- whatever owns bindings
+
+pub grows_owned : {m left m' : Mark} → Grows m left → Grows left m' → (start : BindingId) (id : ExprId)
+    → Grows m (owned_by start id left) × Grows (owned_by start id left) m'
+grows_owned g h start id = (
+  record {
+    nodes = g.nodes;
+    labels = g.labels;
+    pats = g.pats;
+    bindings = g.bindings;
+    types = g.types;
+    lifetimes = g.lifetimes;
+    entries = g.entries;
+    names = g.names;
+  },
+  record {
+    nodes = h.nodes;
+    labels = h.labels;
+    pats = h.pats;
+    bindings = h.bindings;
+    types = h.types;
+    lifetimes = h.lifetimes;
+    entries = h.entries;
+    names = h.names;
+  },
+)

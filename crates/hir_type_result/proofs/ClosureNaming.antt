@@ -18,23 +18,18 @@ use Rattle.hir_lower_form.specs.Lower.{closure_form, coroutine_block_form, corou
 use Rattle.hir_lower_form.specs.Lowering.{Lowering}
 use Rattle.hir_lower_form.specs.Preludes.{coroutine_closure_form, no_prelude, stored_coroutine_closure, within_form}
 use Rattle.hir_lower_form.specs.Forms.{coroutine_around_form}
-use Rattle.hir_steps.proofs.Barriers.{correct_closure, correct_coroutine, correct_yield}
-use Rattle.hir_steps.proofs.CoroutineClosures.{correct_coroutine_closure}
-use Rattle.hir_steps.proofs.Frames.{Frame, barrier_at}
-use Rattle.hir_steps.proofs.Logic.{grows_trans}
-use Rattle.hir_steps.proofs.Owning.{owned_by}
 use Rattle.hir_steps.proofs.Preludes.{within_of}
-use Rattle.hir_steps.proofs.Steps.{Correct, Mark, correct_as}
 use Rattle.hir_type_result.specs.Named.{Look, of_expr}
 use Rattle.hir_type_result.specs.Reached.{of_each, of_present}
 use Rattle.hir_type_result.proofs.Counted.{◌⊑◌, times_append}
 use Rattle.hir_type_result.proofs.Numbers.{each_push}
-use Rattle.hir_type_result.proofs.Adding.{Adds, AtOnce, Numbers, Quiet, Steps, added_beside, added_quiet, adds_beside, adds_expr}
-use Rattle.hir_type_result.proofs.Adding.{adds_pure, adds_seq, adds_then, at_once_done, expr_adds, expr_at_once, named, none}
-use Rattle.hir_type_result.proofs.Naming.{quiet_enter_block, quiet_then}
+use Rattle.hir_type_result.proofs.Adding.{Numbers, none}
+use Rattle.hir_type_result.proofs.Asked.{Correct, Adds, Quiet, Steps, adds_beside, adds_expr, adds_pure, adds_then, adds_quiet}
+use Rattle.hir_type_result.proofs.Naming.{quiet_alloc, quiet_close_barrier, quiet_enter_block, quiet_note_yield, quiet_open_barrier}
+use Rattle.hir_type_result.proofs.Naming.{quiet_pure, quiet_then}
 use Rattle.hir_type_result.proofs.NamingForms.{contents, settled_less, value_quiet}
-use Rattle.hir_type_result.proofs.NamingAtOnce.{at_once, at_once_beside, at_once_from, at_once_more, at_once_owned, at_once_pure}
-use Rattle.hir_type_result.proofs.NamingAtOnce.{at_once_seq, at_once_still, at_once_then, came_beside, grows_owned}
+use Rattle.hir_type_result.proofs.NamingAtOnce.{AtOnce, at_once, at_once_beside, at_once_expr, at_once_from, at_once_more}
+use Rattle.hir_type_result.proofs.NamingAtOnce.{at_once_owning, at_once_pure, at_once_still, at_once_then, quiet_at_once}
 use Rattle.hir_type_result.proofs.NamingPreludes.{handed_add, let_params_name, made_coroutine_names, prelude}
 use Rattle.hir_type_result.proofs.Owned.{a_pat, beside, maybe_type}
 use Rattle.hir_type_result.proofs.OwnedPats.{pats}
@@ -60,11 +55,6 @@ unfolding param_form
 param_adds c hp ht = adds_then (adds_beside (params_named c) hp)
     (λ i. adds_then (adds_beside (λ l. params_named c l ++ a_pat i l) ht) (λ r. adds_pure (add_param c i r) (pushed c i r)))
 
--- whatever is open
-added_in : {A : Type 0} {bs : List ℕ} {was : Numbers} {cs : A → List ℕ} {now : A → Numbers} {final : Stored} {ps qs : List Frame}
-    {m m' : Mark} {a : A} → Steps bs was cs now final ps m m' a → Steps bs was cs now final qs m m' a
-added_in x = record { bound = x.bound; grown = x.grown; earlier = x.earlier }
-
 -- what the closure names
 abbrev all_named : ClosureParams → Option TypeRefId → Numbers
 all_named c r l = params_named c l ++ maybe_type r l
@@ -83,46 +73,14 @@ module _ (at : Pointer) where
   pub closure_quiet : (moves is_static : Bool) {p : Lowering ClosureParams} {t : Lowering (Option TypeRefId)} {e : ExprSteps}
       → Correct p (Adds none params_named) → Correct t (Adds none maybe_type) → Correct e Quiet
       → Correct (closure_form at moves is_static p t e) Quiet
-  closure_quiet moves is_static hp ht he = correct_as (correct_closure at moves is_static hp ht he) (λ final ps m m' i g row.
-      let c = row.params in
-      let r = row.ret in
-      let node = stored_closure moves is_static c r row.body row.yields in
-      let stored = row.made.stored in
-      let params : Adds none params_named final ps m row.after_params c = added_in row.in_params in
-      let ret : Adds (params_named c) (all_named c) final ps row.after_params row.after_ret r =
-      added_beside (params_named c) row.to_ret (added_in row.in_ret) in
-      let body : Adds (all_named c r) (λ x. all_named c r) final ps row.after_ret row.left row.body =
-      added_quiet row.to_body (added_in row.in_body) in
-      let made : Adds (all_named c r) (λ x. none) final ps row.left m' i =
-      expr_adds node row.to_end (ap (λ x. x.pats.entries) stored) (λ s d k. ap (λ x. named s final d x k) stored)
-      (node_named moves is_static c r row.body row.yields) in
-      let last : Adds (all_named c r) (λ x. none) final ps row.after_ret m' i = adds_seq {one = λ x. all_named c r} (record {
-        middle = row.left;
-        one = row.body;
-        before = row.to_body;
-        after = row.to_end;
-        first = body;
-        second = made;
-      }) in
-      let behind : Adds (params_named c) (λ x. none) final ps row.after_params m' i = adds_seq {one = all_named c} (record {
-        middle = row.after_ret;
-        one = r;
-        before = row.to_ret;
-        after = grows_trans row.to_body row.to_end;
-        first = ret;
-        second = last;
-      }) in
-      adds_seq {one = params_named} (record {
-        middle = row.after_params;
-        one = c;
-        before = row.to_params;
-        after = grows_trans row.to_ret (grows_trans row.to_body row.to_end);
-        first = params;
-        second = behind;
-      }))
+  unfolding closure_form
+  closure_quiet moves is_static hp ht he = adds_then quiet_open_barrier (λ outside. adds_then hp (λ c. adds_then (adds_beside (params_named c) ht)
+      (λ r. adds_then (adds_quiet he) (λ e. adds_then (adds_quiet (quiet_close_barrier outside))
+      (λ y. adds_expr (stored_closure moves is_static c r e y) (Some at) (node_named moves is_static c r e y))))))
 
   pub yield_quiet : {e : Lowering (Option ExprId)} → Correct e Quiet → Correct (yield_form at e) Quiet
-  yield_quiet h = correct_yield at _ (value_quiet at hir.Yield (λ v l k. omega arith) h)
+  unfolding yield_form
+  yield_quiet h = quiet_then quiet_note_yield (λ u. quiet_then h (λ v. quiet_alloc _ (Some at) (λ l k. omega arith)))
 
 -- ---- coroutine blocks
 
@@ -136,7 +94,9 @@ module _ (at : Pointer) where
 
 -- behind the barrier
 pub coroutine_quiet : {p : ExprSteps} → Correct p Quiet → Correct (coroutine_form p) Quiet
-coroutine_quiet h = correct_as (correct_coroutine h) (λ final ps m m' i g row. added_in row.inside)
+unfolding coroutine_form
+coroutine_quiet h = quiet_then quiet_open_barrier (λ outside. quiet_then h
+    (λ i. quiet_then (quiet_close_barrier outside) (λ y. quiet_pure i)))
 
 -- ---- closures that make a coroutine
 
@@ -176,19 +136,9 @@ coroutine_node which moves formals w l k =
 pub coroutine_closure_quiet : (at : Pointer) (which : CoroutineKind) (moves : Bool) {p : Lowering ClosureParams}
     {t : Lowering (Option TypeRefId)} {e : ExprSteps} → Correct p (Adds none params_named) → Correct t (Adds none maybe_type)
     → Correct e Quiet → Correct (coroutine_closure_form at which moves p t e) Quiet
-coroutine_closure_quiet at which moves {p = p} {t = t} {e = e} hp ht he = correct_as
-    (correct_coroutine_closure at which moves p t e (within_names which hp ht he) (λ xs. handed_add [] xs)) (λ final ps m m' i g row.
-    let w = row.within in
-    let node = stored_coroutine_closure which moves row.formals w in
-    let stored = row.made.stored in
-    let start = binding_id m.bindings in
-    let grown = grows_owned row.to_left row.to_handed start w.coroutine in
-    let own = owned_by start w.coroutine row.left in
-    let inside : AtOnce none within_named final (barrier_at ∷ ps) m own w = at_once_owned start w.coroutine row.in_within in
-    let formals : AtOnce (within_named w) (λ is. beside (within_named w) (pats is)) final (barrier_at ∷ ps) own row.handed row.formals =
-    came_beside (within_named w) grown.1 row.in_formals in
-    let made : AtOnce (beside (within_named w) (pats row.formals)) (λ j. none) final ps row.handed m' i =
-    expr_at_once node row.to_end (ap (λ x. x.pats.entries) stored) (λ s d k. ap (λ x. named s final d x k) stored)
-    (coroutine_node which moves row.formals w) in
-    let behind : AtOnce (within_named w) (λ j. none) final ps own m' i = at_once_seq grown.1 row.to_end formals made in
-    at_once_done g (at_once_seq grown.0 (grows_trans grown.1 row.to_end) inside behind))
+unfolding coroutine_closure_form
+coroutine_closure_quiet at which moves hp ht he = quiet_at_once (at_once_then (at_once_still quiet_open_barrier) (λ outside.
+    at_once_then (at_once_owning (λ w. w.coroutine) (within_names which hp ht he)) (λ w.
+    at_once_then (at_once_more (within_named w) (handed_add [] w.handed)) (λ formals.
+    at_once_then (at_once_still (quiet_close_barrier outside)) (λ y.
+    at_once_expr (stored_coroutine_closure which moves formals w) (Some at) (coroutine_node which moves formals w))))))

@@ -1,21 +1,25 @@
 -- Definitions of macros name no type and no pattern, and steps behind one name what they name elsewhere.
-use Rattle.std.proofs.Common.{ap, arith, ℕ, List, Option, Some, None}
+use Rattle.std.proofs.Common.{arith, ℕ, suc, Bool, true, false, if◌then◌else◌, nat_lt, List, Option, Some, None}
+use Rattle.std.specs.Prelude.{◌^◌}
 use Rattle.hir_store.specs.declared.hir.Statement.TheVariants as statement
 use Rattle.hir_store.specs.declared.ids.MacroDefId.{MacroDefId}
 use Rattle.hir_env.specs.Answered as tree
 use Rattle.hir_env.specs.Answered.{Called, Stmt}
 use Rattle.hir_lower_form.specs.Calls.{behind, define_form, told}
-use Rattle.hir_lower_form.specs.Lowering.{Lowering, count_def}
+use Rattle.hir_lower_form.specs.Lowering.{Lowering, count_def, count_out, pure}
 use Rattle.hir_steps.proofs.Calls.{only_told}
-use Rattle.hir_steps.proofs.Definitions.{correct_count_def, correct_inside_macro}
-use Rattle.hir_steps.proofs.Steps.{Correct, correct_as}
-use Rattle.hir_type_result.proofs.Adding.{Adds, Numbers, Quiet, Steps, adds_pure, adds_quiet, adds_still, adds_then, framed, named, none}
-use Rattle.hir_type_result.proofs.Naming.{quiet_only}
+use Rattle.hir_type_result.proofs.Adding.{Numbers, none}
+use Rattle.hir_type_result.proofs.Asked.{Correct, Adds, Quiet, Steps, adds_pure, adds_quiet, adds_refused, adds_then, framed}
+use Rattle.hir_type_result.proofs.Naming.{defined_names, quiet_only}
 use Rattle.hir_type_result.proofs.OwnedPats.{maybe_statement}
 
+counted : (room : Bool) → Correct {A = Unit {0}} (if room then pure tt else count_out) Quiet
+counted true = adds_pure tt (λ l k. omega arith)
+counted false = adds_refused
+
 quiet_count : (k : ℕ) → Correct (count_def k) Quiet
-quiet_count k = correct_as (correct_count_def k) (λ final ps m m' u g row. adds_still g (ap (λ x. x.stored.pats.entries) row.still)
-    (λ s d j. ap (λ x. named s final d x.stored j) row.still) (λ l j. omega arith))
+unfolding count_def
+quiet_count k = counted (nat_lt (suc k) (2 ^ 32))
 
 pub define_named : (k : ℕ) (d : Option MacroDefId) → Correct (define_form k d) (Adds none maybe_statement)
 unfolding define_form
@@ -24,8 +28,7 @@ define_named k (Some d) = adds_then (quiet_count k) (λ u. adds_pure (Some (stat
 
 pub behind_named : {A : Type 0} {bs : List ℕ} {was : Numbers} {cs : A → List ℕ} {now : A → Numbers} (s : Stmt) {p : Lowering A}
     → Correct p (Steps bs was cs now) → Correct (behind s p) (Steps bs was cs now)
-behind_named (tree.macro_stmt k (Some d)) h = correct_as (correct_inside_macro d h)
-    (λ final ps m m' a g row. record { bound = row.bound; grown = row.grown; earlier = row.earlier })
+behind_named (tree.macro_stmt k (Some d)) h = defined_names d h
 behind_named s h = h
 
 -- what is told of a call in front of parts

@@ -31,7 +31,7 @@ use Rattle.hir_type_result.proofs.InsideForms.{contents, maybe, settled_block_le
 use Rattle.hir_type_result.proofs.InsidePats.{pats}
 use Rattle.hir_type_result.proofs.InsidePreludes.{body_aside, each_handed_adds, let_params_add, made_coroutine_adds}
 use Rattle.hir_type_result.proofs.InsideTypes.{maybe_type}
-use Rattle.hir_type_result.proofs.NamingAtOnce.{grows_owned}
+use Rattle.hir_type_result.proofs.Adding.{grows_owned}
 use Rattle.hir_type_result.proofs.Weighed.{Adds, Cost, DeepView, View, a_limit, a_pat, added_beside, added_expr, added_owned, added_then}
 use Rattle.hir_type_result.proofs.Weighed.{adds_any, adds_aside, adds_expr, adds_then, an_expr, at_depth, beside, came_of, deep_before}
 use Rattle.hir_type_result.proofs.Weighed.{free, in_expr, still_deep, sum, sum_append, sum_handed, view}

@@ -1,7 +1,10 @@
 pub mod Counted
 pub mod Numbers
 pub mod Adding
+pub mod Asked
+pub mod PlainNaming
 pub mod Naming
+pub mod Becoming
 pub mod Owned
 pub mod OwnedPats
 pub mod NamingForms

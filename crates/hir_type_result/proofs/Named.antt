@@ -17,10 +17,9 @@ use Rattle.hir_lower_form.specs.Builder.{Builder}
 use Rattle.hir_lower_form.specs.Forms.{some}
 use Rattle.hir_lower_form.specs.Lowering.{Lowering}
 use Rattle.hir_steps.specs.Keeps.{Paired}
-use Rattle.hir_steps.proofs.Steps.{Correct, correct_in_store}
+use Rattle.hir_steps.proofs.Logic.{longer}
 use Rattle.hir_one_result.specs.Formals.{Given, Received, coroutine_body, each_formal, in_function, lower_body, lower_formal}
 use Rattle.hir_one_result.specs.Formals.{lower_formals, lower_self, plain_body}
-use Rattle.hir_one_result.proofs.AfterLowering.{after_lowering}
 use Rattle.hir_scope.specs.Each.{Each}
 use Rattle.hir_same_meaning.specs.Reached.{Between}
 use Rattle.hir_store.proofs.Extending.{extends_refl}
@@ -32,9 +31,10 @@ use Rattle.hir_type_result.specs.Pats.{PathPatsReachedOnce, BodyPatsReachedOnce,
 use Rattle.hir_type_result.specs.Pats.{PathBindingsCame, BodyBindingsCame}
 use Rattle.hir_type_result.proofs.Counted.{times, less, times_append, counted_spread}
 use Rattle.hir_type_result.proofs.Numbers.{each_append}
-use Rattle.hir_type_result.proofs.Adding.{Numbers, none, Adds, Quiet, the_types, the_pats, adds_owning, adds_pure, adds_then, adds_quiet}
-use Rattle.hir_type_result.proofs.Adding.{both, no_pats_named}
+use Rattle.hir_type_result.proofs.Adding.{Numbers, none, the_types, the_pats, both, no_pats_named}
+use Rattle.hir_type_result.proofs.Asked.{Correct, Adds, Quiet, adds_pure, adds_then, adds_quiet, after_lowering}
 use Rattle.hir_type_result.proofs.Ranges.{found_between}
+use Rattle.hir_type_result.proofs.Naming.{adds_owning}
 use Rattle.hir_type_result.proofs.Naming.{quiet_pure, quiet_then, quiet_report, quiet_binding, quiet_some}
 use Rattle.hir_type_result.proofs.NamingAtOnce.{at_once, at_once_from, at_once_more, at_once_pure, at_once_still, at_once_then}
 use Rattle.hir_type_result.proofs.NamingAtOnce.{quiet_at_once}
@@ -45,7 +45,7 @@ use Rattle.hir_type_result.proofs.TreeNamed.{part_adds, part_quiet, path_adds, s
 -- ---- types
 
 -- types hold no pattern where types are counted
-none_held : (f : TypeRefId → List ℕ) (ts : List TypeRef) (k : ℕ) → times k (of_types (of_types_alone f) ts) ≡ 0
+pub none_held : (f : TypeRefId → List ℕ) (ts : List TypeRef) (k : ℕ) → times k (of_types (of_types_alone f) ts) ≡ 0
 none_held f [] k = refl
 none_held f (t ∷ ts) k =
     let l = of_types_alone f in
@@ -59,13 +59,14 @@ module _ {A : Type 0} {now : A → Numbers} {p : Lowering A} (here : A → (Type
     (a : A) (paired : Paired b.stored) (is : p b ≡ (Ok a, b')) (final : Stored) (stays : Extends b'.stored final) where
   pub types_came : TypesSpread b.stored b'.stored final (here a)
   types_came depth le more new more_pats new_pats =
-      let r = after_lowering (correct_in_store h) b a b' paired is final stays in
-      let n = r.types in
+      let r = after_lowering h b a b' paired is final stays in
+      let n = longer stays.types.entries in
       let f = types_reached final.types.entries depth in
       let l = of_types_alone f in
-      let x = r.rel.earlier the_types depth depth (omega arith) (omega arith) in
+      let x = r.earlier the_types depth depth (omega (arith, n, le)) (omega (arith, n, le)) in
       counted_spread _ _ _ (λ k.
       let c = x.counted k in
+      let q = r.asks l k in
       let e = each_append (of_expr l) b.stored.exprs.entries more k in
       let s = ap (λ xs. times k (of_exprs l xs)) new in
       let e' = each_append (of_pat l) b.stored.pats.entries more_pats k in
@@ -104,11 +105,12 @@ module _ {A : Type 0} {now : A → Numbers} {p : Lowering A} (ps : A → List Pa
       → times k (came (ps a) (of_pats_alone (pats_reached final.pats.entries depth)) es ts) + less k (length b.stored.pats.entries)
       ≤ less k (length b'.stored.pats.entries)
   pats_counted depth le es new ts new_types k =
-      let r = after_lowering (correct_in_store h) b a b' paired is final stays in
-      let n = r.pats in
+      let r = after_lowering h b a b' paired is final stays in
+      let n = longer stays.pats.entries in
       let l = of_pats_alone (pats_reached final.pats.entries depth) in
-      let x = r.rel.earlier the_pats depth depth (omega (arith, n, le)) (omega (arith, n, le)) in
+      let x = r.earlier the_pats depth depth (omega (arith, n, le)) (omega (arith, n, le)) in
       let c = x.counted k in
+      let q = r.asks l k in
       let u = less_than a l k in
       let e = each_append (of_expr l) b.stored.exprs.entries es k in
       let s = ap (λ xs. times k (of_exprs l xs)) new in

@@ -1,105 +1,123 @@
 -- Steps by what they name where all is looked at so deep: what one of them leaves beside goes on to the next.
-use Rattle.std.proofs.Common.{ap, refl, ℕ, ◌≤◌, List, Option, arith}
+use Rattle.std.proofs.Common.{◌≡◌, refl, ap, arith, ℕ, ◌+◌, ◌≤◌, List, [], ◌∷◌, ◌++◌, Option}
+use Rattle.hir_scope.specs.Each.{Each}
 use Rattle.hir_same_meaning.specs.Reached.{Between}
 use Rattle.hir_store.specs.Pointers.{Pointer}
 use Rattle.hir_store.specs.Stored.{Stored}
 use Rattle.hir_store.specs.declared.hir.Expr.{Expr as HirExpr}
-use Rattle.hir_store.specs.declared.ids.BindingId.{BindingId}
 use Rattle.hir_store.specs.declared.ids.ExprId.{ExprId}
-use Rattle.hir_lower_form.specs.Lowering.{Lowering, ◌>>=◌, pure, alloc_expr}
-use Rattle.hir_steps.proofs.Frames.{Frame}
-use Rattle.hir_steps.proofs.Owning.{owned_by}
-use Rattle.hir_steps.proofs.Steps.{Mark, Grows, Correct, correct_alloc, correct_as, correct_bind, correct_pure}
+use Rattle.hir_store.proofs.Extending.{extends_refl}
+use Rattle.hir_lower_form.specs.Builder.{Builder}
+use Rattle.hir_lower_form.specs.Lowering.{Lowering, ◌>>=◌, pure, alloc_expr, owning}
+use Rattle.hir_noted.proofs.Steps.{notes_expr}
+use Rattle.hir_steps.proofs.Frames.{frames}
+use Rattle.hir_steps.proofs.Steps.{mark}
 use Rattle.hir_type_result.specs.Named.{Look, of_bindings_alone, of_expr}
-use Rattle.hir_type_result.proofs.Counted.{times_append, ◌⊑◌}
-use Rattle.hir_type_result.proofs.Adding.{Adds, AtOnce, CountedAt, Numbers, Quiet, Sort, at_once_done, both, expr_at_once, fewer, grows}
-use Rattle.hir_type_result.proofs.Adding.{known, look, made_then, named, none, none_made, parted, the_pats, the_types, wider}
+use Rattle.hir_type_result.proofs.Counted.{less, times, times_append, ◌⊑◌}
+use Rattle.hir_type_result.proofs.Adding as plain
+use Rattle.hir_type_result.proofs.Adding.{Bound, Numbers, Sort, both, fewer, known, look, made_then, named, none, none_made, parted, wider}
+use Rattle.hir_type_result.proofs.Asked.{Adds, Correct, Quiet, Seq, asked, asked_by, correct_as, correct_bind, longer, owed, stands_as, still_of}
+use Rattle.hir_type_result.proofs.Naming.{quiet_bindings_end, quiet_own}
 use Rattle.hir_type_result.proofs.Owned.{beside}
+use Rattle.hir_type_result.specs.Reached.{of_each}
 
 -- ---- of what was named before nothing goes on
 
+abbrev pub CountedAt : Sort → Numbers → Numbers → Stored → Builder → Builder → ℕ → ℕ → Type 0
+CountedAt s was now final b c all k =
+    times k (now (look s final all)) + (owed s final all k c + less k (known s (mark b)))
+    ≤ times k (was (look s final all)) + (owed s final all k b + less k (known s (mark c)))
+
+-- where all is looked at so deep, however deep it was stored
+pub record AtOnce {A : Type 0} (was : Numbers) (now : A → Numbers) (final : Stored) (b c : Builder) (a : A) : Type 0 where
+  pub bound : (lo : ℕ) → let m = mark b in let m' = mark c in lo ≤ m.bindings → Each (Between lo m.bindings) (was of_bindings_alone)
+      → Bound lo final m m' [] (now a of_bindings_alone)
+  pub grown : (s : Sort) (d k : ℕ) → named s final d b.stored k ≤ named s final d c.stored k
+  pub asks : (l : Look) (k : ℕ) → times k (asked l b) ≤ times k (asked l c)
+  pub counted : (s : Sort) (all k : ℕ) → known s (mark c) ≤ all → CountedAt s was (now a) final b c all k
+
 -- beside what was named
-pub came_beside : {A : Type 0} {now : A → Numbers} {final : Stored} {ps : List Frame} {m m' : Mark} {a : A} (more : Numbers) → Grows m m'
-    → Adds none now final ps m m' a → AtOnce more (λ a. beside more (now a)) final ps m m' a
-came_beside {now = now} {final = final} {m = m} {m' = m'} {a = a} more g row = record {
+pub at_once_more : {A : Type 0} {now : A → Numbers} {p : Lowering A} (more : Numbers) → Correct p (Adds none now)
+    → Correct p (AtOnce more (λ a. beside more (now a)))
+at_once_more {now = now} more h = correct_as h (λ final b c a g row. record {
   bound = λ lo le w.
       let x = row.bound lo le tt tt in record {
         known = tt;
-        named = both (Between lo m'.bindings) (more of_bindings_alone) (now a of_bindings_alone)
-            (wider lo m.bindings m'.bindings (more of_bindings_alone) g.bindings w) x.named;
+        named = both (Between lo (mark c).bindings) (more of_bindings_alone) (now a of_bindings_alone)
+            (wider lo (mark b).bindings (mark c).bindings (more of_bindings_alone) g.bindings w) x.named;
         made = x.made;
       };
   grown = row.grown;
+  asks = row.asks;
   counted = λ s all k le.
       let x = row.earlier s all all le le in
       let e = x.counted k in
       let l = look s final all in
       let t = times_append k (more l) (now a l) in omega (arith, e, t);
-}
-
-pub at_once_more : {A : Type 0} {now : A → Numbers} {p : Lowering A} (more : Numbers) → Correct p (Adds none now)
-    → Correct p (AtOnce more (λ a. beside more (now a)))
-at_once_more more h = correct_as h (λ final ps m m' a g row. came_beside more g row)
+})
 
 -- beside nothing
 pub at_once : {A : Type 0} {now : A → Numbers} {p : Lowering A} → Correct p (Adds none now) → Correct p (AtOnce none now)
-at_once h = correct_as h (λ final ps m m' a g row. record {
+at_once h = correct_as h (λ final b c a g row. record {
   bound = λ lo le w. row.bound lo le tt tt;
   grown = row.grown;
+  asks = row.asks;
   counted = λ s all k le. let x = row.earlier s all all le le in x.counted k;
 })
 
 -- what was named stays where the answer names nothing
 pub at_once_still : {A : Type 0} {was : Numbers} {p : Lowering A} → Correct p Quiet → Correct p (AtOnce was (λ a. was))
-at_once_still {was = was} h = correct_as h (λ final ps m m' a g row. record {
+at_once_still {was = was} h = correct_as h (λ final b c a g row. record {
   bound = λ lo le w.
       let x = row.bound lo le tt tt in record {
         known = tt;
-        named = wider lo m.bindings m'.bindings (was of_bindings_alone) g.bindings w;
+        named = wider lo (mark b).bindings (mark c).bindings (was of_bindings_alone) g.bindings w;
         made = x.made;
       };
   grown = row.grown;
+  asks = row.asks;
   counted = λ s all k le. let x = row.earlier s all all le le in let e = x.counted k in omega (arith, e);
 })
 
 -- ---- one after another
 
-pub at_once_seq : {A B : Type 0} {was : Numbers} {one : A → Numbers} {now : B → Numbers} {final : Stored} {ps qs rs : List Frame}
-    {m n m' : Mark} {a : A} {b : B} → Grows m n → Grows n m' → AtOnce was one final ps m n a → AtOnce (one a) now final qs n m' b
-    → AtOnce was now final rs m m' b
-at_once_seq {final = final} {m = m} {n = n} {m' = m'} before after first second = record {
+at_once_seq : {A B : Type 0} {was : Numbers} {one : A → Numbers} {now : B → Numbers} {final : Stored} {b e : Builder} {x : B}
+    → Seq (AtOnce was one) (λ a. AtOnce (one a) now) final b e x → AtOnce was now final b e x
+at_once_seq {final = final} {b = b} {e = e} row = record {
   bound = λ lo le w.
-      let x = first.bound lo le w in
-      let y = second.bound lo (omega (arith, le, before.bindings)) x.named in record {
+      let near = row.before.bindings in
+      let x = row.first.bound lo le w in
+      let y = row.second.bound lo (omega (arith, le, near)) x.named in record {
         known = tt;
         named = y.named;
-        made = made_then lo final m n m' after.bindings x.made y.made;
+        made = made_then lo final (mark b) (mark row.middle) (mark e) row.after.bindings x.made y.made;
       };
-  grown = λ s d k. let x = first.grown s d k in let y = second.grown s d k in omega (arith, x, y);
+  grown = λ s d k. let x = row.first.grown s d k in let y = row.second.grown s d k in omega (arith, x, y);
+  asks = λ l k. let x = row.first.asks l k in let y = row.second.asks l k in omega (arith, x, y);
   counted = λ s all k le.
-      let far = grows s after in
-      let x = first.counted s all k (omega (arith, le, far)) in
-      let y = second.counted s all k le in omega (arith, x, y);
+      let far = longer s row.after in
+      let x = row.first.counted s all k (omega (arith, le, far)) in
+      let y = row.second.counted s all k le in omega (arith, x, y);
 }
 
 pub at_once_then : {A B : Type 0} {was : Numbers} {one : A → Numbers} {now : B → Numbers} {p : Lowering A} {q : A → Lowering B}
     → Correct p (AtOnce was one) → ((a : A) → Correct (q a) (AtOnce (one a) now)) → Correct (p >>= q) (AtOnce was now)
-at_once_then h k = correct_as (correct_bind h k)
-    (λ final ps m m' b g row. at_once_seq {ps = ps} {qs = ps} row.before row.after row.first row.second)
+at_once_then h k = correct_as (correct_bind h k) (λ final b e x g row. at_once_seq row)
 
 -- beside what else is named
 pub at_once_beside : {A : Type 0} {was : Numbers} {now : A → Numbers} {p : Lowering A} (more : Numbers) → Correct p (AtOnce was now)
     → Correct p (AtOnce (beside more was) (λ a. beside more (now a)))
-at_once_beside {was = was} {now = now} more h = correct_as h (λ final ps m m' a g row. record {
+at_once_beside {was = was} {now = now} more h = correct_as h (λ final b c a g row. record {
   bound = λ lo le w.
-      let split = parted (Between lo m.bindings) (more of_bindings_alone) (was of_bindings_alone) w in
+      let split = parted (Between lo (mark b).bindings) (more of_bindings_alone) (was of_bindings_alone) w in
       let x = row.bound lo le split.1 in record {
         known = tt;
-        named = both (Between lo m'.bindings) (more of_bindings_alone) (now a of_bindings_alone)
-            (wider lo m.bindings m'.bindings (more of_bindings_alone) g.bindings split.0) x.named;
+        named = both (Between lo (mark c).bindings) (more of_bindings_alone) (now a of_bindings_alone)
+            (wider lo (mark b).bindings (mark c).bindings (more of_bindings_alone) g.bindings split.0) x.named;
         made = x.made;
       };
   grown = row.grown;
+  asks = row.asks;
   counted = λ s all k le.
       let e = row.counted s all k le in
       let l = look s final all in
@@ -110,9 +128,11 @@ at_once_beside {was = was} {now = now} more h = correct_as h (λ final ps m m' a
 -- of more
 pub at_once_from : {A : Type 0} {was was' : Numbers} {now : A → Numbers} {p : Lowering A} → ((l : Look) → was l ⊑ was' l)
     → Correct p (AtOnce was now) → Correct p (AtOnce was' now)
-at_once_from {was = was} {was' = was'} h c = correct_as c (λ final ps m m' a g row. record {
-  bound = λ lo le w. row.bound lo le (fewer lo m.bindings (was of_bindings_alone) (was' of_bindings_alone) (h of_bindings_alone) w);
+at_once_from {was = was} {was' = was'} h q = correct_as q (λ final b c a g row. record {
+  bound = λ lo le w.
+      row.bound lo le (fewer lo (mark b).bindings (was of_bindings_alone) (was' of_bindings_alone) (h of_bindings_alone) w);
   grown = row.grown;
+  asks = row.asks;
   counted = λ s all k le. let e = row.counted s all k le in let l = h (look s final all) k in omega (arith, e, l);
 })
 
@@ -120,62 +140,57 @@ at_once_from {was = was} {was' = was'} h c = correct_as c (λ final ps m m' a g 
 
 pub at_once_pure : {A : Type 0} {was : Numbers} {now : A → Numbers} (a : A) → ((l : Look) → now a l ⊑ was l)
     → Correct (pure a) (AtOnce was now)
-at_once_pure {was = was} {now = now} a h = correct_as (correct_pure a) (λ final ps m m' b g row. rw (row.is, row.still) (record {
-  bound = λ lo le w. record {
-    known = tt;
-    named = fewer lo m.bindings (now a of_bindings_alone) (was of_bindings_alone) (h of_bindings_alone) w;
-    made = none_made lo final m m refl;
+at_once_pure {was = was} {now = now} a h = record {
+  at = λ b d. record {
+    paired = d;
+    stays = extends_refl b.stored;
+    longer = record { types = omega arith; pats = omega arith; bindings = omega arith };
+    in_final = λ final pre. record {
+      bound = λ lo le w. record {
+        known = tt;
+        named = fewer lo (mark b).bindings (now a of_bindings_alone) (was of_bindings_alone) (h of_bindings_alone) w;
+        made = none_made lo final (mark b) (mark b) refl;
+      };
+      grown = λ s d k. omega arith;
+      asks = λ l k. omega arith;
+      counted = λ s all k le. let e = h (look s final all) k in omega (arith, e);
+    };
   };
-  grown = λ s d k. omega arith;
-  counted = λ s all k le. let e = h (look s final all) k in omega (arith, e);
-}))
+}
+
+-- what is so of what is stored
+at_once_of : {A : Type 0} {was : Numbers} {now : A → Numbers} {final : Stored} {b c : Builder} {a : A}
+    → c.notes.generics.where_predicates ≡ b.notes.generics.where_predicates
+    → plain.AtOnce was now final (frames b.scopes) (mark b) (mark c) a → AtOnce was now final b c a
+at_once_of {final = final} e row = record {
+  bound = λ lo le w. row.bound lo le w;
+  grown = row.grown;
+  asks = λ l k. let q = ap (λ ps. times k (of_each (asked_by l) ps)) e in omega (arith, q);
+  counted = λ s all k le.
+      let g = row.counted s all k le in
+      let q = ap (λ ps. times k (of_each (asked_by (look s final all)) ps)) e in omega (arith, g, q);
+}
 
 pub at_once_expr : {was : Numbers} (e : HirExpr) (at : Option Pointer) → ((l : Look) → of_expr l e ⊑ was l)
     → Correct (alloc_expr e at) (AtOnce was (λ i. none))
-at_once_expr e at h = correct_as (correct_alloc e at) (λ final ps m m' i g row.
-    expr_at_once e g (ap (λ x. x.pats.entries) row.stored) (λ s d k. ap (λ x. named s final d x k) row.stored) h)
+at_once_expr e at h = stands_as (still_of (notes_expr e at)) (plain.expr_is_at_once e at h) (λ final b c a same row. at_once_of same row)
 
 -- nothing is left
 pub quiet_at_once : {A : Type 0} {p : Lowering A} → Correct p (AtOnce none (λ a. none)) → Correct p Quiet
-quiet_at_once h = correct_as h (λ final ps m m' a g row. at_once_done g row)
+quiet_at_once h = correct_as h (λ final b c a g row. record {
+  bound = λ lo le t w. row.bound lo le w;
+  grown = row.grown;
+  asks = row.asks;
+  earlier = λ s d all le le'. let far = longer s g in record {
+    depth = all;
+    deep = omega (arith, le', far);
+    counted = λ k. row.counted s all k le';
+  };
+})
 
 -- whatever owns bindings
-
-pub grows_owned : {m left m' : Mark} → Grows m left → Grows left m' → (start : BindingId) (id : ExprId)
-    → Grows m (owned_by start id left) × Grows (owned_by start id left) m'
-grows_owned g h start id = (
-  record {
-    nodes = g.nodes;
-    labels = g.labels;
-    pats = g.pats;
-    bindings = g.bindings;
-    types = g.types;
-    lifetimes = g.lifetimes;
-    entries = g.entries;
-    names = g.names;
-  },
-  record {
-    nodes = h.nodes;
-    labels = h.labels;
-    pats = h.pats;
-    bindings = h.bindings;
-    types = h.types;
-    lifetimes = h.lifetimes;
-    entries = h.entries;
-    names = h.names;
-  },
-)
-
-counted_owned : (was now : Numbers) (final : Stored) (m left : Mark) (start : BindingId) (id : ExprId) (s : Sort)
-    → ((all k : ℕ) → known s left ≤ all → CountedAt s was now final m left all k)
-    → (all k : ℕ) → known s (owned_by start id left) ≤ all → CountedAt s was now final m (owned_by start id left) all k
-counted_owned was now final m left start id the_types h all k le = h all k le
-counted_owned was now final m left start id the_pats h all k le = h all k le
-
-pub at_once_owned : {A : Type 0} {was : Numbers} {now : A → Numbers} {final : Stored} {ps : List Frame} {m left : Mark} {a : A}
-    (start : BindingId) (id : ExprId) → AtOnce was now final ps m left a → AtOnce was now final ps m (owned_by start id left) a
-at_once_owned {was = was} {now = now} {final = final} {m = m} {left = left} {a = a} start id row = record {
-  bound = λ lo le w. let x = row.bound lo le w in record { known = x.known; named = x.named; made = x.made };
-  grown = row.grown;
-  counted = λ s. counted_owned was (now a) final m left start id s (row.counted s);
-}
+pub at_once_owning : {A : Type 0} {was : Numbers} {now : A → Numbers} (owner : A → ExprId) {p : Lowering A}
+    → Correct p (AtOnce was now) → Correct (owning owner p) (AtOnce was now)
+unfolding owning
+at_once_owning owner h = at_once_then (at_once_still quiet_bindings_end) (λ start. at_once_then h
+    (λ a. at_once_then (at_once_still (quiet_own start (owner a))) (λ u. at_once_pure a (λ l k. omega arith))))

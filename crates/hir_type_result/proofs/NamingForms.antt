@@ -28,11 +28,11 @@ use Rattle.hir_lower_form.specs.Lower.{offset_of_form, record_contents, record_o
 use Rattle.hir_lower_form.specs.Lower.{stored_leaf, stored_unary, stored_binary, stored_leaving, settled, kept, repeat_form, const_form}
 use Rattle.hir_steps.proofs.Calls.{only_gone, only_told}
 use Rattle.hir_steps.proofs.Frames.{loop_at, block_at}
-use Rattle.hir_steps.proofs.Steps.{Correct}
 use Rattle.hir_type_result.specs.Reached.{of_path}
 use Rattle.hir_type_result.specs.Named.{Look, of_expr, of_statement}
 use Rattle.hir_type_result.proofs.Counted.{◌⊑◌, times_append}
-use Rattle.hir_type_result.proofs.Adding.{Numbers, none, Adds, Quiet, adds_then, adds_beside, adds_expr}
+use Rattle.hir_type_result.proofs.Adding.{Numbers, none}
+use Rattle.hir_type_result.proofs.Asked.{Correct, Adds, Quiet, adds_then, adds_beside, adds_expr}
 use Rattle.hir_type_result.proofs.Owned.{a_type, arguments, maybe_path}
 use Rattle.hir_type_result.proofs.OwnedPats.{statements}
 use Rattle.hir_type_result.proofs.Naming.{quiet_pure, quiet_then, quiet_some, quiet_alloc, quiet_only, quiet_point}
@@ -96,7 +96,7 @@ module _ (at : Pointer) where
   unfolding loop_form
   loop_quiet from None h = quiet_then h (λ i. quiet_alloc _ (Some at) (λ f k. omega arith))
   loop_quiet from (Some l) h =
-      quiet_opened loop_at l (λ n ps. refl) (λ n. h) (λ n i. quiet_alloc _ (Some at) (λ f k. omega arith))
+      quiet_opened l (λ n. h) (λ n i. quiet_alloc _ (Some at) (λ f k. omega arith))
 
   pub turn_quiet : {c b : ExprSteps} → Correct c Quiet → Correct b Quiet → Correct (turn_form at c b) Quiet
   unfolding turn_form
@@ -211,7 +211,7 @@ pub labelled_quiet : (label : Option Label) {f : Option LabelId → ExprSteps} �
     → Correct (labelled label f) Quiet
 unfolding labelled
 labelled_quiet None h = h None
-labelled_quiet (Some l) h = quiet_opened block_at l (λ n ps. refl) (λ n. h (Some n)) (λ n i. quiet_pure i)
+labelled_quiet (Some l) h = quiet_opened l (λ n. h (Some n)) (λ n i. quiet_pure i)
 
 pub kept_quiet : (e : Expr) {p : ExprSteps} → Correct p Quiet → Correct (kept e p) Quiet
 kept_quiet (tree.disabled_expr why e) h = quiet_then (quiet_only (only_gone why)) (λ u. quiet_pure None)

@@ -17,12 +17,12 @@ use Rattle.hir_lower_form.specs.Lowering.{Lowering, ◌>>=◌, alloc_made}
 use Rattle.hir_lower_form.specs.Made.{item_pat, arm_for, only_tail, made_reference_form, next_form, done_arm_form, gives_arm_form}
 use Rattle.hir_lower_form.specs.Made.{for_turn_form, made_loop_form, for_form}
 use Rattle.hir_same_meaning.specs.Reached.{Between}
-use Rattle.hir_steps.proofs.Frames.{loop_at}
-use Rattle.hir_steps.proofs.Steps.{Correct, correct_as, correct_bind}
+use Rattle.hir_steps.proofs.Steps.{mark}
 use Rattle.hir_type_result.specs.Named.{of_bindings_alone}
 use Rattle.hir_type_result.proofs.Counted.{times_append}
-use Rattle.hir_type_result.proofs.Adding.{Numbers, none, Adds, Quiet, look, grows, wider, both, made_then, adds_pure, adds_then, adds_quiet}
-use Rattle.hir_type_result.proofs.Adding.{adds_expr, adds_made, adds_pat}
+use Rattle.hir_type_result.proofs.Adding.{Numbers, none, look, wider, both, made_then}
+use Rattle.hir_type_result.proofs.Asked.{Correct, Adds, Quiet, adds_pure, adds_then, adds_quiet, adds_expr, adds_made, adds_pat}
+use Rattle.hir_type_result.proofs.Asked.{correct_as, correct_bind, longer}
 use Rattle.hir_type_result.proofs.Naming.{opened_names, quiet_then, quiet_made, quiet_number}
 use Rattle.hir_type_result.proofs.NamingMade.{an_arm, made_bind_names, made_path_quiet, item_call_quiet, two_arms}
 use Rattle.hir_type_result.proofs.Owned.{a_pat}
@@ -33,34 +33,40 @@ adds_around : {A B C : Type 0} {was : Numbers} {one : A → Numbers} {two : A �
     → ((a : A) (b : B) → Correct (r a b) (Adds (λ l. one a l ++ two a b l) now))
     → Correct (p >>= (λ a. q a >>= (λ b. r a b))) (Adds was now)
 adds_around {was = was} {one = one} {two = two} hp hq hr = correct_as (correct_bind hp (λ a. correct_bind (hq a) (λ b. hr a b)))
-    (λ final ps m m' c g row.
-    let s = row.second in record {
+    (λ final old new c g row.
+    let s = row.second in
+    let mid = row.middle in
+    let near = row.before.bindings in
+    let then = s.before.bindings in record {
       bound = λ lo le t w.
           let l = of_bindings_alone in
           let x = row.first.bound lo le tt tt in
-          let y = s.first.bound lo (omega (arith, le, row.before.bindings)) tt
-          (wider lo m.bindings row.middle.bindings (was l) row.before.bindings w) in
-          let kept = wider lo row.middle.bindings s.middle.bindings (one row.one l) s.before.bindings x.named in
-          let z = s.second.bound lo (omega (arith, le, row.before.bindings, s.before.bindings)) tt
-          (both (Between lo s.middle.bindings) (one row.one l) (two row.one s.one l) kept y.named) in
-          let first = made_then lo final m row.middle s.middle s.before.bindings x.made y.made in record {
+          let y = s.first.bound lo (omega (arith, le, near)) tt (wider lo (mark old).bindings (mark mid).bindings (was l) near w) in
+          let kept = wider lo (mark mid).bindings (mark s.middle).bindings (one row.one l) then x.named in
+          let z = s.second.bound lo (omega (arith, le, near, then)) tt
+          (both (Between lo (mark s.middle).bindings) (one row.one l) (two row.one s.one l) kept y.named) in
+          let first = made_then lo final (mark old) (mark mid) (mark s.middle) then x.made y.made in record {
             known = tt;
             named = z.named;
-            made = made_then lo final m s.middle m' s.after.bindings first z.made;
+            made = made_then lo final (mark old) (mark s.middle) (mark new) s.after.bindings first z.made;
           };
       grown = λ sort d k.
           let x = row.first.grown sort d k in
           let y = s.first.grown sort d k in
           let z = s.second.grown sort d k in omega (arith, x, y, z);
+      asks = λ l k.
+          let x = row.first.asks l k in
+          let y = s.first.asks l k in
+          let z = s.second.asks l k in omega (arith, x, y, z);
       earlier = λ sort d all le le'.
           let z = s.second.earlier sort d all le le' in
-          let far = grows sort s.after in
-          let near = grows sort s.before in
+          let far = longer sort s.after in
+          let close = longer sort s.before in
           let y = s.first.earlier sort z.depth all z.deep (omega (arith, le', far)) in
           let deep = z.deep in
-          let x = row.first.earlier sort z.depth all (omega (arith, deep, near)) (omega (arith, le', far, near)) in
+          let x = row.first.earlier sort z.depth all (omega (arith, deep, close)) (omega (arith, le', far, close)) in
           let inside = y.deep in
-          let before = grows sort row.before in record {
+          let before = longer sort row.before in record {
             depth = y.depth;
             deep = omega (arith, inside, before);
             counted = λ k.
@@ -106,7 +112,7 @@ module _ (at : Pointer) where
       → Correct (made_loop_form at label body) (Adds was (λ i. none))
   unfolding made_loop_form
   made_loop_names None h = adds_then h (λ b. quiet_made (hir.Loop b None ForLoop) (Some at) (λ l k. omega arith))
-  made_loop_names (Some l) h = opened_names loop_at l {one = λ i. none} (λ n ps. refl) (λ n. h)
+  made_loop_names (Some l) h = opened_names l {one = λ i. none} (λ n. h)
       (λ n b. quiet_made (hir.Loop b (Some n) ForLoop) (Some at) (λ l k. omega arith))
 
 pub for_quiet : (at head_at : Pointer) (items : ForItems) (label : Option Label) {head : ExprSteps} {pattern : Lowering PatId}

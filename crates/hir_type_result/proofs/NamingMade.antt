@@ -18,11 +18,11 @@ use Rattle.hir_lower_form.specs.Lowering.{Lowering}
 use Rattle.hir_lower_form.specs.Made.{made_path_form, made_binding, made_bind_form, item_or_missing, made_call, item_call_form, item_pat}
 use Rattle.hir_lower_form.specs.Made.{conversion, leaving_node, flow_arm_form, residual_form, question_form, value_or_unit, wrapped_form}
 use Rattle.hir_lower_form.specs.Made.{try_block_form, bound_block, typed_try_form, condition_form, held_block, held_form, hold_form}
-use Rattle.hir_steps.proofs.Steps.{Correct}
 use Rattle.hir_type_result.specs.Named.{Look, of_arm, of_expr}
 use Rattle.hir_type_result.proofs.Counted.{◌⊑◌, times_append}
-use Rattle.hir_type_result.proofs.Adding.{Numbers, none, Adds, Quiet, adds_pure, adds_then, adds_beside, adds_quiet, adds_expr, adds_made}
-use Rattle.hir_type_result.proofs.Adding.{adds_pat}
+use Rattle.hir_type_result.proofs.Adding.{Numbers, none}
+use Rattle.hir_type_result.proofs.Asked.{Correct, Adds, Quiet, adds_pure, adds_then, adds_beside, adds_quiet, adds_expr, adds_made}
+use Rattle.hir_type_result.proofs.Asked.{adds_pat}
 use Rattle.hir_type_result.proofs.Naming.{new_made_binding, quiet_pure, quiet_then, quiet_made, quiet_define, quiet_number}
 use Rattle.hir_type_result.proofs.Naming.{quiet_try_target, quiet_enter_block, opened_try_names}
 use Rattle.hir_type_result.proofs.NamingForms.{contents, settled_less}

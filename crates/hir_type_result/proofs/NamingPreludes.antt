@@ -1,5 +1,5 @@
 -- What stands in front of the body of a coroutine names the patterns of its parameters, and those that are made up for them, each once.
-use Rattle.std.proofs.Common.{ap, Bool, true, false, List, [], ◌∷◌, ◌++◌, Option, Some, None, arith}
+use Rattle.std.proofs.Common.{refl, Bool, true, false, List, [], ◌∷◌, ◌++◌, Option, Some, None, arith}
 use Rattle.hir_store.specs.Stored.{Stored}
 use Rattle.hir_store.specs.declared.hir.CoroutineKind.{CoroutineKind}
 use Rattle.hir_store.specs.declared.hir.CoroutineSource.{CoroutineSource}
@@ -20,23 +20,28 @@ use Rattle.hir_lower_form.specs.Forms.{root_hygiene}
 use Rattle.hir_lower_form.specs.Lowering.{Lowering}
 use Rattle.hir_lower_form.specs.Preludes as forms
 use Rattle.hir_lower_form.specs.Preludes.{add_handed, bound_anew, coroutine_of, handed_as, handed_binding, let_from, no_prelude}
-use Rattle.hir_steps.proofs.Preludes.{Told, correct_binding_of, correct_own_name_of}
-use Rattle.hir_steps.proofs.Steps.{Correct, correct_as}
+use Rattle.hir_noted.proofs.Preludes.{notes_bound, notes_own_name}
 use Rattle.hir_type_result.specs.Named.{Look, of_statement}
 use Rattle.hir_type_result.proofs.Counted.{times_append, ◌⊑◌}
 use Rattle.hir_type_result.proofs.Numbers.{each_append}
-use Rattle.hir_type_result.proofs.Adding.{Adds, AtOnce, Numbers, Quiet, adds_beside, adds_from, adds_pat, adds_pat_beside, adds_pure}
-use Rattle.hir_type_result.proofs.Adding.{adds_quiet, adds_still, adds_then, named, none}
+use Rattle.hir_type_result.proofs.Adding.{Numbers, named, none}
+use Rattle.hir_type_result.proofs.Asked.{Correct, Adds, Quiet, adds_beside, adds_from, adds_pat, adds_pat_beside, adds_pure, adds_quiet}
+use Rattle.hir_type_result.proofs.Asked.{adds_then, quiet_kept}
 use Rattle.hir_type_result.proofs.Naming.{new_made_binding, quiet_alloc, quiet_define, quiet_number}
-use Rattle.hir_type_result.proofs.NamingAtOnce.{at_once, at_once_beside, at_once_expr, at_once_from, at_once_more, at_once_pure}
+use Rattle.hir_type_result.proofs.NamingAtOnce.{AtOnce, at_once, at_once_beside, at_once_expr, at_once_from, at_once_more, at_once_pure}
 use Rattle.hir_type_result.proofs.NamingAtOnce.{at_once_still, at_once_then}
 use Rattle.hir_type_result.proofs.Owned.{a_pat, beside}
 use Rattle.hir_type_result.proofs.OwnedPats.{pats, pushed, statements}
 
 -- what is only told
-told_quiet : {A : Type 0} {tells : Stored → A} {p : Lowering A} → Correct p (Told tells) → Correct p Quiet
-told_quiet h = correct_as h (λ final ps m m' a g row. adds_still g (ap (λ x. x.stored.pats.entries) row.still)
-    (λ s d k. ap (λ x. named s final d x.stored k) row.still) (λ l k. omega arith))
+
+own_name_quiet : (p : PatId) → Correct (forms.own_name_of p) Quiet
+unfolding forms.own_name_of
+own_name_quiet p = quiet_kept (notes_own_name p) (λ b. record { exprs = refl; pats = refl; types = refl; bindings = refl })
+
+binding_quiet : (i : BindingId) → Correct (forms.binding_of i) Quiet
+unfolding forms.binding_of
+binding_quiet i = quiet_kept (notes_bound i) (λ b. record { exprs = refl; pats = refl; types = refl; bindings = refl })
 
 -- ---- names that are handed in
 
@@ -123,7 +128,7 @@ any_handed done p None = at_once_then (at_once_still quiet_number) (λ n. betwee
 
 let_param_names : (done : Prelude) (p : PatId) → OneMore done p (forms.let_param done p)
 unfolding forms.let_param
-let_param_names done p = at_once_then (at_once_still (told_quiet (correct_own_name_of p))) (λ own. any_handed done p own)
+let_param_names done p = at_once_then (at_once_still (own_name_quiet p)) (λ own. any_handed done p own)
 
 pub let_params_name : (done : Prelude) (ps : List PatId)
     → Correct (forms.let_params done ps) (AtOnce (beside (prelude done) (pats ps)) prelude)
@@ -155,7 +160,7 @@ rebound_names id (Some x) = rebind_names x
 pub let_self_names : (o : Option BindingId) → Correct (forms.let_self o) (Adds none (λ r. prelude r.1))
 unfolding forms.let_self
 let_self_names None = adds_pure (None, no_prelude) (λ l k. omega arith)
-let_self_names (Some id) = adds_then (told_quiet (correct_binding_of id))
+let_self_names (Some id) = adds_then (binding_quiet id)
     (λ x. adds_then (rebound_names id x) (λ r. adds_pure (Some r.0, record { handed = []; lets = r.1 }) (λ l k. omega arith)))
 
 -- ---- coroutines

@@ -58,7 +58,7 @@ use Rattle.hir_type_result.specs.Reached.{types_reached}
 use Rattle.hir_type_result.specs.Roots.{Lengths, lengths_now, ends_of, Further, RootIs, RootsAre, RootsOf, SameInner, exprs_between}
 use Rattle.hir_type_result.specs.Roots.{pats_between, types_between}
 use Rattle.hir_type_result.specs.Unrun.{all_unruns, unrun_in}
-use Rattle.hir_type_result.proofs.Adding.{Quiet}
+use Rattle.hir_type_result.proofs.Asked.{Correct as Names, Quiet}
 use Rattle.hir_type_result.proofs.Inside.{inside_once, limit_adds, rooted_adds}
 use Rattle.hir_type_result.proofs.Meaning.{constant_means, limit_means}
 use Rattle.hir_type_result.proofs.Named.{bindings_came, pats_once, types_came}
@@ -334,7 +334,7 @@ record Facts (x : InnerBody) (old new : Stored) (i : ExprId) (later : Stored) : 
 
 module _ {A : Type 0} {p : Lowering A} (x : InnerBody) (b c : Builder) (a : A) (i : ExprId) (paired : Paired b.stored)
     (is : p b ≡ (Ok a, c)) (later : Stored) (stays : Extends c.stored later) where
-  facts_of : Correct p Quiet → Keeps b (Ok a) c → SameInner (store_of later) (map_of later) i x
+  facts_of : Names p Quiet → Keeps b (Ok a) c → SameInner (store_of later) (map_of later) i x
       → ((depth : ℕ) → length later.exprs.entries ≤ depth
       → Spread (length b.stored.exprs.entries) (length c.stored.exprs.entries)
       (of_each (reached_to (store_of later) depth) (i ∷ unrun_in (store_of later) i)))

@@ -1,5 +1,5 @@
 -- What is answered for types, paths, arguments and bounds names what their parts name, and types that were stored, each once.
-use Rattle.std.proofs.Common.{refl, sym, subst, ℕ, ◌+◌, ◌≤◌, Bool, List, [], ◌∷◌, ◌++◌, Option, Some, None, arith}
+use Rattle.std.proofs.Common.{◌≡◌, refl, sym, subst, ℕ, ◌+◌, ◌≤◌, Bool, List, [], ◌∷◌, ◌++◌, Option, Some, None, arith}
 use Rattle.std.specs.Prelude.{option_map}
 use Rattle.hir_store.specs.Pointers.{Pointer}
 use Rattle.hir_store.specs.declared.hir.Mutability.{Mutability}
@@ -16,10 +16,14 @@ use Rattle.hir_store.specs.declared.type_ref.TypeRef.TheVariants as ty
 use Rattle.hir_store.specs.declared.type_ref.TypeBound.{TypeBound}
 use Rattle.hir_store.specs.declared.type_ref.UseArgRef.{UseArgRef}
 use Rattle.hir_env.specs.declared.place.ImplTrait.{ImplTrait}
-use Rattle.hir_env.specs.declared.place.ImplTrait.TheVariants as becomes
 use Rattle.hir_env.specs.Answered as tree
 use Rattle.hir_env.specs.Answered.{Binder, Called, FnHead, Lifetime, TypeLeaf, TypeUnary, UseRead}
+use Rattle.hir_env.specs.declared.place.LifetimeScope.{LifetimeScope}
+use Rattle.hir_store.specs.declared.type_ref.LifetimeRef.{LifetimeRef}
+use Rattle.hir_store.specs.declared.type_ref.LifetimeRef.TheVariants as lifetime
 use Rattle.hir_lower_form.specs.declared.args.ArgLists.{ArgLists}
+use Rattle.hir_lower_form.specs.declared.generics.Notes.{Notes}
+use Rattle.hir_lower_form.specs.Generics.{naming}
 use Rattle.hir_lower_form.specs.declared.walk.PathWalk.{PathWalk}
 use Rattle.hir_lower_form.specs.declared.walk.Reading.{Reading}
 use Rattle.hir_lower_form.specs.declared.walk.Reading.TheVariants.{Refused, Ended, Open}
@@ -31,17 +35,17 @@ use Rattle.hir_lower_form.specs.Types.{over_form, array_type_form, pattern_type_
 use Rattle.hir_lower_form.specs.Types.{tuple_type_form, path_type_form, ref_type_form, fn_type_form, impl_type_form, dyn_type_form}
 use Rattle.hir_lower_form.specs.Types.{stored_leaf_type, stored_over_type, path_or_error}
 use Rattle.hir_lower_form.specs.Types.{binding_form, path_bound_of, path_bound_form, uncalled_type}
-use Rattle.hir_steps.proofs.Noted.{BecomesType, correct_becoming, correct_noted}
-use Rattle.hir_steps.proofs.Steps.{Correct, correct_count_out}
 use Rattle.hir_type_result.specs.Reached.{of_present, of_each, of_bound, of_args, of_binding, below}
 use Rattle.hir_type_result.specs.Named.{Look}
 use Rattle.hir_type_result.specs.Pats.{of_type}
+use Rattle.hir_type_result.proofs.Becoming.{becoming_adds}
 use Rattle.hir_type_result.proofs.Naming.{called_type_names}
 use Rattle.hir_type_result.proofs.Counted.{times, times_append, either}
 use Rattle.hir_type_result.proofs.Numbers as numbers
 use Rattle.hir_type_result.proofs.Numbers.{of_arg_lists, of_walk, of_reading, of_read}
-use Rattle.hir_type_result.proofs.Adding.{Numbers, none, Adds, adds_pure, adds_then, adds_beside, adds_from, adds_type, adds_unnamed}
-use Rattle.hir_type_result.proofs.Adding.{Quiet, adds_lifetime}
+use Rattle.hir_type_result.proofs.Adding.{Numbers, none}
+use Rattle.hir_type_result.proofs.Asked.{Correct, Adds, adds_pure, adds_then, adds_beside, adds_from, adds_type, adds_unnamed, Quiet}
+use Rattle.hir_type_result.proofs.Asked.{adds_lifetime, adds_refused, quiet_noted, adds_quiet}
 
 -- what each kind of answer names
 
@@ -87,9 +91,16 @@ beside more now f = more f ++ now f
 
 -- lifetimes name no type
 
+naming_still : (s : LifetimeScope) (l : LifetimeRef) (n : Notes)
+    → (naming s l n).generics.where_predicates ≡ n.generics.where_predicates
+naming_still s (lifetime.Named x) n = refl
+naming_still s lifetime.Static n = refl
+naming_still s lifetime.Placeholder n = refl
+naming_still s lifetime.Error n = refl
+
 pub lifetime_adds : {was : Numbers} (l : Lifetime) → Correct (lower_lifetime l) (Adds was (λ i. was))
 unfolding lower_lifetime
-lifetime_adds l = correct_noted _ (adds_lifetime _ _)
+lifetime_adds l = adds_then (adds_quiet (quiet_noted _ (naming_still l.scope l.lifetime))) (λ u. adds_lifetime _ _)
 
 pub lifetime_option_adds : {was : Numbers} (l : Option Lifetime) → Correct (lower_lifetime_option l) (Adds was (λ i. was))
 lifetime_option_adds None = adds_pure None (λ f k. omega arith)
@@ -120,18 +131,6 @@ over_below tree.slice_of t l k = omega arith
 path_below : (p : Option HirPath) (l : Look) (k : ℕ) → in_type (path_or_error p) l k ≤ times k (maybe_path p l)
 path_below None l k = omega arith
 path_below (Some p) l k = omega arith
-
-impl_below : (mode : ImplTrait) (bs : List TypeBound) (t : TypeRef) → BecomesType mode bs t → (l : Look) (k : ℕ)
-    → in_type t l k ≤ times k (bounds bs l)
-impl_below becomes.Error bs t e l k =
-    let of_error : in_type ty.Error l k ≤ times k (bounds bs l) = omega arith in
-    subst (λ x. in_type x l k ≤ times k (bounds bs l)) (sym e) of_error
-impl_below becomes.Opaque bs t e l k =
-    let of_impl : in_type (ty.ImplTrait bs) l k ≤ times k (bounds bs l) = omega arith in
-    subst (λ x. in_type x l k ≤ times k (bounds bs l)) (sym e) of_impl
-impl_below (becomes.Argument def) bs t e l k =
-    let of_param : in_type (param_type def e.0) l k ≤ times k (bounds bs l) = omega arith in
-    subst (λ x. in_type x l k ≤ times k (bounds bs l)) (sym e.1) of_param
 
 pub error_adds : Correct error_type (Adds none a_type)
 unfolding error_type
@@ -185,7 +184,7 @@ module _ (at : Pointer) where
   pub impl_adds : (mode : ImplTrait) {bs : Lowering (List TypeBound)} → Correct bs (Adds none bounds)
       → Correct (impl_type_form at mode bs) (Adds none a_type)
   unfolding impl_type_form
-  impl_adds mode h = adds_then h (λ bs. correct_becoming at mode bs (λ t e. adds_type t (Some at) (impl_below mode bs t e)))
+  impl_adds mode h = adds_then h (λ bs. becoming_adds at mode bs)
 
   pub dyn_adds : {bs : Lowering (List TypeBound)} → Correct bs (Adds none bounds) → Correct (dyn_type_form at bs) (Adds none a_type)
   unfolding dyn_type_form
@@ -219,7 +218,7 @@ pub super_adds : (w : PathWalk) → Correct (counted (super_read w)) (Adds (walk
 super_adds w = go (one_more_super w.kind)
   where
     go : (o : Option PathKind) → Correct (counted (option_map (λ k. Open (record w { kind = k })) o)) (Adds (walk w) reading)
-    go None = correct_count_out _
+    go None = adds_refused
     go (Some k) = adds_pure _ (λ f n. omega arith)
 
 pub self_adds : (w : PathWalk) → Correct (pure (self_read w)) (Adds (walk w) reading)

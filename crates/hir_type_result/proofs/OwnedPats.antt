@@ -29,13 +29,13 @@ use Rattle.hir_lower_form.specs.Ranges as ranges
 use Rattle.hir_lower_form.specs.Targets as targets
 use Rattle.hir_lower_form.specs.Targets.{alloc_target, missing_target}
 use Rattle.hir_steps.proofs.Calls.{only_told}
-use Rattle.hir_steps.proofs.Steps.{Correct, correct_count_out}
 use Rattle.hir_type_result.specs.Reached.{of_each, of_present}
 use Rattle.hir_type_result.specs.Named.{Look, of_arm, of_expr, of_pat, of_pat_field, of_statement}
 use Rattle.hir_type_result.proofs.Counted.{◌⊑◌, times_append}
 use Rattle.hir_type_result.proofs.Numbers.{each_push}
-use Rattle.hir_type_result.proofs.Adding.{Numbers, none, Adds, Quiet, adds_pure, adds_then, adds_beside, adds_quiet, adds_from}
-use Rattle.hir_type_result.proofs.Adding.{adds_expr, adds_made_pat, adds_pat, adds_done, framed, Steps}
+use Rattle.hir_type_result.proofs.Adding.{Numbers, none}
+use Rattle.hir_type_result.proofs.Asked.{adds_refused, Correct, Adds, Quiet, adds_pure, adds_then, adds_beside, adds_quiet, adds_from, adds_expr}
+use Rattle.hir_type_result.proofs.Asked.{adds_made_pat, adds_pat, adds_done, framed, Steps}
 use Rattle.hir_type_result.proofs.Naming.{quiet_pure, quiet_then, quiet_alloc, quiet_report, quiet_point_pat_field, quiet_define}
 use Rattle.hir_type_result.proofs.Naming.{called_names, ids, name_adds, quiet_only, quiet_point_pat, quiet_point_target}
 use Rattle.hir_type_result.proofs.Owned.{a_pat, maybe_path, maybe_type, beside}
@@ -119,7 +119,7 @@ element_adds true done h t = adds_done _ (λ l k. omega arith) (λ P x. x)
 element_adds false done h t = adds_then (adds_beside (elements done) (h t)) (λ r. adds_done _ (λ l. pushed done.0 r.0 l) (λ P x. x))
 
 place_quiet : (place : Option ℕ) → Correct (forms.counted_place place) Quiet
-place_quiet None = correct_count_out _
+place_quiet None = adds_refused
 place_quiet (Some n) = quiet_pure (Some n)
 
 dots_quiet : (comma : Bool) (place : Option ℕ) → Correct (forms.counted_dots comma place) Quiet

@@ -41,14 +41,13 @@ use Rattle.hir_lower_form.specs.Lower.{lower_later, lower_pat_fields, lower_pat_
 use Rattle.hir_lower_form.specs.Lower.{lower_type_pats, lower_limit, limit_side, lower_target, lower_targets, lower_target_fields}
 use Rattle.hir_lower_form.specs.Lower.{lower_target_field}
 use Rattle.hir_steps.proofs.Calls.{only_gone, only_note, only_told}
-use Rattle.hir_steps.proofs.Noted.{correct_aliased}
-use Rattle.hir_steps.proofs.Steps.{Correct}
 use Rattle.hir_type_result.specs.Reached.{of_bound, of_each, of_present}
 use Rattle.hir_type_result.specs.Named.{Look, of_arm, of_pat_field, of_statement}
 use Rattle.hir_type_result.proofs.Counted.{times_append}
 use Rattle.hir_type_result.proofs.Numbers as numbers
-use Rattle.hir_type_result.proofs.Adding.{Numbers, none, Adds, Quiet, adds_pure, adds_then, adds_beside, adds_quiet, adds_from}
-use Rattle.hir_type_result.proofs.Adding.{adds_type, adds_owning, adds_pat, adds_done, framed, tabled}
+use Rattle.hir_type_result.proofs.Adding.{Numbers, none}
+use Rattle.hir_type_result.proofs.Asked.{Correct, Adds, Quiet, adds_pure, adds_then, adds_beside, adds_quiet, adds_from, adds_type}
+use Rattle.hir_type_result.proofs.Asked.{adds_pat, adds_done, framed, tabled}
 use Rattle.hir_type_result.proofs.Owned.{a_type, maybe_type, types, a_bound, bounds, arguments, lists, maybe_path, walk, reading, a_pat}
 use Rattle.hir_type_result.proofs.Owned.{uses_add, leaf_below, error_adds, unit_adds, over_adds, array_adds, tuple_adds, path_type_adds}
 use Rattle.hir_type_result.proofs.Owned.{ref_adds, fn_adds, impl_adds, dyn_adds, path_bound_adds, proceed_adds, whole_adds, super_adds}
@@ -56,6 +55,8 @@ use Rattle.hir_type_result.proofs.Owned.{self_adds, at_first_adds, bare_adds, wi
 use Rattle.hir_type_result.proofs.Owned.{binding_adds, none_more, one_more, pattern_adds, lifetime_adds, uncalled_type_names}
 use Rattle.hir_type_result.proofs.OwnedPats as pats
 use Rattle.hir_type_result.proofs.OwnedPats.{uncalled_pat_names}
+use Rattle.hir_type_result.proofs.Becoming.{aliased_adds}
+use Rattle.hir_type_result.proofs.Naming.{adds_owning}
 use Rattle.hir_type_result.proofs.Naming.{quiet_pure, quiet_then, quiet_some, quiet_alloc, quiet_report, quiet_constant, quiet_inner}
 use Rattle.hir_type_result.proofs.Naming.{called_names, called_type_names, quiet_only, quiet_settle}
 use Rattle.hir_type_result.proofs.NamingForms.{missing_quiet, leaf_quiet, unary_quiet, binary_quiet, leaving_quiet, if_quiet, loop_quiet}
@@ -167,7 +168,7 @@ mutual
   pub path_adds : (p : OptionPath) → Correct (lower_path p) (Adds none maybe_path)
   path_adds tree.no_path = adds_pure None (λ f k. omega arith)
   path_adds (tree.some_path p) =
-      correct_aliased (alias_of p) (adds_then (reading_adds p start) (λ r. adds_pure (path_read r) (λ o. numbers.path_read_less o.types r)))
+      aliased_adds (alias_of p) (adds_then (reading_adds p start) (λ r. adds_pure (path_read r) (λ o. numbers.path_read_less o.types r)))
 
   segment_args_add : (as' : SegmentArgs) → Correct (lower_segment_args as') (Adds none arguments)
   segment_args_add (tree.segment_args as' ps dots) = args_form_adds (args_add as') (parens_add ps) dots
@@ -202,7 +203,7 @@ mutual
   bounds_add done tree.no_bounds = none_more (λ l b. of_bound l.types b) done
   bounds_add done (tree.more_bounds b bs) = one_more (λ l b. of_bound l.types b) (bound_adds b) (λ xs. bounds_add xs bs) done
 
-  bound_adds : (b : Bound) → Correct (lower_bound b) (Adds none a_bound)
+  pub bound_adds : (b : Bound) → Correct (lower_bound b) (Adds none a_bound)
   bound_adds tree.error_bound = adds_pure _ (λ f k. omega arith)
   bound_adds (tree.path_bound at p maybe binder) = path_bound_adds at maybe binder (path_adds p)
   bound_adds (tree.lifetime_bound l) = adds_then (lifetime_adds l) (λ i. adds_pure _ (λ f k. omega arith))
@@ -210,7 +211,7 @@ mutual
 
   -- constants
 
-  constant_quiet : (c : Constant) → Correct (lower_constant c) Quiet
+  pub constant_quiet : (c : Constant) → Correct (lower_constant c) Quiet
   constant_quiet (tree.constant e) = adds_owning (λ c. c.expr) (quiet_constant (part_quiet e))
 
   pub rooted_quiet : (c : Constant) → Correct (lower_rooted c) Quiet
@@ -457,7 +458,7 @@ mutual
   target_adds (tree.macro_target None c t) = adds_then (quiet_only (only_told c)) (λ u. target_adds t)
   target_adds (tree.macro_target (Some at) c t) = adds_then (quiet_only (only_told c)) (λ u. pats.pointed_adds at (target_adds t))
   target_adds (tree.wild_target at) = pats.adds_target _ at (λ l k. omega arith)
-  target_adds (tree.path_target at p h) = pats.path_target_adds at h (correct_aliased (alias_of p) (adds_then (reading_adds p start)
+  target_adds (tree.path_target at p h) = pats.path_target_adds at h (aliased_adds (alias_of p) (adds_then (reading_adds p start)
       (λ r. adds_pure (path_read r) (λ o. numbers.path_read_less o.types r))))
   target_adds (tree.tuple_target at ts) = pats.tuple_target_adds at (targets_add no_elements ts)
   target_adds (tree.call_target at p ts) = pats.call_target_adds at (targets_add no_elements ts) (path_adds p)
