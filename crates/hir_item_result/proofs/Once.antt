@@ -22,11 +22,10 @@ use Rattle.hir_store.specs.declared.type_ref.TypeBound.TheVariants as bound
 use Rattle.hir_store.specs.declared.type_ref.TypeRef.TheVariants as ty
 use Rattle.hir_store.proofs.Extending.{extends_refl}
 use Rattle.hir_env.specs.Answered as tree
-use Rattle.hir_env.specs.Answered.{Bound, Lifetime, OptionRet}
+use Rattle.hir_env.specs.Answered.{Lifetime, OptionRet}
 use Rattle.hir_env.specs.TypeLayers.{PathTypeReading}
 use Rattle.hir_lower_form.specs.Builder.{fresh}
 use Rattle.hir_lower_form.specs.Lowering.{Lowering, ◌>>=◌, alloc_type, param_type}
-use Rattle.hir_lower_form.specs.Lower.{lower_bound}
 use Rattle.hir_lower_item.specs.Lower as steps
 use Rattle.hir_type_result.specs.Named.{of_exprs, of_pats, of_types_alone}
 use Rattle.hir_type_result.specs.Reached.{of_args, of_binding, of_bound, of_each, of_path, of_present, types_reached}
@@ -35,9 +34,9 @@ use Rattle.hir_type_result.proofs.Asked.{Adds, Correct, adds_from, adds_lifetime
 use Rattle.hir_type_result.proofs.Counted.{counted_spread, less, times, times_append, ◌⊑◌}
 use Rattle.hir_type_result.proofs.Naming.{quiet_report}
 use Rattle.hir_type_result.proofs.Numbers as numbers
-use Rattle.hir_type_result.proofs.Owned.{a_bound as bound_numbers, a_type as type_numbers, lifetime_adds, lifetime_option_adds, maybe_path}
-use Rattle.hir_type_result.proofs.Owned.{maybe_type as maybe_numbers, path_bound_adds, unit_adds, uses_add}
-use Rattle.hir_type_result.proofs.TreeNamed.{part_adds, path_adds}
+use Rattle.hir_type_result.proofs.Owned.{a_type as type_numbers, lifetime_adds, lifetime_option_adds, maybe_path}
+use Rattle.hir_type_result.proofs.Owned.{maybe_type as maybe_numbers, unit_adds}
+use Rattle.hir_type_result.proofs.TreeNamed.{bound_adds, constant_quiet, part_adds, path_adds}
 use Rattle.hir_item_result.specs.Once.{AliasesOnce, AnswersOnce, FunctionsOnce, GenericsOnce, ImplsOnce, Naming, TraitsOnce, among}
 use Rattle.hir_item_result.specs.Once.{is_of_impl, named_by_alias, named_by_function, named_by_impl, named_by_param}
 use Rattle.hir_item_result.specs.Once.{named_by_params, named_by_predicates, none_named}
@@ -46,7 +45,6 @@ use Rattle.hir_item_result.proofs.Costs.{predicates, present, unless}
 use Rattle.hir_item_result.proofs.Counting.{Counts, Part, Sort, noted, to_answer}
 use Rattle.hir_item_result.proofs.CountedItems.{alias_counts, by_alias, by_function, by_impl, function_counts, impl_counts, trait_counts}
 use Rattle.hir_item_result.proofs.CountedSteps.{Leaves, generics_count}
-use Rattle.hir_item_result.proofs.Quiet.{constant_quiet}
 use Rattle.hir_item_result.proofs.Reading.{nothing_paired}
 
 -- ---- what is counted
@@ -87,7 +85,7 @@ asked_named f k (predicate.TypeBound binder t b ∷ ps) =
     let a = times_append k (of_bound f b) (of_each (asked_by (of_types_alone f)) ps) in
     let e = bound_named f k b in
     let r = asked_named f k ps in omega (arith, a, e, r)
-asked_named f k (predicate.Lifetime l m ∷ ps) = asked_named f k ps
+asked_named f k (predicate.Lifetime l m ∷ ps) = let r = asked_named f k ps in omega (arith, r)
 
 part_of : {A : Type 0} {now : A → Numbers} {cost : A → Cost} {p : Lowering A} → Correct p (Adds none now)
     → ((a : A) (f : TypeRefId → List ℕ) (k : ℕ) → cost a (of_look f k) ≤ times k (now a (of_types_alone f)))
@@ -106,12 +104,6 @@ part_of {now = now} {cost = cost} h le = record {
     part a n x y u v p q o r g h i j = omega (arith, g, h, i, j)
 
 -- ---- its parts
-
-bound_adds : (b : Bound) → Correct (lower_bound b) (Adds none bound_numbers)
-bound_adds tree.error_bound = adds_pure _ (λ l k. omega arith)
-bound_adds (tree.path_bound at p maybe binder) = path_bound_adds at maybe binder (path_adds p)
-bound_adds (tree.lifetime_bound l) = adds_then (lifetime_adds l) (λ i. adds_pure _ (λ l k. omega arith))
-bound_adds (tree.use_bound us) = adds_then (uses_add [] us) (λ xs. adds_pure _ (λ l k. omega arith))
 
 abbrev trait_numbers : Option TraitRef → Numbers
 trait_numbers t l = of_present (λ t. l.types t.path) t

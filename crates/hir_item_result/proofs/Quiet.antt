@@ -1,5 +1,5 @@
 -- What the parts of an item store names types and patterns in one way, whatever of it is named by what they answer, and by what is asked.
-use Rattle.std.proofs.Common.{◌≡◌, ◌∙◌, refl, ap, arith, ℕ, ◌+◌, ◌≤◌, nat_lt, length, Bool, true, false, List, [], ◌∷◌, ◌++◌, Ok, Err}
+use Rattle.std.proofs.Common.{◌≡◌, refl, ap, arith, ℕ, ◌+◌, ◌≤◌, nat_lt, length, Bool, true, false, List, [], ◌++◌, Option, Some, None, Ok}
 use Rattle.hir_store.specs.Stored.{Stored}
 use Rattle.hir_store.specs.Storing.{Extends}
 use Rattle.hir_store.specs.declared.generics.LifetimeParamData.{LifetimeParamData}
@@ -12,13 +12,11 @@ use Rattle.hir_store.specs.Pointers.{Pointer}
 use Rattle.hir_store.specs.declared.path.Path.{Path as HirPath}
 use Rattle.hir_store.specs.declared.type_ref.TypeRef.TheVariants as type
 use Rattle.hir_env.specs.Answered as tree
-use Rattle.hir_env.specs.Answered.{Bound, Constant, OptionPath}
-use Rattle.hir_lower_form.specs.Lower.{lower_bound, lower_constant, lower_path}
 use Rattle.hir_lower_item.specs.Lower.{stored_trait}
 use Rattle.hir_lower_form.specs.declared.generics.Notes.{Notes}
 use Rattle.hir_lower_form.specs.Builder.{Builder}
-use Rattle.hir_lower_form.specs.Lowering.{Checked, Lowering, ◌>>=◌, add_lifetime_param, add_param, lifetime_counted, note_down, param_numbered}
-use Rattle.hir_lower_form.specs.Lowering.{alloc_type, count_out, pure, with_notes}
+use Rattle.hir_lower_form.specs.Lowering.{Lowering, ◌>>=◌, add_lifetime_param, add_param, lifetime_counted, note_down, param_numbered}
+use Rattle.hir_lower_form.specs.Lowering.{count_out, pure, with_notes}
 use Rattle.hir_steps.specs.Keeps.{Paired}
 use Rattle.hir_steps.proofs.Logic.{longer as no_shorter}
 use Rattle.hir_steps.proofs.Steps.{mark}
@@ -26,7 +24,7 @@ use Rattle.hir_type_result.specs.Named.{Look, TypesSpread, of_expr, of_exprs, of
 use Rattle.hir_type_result.specs.Pats.{PatsSpread, of_type, of_types, pats_reached}
 use Rattle.hir_type_result.specs.Reached.{of_each, types_reached}
 use Rattle.hir_type_result.proofs.Adding.{Numbers, Sort, known, look, named, none, the_pats, the_types}
-use Rattle.hir_type_result.proofs.Asked.{Adds, Answers, AnswersTo, Correct, Rel, Seq, adds_lifetime, adds_unnamed, asked_by, after_lowering}
+use Rattle.hir_type_result.proofs.Asked.{Adds, Correct, adds_lifetime, adds_unnamed, after_lowering}
 use Rattle.hir_type_result.proofs.Asked.{adds_pure, adds_then, adds_type, correct_as, correct_bind, longer}
 use Rattle.hir_type_result.proofs.Counted.{counted_spread, less, times, times_append}
 use Rattle.hir_type_result.proofs.Named.{none_held}
@@ -40,8 +38,8 @@ use Rattle.hir_item_result.proofs.Items.{items_read}
 use Rattle.hir_item_result.proofs.Reading.{Patternless, Reading}
 
 -- nothing that is held names more than what was given out
-record Bare {A : Type 0} (final : Stored) (b c : Builder) (a : A) : Type 0 where
-  counted : (s : Sort) (all k : ℕ) → known s (mark c) ≤ all
+pub record Bare {A : Type 0} (final : Stored) (b c : Builder) (a : A) : Type 0 where
+  pub counted : (s : Sort) (all k : ℕ) → known s (mark c) ≤ all
       → named s final all c.stored k + less k (known s (mark b)) ≤ named s final all b.stored k + less k (known s (mark c))
 
 pub record QuietAll {A : Type 0} (xs : List Part) (p : Lowering A) : Type 0 where

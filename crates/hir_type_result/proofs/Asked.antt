@@ -2,9 +2,11 @@
 -- one does that an `impl` became.
 use Rattle.std.proofs.Common.{◌≡◌, ◌∙◌, refl, sym, ap, subst, arith, ℕ, ◌+◌, ◌≤◌, List, [], ◌∷◌, ◌++◌, append-nil, length, Option}
 use Rattle.std.proofs.Common.{Ok, Err}
+use Rattle.std.proofs.lemmas.List.{length-map}
 use Rattle.hir_scope.specs.Each.{Each}
 use Rattle.hir_same_meaning.specs.Reached.{Between}
 use Rattle.hir_store.specs.Pointers.{Pointer}
+use Rattle.hir_store.specs.Bindings.{without_problem}
 use Rattle.hir_store.specs.Stored.{Stored}
 use Rattle.hir_store.specs.Storing.{Extends}
 use Rattle.hir_store.specs.declared.generics.WherePredicate.{WherePredicate}
@@ -23,6 +25,7 @@ use Rattle.hir_lower_form.specs.Lowering.{alloc_pat, alloc_type, count_out, note
 use Rattle.hir_lower_form.specs.Preludes.{alloc_beside}
 use Rattle.hir_steps.specs.Keeps.{Paired}
 use Rattle.hir_steps.proofs.Frames.{frames, ribs_frames}
+use Rattle.hir_steps.proofs.Logic.{longer as no_shorter}
 use Rattle.hir_steps.proofs.Steps.{Holds, Rel as PlainRel, mark, Correct as CorrectOf}
 use Rattle.hir_sets.specs.Noting.{Impl, Noting, none as nothing}
 use Rattle.hir_noted.specs.Lists.{Fits}
@@ -56,17 +59,22 @@ owed s final all k b =
 abbrev pub Rel : Type 0 → Type 1
 Rel A = Stored → Builder → Builder → A → Type 0
 
--- no fewer types, patterns and bindings are stored
+-- no less is stored
 pub record Longer (b c : Builder) : Type 0 where
+  pub exprs : length b.stored.exprs.entries ≤ length c.stored.exprs.entries
   pub types : length b.stored.types.entries ≤ length c.stored.types.entries
   pub pats : length b.stored.pats.entries ≤ length c.stored.pats.entries
   pub bindings : length b.stored.bindings.entries ≤ length c.stored.bindings.entries
 
-longer_trans : {b c e : Builder} → Longer b c → Longer c e → Longer b e
-longer_trans g h = record {
-  types = omega (arith, g.types, h.types);
-  pats = omega (arith, g.pats, h.pats);
-  bindings = omega (arith, g.bindings, h.bindings);
+pub longer_of : {b c : Builder} → Extends b.stored c.stored → Longer b c
+longer_of {b = b} {c = c} e = record {
+  exprs = no_shorter e.exprs.entries;
+  types = no_shorter e.types.entries;
+  pats = no_shorter e.pats.entries;
+  bindings =
+      let l = no_shorter e.bindings.entries in
+      let x = length-map b.stored.bindings.entries without_problem in
+      let y = length-map c.stored.bindings.entries without_problem in omega (arith, l, x, y);
 }
 
 pub longer : (s : Sort) {b c : Builder} → Longer b c → known s (mark b) ≤ known s (mark c)
@@ -76,7 +84,6 @@ longer the_pats g = g.pats
 pub record Answers {A : Type 0} (R : Rel A) (b c : Builder) (a : A) : Type 0 where
   pub paired : Paired c.stored
   pub stays : Extends b.stored c.stored
-  pub longer : Longer b c
   pub in_final : (final : Stored) → Extends c.stored final → R final b c a
 
 abbrev pub AnswersTo : {A : Type 0} → Rel A → Builder → Checked A → Builder → Type 0
@@ -100,12 +107,11 @@ answers_then : {A B : Type 0} (R : Rel A) (Q : A → Rel B) (b c : Builder) (a :
 answers_then R Q b c a g (Ok x) e h = record {
   paired = h.paired;
   stays = extends_trans g.stays h.stays;
-  longer = longer_trans g.longer h.longer;
   in_final = λ final pre. record {
     middle = c;
     one = a;
-    before = g.longer;
-    after = h.longer;
+    before = longer_of g.stays;
+    after = longer_of h.stays;
     first = g.in_final final (extends_trans h.stays pre);
     second = h.in_final final pre;
   };
@@ -129,8 +135,7 @@ correct_as {A = A} {p = p} {R = R} {Q = Q} h less_is = record { at = λ b d. by 
     by b (Ok a) c g = record {
       paired = g.paired;
       stays = g.stays;
-      longer = g.longer;
-      in_final = λ final pre. less_is final b c a g.longer (g.in_final final pre);
+      in_final = λ final pre. less_is final b c a (longer_of g.stays) (g.in_final final pre);
     }
     by b (Err e) c g = tt
 
@@ -185,7 +190,6 @@ still_to R Q k b d (Ok a) c h e =
     let x = h c.stored in record {
       paired = x.kept.paired d;
       stays = x.kept.stays;
-      longer = let g = x.grows in record { types = g.types; pats = g.pats; bindings = g.bindings };
       in_final = λ final pre. k final b c a e ((h final).in_final d pre);
     }
 still_to R Q k b d (Err f) c h e = tt
@@ -221,7 +225,7 @@ pub stands_still : {A : Type 0} {bs : List ℕ} {was : Numbers} {cs : A → List
 stands_still e h = stands_as e h (λ final b c a same row. came_still same row)
 
 -- it notes nothing but names of lifetimes
-notes_to : {A : Type 0} (n : Noting) → n.impls ≡ [] → (b : Builder) (o : Checked A) (c : Builder) → NotesTo n b o c → StillTo b o c
+pub notes_to : {A : Type 0} (n : Noting) → n.impls ≡ [] → (b : Builder) (o : Checked A) (c : Builder) → NotesTo n b o c → StillTo b o c
 notes_to n e b (Ok a) c g = let h = g.1 in by n.impls e h.added h.fits h.predicates
   where
     by : (is : List Impl) → is ≡ [] → (qs : List WherePredicate) → Fits qs (length b.notes.generics.type_or_consts) is c.stored
@@ -290,15 +294,11 @@ kept_quiet {final = final} {b = b} {c = c} a e h = record {
 
 kept_to : {A : Type 0} (b : Builder) → (o : Checked A) (c : Builder) → NotesTo nothing b o c → KeptTo b o c
     → AnswersTo Quiet b o c
-kept_to b (Ok a) c g h =
-    let t = ap length h.types in
-    let p = ap length h.pats in
-    let l = h.bindings in record {
-      paired = g.0;
-      stays = g.1.stays;
-      longer = record { types = omega (arith, t); pats = omega (arith, p); bindings = omega (arith, l) };
-      in_final = λ final pre. kept_quiet a (notes_to nothing refl b (Ok a) c g) h;
-    }
+kept_to b (Ok a) c g h = record {
+  paired = g.0;
+  stays = g.1.stays;
+  in_final = λ final pre. kept_quiet a (notes_to nothing refl b (Ok a) c g) h;
+}
 kept_to b (Err f) c g h = tt
 
 pub quiet_kept : {A : Type 0} {p : Lowering A} → Notes nothing p → ((b : Builder) → KeptTo b (p b).0 (p b).1) → Correct p Quiet
@@ -312,7 +312,6 @@ quiet_noted f h = record {
   at = λ b d. record {
     paired = d;
     stays = extends_refl b.stored;
-    longer = record { types = omega arith; pats = omega arith; bindings = omega arith };
     in_final = λ final pre.
         kept_quiet tt (h b.notes) (record { exprs = refl; pats = refl; types = refl; bindings = refl });
   };
@@ -473,7 +472,10 @@ pub adds_pat_beside : {was : Numbers} (p : HirPat) (own : PatId) → ((l : Look)
 adds_pat_beside p own h = stands (notes_beside p own) (plain.adds_pat_beside p own h)
 
 -- refused at the end of a counter
+pub refused : {A : Type 0} {R : Rel A} → Correct (count_out {A = A}) R
+unfolding count_out
+refused = record { at = λ b d. tt }
+
 pub adds_refused : {A : Type 0} {bs : List ℕ} {was : Numbers} {cs : A → List ℕ} {now : A → Numbers}
     → Correct (count_out {A = A}) (Steps bs was cs now)
-unfolding count_out
-adds_refused = record { at = λ b d. tt }
+adds_refused = refused

@@ -22,7 +22,7 @@ use Rattle.hir_type_result.specs.Named.{Look}
 use Rattle.hir_type_result.specs.Reached.{of_bound, of_each}
 use Rattle.hir_type_result.proofs.Adding.{Numbers, look, none}
 use Rattle.hir_type_result.proofs.Asked.{Adds, AnswersTo, Correct, Quiet, adds_pure, adds_quiet, adds_refused, adds_then, adds_type, asked_by}
-use Rattle.hir_type_result.proofs.Asked.{Longer, longer, quiet_noted}
+use Rattle.hir_type_result.proofs.Asked.{Longer, longer, longer_of, quiet_noted}
 use Rattle.hir_type_result.proofs.Counted.{times}
 use Rattle.hir_type_result.proofs.Naming.{quiet_pure, quiet_then}
 use Rattle.hir_type_result.proofs.Numbers.{each_append}
@@ -66,8 +66,7 @@ module _ (bs : List TypeBound) where
   asked_to p b (Ok t) c g = record {
     paired = g.paired;
     stays = g.stays;
-    longer = let l = g.longer in record { types = l.types; pats = l.pats; bindings = l.bindings };
-    in_final = λ final pre. asked_row g.longer (g.in_final final pre);
+    in_final = λ final pre. asked_row (longer_of g.stays) (g.in_final final pre);
   }
   asked_to p b (Err e) c g = tt
 

@@ -144,7 +144,6 @@ at_once_pure {was = was} {now = now} a h = record {
   at = λ b d. record {
     paired = d;
     stays = extends_refl b.stored;
-    longer = record { types = omega arith; pats = omega arith; bindings = omega arith };
     in_final = λ final pre. record {
       bound = λ lo le w. record {
         known = tt;
