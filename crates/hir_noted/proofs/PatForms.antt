@@ -54,7 +54,7 @@ known_notes : (u : Use) (t : Table) (b : Option BindingId) → Notes none (forms
 known_notes u t (Some b) = notes_pure _
 known_notes u t None = notes_end (notes_binding _) (λ b. notes_pure _)
 
-name_notes : (u : Use) → Each none (forms.use_name u)
+pub name_notes : (u : Use) → Each none (forms.use_name u)
 unfolding forms.use_name
 name_notes u t = known_notes u t (forms.binding_of (forms.key_of u) t)
 
@@ -78,7 +78,7 @@ place_notes : (place : Option ℕ) → Notes none (forms.counted_place place)
 place_notes None = notes_count_out
 place_notes (Some n) = notes_pure (Some n)
 
-dots_note : (comma : Bool) (place : Option ℕ) → Notes none (forms.counted_dots comma place)
+pub dots_note : (comma : Bool) (place : Option ℕ) → Notes none (forms.counted_dots comma place)
 dots_note comma None = notes_pure None
 dots_note comma (Some n) = place_notes (forms.small_place comma n)
 

@@ -139,6 +139,15 @@ correct_as {A = A} {p = p} {R = R} {Q = Q} h less_is = record { at = λ b d. by 
     }
     by b (Err e) c g = tt
 
+pub record IsPure {A : Type 0} (a : A) (final : Stored) (b c : Builder) (x : A) : Type 0 where
+  pub is : x ≡ a
+  pub still : c ≡ b
+
+pub correct_pure : {A : Type 0} (a : A) → Correct (pure a) (IsPure a)
+correct_pure a = record {
+  at = λ b d. record { paired = d; stays = extends_refl b.stored; in_final = λ final pre. record { is = refl; still = refl } };
+}
+
 pub after_lowering : {A : Type 0} {p : Lowering A} {R : Rel A} → Correct p R → (b : Builder) (a : A) (c : Builder) → Paired b.stored
     → p b ≡ (Ok a, c) → (final : Stored) → Extends c.stored final → R final b c a
 after_lowering {R = R} h b a c d is final pre =

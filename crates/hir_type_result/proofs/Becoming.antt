@@ -112,7 +112,7 @@ cut_still : (mark : ℕ) (places : List Bool) (ls : List LifetimeRef) (a : Optio
 cut_still mark places ls None n = refl
 cut_still mark places ls (Some a) n = refl
 
-path_still : (mark : ℕ) (places : List Bool) (ls : List LifetimeRef) (p : Option HirPath) (n : Notes)
+pub path_still : (mark : ℕ) (places : List Bool) (ls : List LifetimeRef) (p : Option HirPath) (n : Notes)
     → (cut_path mark places ls p n).generics.where_predicates ≡ n.generics.where_predicates
 path_still mark places ls None n = refl
 path_still mark places ls (Some p) n = cut_still mark places ls (last_args p) n

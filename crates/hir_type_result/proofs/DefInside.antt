@@ -8,25 +8,24 @@ use Rattle.hir_env.specs.Answered.{Stmt}
 use Rattle.hir_lower_form.specs.Calls.{behind, define_form}
 use Rattle.hir_lower_form.specs.Forms.{StoredContents}
 use Rattle.hir_lower_form.specs.Lowering.{Lowering}
-use Rattle.hir_steps.proofs.Definitions.{correct_count_def, correct_inside_macro}
-use Rattle.hir_steps.proofs.Steps.{Correct, correct_as}
 use Rattle.hir_type_result.proofs.InsideForms.{a_statement, maybe}
-use Rattle.hir_type_result.proofs.InsideMade.{Contains}
-use Rattle.hir_type_result.proofs.Weighed.{Adds, Cost, adds_any, adds_pure, adds_then, free}
+use Rattle.hir_type_result.proofs.InsideMade.{Contains, contains_defined}
+use Rattle.hir_type_result.proofs.Asked.{Correct}
+use Rattle.hir_type_result.proofs.Weighed.{Cost, free}
+use Rattle.hir_type_result.proofs.Weighing.{Adds, adds_defined, adds_any, adds_pure, adds_then}
+use Rattle.hir_noted.proofs.Steps.{notes_count_def}
 
 pub define_adds : (k : ℕ) (d : Option MacroDefId) → Correct (define_form k d) (Adds free (maybe a_statement))
 unfolding define_form
-define_adds k None = adds_then (adds_any (correct_count_def k)) (λ u. adds_pure (Some statement.Item) (λ v. omega arith))
-define_adds k (Some d) = adds_then (adds_any (correct_count_def k)) (λ u. adds_pure (Some (statement.MacroDef d)) (λ v. omega arith))
+define_adds k None = adds_then (adds_any (notes_count_def k)) (λ u. adds_pure (Some statement.Item) (λ v. omega arith))
+define_adds k (Some d) = adds_then (adds_any (notes_count_def k)) (λ u. adds_pure (Some (statement.MacroDef d)) (λ v. omega arith))
 
 pub behind_adds : {A : Type 0} {was : Cost} {now : A → Cost} (s : Stmt) {p : Lowering A} → Correct p (Adds was now)
     → Correct (behind s p) (Adds was now)
-behind_adds (tree.macro_stmt k (Some d)) h =
-    correct_as (correct_inside_macro d h) (λ final ps m m' a g row. record { earlier = row.earlier })
+behind_adds (tree.macro_stmt k (Some d)) h = adds_defined d h
 behind_adds s h = h
 
 pub behind_contains : {done : List Statement} (s : Stmt) {p : Lowering StoredContents} → Correct p (Contains done)
     → Correct (behind s p) (Contains done)
-behind_contains (tree.macro_stmt k (Some d)) h =
-    correct_as (correct_inside_macro d h) (λ final ps m m' r g row. record { settles = row.settles })
+behind_contains (tree.macro_stmt k (Some d)) h = contains_defined d h
 behind_contains s h = h

@@ -43,22 +43,20 @@ use Rattle.hir_lower_form.specs.Lower.{lower_type_pats, lower_limit, limit_side,
 use Rattle.hir_lower_form.specs.Lower.{lower_target_field, push_some, lower_param, lower_params, no_closure_params}
 use Rattle.hir_meaning.specs.Inner.{Inside, by_itself, of_bound, of_path, of_present}
 use Rattle.hir_steps.specs.Keeps.{Paired}
-use Rattle.hir_steps.proofs.Calls.{correct_note, correct_note_gone, correct_told}
-use Rattle.hir_steps.proofs.Noted.{correct_aliased}
-use Rattle.hir_steps.proofs.Steps.{Correct, correct_in_store, correct_report}
-use Rattle.hir_steps.proofs.PatAny.{settle_any}
-use Rattle.hir_steps.proofs.TypeAny.{lifetime_any, uses_any}
-use Rattle.hir_one_result.proofs.AfterLowering.{after_lowering}
+use Rattle.hir_steps.proofs.Steps.{correct_in_store}
 use Rattle.hir_same_meaning.specs.Reached.{of_each, reached_to, Spread}
 use Rattle.hir_type_result.specs.Inside.{InsideReachedOnce, TypeInsideReachedOnce, PathInsideReachedOnce}
 use Rattle.hir_type_result.specs.Unrun.{all_unruns, exprs_of, unrun_in, unrun_in_path, unrun_in_type}
 use Rattle.hir_type_result.proofs.Meaning.{held_deep}
 use Rattle.hir_type_result.proofs.Counted.{times, times_append, counted_spread}
+use Rattle.hir_type_result.proofs.HeldBecoming.{aliased_adds, lifetime_adds, uses_add}
+use Rattle.hir_steps.proofs.Logic.{longer as no_shorter}
+use Rattle.hir_type_result.proofs.Asked.{Correct, after_lowering}
 use Rattle.hir_type_result.proofs.Weighed.{Cost, view, free, an_expr, a_type, a_type_pat, a_pat, a_limit, a_target, a_constant, sum}
-use Rattle.hir_type_result.proofs.Weighed.{Adds, adds_pure}
-use Rattle.hir_type_result.proofs.Weighed.{adds_then, adds_beside, adds_any, adds_from, adds_type, adds_expr, adds_constant}
-use Rattle.hir_type_result.proofs.Weighed.{adds_limit, adds_owning, adds_pat}
-use Rattle.hir_type_result.proofs.Weighed.{adds_type_pat}
+use Rattle.hir_type_result.proofs.Weighing.{Adds, adds_pure, adds_then, adds_beside, adds_any, adds_from, adds_type, adds_expr}
+use Rattle.hir_type_result.proofs.Weighing.{adds_constant, adds_limit, adds_owning, adds_pat, adds_type_pat}
+use Rattle.hir_noted.proofs.Steps.{notes_gone, notes_note, notes_report, notes_told}
+use Rattle.hir_noted.proofs.PatForms.{settle_notes}
 use Rattle.hir_type_result.proofs.Weights as weights
 use Rattle.hir_type_result.proofs.InsideTypes.{maybe_type, types, a_bound, bounds, arguments, lists, maybe_path, walk, reading}
 use Rattle.hir_type_result.proofs.InsideTypes.{called_type_adds, uncalled_type_adds}
@@ -150,7 +148,7 @@ mutual
 
   pub path_adds : (p : OptionPath) → Correct (lower_path p) (Adds free maybe_path)
   path_adds tree.no_path = adds_pure None (λ v. omega arith)
-  path_adds (tree.some_path p) = correct_aliased (alias_of p) (adds_then (reading_adds p start) (λ r. adds_pure (path_read r)
+  path_adds (tree.some_path p) = aliased_adds (alias_of p) (adds_then (reading_adds p start) (λ r. adds_pure (path_read r)
       (λ v. weights.path_read_less v.weight v.held r)))
 
   segment_args_add : (as' : SegmentArgs) → Correct (lower_segment_args as') (Adds free arguments)
@@ -177,7 +175,7 @@ mutual
   arg_adds l tree.skipped_arg = adds_pure l (λ v. omega arith)
   arg_adds l (tree.type_arg t) = adds_then (adds_beside (lists l) (part_adds None t))
       (λ i. adds_pure _ (λ v. weights.arg_added v.weight v.held l (arg.Type_ i)))
-  arg_adds l (tree.lifetime_arg x) = adds_then (adds_any (lifetime_any x))
+  arg_adds l (tree.lifetime_arg x) = adds_then (lifetime_adds x)
       (λ i. adds_pure _ (λ v. let e = weights.arg_added v.weight v.held l (arg.Lifetime i) in omega arith))
   arg_adds l (tree.const_arg c) = adds_then (adds_beside (lists l) (constant_adds c))
       (λ x. adds_pure _ (λ v. weights.arg_added v.weight v.held l (arg.Const x)))
@@ -192,8 +190,8 @@ mutual
   bound_adds : (b : Bound) → Correct (lower_bound b) (Adds free a_bound)
   bound_adds tree.error_bound = adds_pure _ (λ v. omega arith)
   bound_adds (tree.path_bound at p may binder) = path_bound_adds at may binder (path_adds p)
-  bound_adds (tree.lifetime_bound l) = adds_then (adds_any (lifetime_any l)) (λ i. adds_pure _ (λ v. omega arith))
-  bound_adds (tree.use_bound us) = adds_then (adds_any (uses_any [] us)) (λ xs. adds_pure _ (λ v. omega arith))
+  bound_adds (tree.lifetime_bound l) = adds_then (lifetime_adds l) (λ i. adds_pure _ (λ v. omega arith))
+  bound_adds (tree.use_bound us) = adds_then (uses_add [] us) (λ xs. adds_pure _ (λ v. omega arith))
 
   -- constants
 
@@ -236,7 +234,7 @@ mutual
   -- expressions
 
   node_adds : (e : Expr) → Correct (lower e) (Adds free an_expr)
-  node_adds (tree.disabled_expr why e) = adds_then (adds_any (correct_note_gone why)) (λ u. missing_adds)
+  node_adds (tree.disabled_expr why e) = adds_then (adds_any (notes_gone why)) (λ u. missing_adds)
   node_adds (tree.if_expr at c t e) = forms.if_adds at (body_adds c) (block_part_adds t) (present_expr_adds e)
   node_adds (tree.block_expr b) = block_adds b
   node_adds (tree.loop_expr at label _ b) = forms.loop_adds at _ label (block_part_adds b)
@@ -292,7 +290,7 @@ mutual
   params_add c (tree.more_params x xs) = closures.params_then c (one_param_adds c x) (λ l. params_add l xs)
 
   one_param_adds : (c : ClosureParams) (x : Param) → Correct (lower_param c x) (closures.Params c)
-  one_param_adds c (tree.disabled_param at by x) = closures.param_off c (correct_report _)
+  one_param_adds c (tree.disabled_param at by x) = closures.param_off c (notes_report _)
   one_param_adds c (tree.param p t) = closures.param_adds c (top_adds p) (present_adds t)
 
   pub body_adds : (e : OptionExpr) → Correct (lower_part e) (Adds free an_expr)
@@ -316,7 +314,7 @@ mutual
   fields_add done (tree.more_fields f fs) = some_more {cost = a_field} (one_field_adds f) (λ xs. fields_add xs fs) done
 
   one_field_adds : (f : Field) → Correct (lower_field f) (Adds free (maybe a_field))
-  one_field_adds (tree.disabled_field at by f) = adds_then (adds_any (correct_report _)) (λ u. adds_pure None (λ v. omega arith))
+  one_field_adds (tree.disabled_field at by f) = adds_then (adds_any (notes_report _)) (λ u. adds_pure None (λ v. omega arith))
   one_field_adds (tree.nameless_field at e) = adds_pure None (λ v. omega arith)
   one_field_adds (tree.named_field at name e) = forms.field_adds at name (body_adds e)
 
@@ -345,9 +343,9 @@ mutual
 
   stmt_adds : (s : Stmt) → Correct (lower_stmt s) (Adds free (maybe a_statement))
   stmt_adds (tree.expr_stmt e semi) = forms.statement_adds semi (kept_part_adds e)
-  stmt_adds (tree.disabled_stmt at by s) = adds_then (adds_any (correct_report _)) (λ u. adds_pure None (λ v. omega arith))
+  stmt_adds (tree.disabled_stmt at by s) = adds_then (adds_any (notes_report _)) (λ u. adds_pure None (λ v. omega arith))
   stmt_adds tree.item_stmt = adds_pure _ (λ v. omega arith)
-  stmt_adds (tree.call_stmt c) = adds_then (adds_any (correct_note c)) (λ u. adds_pure None (λ v. omega arith))
+  stmt_adds (tree.call_stmt c) = adds_then (adds_any (notes_note c)) (λ u. adds_pure None (λ v. omega arith))
   stmt_adds (tree.macro_stmt k d) = define_adds k d
   stmt_adds (tree.let_stmt p t e b) = pats.let_stmt_adds (top_adds p) (present_adds t) (present_expr_adds e) (present_block_adds b)
 
@@ -360,7 +358,7 @@ mutual
   arms_add done (tree.more_arms a as') = some_more {cost = pats.an_arm} (arm_adds a) (λ xs. arms_add xs as') done
 
   arm_adds : (a : Arm) → Correct (lower_arm a) (Adds free (maybe pats.an_arm))
-  arm_adds (tree.disabled_arm at by a) = adds_then (adds_any (correct_report _)) (λ u. adds_pure None (λ v. omega arith))
+  arm_adds (tree.disabled_arm at by a) = adds_then (adds_any (notes_report _)) (λ u. adds_pure None (λ v. omega arith))
   arm_adds (tree.arm p e g) = pats.arm_adds (top_adds p) (body_adds e) (guard_adds g)
 
   guard_adds : (g : Guard) → Correct (lower_guard g) (Adds free (maybe an_expr))
@@ -371,7 +369,7 @@ mutual
 
   pub top_adds : (p : OptionPat) → Correct (lower_top p) (Adds free a_pat)
   top_adds tree.no_pat = pats.missing_pat_adds
-  top_adds (tree.some_pat p) = adds_then (pat_adds p no_names) (λ r. adds_then (adds_any (settle_any r.1))
+  top_adds (tree.some_pat p) = adds_then (pat_adds p no_names) (λ r. adds_then (adds_any (settle_notes r.1))
       (λ u. adds_pure r.0 (λ v. omega arith)))
 
   pat_adds : (p : Pat) → pats.Each free a_pat (lower_pat p)
@@ -405,24 +403,24 @@ mutual
   pats_add done tree.no_pats t = adds_pure (done, t) (λ v. omega arith)
   pats_add done (tree.more_pats p ps) t = adds_then (adds_beside (pats.pats done) (pat_adds p t))
       (λ r. adds_from (pats.pushed done r.0) (pats_add (done ++ r.0 ∷ []) ps r.1))
-  pats_add done (tree.noted_pats c ps) t = adds_then (adds_any (correct_told c)) (λ u. pats_add done ps t)
+  pats_add done (tree.noted_pats c ps) t = adds_then (adds_any (notes_told c)) (λ u. pats_add done ps t)
 
   elements_add : (done : Elements) (ps : Pats) → pats.Each (pats.elements done) pats.elements (lower_elements done ps)
   elements_add done tree.no_pats t = adds_pure (done, t) (λ v. omega arith)
   elements_add done (tree.more_pats p ps) t =
       adds_then (pats.element_adds (is_dots p) done (pat_adds p) t) (λ r. elements_add r.0 ps r.1)
-  elements_add done (tree.noted_pats c ps) t = adds_then (adds_any (correct_told c)) (λ u. elements_add done ps t)
+  elements_add done (tree.noted_pats c ps) t = adds_then (adds_any (notes_told c)) (λ u. elements_add done ps t)
 
   alternatives_add : (at : Pointer) (ps : Pats) → pats.Each free a_pat (lower_alternatives at ps)
   alternatives_add at tree.no_pats t = pats.alone_adds (adds_pat _ (Some at) (λ v. omega arith)) t
   alternatives_add at (tree.more_pats p ps) t = pats.or_adds at (pat_adds p) (λ done. later_add ps done) t
-  alternatives_add at (tree.noted_pats c ps) t = adds_then (adds_any (correct_told c)) (λ u. alternatives_add at ps t)
+  alternatives_add at (tree.noted_pats c ps) t = adds_then (adds_any (notes_told c)) (λ u. alternatives_add at ps t)
 
   later_add : (ps : Pats) (done : List PatId) → pats.Each (pats.pats done) pats.pats (lower_later ps done)
   later_add tree.no_pats done t = adds_pure (done, t) (λ v. omega arith)
   later_add (tree.more_pats p ps) done t = adds_then (adds_beside (pats.pats done) (pat_adds p (next_alternative t)))
       (λ r. adds_from (pats.pushed done r.0) (later_add ps (done ++ r.0 ∷ []) r.1))
-  later_add (tree.noted_pats c ps) done t = adds_then (adds_any (correct_told c)) (λ u. later_add ps done t)
+  later_add (tree.noted_pats c ps) done t = adds_then (adds_any (notes_told c)) (λ u. later_add ps done t)
 
   pat_fields_add : (done : List RecordFieldPat) (fs : PatFields) → pats.Each (pats.fields done) pats.fields (lower_pat_fields done fs)
   pat_fields_add done tree.no_pat_fields t = adds_pure (done, t) (λ v. omega arith)
@@ -431,7 +429,7 @@ mutual
 
   pat_field_add : (f : PatField) → pats.Each free pats.maybe_field (lower_pat_field f)
   pat_field_add (tree.disabled_pat_field at by f) t =
-      adds_then (adds_any (correct_report _)) (λ u. adds_pure (None, t) (λ v. omega arith))
+      adds_then (adds_any (notes_report _)) (λ u. adds_pure (None, t) (λ v. omega arith))
   pat_field_add tree.partless_pat_field t = adds_pure (None, t) (λ v. omega arith)
   pat_field_add (tree.pat_field at n p) t = pats.pat_field_adds at n (pat_adds p) t
 
@@ -447,10 +445,10 @@ mutual
   target_adds : (t : Target) → Correct (lower_target t) (Adds free a_target)
   target_adds (tree.absent_target call) = aims.missing_target_adds call
   target_adds (tree.place_target at e) = aims.place_adds at (node_adds e)
-  target_adds (tree.macro_target None c t) = adds_then (adds_any (correct_told c)) (λ u. target_adds t)
-  target_adds (tree.macro_target (Some at) c t) = adds_then (adds_any (correct_told c)) (λ u. aims.pointed_adds at (target_adds t))
+  target_adds (tree.macro_target None c t) = adds_then (adds_any (notes_told c)) (λ u. target_adds t)
+  target_adds (tree.macro_target (Some at) c t) = adds_then (adds_any (notes_told c)) (λ u. aims.pointed_adds at (target_adds t))
   target_adds (tree.wild_target at) = aims.adds_target _ at (λ v. omega arith)
-  target_adds (tree.path_target at p h) = aims.path_target_adds at h (correct_aliased (alias_of p) (adds_then (reading_adds p start)
+  target_adds (tree.path_target at p h) = aims.path_target_adds at h (aliased_adds (alias_of p) (adds_then (reading_adds p start)
       (λ r. adds_pure (path_read r) (λ v. weights.path_read_less v.weight v.held r))))
   target_adds (tree.tuple_target at ts) = aims.tuple_target_adds at (targets_add no_elements ts)
   target_adds (tree.call_target at p ts) = aims.call_target_adds at (targets_add no_elements ts) (path_adds p)
@@ -464,7 +462,7 @@ mutual
   targets_add done (tree.more_targets t ts) = adds_then (adds_beside (aims.target_elements done) (target_adds t))
       (λ i. adds_from (aims.pushed done.0 i) (targets_add (add_target done i) ts))
   targets_add done (tree.dots_targets ts) = targets_add (add_target_dots done) ts
-  targets_add done (tree.noted_targets c ts) = adds_then (adds_any (correct_told c)) (λ u. targets_add done ts)
+  targets_add done (tree.noted_targets c ts) = adds_then (adds_any (notes_told c)) (λ u. targets_add done ts)
 
   target_fields_add : (done : List RecordFieldPat) (fs : TargetFields)
       → Correct (lower_target_fields done fs) (Adds (aims.target_fields done) aims.target_fields)
@@ -474,7 +472,7 @@ mutual
 
   target_field_add : (f : TargetField) → Correct (lower_target_field f) (Adds free aims.maybe_target_field)
   target_field_add (tree.disabled_target_field at by) =
-      adds_then (adds_any (correct_report _)) (λ u. adds_pure None (λ v. omega arith))
+      adds_then (adds_any (notes_report _)) (λ u. adds_pure None (λ v. omega arith))
   target_field_add tree.partless_target_field = adds_pure None (λ v. omega arith)
   target_field_add (tree.target_field at n t) = aims.target_field_adds at n (target_adds t)
 
@@ -492,16 +490,19 @@ pub inside_once : {A : Type 0} {now : A → Cost} {p : Lowering A} → Correct p
     ≤ now a (view final depth k depth (held_deep final) (length final.pats.entries)))
     → Spread (length b.stored.exprs.entries) (length b'.stored.exprs.entries) (of_each (reached_to (store_of final) depth) (exprs_of xs))
 inside_once h b b' a paired is final stays depth le xs less =
-    let r = after_lowering (correct_in_store h) b a b' paired is final stays in
-    let n = r.nodes in
+    let r = after_lowering h b a b' paired is final stays in
+    let n = no_shorter stays.exprs.entries in
+    let m = no_shorter stays.types.entries in
+    let p = no_shorter stays.pats.entries in
     counted_spread _ _ _ (λ k.
-    let e = r.rel.earlier depth k depth (held_deep final) (length final.pats.entries) (record {
+    let e = r.earlier depth k depth (held_deep final) (length final.pats.entries) (record {
       all_of = omega (arith, n, le);
       deep = omega (arith, n, le);
-      inside = omega (arith, n, r.entries);
-      placed = r.pats;
+      inside = omega (arith, n, m, p);
+      placed = p;
     }) in
     let c = e.counted in
+    let q = r.asks depth k in
     let l = less k in
     let w = weighed (reached_to (store_of final) depth) k xs in omega arith)
 

@@ -12,16 +12,16 @@ use Rattle.hir_env.specs.Answered.{Formal, Formals, OptionExpr, SelfFormal}
 use Rattle.hir_lower_form.specs.Forms.{push_some, some}
 use Rattle.hir_lower_form.specs.Lowering.{Lowering}
 use Rattle.hir_meaning.specs.Inner.{all_of, by_itself}
-use Rattle.hir_steps.proofs.PatSteps.{correct_alloc_binding}
-use Rattle.hir_steps.proofs.Steps.{Correct, correct_report}
 use Rattle.hir_one_result.specs.Formals.{Given, Received, coroutine_body, each_formal, in_function, lower_body, lower_formal}
 use Rattle.hir_one_result.specs.Formals.{lower_formals, lower_self, plain_body}
 use Rattle.hir_same_meaning.specs.Reached.{Spread, of_each, reached_to}
 use Rattle.hir_type_result.specs.Inside.{BodyInsideReachedOnce}
 use Rattle.hir_type_result.specs.Unrun.{all_unruns, unrun_in, unrun_in_pats}
 use Rattle.hir_type_result.proofs.Meaning.{held_deep}
-use Rattle.hir_type_result.proofs.Weighed.{View, Cost, Adds, view, free, beside, an_expr, a_pat, sum_append}
-use Rattle.hir_type_result.proofs.Weighed.{adds_any, adds_beside, adds_from, adds_owning, adds_pure, adds_then}
+use Rattle.hir_type_result.proofs.Asked.{Correct}
+use Rattle.hir_type_result.proofs.Weighed.{View, Cost, view, free, beside, an_expr, a_pat, sum_append}
+use Rattle.hir_type_result.proofs.Weighing.{Adds, adds_any, adds_beside, adds_from, adds_owning, adds_pure, adds_then}
+use Rattle.hir_noted.proofs.Steps.{notes_binding, notes_report}
 use Rattle.hir_type_result.proofs.InsideAtOnce.{adds_at_once, at_once_beside, at_once_from}
 use Rattle.hir_type_result.proofs.InsidePats.{maybe_pat, missing_pat_adds, pats, pushed}
 use Rattle.hir_type_result.proofs.InsidePreludes.{each_handed_adds, let_params_add, let_self_adds, made_coroutine_adds}
@@ -31,14 +31,14 @@ use Rattle.hir_type_result.proofs.Inside.{body_adds, inside_once, top_adds}
 
 self_adds : (s : SelfFormal) → Correct (lower_self s) (Adds free (λ o. free))
 self_adds tree.no_self = adds_pure None (λ v. omega arith)
-self_adds (tree.disabled_self at by) = adds_then (adds_any (correct_report _)) (λ u. adds_pure None (λ v. omega arith))
-self_adds (tree.self_formal at u _) = adds_then (adds_any (correct_alloc_binding _)) (λ i. adds_pure (Some i) (λ v. omega arith))
+self_adds (tree.disabled_self at by) = adds_then (adds_any (notes_report _)) (λ u. adds_pure None (λ v. omega arith))
+self_adds (tree.self_formal at u _) = adds_then (adds_any (notes_binding _)) (λ i. adds_pure (Some i) (λ v. omega arith))
 
 present_adds : {p : Lowering PatId} → Correct p (Adds free a_pat) → Correct (some p) (Adds free maybe_pat)
 present_adds h = adds_then h (λ i. adds_pure (Some i) (λ v. omega arith))
 
 formal_adds : (skipped : Bool) (f : Formal) → Correct (lower_formal skipped f) (Adds free maybe_pat)
-formal_adds skipped (tree.disabled_formal at by) = adds_then (adds_any (correct_report _)) (λ u. adds_pure None (λ v. omega arith))
+formal_adds skipped (tree.disabled_formal at by) = adds_then (adds_any (notes_report _)) (λ u. adds_pure None (λ v. omega arith))
 formal_adds true (tree.formal p) = present_adds missing_pat_adds
 formal_adds false (tree.formal p) = present_adds (top_adds p)
 

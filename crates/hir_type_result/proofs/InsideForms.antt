@@ -31,14 +31,13 @@ use Rattle.hir_lower_form.specs.Lower.{offset_of_form, record_contents, record_o
 use Rattle.hir_lower_form.specs.Lower.{stored_leaf, stored_unary, stored_binary, stored_leaving, settled, settled_block, kept}
 use Rattle.hir_meaning.specs.Inner as inner
 use Rattle.hir_meaning.specs.Inner.{Inside, all_of, of_constant, of_present, of_list, of_path}
-use Rattle.hir_steps.proofs.Calls.{correct_note_gone, correct_told}
-use Rattle.hir_steps.proofs.Frames.{loop_at, block_at}
-use Rattle.hir_steps.proofs.Steps.{Correct, correct_report_await, correct_point, correct_point_field}
-use Rattle.hir_steps.proofs.Steps.{correct_enter_block, correct_target}
 use Rattle.hir_same_meaning.specs.Reached.{of_some, of_each, of_fields, of_others, of_statement, of_statements}
 use Rattle.hir_type_result.proofs.Counted.{times, times_append}
-use Rattle.hir_type_result.proofs.Weighed.{View, Cost, free, beside, an_expr, a_type, a_constant, in_expr, sum, sum_append, Adds, adds_pure}
-use Rattle.hir_type_result.proofs.Weighed.{adds_then, adds_beside, adds_any, adds_from, adds_expr, adds_opened}
+use Rattle.hir_type_result.proofs.Asked.{Correct}
+use Rattle.hir_type_result.proofs.Weighed.{View, Cost, free, beside, an_expr, a_type, a_constant, in_expr, sum, sum_append}
+use Rattle.hir_type_result.proofs.Weighing.{Adds, adds_pure, adds_then, adds_beside, adds_any, adds_from, adds_expr, adds_opened}
+use Rattle.hir_noted.proofs.Steps.{notes_enter_block, notes_gone, notes_jump_target, notes_point, notes_point_field, notes_report_await}
+use Rattle.hir_noted.proofs.Steps.{notes_told}
 use Rattle.hir_type_result.proofs.InsideTypes.{arguments, maybe_path}
 
 -- ---- costs of lists and options
@@ -131,7 +130,7 @@ some_adds h = adds_then h (λ i. adds_pure (Some i) (λ v. omega arith))
 
 pub kept_adds : (e : Expr) {p : ExprSteps} → Correct p (Adds free an_expr) → Correct (kept e p) (Adds free (maybe an_expr))
 kept_adds (tree.disabled_expr why e) h =
-    adds_then (adds_any (correct_note_gone why)) (λ u. adds_pure None (λ v. omega arith))
+    adds_then (adds_any (notes_gone why)) (λ u. adds_pure None (λ v. omega arith))
 kept_adds e h = some_adds h
 
 -- ---- forms
@@ -236,7 +235,7 @@ module _ (at : Pointer) where
       → Correct (loop_form at from label b) (Adds free an_expr)
   unfolding loop_form
   loop_adds from None h = adds_then h (λ i. adds_expr _ (Some at) (λ v. omega arith))
-  loop_adds from (Some l) h = adds_opened loop_at l (λ n ps. refl) (λ n. h) (λ n i. adds_expr _ (Some at) (λ v. omega arith))
+  loop_adds from (Some l) h = adds_opened l (λ n. h) (λ n i. adds_expr _ (Some at) (λ v. omega arith))
 
   -- the condition behind the body, and behind both a break
   pub turn_adds : {c b : ExprSteps} → Correct c (Adds free an_expr) → Correct b (Adds free an_expr)
@@ -253,24 +252,24 @@ module _ (at : Pointer) where
 
   pub continue_adds : (j : Option Jump) → Correct (continue_form at j) (Adds free an_expr)
   unfolding continue_form
-  continue_adds j = adds_then (adds_any (correct_target j)) (λ n. adds_expr _ (Some at) (λ v. omega arith))
+  continue_adds j = adds_then (adds_any (notes_jump_target j)) (λ n. adds_expr _ (Some at) (λ v. omega arith))
 
   pub break_adds : (j : Option Jump) {e : Lowering (Option ExprId)} → Correct e (Adds free (maybe an_expr))
       → Correct (break_form at j e) (Adds free an_expr)
   unfolding break_form
-  break_adds j h = adds_then (adds_any (correct_target j)) (λ n. adds_then h (λ o. adds_expr _ (Some at) (value_less o)))
+  break_adds j h = adds_then (adds_any (notes_jump_target j)) (λ n. adds_then h (λ o. adds_expr _ (Some at) (value_less o)))
 
   pub paren_adds : {e : ExprSteps} → Correct e (Adds free an_expr) → Correct (paren_form at e) (Adds free an_expr)
   unfolding paren_form
-  paren_adds h = adds_then h (λ i. adds_then (adds_any (correct_point at i)) (λ u. adds_pure i (λ v. omega arith)))
+  paren_adds h = adds_then h (λ i. adds_then (adds_any (notes_point at i)) (λ u. adds_pure i (λ v. omega arith)))
 
   pub uncalled_adds : (c : Called) → Correct (uncalled_form at c) (Adds free an_expr)
   unfolding uncalled_form
-  uncalled_adds c = adds_then (adds_any (correct_told c)) (λ u. adds_expr _ (Some at) (λ v. omega arith))
+  uncalled_adds c = adds_then (adds_any (notes_told c)) (λ u. adds_expr _ (Some at) (λ v. omega arith))
 
   pub called_adds : (c : Called) {e : ExprSteps} → Correct e (Adds free an_expr) → Correct (called_form at c e) (Adds free an_expr)
   unfolding called_form
-  called_adds c h = adds_then (adds_any (correct_told c)) (λ u. paren_adds h)
+  called_adds c h = adds_then (adds_any (notes_told c)) (λ u. paren_adds h)
 
   pub operand_adds : (form : ExprId → HirExpr) {e : ExprSteps} → ((i : ExprId) (v : View) → in_expr (form i) v ≤ an_expr i v)
       → Correct e (Adds free an_expr) → Correct (operand_form at form e) (Adds free an_expr)
@@ -300,17 +299,17 @@ module _ (at : Pointer) where
   pub await_adds : (l : Option AwaitLocation) {e : ExprSteps} → Correct e (Adds free an_expr)
       → Correct (await_form at l e) (Adds free an_expr)
   unfolding await_form
-  await_adds l h = adds_then h (λ i. adds_then (adds_any (correct_report_await at l)) (λ u. adds_expr _ (Some at) (λ v. omega arith)))
+  await_adds l h = adds_then h (λ i. adds_then (adds_any (notes_report_await at l)) (λ u. adds_expr _ (Some at) (λ v. omega arith)))
 
   pub field_adds : (name : Name) {e : ExprSteps} → Correct e (Adds free an_expr)
       → Correct (field_form at name e) (Adds free (maybe a_field))
   unfolding field_form
-  field_adds name h = adds_then h (λ i. adds_then (adds_any (correct_point_field i at)) (λ u. adds_pure _ (λ v. omega arith)))
+  field_adds name h = adds_then h (λ i. adds_then (adds_any (notes_point_field i at)) (λ u. adds_pure _ (λ v. omega arith)))
 
   pub block_form_adds : (is_unsafe : Bool) (label : Option LabelId) (number : Option BlockId) {c : Lowering StoredContents}
       → Correct c (Adds free contents) → Correct (block_form at is_unsafe label number c) (Adds free an_expr)
   unfolding block_form
-  block_form_adds is_unsafe label number h = adds_then (adds_any (correct_enter_block number))
+  block_form_adds is_unsafe label number h = adds_then (adds_any (notes_enter_block number))
       (λ u. adds_then h (λ r. adds_expr _ (Some at) (settled_block_less is_unsafe label number r)))
 
   -- those that name types
@@ -369,7 +368,7 @@ pub labelled_adds : (label : Option Label) {f : Option LabelId → ExprSteps} �
 unfolding labelled
 labelled_adds None h = h None
 labelled_adds (Some l) h =
-    adds_opened block_at l (λ n ps. refl) (λ n. h (Some n)) (λ n i. adds_pure i (λ v. omega arith))
+    adds_opened l (λ n. h (Some n)) (λ n i. adds_pure i (λ v. omega arith))
 
 statement_less : (semi : Bool) (o : Option ExprId) (v : View)
     → maybe a_statement (option_map (λ i. statement.Expr i semi) o) v ≤ maybe an_expr o v

@@ -19,12 +19,13 @@ use Rattle.hir_lower_form.specs.Made.{for_turn_form, made_loop_form, for_form}
 use Rattle.hir_meaning.specs.Inner as inner
 use Rattle.hir_meaning.specs.Inner.{all_of}
 use Rattle.hir_same_meaning.specs.Reached.{of_arms}
-use Rattle.hir_steps.proofs.Frames.{loop_at}
-use Rattle.hir_steps.proofs.MadeSteps.{correct_made_number}
-use Rattle.hir_steps.proofs.Steps.{Correct, correct_as, correct_bind}
 use Rattle.hir_type_result.proofs.Counted.{less}
-use Rattle.hir_type_result.proofs.Weighed.{View, Cost, free, beside, an_expr, a_pat, in_expr, Adds, adds_pure, adds_then, adds_beside}
-use Rattle.hir_type_result.proofs.Weighed.{DeepView, adds_expr, adds_made, adds_opened, adds_pat, deep_before, still_deep}
+use Rattle.hir_noted.proofs.Steps.{notes_made_number}
+use Rattle.hir_steps.proofs.Steps.{mark}
+use Rattle.hir_type_result.proofs.Asked.{Correct, correct_as, correct_bind}
+use Rattle.hir_type_result.proofs.Weighed.{View, Cost, free, beside, an_expr, a_pat, in_expr, DeepView}
+use Rattle.hir_type_result.proofs.Weighing.{Adds, adds_any, adds_beside, adds_expr, adds_made, adds_opened, adds_pat, adds_pure, adds_then}
+use Rattle.hir_type_result.proofs.Weighing.{came_of, deep_before, still_deep}
 use Rattle.hir_type_result.proofs.InsideForms.{both, block_less}
 use Rattle.hir_type_result.proofs.InsidePats.{an_arm, arms_are, arm_less}
 use Rattle.hir_type_result.proofs.InsideMade.{item_pat_less, made_bind_adds, made_path_adds, item_call_adds, two_arms_less}
@@ -74,14 +75,20 @@ module _ (at : Pointer) where
   for_turn_adds items n p h = correct_as
       (correct_bind (next_adds items.next n) (λ c. correct_bind (done_adds items.is_done)
       (λ a. correct_bind (gives_adds items.gives p h) (λ b. choice_adds c a b))))
-      (λ final ps m m' i g row.
+      (λ final b0 e0 i g row.
       let q = row.second in
       let s = q.second in record {
+        asks = λ all number.
+            let f = row.first.asks all number in
+            let h = q.first.asks all number in
+            let j = s.first.asks all number in
+            let l = s.second.asks all number in omega (arith, f, h, j, l);
         earlier = λ all number reach hold place d.
+            let far = s.after.exprs in
             let y = s.second.earlier all number reach hold place d in
             let seen : ℕ × ℕ × ℕ = (y.reach, y.hold, y.place) in
-            let deep : DeepView s.middle all seen = record {
-              all_of = omega (arith, d.all_of, s.after.nodes);
+            let deep : DeepView (mark s.middle) all seen = record {
+              all_of = omega (arith, d.all_of, far);
               deep = y.deep;
               inside = y.inside;
               placed = y.placed;
@@ -89,13 +96,15 @@ module _ (at : Pointer) where
             let x = s.first.earlier all number y.reach y.hold y.place deep in
             let between = deep_before seen s.before deep in
             let w = q.first.earlier all number y.reach y.hold y.place between in
-            let u = row.first.earlier all number y.reach y.hold y.place (deep_before seen q.before between) in record {
+            let u = row.first.earlier all number y.reach y.hold y.place (deep_before seen q.before between) in
+            let one = row.before in
+            let two = q.before in record {
               reach = x.reach;
               hold = x.hold;
               place = x.place;
-              deep = omega (arith, x.deep, row.before.nodes, q.before.nodes);
-              inside = omega (arith, x.inside, row.before.nodes, row.before.entries, q.before.nodes, q.before.entries);
-              placed = omega (arith, x.placed, row.before.pats, q.before.pats);
+              deep = omega (arith, x.deep, one.exprs, two.exprs);
+              inside = omega (arith, x.inside, one.exprs, one.types, one.pats, two.exprs, two.types, two.pats);
+              placed = omega (arith, x.placed, one.pats, two.pats);
               counted =
                   let a = y.counted in
                   let b = x.counted in
@@ -109,7 +118,7 @@ module _ (at : Pointer) where
   unfolding made_loop_form
   made_loop_adds None h = adds_then h (λ b. adds_made (hir.Loop b None ForLoop) (Some at) (λ v. omega arith))
   made_loop_adds (Some l) h =
-      adds_opened loop_at l (λ n ps. refl) (λ n. h) (λ n b. adds_made (hir.Loop b (Some n) ForLoop) (Some at) (λ v. omega arith))
+      adds_opened l (λ n. h) (λ n b. adds_made (hir.Loop b (Some n) ForLoop) (Some at) (λ v. omega arith))
 
 pub for_adds : (at head_at : Pointer) (items : ForItems) (label : Option Label) {head : ExprSteps} {pattern : Lowering PatId}
     {body : ExprSteps} → Correct head (Adds free an_expr) → Correct pattern (Adds free a_pat) → Correct body (Adds free an_expr)
@@ -117,21 +126,35 @@ pub for_adds : (at head_at : Pointer) (items : ForItems) (label : Option Label) 
 unfolding for_form
 for_adds at head_at items label hh hp hb = correct_as
     (correct_bind hh (λ h. correct_bind (item_call_adds head_at (Some items.into_iter) h)
-    (λ i. correct_bind hp (λ p. correct_bind correct_made_number (λ n. correct_bind (made_bind_adds Mutable n)
+    (λ i. correct_bind hp (λ p. correct_bind (adds_any {was = free} notes_made_number) (λ n. correct_bind (made_bind_adds Mutable n)
     (λ q. correct_bind (made_loop_adds at label (for_turn_adds at items n p hb))
     (λ l. adds_expr {was = beside (beside (an_expr i) (a_pat q)) (an_expr l)} (hir.Match i (arm_for q l ∷ [])) (Some at)
     (one_arm_less i q l))))))))
-    (λ final ps m m' i g row. record {
+    (λ final b0 e0 i g row. record {
+      asks = λ all k.
+          let called = row.second in
+          let fits = called.second in
+          let counts = fits.second in
+          let binds = counts.second in
+          let loops = binds.second in
+          let a = row.first.asks all k in
+          let b = called.first.asks all k in
+          let c = fits.first.asks all k in
+          let e = counts.first.asks all k in
+          let f = binds.first.asks all k in
+          let h = loops.first.asks all k in
+          let j = loops.second.asks all k in omega (arith, a, b, c, e, f, h, j);
       earlier = λ all k reach hold place d.
           let called = row.second in
           let fits = called.second in
           let counts = fits.second in
           let binds = counts.second in
           let loops = binds.second in
+          let far = loops.after.exprs in
           let y = loops.second.earlier all k reach hold place d in
           let seen : ℕ × ℕ × ℕ = (y.reach, y.hold, y.place) in
-          let deep : DeepView loops.middle all seen = record {
-            all_of = omega (arith, d.all_of, loops.after.nodes);
+          let deep : DeepView (mark loops.middle) all seen = record {
+            all_of = omega (arith, d.all_of, far);
             deep = y.deep;
             inside = y.inside;
             placed = y.placed;
@@ -139,21 +162,22 @@ for_adds at head_at items label hh hp hb = correct_as
           let x = loops.first.earlier all k y.reach y.hold y.place deep in
           let looked : ℕ × ℕ × ℕ = (x.reach, x.hold, x.place) in
           let bound = deep_before seen loops.before deep in
-          let deeper : DeepView binds.middle all looked =
+          let deeper : DeepView (mark binds.middle) all looked =
           record { all_of = bound.all_of; deep = x.deep; inside = x.inside; placed = x.placed } in
           let u = binds.first.earlier all k y.reach y.hold y.place bound in
           let fitting = deep_before looked counts.before (deep_before looked binds.before deeper) in
           let w = fits.first.earlier all k x.reach x.hold x.place fitting in
           let made = deep_before seen fits.before (deep_before seen counts.before (deep_before seen binds.before bound)) in
           let s = called.first.earlier all k y.reach y.hold y.place made in
-          let of_head : DeepView row.middle all (s.reach, s.hold, s.place) = record {
-            all_of = omega (arith, made.all_of, called.before.nodes);
+          let near = called.before.exprs in
+          let of_head : DeepView (mark row.middle) all (s.reach, s.hold, s.place) = record {
+            all_of = omega (arith, made.all_of, near);
             deep = s.deep;
             inside = s.inside;
             placed = s.placed;
           } in
           let t = row.first.earlier all k s.reach s.hold s.place of_head in
-          let n = ap (less k) counts.first.nodes in
+          let n = came_of {A = ℕ} counts.first all k seen (deep_before seen binds.before bound) in
           still_deep reach hold place g d (
           let a = y.counted in
           let b = x.counted in

@@ -24,15 +24,19 @@ use Rattle.hir_lower_form.specs.Made.{try_block_form, bound, bound_block, typed_
 use Rattle.hir_lower_form.specs.Made.{condition_form, held, held_block, held_form, hold_form}
 use Rattle.hir_meaning.specs.Inner as inner
 use Rattle.hir_meaning.specs.Inner.{all_of}
-use Rattle.hir_steps.proofs.Frames.{Frame}
-use Rattle.hir_steps.proofs.MadeSteps.{correct_made_number, correct_opened_try, correct_try_target}
-use Rattle.hir_steps.proofs.PatSteps.{correct_alloc_binding, correct_define}
-use Rattle.hir_steps.proofs.Steps.{Mark, Grows, Correct, correct_as, correct_bind, correct_enter_block, correct_pure}
 use Rattle.hir_same_meaning.specs.Reached.{of_arms}
 use Rattle.hir_type_result.proofs.Counted.{less, less_grows}
+use Rattle.hir_store.specs.declared.ids.MacroDefId.{MacroDefId}
+use Rattle.hir_lower_form.specs.Builder.{Builder}
+use Rattle.hir_lower_form.specs.Calls.{inside_macro}
+use Rattle.hir_steps.proofs.Steps.{mark}
+use Rattle.hir_type_result.proofs.Asked.{Correct, Longer, correct_as, correct_bind, correct_pure}
 use Rattle.hir_type_result.proofs.Weighed.{View, Cost, free, beside, an_expr, a_type, a_pat, in_expr, in_pat, sum_append, Deep, DeepView}
-use Rattle.hir_type_result.proofs.Weighed.{Adds, at_depth, came_of, deep_before}
-use Rattle.hir_type_result.proofs.Weighed.{adds_pure, adds_then, adds_beside, adds_any, adds_expr, adds_made, adds_pat, still_deep}
+use Rattle.hir_type_result.proofs.Weighed.{at_depth}
+use Rattle.hir_type_result.proofs.Weighing.{Adds, adds_any, adds_beside, adds_expr, adds_made, adds_pat, adds_pure, adds_then, asked}
+use Rattle.hir_type_result.proofs.Weighing.{came_of, deep_before, still_deep}
+use Rattle.hir_noted.proofs.Steps.{notes_binding, notes_close, notes_define, notes_enter_block, notes_made_number, notes_open_macro}
+use Rattle.hir_noted.proofs.Steps.{notes_open_try, notes_try_target}
 use Rattle.hir_type_result.proofs.InsideForms.{maybe, each, each_push, both, a_statement, block_less, first_less, value_less}
 use Rattle.hir_type_result.proofs.InsidePats.{an_arm, arms_are, arm_less, let_less}
 
@@ -54,9 +58,9 @@ leaving_less (Some t) e v = value_less (Some e) v
 
 pub made_bind_adds : (mode : BindingAnnotation) (n : ℕ) → Correct (made_bind_form mode n) (Adds free a_pat)
 unfolding made_bind_form
-made_bind_adds mode n = adds_then (adds_any (correct_alloc_binding (made_binding mode n)))
+made_bind_adds mode n = adds_then (adds_any (notes_binding (made_binding mode n)))
     (λ b. adds_then (adds_pat (pat.Bind b None) None (λ v. omega arith))
-    (λ p. adds_then (adds_any (correct_define b p)) (λ u. adds_pure p (λ v. omega arith))))
+    (λ p. adds_then (adds_any (notes_define b p)) (λ u. adds_pure p (λ v. omega arith))))
 
 module _ (at : Pointer) where
   pub made_path_adds : (n : ℕ) → Correct (made_path_form at n) (Adds free an_expr)
@@ -76,14 +80,14 @@ module _ (at : Pointer) where
   flow_arm_adds : (item : LangItemId) {body : ℕ → ExprSteps} → ((n : ℕ) → Correct (body n) (Adds free an_expr))
       → Correct (flow_arm_form item body) (Adds free an_arm)
   unfolding flow_arm_form
-  flow_arm_adds item h = adds_then (adds_any correct_made_number) (λ n. adds_then (made_bind_adds _ n)
+  flow_arm_adds item h = adds_then (adds_any notes_made_number) (λ n. adds_then (made_bind_adds _ n)
       (λ p. adds_then (adds_pat (item_pat item p) None (item_pat_less item p))
       (λ q. adds_then (adds_beside (a_pat q) (h n))
       (λ e. adds_pure _ (λ v. let x = arm_less q None e v in omega (arith, x))))))
 
   residual_adds : (items : QuestionItems) (n : ℕ) → Correct (residual_form at items n) (Adds free an_expr)
   unfolding residual_form
-  residual_adds items n = adds_then (made_path_adds n) (λ r. adds_then (adds_any correct_try_target)
+  residual_adds items n = adds_then (made_path_adds n) (λ r. adds_then (adds_any notes_try_target)
       (λ t. adds_then (item_call_adds (conversion items t) r) (λ e. adds_made (leaving_node t e) (Some at) (leaving_less t e))))
 
   pub two_arms_less : (e : ExprId) (a c : MatchArm) (v : View)
@@ -115,27 +119,32 @@ module _ (at : Pointer) where
 
 -- ---- what is in a block, of which the tail lies deeper than the rest
 
--- What is reached by these statements, and once the last of them may have become the tail, was given out from this number on.
-pub record Front (from : ℕ) (final : Stored) (m : Mark) (all number : ℕ) (done : List Statement) : Type 0 where
-  pub listed : (d : ℕ × ℕ × ℕ) → DeepView m all d
-      → each a_statement done (at_depth final all number d) + less number from ≤ less number m.nodes
-  pub settles : (d d' : ℕ × ℕ × ℕ) → DeepView m all d → DeepView m all d'
+-- What is reached by these statements, and once the last of them may have become the tail, was given out from this number on, where so
+-- much was asked before.
+pub record Front (from owed : ℕ) (final : Stored) (m : Builder) (all number : ℕ) (done : List Statement) : Type 0 where
+  pub listed : (d : ℕ × ℕ × ℕ) → DeepView (mark m) all d
+      → each a_statement done (at_depth final all number d) + (asked final all number m + less number from)
+      ≤ owed + less number (mark m).nodes
+  pub settles : (d d' : ℕ × ℕ × ℕ) → DeepView (mark m) all d → DeepView (mark m) all d'
       → each a_statement (settled done None).0 (at_depth final all number d)
-      + maybe an_expr (settled done None).1 (at_depth final all number d') + less number from ≤ less number m.nodes
+      + maybe an_expr (settled done None).1 (at_depth final all number d') + (asked final all number m + less number from)
+      ≤ owed + less number (mark m).nodes
 
 -- so it is of what is settled, however deep its tail is looked into
-pub record Settles (from : ℕ) (final : Stored) (m : Mark) (all number : ℕ) (r : StoredContents) : Type 0 where
-  pub both_of : (d d' : ℕ × ℕ × ℕ) → DeepView m all d → DeepView m all d'
+pub record Settles (from owed : ℕ) (final : Stored) (m : Builder) (all number : ℕ) (r : StoredContents) : Type 0 where
+  pub both_of : (d d' : ℕ × ℕ × ℕ) → DeepView (mark m) all d → DeepView (mark m) all d'
       → each a_statement (settled r.0 r.1).0 (at_depth final all number d)
-      + maybe an_expr (settled r.0 r.1).1 (at_depth final all number d') + less number from ≤ less number m.nodes
+      + maybe an_expr (settled r.0 r.1).1 (at_depth final all number d') + (asked final all number m + less number from)
+      ≤ owed + less number (mark m).nodes
 
-pub record Contains (done : List Statement) (final : Stored) (ps : List Frame) (m m' : Mark) (r : StoredContents) : Type 0 where
-  pub settles : (from all number : ℕ) → Front from final m all number done → Settles from final m' all number r
+pub record Contains (done : List Statement) (final : Stored) (b c : Builder) (r : StoredContents) : Type 0 where
+  pub asks : (all number : ℕ) → asked final all number b ≤ asked final all number c
+  pub settles : (from owed all number : ℕ) → Front from owed final b all number done → Settles from owed final c all number r
 
-front_none : (from : ℕ) (final : Stored) (m : Mark) (all number : ℕ) → from ≡ m.nodes → Front from final m all number []
-front_none from final m all number is = let e = ap (less number) is in record {
-  listed = λ d h. omega (arith, e);
-  settles = λ d d' h h'. omega (arith, e);
+front_none : (final : Stored) (m : Builder) (all number : ℕ) → Front (mark m).nodes (asked final all number m) final m all number []
+front_none final m all number = record {
+  listed = λ d h. omega arith;
+  settles = λ d d' h h'. omega arith;
 }
 
 -- a last expression without a semicolon becomes the tail
@@ -200,29 +209,34 @@ pushed [] s = pushed_first s
 pushed (x ∷ []) s = pushed_alone x s
 pushed (x ∷ (y ∷ done)) s = pushed_behind x y done s (pushed (y ∷ done) s)
 
+-- what a step gave out that costs so much
+abbrev Gave : Stored → Builder → Builder → ℕ → ℕ → Cost → Type 0
+Gave final m m' all number cost = (d : ℕ × ℕ × ℕ) → DeepView (mark m') all d
+    → cost (at_depth final all number d) + (asked final all number m' + less number (mark m).nodes)
+    ≤ asked final all number m + less number (mark m').nodes
+
 -- a statement more
-module _ {from : ℕ} {final : Stored} {m m' : Mark} {all number : ℕ} {done : List Statement} (g : Grows m m')
-    (f : Front from final m all number done) where
-  front_still : Front from final m' all number done
-  front_still = let l = less_grows number m.nodes m'.nodes g.nodes in record {
-    listed = λ d h. let x = f.listed d (deep_before d g h) in omega (arith, x, l);
-    settles = λ d d' h h'. let x = f.settles d d' (deep_before d g h) (deep_before d' g h') in omega (arith, x, l);
+module _ {from owed : ℕ} {final : Stored} {m m' : Builder} {all number : ℕ} {done : List Statement} (g : Longer m m')
+    (f : Front from owed final m all number done) where
+  front_still : Gave final m m' all number free → Front from owed final m' all number done
+  front_still came = record {
+    listed = λ d h. let l = came d h in let x = f.listed d (deep_before d g h) in omega (arith, x, l);
+    settles = λ d d' h h'. let l = came d h in let x = f.settles d d' (deep_before d g h) (deep_before d' g h') in omega (arith, x, l);
   }
 
-  module _ (s : Statement) (came : (d : ℕ × ℕ × ℕ) → DeepView m' all d
-      → a_statement s (at_depth final all number d) + less number m.nodes ≤ less number m'.nodes) where
-    all_listed : (d : ℕ × ℕ × ℕ) → DeepView m' all d
-        → each a_statement (done ++ s ∷ []) (at_depth final all number d) + less number from ≤ less number m'.nodes
+  module _ (s : Statement) (came : Gave final m m' all number (a_statement s)) where
+    all_listed : (d : ℕ × ℕ × ℕ) → DeepView (mark m') all d
+        → each a_statement (done ++ s ∷ []) (at_depth final all number d) + (asked final all number m' + less number from)
+        ≤ owed + less number (mark m').nodes
     all_listed d h =
         let x = f.listed d (deep_before d g h) in
         let y = came d h in
         let e = each_push a_statement done s (at_depth final all number d) in omega (arith, x, y, e)
 
-  front_settles : (s : Statement) → ((d : ℕ × ℕ × ℕ) → DeepView m' all d
-      → a_statement s (at_depth final all number d) + less number m.nodes ≤ less number m'.nodes) → (r : StoredContents)
-      → settled (done ++ s ∷ []) None ≡ r → Pushed done s → (d d' : ℕ × ℕ × ℕ) → DeepView m' all d → DeepView m' all d'
-      → each a_statement r.0 (at_depth final all number d) + maybe an_expr r.1 (at_depth final all number d') + less number from
-      ≤ less number m'.nodes
+  front_settles : (s : Statement) → Gave final m m' all number (a_statement s) → (r : StoredContents)
+      → settled (done ++ s ∷ []) None ≡ r → Pushed done s → (d d' : ℕ × ℕ × ℕ) → DeepView (mark m') all d → DeepView (mark m') all d'
+      → each a_statement r.0 (at_depth final all number d) + maybe an_expr r.1 (at_depth final all number d')
+      + (asked final all number m' + less number from) ≤ owed + less number (mark m').nodes
   front_settles (statement.Expr i false) came r is h d d' deep deep' = rw (sym is ∙ h) (
       let x = f.listed d (deep_before d g deep) in
       let y = came d' deep' in omega (arith, x, y))
@@ -235,45 +249,65 @@ module _ {from : ℕ} {final : Stored} {m m' : Mark} {all number : ℕ} {done : 
   front_settles (statement.Let p t e b) came r is h d d' deep deep' = rw (sym is ∙ h) (
       let x = all_listed (statement.Let p t e b) came d deep in omega (arith, x))
 
-  front_more : (s : Statement) → ((d : ℕ × ℕ × ℕ) → DeepView m' all d
-      → a_statement s (at_depth final all number d) + less number m.nodes ≤ less number m'.nodes)
-      → Front from final m' all number (done ++ s ∷ [])
+  front_more : (s : Statement) → Gave final m m' all number (a_statement s) → Front from owed final m' all number (done ++ s ∷ [])
   front_more s came = record {
     listed = all_listed s came;
     settles = front_settles s came (settled (done ++ s ∷ []) None) refl (pushed done s);
   }
 
-  front_pushed : (o : Option Statement) → ((d : ℕ × ℕ × ℕ) → DeepView m' all d
-      → maybe a_statement o (at_depth final all number d) + less number m.nodes ≤ less number m'.nodes)
-      → Front from final m' all number (push_some done o)
-  front_pushed None came = front_still
+  front_pushed : (o : Option Statement) → Gave final m m' all number (maybe a_statement o)
+      → Front from owed final m' all number (push_some done o)
+  front_pushed None came = front_still came
   front_pushed (Some s) came = front_more s came
 
   -- the tail
-  front_ends : (t : Option ExprId) → ((d : ℕ × ℕ × ℕ) → DeepView m' all d
-      → maybe an_expr t (at_depth final all number d) + less number m.nodes ≤ less number m'.nodes)
-      → Settles from final m' all number (done, t)
-  front_ends None came = record { both_of = front_still.settles }
+  front_ends : (t : Option ExprId) → Gave final m m' all number (maybe an_expr t) → Settles from owed final m' all number (done, t)
+  front_ends None came = let x = front_still came in record { both_of = x.settles }
   front_ends (Some i) came = record {
     both_of = λ d d' h h'.
         let x = f.listed d (deep_before d g h) in
         let y = came d' h' in omega (arith, x, y);
   }
 
+-- what is settled stays so
+settles_still : {from owed : ℕ} {final : Stored} {m m' : Builder} {all number : ℕ} {r : StoredContents} → Longer m m'
+    → Gave final m m' all number free → Settles from owed final m all number r → Settles from owed final m' all number r
+settles_still g came s = record {
+  both_of = λ d d' h h'. let l = came d h in let x = s.both_of d d' (deep_before d g h) (deep_before d' g h') in omega (arith, x, l);
+}
+
 pub contains_tail : (done : List Statement) {tail : Lowering (Option ExprId)} → Correct tail (Adds free (maybe an_expr))
     → Correct (tail >>= (λ t. pure (done, t))) (Contains done)
 contains_tail done h = correct_as (correct_bind h (λ t. correct_pure (done, t)))
-    (λ final ps m m' r g row. rw (row.second.is, row.second.still) (record {
-      settles = λ from all number f. front_ends row.before f row.one (came_of row.first all number);
+    (λ final b c r g row. rw (row.second.is, row.second.still) (record {
+      asks = row.first.asks;
+      settles = λ from owed all number f. front_ends row.before f row.one (came_of row.first all number);
     }))
 
 pub contains_more : (done : List Statement) {s : Lowering (Option Statement)} {q : List Statement → Lowering StoredContents}
     → Correct s (Adds free (maybe a_statement)) → ((ss : List Statement) → Correct (q ss) (Contains ss))
     → Correct (s >>= (λ x. q (push_some done x))) (Contains done)
-contains_more done h k = correct_as (correct_bind h (λ x. k (push_some done x))) (λ final ps m m' r g row. record {
-  settles = λ from all number f.
-      row.second.settles from all number (front_pushed row.before f row.one (came_of row.first all number));
+contains_more done h k = correct_as (correct_bind h (λ x. k (push_some done x))) (λ final b c r g row. record {
+  asks = λ all number. let u = row.first.asks all number in let w = row.second.asks all number in omega (arith, u, w);
+  settles = λ from owed all number f.
+      row.second.settles from owed all number (front_pushed row.before f row.one (came_of row.first all number));
 })
+
+-- inside of a definition of a macro
+pub contains_defined : {done : List Statement} (d : MacroDefId) {p : Lowering StoredContents} → Correct p (Contains done)
+    → Correct (inside_macro d p) (Contains done)
+unfolding inside_macro
+contains_defined d h = correct_as (correct_bind (adds_any {was = free} (notes_open_macro d)) (λ u. correct_bind h
+    (λ r. correct_bind (adds_any {was = free} notes_close) (λ v. correct_pure r)))) (λ final b c r g row.
+    let q = row.second in
+    let s = q.second in rw (s.second.is, s.second.still) (record {
+      asks = λ all number.
+          let u = row.first.asks all number in
+          let w = q.first.asks all number in
+          let x = s.first.asks all number in omega (arith, u, w, x);
+      settles = λ from owed all number f. settles_still s.before (came_of {A = Unit {0}} s.first all number)
+          (q.first.settles from owed all number (front_still row.before f (came_of {A = Unit {0}} row.first all number)));
+    }))
 
 -- ---- `try`
 
@@ -284,32 +318,50 @@ over_value r x v = each a_statement (settled r.0 r.1).0 v + maybe an_expr (Some 
 pub try_block_adds : (at : Pointer) (item : Option LangItemId) (typed : Bool) (number : Option BlockId) {c : Lowering StoredContents}
     → Correct c (Contains []) → Correct (try_block_form at item typed number c) (Adds free an_expr)
 unfolding try_block_form
-try_block_adds at item typed number h = correct_as (correct_opened_try at typed (correct_enter_block number) h
-    (λ l r. correct_bind (wrapped_adds at item (settled r.0 r.1).1)
+try_block_adds at item typed number h = correct_as (correct_bind (adds_any {was = free} (notes_open_try at typed)) (λ l.
+    correct_bind (adds_any {was = free} (notes_enter_block number)) (λ u. correct_bind h (λ r.
+    correct_bind (adds_any {was = free} notes_close) (λ v. correct_bind (wrapped_adds at item (settled r.0 r.1).1)
     (λ x. adds_expr {was = over_value r x} (settled_block false (Some l) number ((settled r.0 r.1).0, Some x)) (Some at)
-    (block_less false (Some l) number (settled r.0 r.1).0 (Some x)))))
-    (λ final ps m m' i g row. record {
+    (block_less false (Some l) number (settled r.0 r.1).0 (Some x))))))))
+    (λ final b c i g row.
+    let entered = row.second in
+    let filled = entered.second in
+    let closed = filled.second in
+    let last = closed.second in record {
+      asks = λ all k.
+          let f = row.first.asks all k in
+          let h = entered.first.asks all k in
+          let j = filled.first.asks all k in
+          let l = closed.first.asks all k in
+          let m = last.first.asks all k in
+          let n = last.second.asks all k in omega (arith, f, h, j, l, m, n);
       earlier = λ all k reach hold place d.
-          let last = row.second in
+          let far = last.after.exprs in
           let y = last.second.earlier all k reach hold place d in
-          let deep : Deep last.middle all y.reach y.hold y.place = record {
-            all_of = omega (arith, d.all_of, last.after.nodes);
+          let seen : ℕ × ℕ × ℕ = (y.reach, y.hold, y.place) in
+          let deep : DeepView (mark last.middle) all seen = record {
+            all_of = omega (arith, d.all_of, far);
             deep = y.deep;
             inside = y.inside;
             placed = y.placed;
           } in
           let x = last.first.earlier all k y.reach y.hold y.place deep in
-          let deeper : Deep row.left all x.reach x.hold x.place = record {
-            all_of = omega (arith, deep.all_of, last.before.nodes);
+          let looked : ℕ × ℕ × ℕ = (x.reach, x.hold, x.place) in
+          let behind = deep_before seen last.before deep in
+          let deeper : DeepView (mark closed.middle) all looked = record {
+            all_of = behind.all_of;
             deep = x.deep;
             inside = x.inside;
             placed = x.placed;
           } in
-          let first = front_none row.entered.nodes final row.first.middle all k (sym row.first.first.nodes) in
-          let z = (row.first.second.settles row.entered.nodes all k first).both_of (y.reach, y.hold, y.place)
-          (x.reach, x.hold, x.place) (deep_before (y.reach, y.hold, y.place) last.before deep) deeper in
-          let n = ap (less k) row.nodes in
-          still_deep reach hold place g d (let a = y.counted in let b = x.counted in omega (arith, a, b, z, n));
+          let within = deep_before seen closed.before behind in
+          let first = deep_before seen filled.before within in
+          let z = (filled.first.settles (mark entered.middle).nodes (asked final all k entered.middle) all k
+          (front_none final entered.middle all k)).both_of seen looked within (deep_before looked closed.before deeper) in
+          let p = came_of {A = LabelId} row.first all k seen (deep_before seen entered.before first) in
+          let q = came_of {A = Unit {0}} entered.first all k seen first in
+          let s = came_of {A = Unit {0}} closed.first all k seen behind in
+          still_deep reach hold place g d (let a = y.counted in let b = x.counted in omega (arith, a, b, z, p, q, s));
     })
 
 bound_less : (p : PatId) (t : TypeRefId) (b e : ExprId) (v : View)
@@ -322,7 +374,7 @@ bound_less p t b e v =
 pub typed_try_adds : (at : Pointer) {b : ExprSteps} {t : Lowering TypeRefId} → Correct b (Adds free an_expr)
     → Correct t (Adds free a_type) → Correct (typed_try_form at b t) (Adds free an_expr)
 unfolding typed_try_form
-typed_try_adds at hb ht = adds_then hb (λ b. adds_then (adds_any correct_made_number)
+typed_try_adds at hb ht = adds_then hb (λ b. adds_then (adds_any notes_made_number)
     (λ n. adds_then (adds_beside (an_expr b) ht)
     (λ t. adds_then (adds_beside (beside (an_expr b) (a_type t)) (made_bind_adds _ n))
     (λ p. adds_then (adds_beside (beside (beside (an_expr b) (a_type t)) (a_pat p)) (made_path_adds at n))
@@ -337,7 +389,7 @@ held_less p c e v =
 
 held_adds : (at : Pointer) {c : ExprSteps} → Correct c (Adds free an_expr) → Correct (held_form at c) (Adds free an_expr)
 unfolding held_form hold_form
-held_adds at hc = adds_then hc (λ c. adds_then (adds_any correct_made_number)
+held_adds at hc = adds_then hc (λ c. adds_then (adds_any notes_made_number)
     (λ n. adds_then (adds_beside (an_expr c) (made_bind_adds _ n))
     (λ p. adds_then (adds_beside (beside (an_expr c) (a_pat p)) (made_path_adds at n))
     (λ e. adds_made (held_block p c e) (Some at) (held_less p c e)))))

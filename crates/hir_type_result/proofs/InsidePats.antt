@@ -27,16 +27,16 @@ use Rattle.hir_lower_form.specs.Pats.{Table, Elements, PatSteps, missing_pat}
 use Rattle.hir_lower_form.specs.Ranges as ranges
 use Rattle.hir_meaning.specs.Inner as inner
 use Rattle.hir_meaning.specs.Inner.{all_of, of_limit, of_path, of_pat_field, of_present}
-use Rattle.hir_steps.proofs.Calls.{correct_point_pat, correct_told}
-use Rattle.hir_steps.proofs.PatAny.{dots_any, name_any}
-use Rattle.hir_steps.proofs.PatSteps.{correct_define, correct_point_pat_field}
-use Rattle.hir_steps.proofs.Steps.{Correct, correct_report}
 use Rattle.hir_same_meaning.specs.Reached.{of_arms, of_some}
 use Rattle.hir_type_result.proofs.Counted.{times, times_append}
 use Rattle.hir_type_result.proofs.Weights as weights
-use Rattle.hir_type_result.proofs.Weighed.{View, Cost, free, beside, an_expr, a_limit, a_pat, a_type_pat, in_expr, in_pat}
-use Rattle.hir_type_result.proofs.Weighed.{in_type_pat, view, sum, sum_append, Adds, adds_pure, adds_then, adds_beside, adds_any}
-use Rattle.hir_type_result.proofs.Weighed.{adds_aside, adds_from, adds_expr, adds_pat, adds_type_pat}
+use Rattle.hir_type_result.proofs.Asked.{Correct}
+use Rattle.hir_type_result.proofs.Weighed.{View, Cost, free, beside, an_expr, a_limit, a_pat, a_type_pat, in_expr, in_pat, in_type_pat}
+use Rattle.hir_type_result.proofs.Weighed.{view, sum, sum_append}
+use Rattle.hir_type_result.proofs.Weighing.{Adds, adds_pure, adds_then, adds_beside, adds_any, adds_aside, adds_from, adds_expr, adds_pat}
+use Rattle.hir_type_result.proofs.Weighing.{adds_type_pat}
+use Rattle.hir_noted.proofs.Steps.{notes_define, notes_point_pat, notes_point_pat_field, notes_report, notes_told}
+use Rattle.hir_noted.proofs.PatForms.{dots_note, name_notes}
 use Rattle.hir_type_result.proofs.InsideTypes.{maybe_path, maybe_type}
 use Rattle.hir_type_result.proofs.InsideForms.{maybe, each, a_field, a_statement, both, maybe_is, first_less}
 use Rattle.hir_type_result.proofs.InsideForms as of_exprs
@@ -83,8 +83,8 @@ alone_adds h t = adds_then h (λ i. adds_pure (i, t) (λ v. omega arith))
 pub called_adds : (at : Pointer) (c : Called) {A : Type 0} (pat_in : A → PatId) {now : A → Cost} {p : Lowering A}
     → Correct p (Adds free now) → Correct (forms.called_pat_form at c pat_in p) (Adds free now)
 unfolding forms.called_pat_form
-called_adds at c pat_in h = adds_then (adds_any (correct_told c)) (λ u. adds_then h
-    (λ r. adds_then (adds_any (correct_point_pat at (pat_in r))) (λ v. adds_pure r (λ w. omega arith))))
+called_adds at c pat_in h = adds_then (adds_any (notes_told c)) (λ u. adds_then h
+    (λ r. adds_then (adds_any (notes_point_pat at (pat_in r))) (λ v. adds_pure r (λ w. omega arith))))
 
 pub leaf_pat_adds : (at : Pointer) (form : PatLeaf) → Correct (alloc_pat (forms.stored_pat_leaf form) (Some at)) (Adds free a_pat)
 leaf_pat_adds at tree.wild_leaf = adds_pat _ (Some at) (λ v. omega arith)
@@ -116,14 +116,14 @@ front_adds more true ids = adds_then (adds_beside (beside more (pats ids)) missi
 pub elements_add : (more : Cost) (comma : Bool) (es : Elements)
     → Correct (forms.elements_form comma es) (Adds (beside more (elements es)) (λ r. beside more (pats r.1)))
 unfolding forms.elements_form
-elements_add more comma es = adds_then (adds_any (dots_any comma es.1))
+elements_add more comma es = adds_then (adds_any (dots_note comma es.1))
     (λ place. adds_then (front_adds more comma es.0) (λ ids. adds_pure (place, ids) (λ v. omega arith)))
 
 -- ---- records
 
 named_part_adds : (at : Pointer) (n : Option Name) (i : PatId) → Correct (forms.named_part at n i) (Adds (a_pat i) maybe_field)
 named_part_adds at None i = adds_pure None (λ v. omega arith)
-named_part_adds at (Some n) i = adds_then (adds_any (correct_point_pat_field i at)) (λ u. adds_pure _ (λ v. omega arith))
+named_part_adds at (Some n) i = adds_then (adds_any (notes_point_pat_field i at)) (λ u. adds_pure _ (λ v. omega arith))
 
 pub pat_field_adds : (at : Pointer) (n : Option Name) {p : PatSteps} → Each free a_pat p
     → Each free maybe_field (forms.pat_field_form at n p)
@@ -200,9 +200,9 @@ module _ (at : Pointer) where
   pub bind_adds : (u : Use) {s : Table → Lowering (Option PatId × Table)} → Each free maybe_pat s
       → Each free a_pat (forms.bind_form at u s)
   unfolding forms.bind_form
-  bind_adds u h t = adds_then (h t) (λ s. adds_then (adds_any (name_any u s.1))
+  bind_adds u h t = adds_then (h t) (λ s. adds_then (adds_any (name_notes u s.1))
       (λ b. adds_then (adds_pat (pat.Bind b.0 s.0) (Some at) (λ v. omega arith))
-      (λ i. adds_then (adds_any (correct_define b.0 i)) (λ w. adds_pure (i, b.1) (λ v. omega arith)))))
+      (λ i. adds_then (adds_any (notes_define b.0 i)) (λ w. adds_pure (i, b.1) (λ v. omega arith)))))
 
   pub over_pat_adds : (form : PatUnary) {p : PatSteps} → Each free a_pat p → Each free a_pat (forms.over_pat_form at form p)
   unfolding forms.over_pat_form
@@ -324,7 +324,7 @@ uncalled_pat_adds at tree.callless = missing_pat_adds
 uncalled_pat_adds at c = called_adds at c (λ i. i) missing_pat_adds
 
 pub barred_pat_adds : (at : Pointer) → Correct (forms.barred_pat_form at) (Adds free a_pat)
-barred_pat_adds at = adds_then (adds_any (correct_report _)) (λ u. missing_pat_adds)
+barred_pat_adds at = adds_then (adds_any (notes_report _)) (λ u. missing_pat_adds)
 
 pub uncalled_type_pat_adds : (at : Pointer) (c : Called) → Correct (forms.uncalled_pat at c) (Adds free a_type_pat)
 uncalled_type_pat_adds at tree.callless = missing_type_pat_adds

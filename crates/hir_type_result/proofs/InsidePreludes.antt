@@ -20,17 +20,16 @@ use Rattle.hir_lower_form.specs.Lowering.{Lowering}
 use Rattle.hir_lower_form.specs.Preludes as forms
 use Rattle.hir_lower_form.specs.Preludes.{add_handed, bound_anew, coroutine_of, handed_as, handed_binding, let_from, no_prelude}
 use Rattle.hir_meaning.specs.Inner.{all_of}
-use Rattle.hir_steps.proofs.MadeSteps.{correct_made_number}
-use Rattle.hir_steps.proofs.PatSteps.{correct_alloc_binding, correct_define}
-use Rattle.hir_steps.proofs.Preludes.{correct_binding_of, correct_own_name_of}
-use Rattle.hir_steps.proofs.Steps.{Correct}
 use Rattle.hir_type_result.proofs.InsideAtOnce.{AtOnce, at_once_any, at_once_beside, at_once_from, at_once_more, at_once_pure}
 use Rattle.hir_type_result.proofs.InsideAtOnce.{at_once_then}
 use Rattle.hir_type_result.proofs.InsideForms.{a_statement, block_less, contents, each, each_append}
 use Rattle.hir_type_result.proofs.InsidePats.{let_less, pats, pushed}
-use Rattle.hir_type_result.proofs.Weighed.{Adds, Cost, View, a_limit, a_pat, adds_any, adds_aside, adds_beside, adds_expr, adds_from}
-use Rattle.hir_type_result.proofs.Weighed.{adds_pat, adds_pat_beside, adds_pure, adds_then, an_expr, beside, free, in_expr}
-use Rattle.hir_type_result.proofs.Weighed.{sum_append, view}
+use Rattle.hir_type_result.proofs.Asked.{Correct}
+use Rattle.hir_type_result.proofs.Weighed.{Cost, View, a_limit, a_pat, an_expr, beside, free, in_expr, sum_append, view}
+use Rattle.hir_type_result.proofs.Weighing.{body_aside, Adds, adds_any, adds_aside, adds_beside, adds_expr, adds_from, adds_pat, adds_pat_beside}
+use Rattle.hir_type_result.proofs.Weighing.{adds_pure, adds_then}
+use Rattle.hir_noted.proofs.Steps.{notes_binding, notes_define, notes_made_number}
+use Rattle.hir_noted.proofs.Preludes.{notes_bound, notes_own_name}
 
 -- ---- names that are handed in
 
@@ -40,9 +39,9 @@ name_adds n h = adds_expr _ None (λ v. omega arith)
 
 handed_adds : (x : Handed) → Correct (forms.handed_form x) (Adds free a_pat)
 unfolding forms.handed_form
-handed_adds x = adds_then (adds_any (correct_alloc_binding (handed_binding x)))
+handed_adds x = adds_then (adds_any (notes_binding (handed_binding x)))
     (λ i. adds_then (adds_pat_beside (pat.Bind i None) x.pat (λ v. omega arith))
-    (λ p. adds_then (adds_any (correct_define i p)) (λ u. adds_pure p (λ v. omega arith))))
+    (λ p. adds_then (adds_any (notes_define i p)) (λ u. adds_pure p (λ v. omega arith))))
 
 -- what the outside hands them to
 pub each_handed_adds : (done : List PatId) (xs : List Handed) → Correct (forms.lower_handed done xs) (Adds (pats done) pats)
@@ -97,11 +96,11 @@ own_handed done p false x = between done p x
 any_handed : (done : Prelude) (p : PatId) (own : Option OwnName) → OneMore done p (forms.handed_in done p own)
 unfolding forms.handed_in
 any_handed done p (Some own) = own_handed done p own.is_alone (handed_as own.name own.hygiene p)
-any_handed done p None = at_once_then (at_once_any correct_made_number) (λ n. between done p (handed_as (Generated n) root_hygiene p))
+any_handed done p None = at_once_then (at_once_any notes_made_number) (λ n. between done p (handed_as (Generated n) root_hygiene p))
 
 let_param_adds : (done : Prelude) (p : PatId) → OneMore done p (forms.let_param done p)
 unfolding forms.let_param
-let_param_adds done p = at_once_then (at_once_any (correct_own_name_of p)) (λ own. any_handed done p own)
+let_param_adds done p = at_once_then (at_once_any (notes_own_name p)) (λ own. any_handed done p own)
 
 pub let_params_add : (done : Prelude) (ps : List PatId)
     → Correct (forms.let_params done ps) (AtOnce (beside (prelude done) (pats ps)) prelude)
@@ -115,9 +114,9 @@ let_params_add done (p ∷ ps) = at_once_then
 
 rebind_adds : (x : Binding) → Correct (forms.rebind_form x) (Adds free (λ r. statements r.1))
 unfolding forms.rebind_form
-rebind_adds x = adds_then (adds_any (correct_alloc_binding (bound_anew x)))
+rebind_adds x = adds_then (adds_any (notes_binding (bound_anew x)))
     (λ i. adds_then (adds_pat (pat.Bind i None) None (λ v. omega arith))
-    (λ p. adds_then (adds_any (correct_define i p)) (λ u. adds_then (adds_beside (a_pat p) (name_adds x.name x.hygiene))
+    (λ p. adds_then (adds_any (notes_define i p)) (λ u. adds_then (adds_beside (a_pat p) (name_adds x.name x.hygiene))
     (λ e. adds_pure (i, let_from p e ∷ []) (λ v. let l = one_let p e v in omega (arith, l))))))
 
 rebound_adds : (id : BindingId) (o : Option Binding) → Correct (forms.rebound id o) (Adds free (λ r. statements r.1))
@@ -127,15 +126,10 @@ rebound_adds id (Some x) = rebind_adds x
 pub let_self_adds : (o : Option BindingId) → Correct (forms.let_self o) (Adds free (λ r. prelude r.1))
 unfolding forms.let_self
 let_self_adds None = adds_pure (None, no_prelude) (λ v. omega arith)
-let_self_adds (Some id) = adds_then (adds_any (correct_binding_of id))
+let_self_adds (Some id) = adds_then (adds_any (notes_bound id))
     (λ x. adds_then (rebound_adds id x) (λ r. adds_pure (Some r.0, record { handed = []; lets = r.1 }) (λ v. omega arith)))
 
 -- ---- coroutines
-
--- A body is held like the end of a range in a type.
-pub body_aside : (e : ExprId) (final : Stored) (all number reach hold place : ℕ)
-    → a_limit e (view final all number reach hold place) ≤ an_expr e (view final all number all hold place)
-body_aside e final all number reach hold place = omega arith
 
 coroutine_less : (which : CoroutineKind) (from : CoroutineSource) (block : ExprId) (v : View)
     → in_expr (coroutine_of which from block) v ≤ a_limit block v

@@ -20,17 +20,17 @@ use Rattle.hir_lower_form.specs.Targets as targets
 use Rattle.hir_lower_form.specs.Targets.{alloc_target, missing_target}
 use Rattle.hir_meaning.specs.Inner.{all_of, of_pat_field, of_path, of_present}
 use Rattle.hir_meaning.specs.Places.{places, places_in_each, places_in_fields, places_in_present, places_to}
-use Rattle.hir_steps.proofs.Calls.{correct_point_target}
-use Rattle.hir_steps.proofs.PatAny.{dots_any}
-use Rattle.hir_steps.proofs.PatSteps.{correct_point_pat_field}
-use Rattle.hir_steps.proofs.Steps.{Correct, correct_report}
-use Rattle.hir_steps.proofs.TypeAny.{Any, any, pure_any}
+use Rattle.hir_sets.specs.Noting.{none as nothing}
+use Rattle.hir_noted.proofs.Logic.{Notes, notes_pure}
 use Rattle.hir_same_meaning.specs.Reached.{of_each}
 use Rattle.hir_type_result.proofs.Counted.{times, times_append}
 use Rattle.hir_type_result.proofs.Fronts.{in_store_front, each_front, fields_front, present_front, times_each}
 use Rattle.hir_type_result.proofs.Weights as weights
+use Rattle.hir_type_result.proofs.Asked.{Correct}
 use Rattle.hir_type_result.proofs.Weighed.{View, Cost, free, beside, an_expr, a_target, in_expr, in_target, sum, sum_append, view}
-use Rattle.hir_type_result.proofs.Weighed.{Adds, adds_pure, adds_then, adds_beside, adds_any, adds_from, adds_expr_at, adds_made_target}
+use Rattle.hir_type_result.proofs.Weighing.{Adds, adds_pure, adds_then, adds_beside, adds_any, adds_from, adds_expr_at, adds_made_target}
+use Rattle.hir_noted.proofs.Steps.{notes_report, notes_point_pat_field, notes_point_target}
+use Rattle.hir_noted.proofs.PatForms.{dots_note}
 use Rattle.hir_type_result.proofs.InsideTypes.{maybe_path}
 use Rattle.hir_type_result.proofs.InsideForms.{both}
 
@@ -94,7 +94,7 @@ field_pushed fs (Some f) v =
 -- a node that is assigned to leads to the pattern
 pub pointed_adds : (at : Pointer) {was : Cost} {p : Lowering PatId} → Correct p (Adds was a_target)
     → Correct (p >>= (λ i. point_target at i >>= (λ u. pure i))) (Adds was a_target)
-pointed_adds at h = adds_then h (λ i. adds_then (adds_any (correct_point_target at i)) (λ u. adds_pure i (λ v. omega arith)))
+pointed_adds at h = adds_then h (λ i. adds_then (adds_any (notes_point_target at i)) (λ u. adds_pure i (λ v. omega arith)))
 
 pub adds_target : {was : Cost} (p : Pat) (at : Origin) → ((v : View) → in_target p v ≤ was v)
     → Correct (alloc_target p at) (Adds was a_target)
@@ -130,7 +130,7 @@ array_less b m a v =
 elements_add : (more : Cost) (es : Elements)
     → Correct (elements_form false es) (Adds (beside more (target_elements es)) (λ r. beside more (all_targets r.1)))
 unfolding elements_form
-elements_add more es = adds_then (adds_any (dots_any false es.1))
+elements_add more es = adds_then (adds_any (dots_note false es.1))
     (λ place. adds_then (front_adds es.0) (λ ids. adds_pure (place, ids) (λ v. omega arith)))
   where
     front_adds : (ids : List PatId)
@@ -139,7 +139,7 @@ elements_add more es = adds_then (adds_any (dots_any false es.1))
 
 named_part_adds : (at : Pointer) (n : Option Name) (i : PatId) → Correct (named_part at n i) (Adds (a_target i) maybe_target_field)
 named_part_adds at None i = adds_pure None (λ v. omega arith)
-named_part_adds at (Some n) i = adds_then (adds_any (correct_point_pat_field i at)) (λ u. adds_pure _ (λ v. omega arith))
+named_part_adds at (Some n) i = adds_then (adds_any (notes_point_pat_field i at)) (λ u. adds_pure _ (λ v. omega arith))
 
 pub place_adds : (at : Pointer) {e : ExprSteps} → Correct e (Adds free an_expr) → Correct (targets.place_form at e) (Adds free a_target)
 unfolding targets.place_form
@@ -186,15 +186,15 @@ module _ (at : Origin) where
       (λ a. adds_then (adds_beside (beside (target_elements b) (target_elements a)) (rest_adds dots))
       (λ m. adds_target (pat.Slice b.0 m a.0) at (array_less b.0 m a.0))))
 
-  spread_any : (spread : Option Pointer) → Correct (targets.report_spread spread) Any
-  spread_any None = pure_any tt
-  spread_any (Some p) = any (correct_report _)
+  spread_notes : (spread : Option Pointer) → Notes nothing (targets.report_spread spread)
+  spread_notes None = notes_pure tt
+  spread_notes (Some p) = notes_report _
 
   record_target_of_adds : (dots : Bool) (spread : Option Pointer) {fs : Lowering (List RecordFieldPat)}
       → Correct fs (Adds free target_fields) → (o : Option HirPath)
       → Correct (targets.record_target_of at dots spread fs o) (Adds (maybe_path o) a_target)
   record_target_of_adds dots spread h None = missing_target_adds at.call
-  record_target_of_adds dots spread h (Some o) = adds_then (adds_any (spread_any spread))
+  record_target_of_adds dots spread h (Some o) = adds_then (adds_any (spread_notes spread))
       (λ u. adds_then (adds_beside (maybe_path (Some o)) h) (λ fs. adds_target (pat.Record o fs dots) at (record_less o fs dots)))
 
   pub record_target_adds : (dots : Bool) (spread : Option Pointer) {fs : Lowering (List RecordFieldPat)}

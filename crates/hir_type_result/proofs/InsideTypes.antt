@@ -31,15 +31,13 @@ use Rattle.hir_lower_form.specs.Types.{tuple_type_form, path_type_form, ref_type
 use Rattle.hir_lower_form.specs.Types.{stored_leaf_type, stored_over_type, path_or_error}
 use Rattle.hir_lower_form.specs.Types.{binding_form, path_bound_of, path_bound_form}
 use Rattle.hir_meaning.specs.Inner.{Inners, Inside, all_of, of_present, of_bound, of_constant, of_type}
-use Rattle.hir_steps.proofs.Calls.{correct_point_type, correct_told}
-use Rattle.hir_steps.proofs.Noted.{BecomesType, correct_becoming}
-use Rattle.hir_steps.proofs.Steps.{Correct, correct_alloc_type, correct_count_out}
-use Rattle.hir_steps.proofs.TypeAny.{lifetime_option_any}
 use Rattle.hir_same_meaning.proofs.HeldArgs.{of_binding}
 use Rattle.hir_type_result.proofs.Counted.{either}
-use Rattle.hir_type_result.proofs.Weighed.{View, Cost, free, beside, a_type, a_type_pat, a_constant, sum, sum_append, Adds}
-use Rattle.hir_type_result.proofs.Weighed.{adds_pure, adds_then}
-use Rattle.hir_type_result.proofs.Weighed.{adds_beside, adds_any, adds_from, adds_type}
+use Rattle.hir_type_result.proofs.HeldBecoming.{becoming_adds, lifetime_option_adds}
+use Rattle.hir_type_result.proofs.Asked.{Correct}
+use Rattle.hir_type_result.proofs.Weighed.{View, Cost, free, beside, a_type, a_type_pat, a_constant, sum, sum_append}
+use Rattle.hir_type_result.proofs.Weighing.{Adds, adds_pure, adds_then, adds_beside, adds_any, adds_from, adds_type, adds_refused}
+use Rattle.hir_noted.proofs.Steps.{notes_point_type, notes_told, notes_type}
 use Rattle.hir_type_result.proofs.Weights as weights
 
 -- what is inside each kind of answer weighs
@@ -91,16 +89,6 @@ path_inside : (p : Option HirPath) (v : View) → in_type (path_or_error p) v �
 path_inside None v = omega arith
 path_inside (Some p) v = omega arith
 
-impl_inside : (mode : ImplTrait) (bs : List TypeBound) (t : TypeRef) → BecomesType mode bs t → (v : View) → in_type t v ≤ bounds bs v
-impl_inside becomes.Error bs t e v =
-    let of_error : in_type ty.Error v ≤ bounds bs v = omega arith in subst (λ x. in_type x v ≤ bounds bs v) (sym e) of_error
-impl_inside becomes.Opaque bs t e v =
-    let of_impl : in_type (ty.ImplTrait bs) v ≤ bounds bs v = omega arith in
-    subst (λ x. in_type x v ≤ bounds bs v) (sym e) of_impl
-impl_inside (becomes.Argument def) bs t e v =
-    let of_param : in_type (param_type def e.0) v ≤ bounds bs v = omega arith in
-    subst (λ x. in_type x v ≤ bounds bs v) (sym e.1) of_param
-
 pub error_adds : Correct error_type (Adds free a_type)
 unfolding error_type
 error_adds = adds_type ty.Error None (λ v. omega arith)
@@ -113,8 +101,8 @@ unit_adds = adds_type (ty.Tuple []) None (λ v. omega arith)
 pub called_type_adds : (at : Pointer) (c : Called) {t : TypeSteps} → Correct t (Adds free a_type)
     → Correct (called_type_form at c t) (Adds free a_type)
 unfolding called_type_form
-called_type_adds at c h = adds_then (adds_any (correct_told c)) (λ u. adds_then h
-    (λ i. adds_then (adds_any (correct_point_type at i)) (λ v. adds_pure i (λ w. omega arith))))
+called_type_adds at c h = adds_then (adds_any (notes_told c)) (λ u. adds_then h
+    (λ i. adds_then (adds_any (notes_point_type at i)) (λ v. adds_pure i (λ w. omega arith))))
 
 pub uncalled_type_adds : (at : Pointer) (c : Called) → Correct (uncalled_type at c) (Adds free a_type)
 uncalled_type_adds at tree.callless = adds_type ty.Error (Some at) (λ v. omega arith)
@@ -145,7 +133,7 @@ module _ (at : Pointer) where
   pub ref_adds : (mutability : Mutability) (l : Option Lifetime) {t : TypeSteps} → Correct t (Adds free a_type)
       → Correct (ref_type_form at mutability t (lower_lifetime_option l)) (Adds free a_type)
   unfolding ref_type_form
-  ref_adds mutability l h = adds_then h (λ t. adds_then (adds_any (lifetime_option_any l)) (λ i. adds_type _ (Some at) (λ v. omega arith)))
+  ref_adds mutability l h = adds_then h (λ t. adds_then (lifetime_option_adds l) (λ i. adds_type _ (Some at) (λ v. omega arith)))
 
   pub fn_adds : (binder : Option Binder) (head : FnHead) {ts : Lowering (List TypeRefId)} {r : TypeSteps}
       → Correct ts (Adds free types) → Correct r (Adds free a_type) → Correct (fn_type_form at binder head ts r) (Adds free a_type)
@@ -163,7 +151,7 @@ module _ (at : Pointer) where
   pub impl_adds : (mode : ImplTrait) {bs : Lowering (List TypeBound)} → Correct bs (Adds free bounds)
       → Correct (impl_type_form at mode bs) (Adds free a_type)
   unfolding impl_type_form
-  impl_adds mode h = adds_then h (λ bs. correct_becoming at mode bs (λ t e. adds_type t (Some at) (impl_inside mode bs t e)))
+  impl_adds mode h = adds_then h (λ bs. becoming_adds at mode bs)
 
   pub dyn_adds : {bs : Lowering (List TypeBound)} → Correct bs (Adds free bounds) → Correct (dyn_type_form at bs) (Adds free a_type)
   unfolding dyn_type_form
@@ -197,7 +185,7 @@ pub super_adds : (w : PathWalk) → Correct (counted (super_read w)) (Adds (walk
 super_adds w = go (one_more_super w.kind)
   where
     go : (o : Option PathKind) → Correct (counted (option_map (λ k. Open (record w { kind = k })) o)) (Adds (walk w) reading)
-    go None = correct_count_out _
+    go None = adds_refused
     go (Some k) = adds_pure _ (λ v. omega arith)
 
 pub self_adds : (w : PathWalk) → Correct (pure (self_read w)) (Adds (walk w) reading)
@@ -213,7 +201,7 @@ bare_adds n w = adds_pure _ (λ v. let e = weights.named_less v.weight v.held n 
 pub trait_adds : (t : TypeRefId) (at : Pointer) (w : PathWalk) (p : Option HirPath)
     → Correct (read_trait t at w p) (Adds (beside (beside (walk w) (a_type t)) (maybe_path p)) reading)
 trait_adds t at w None = adds_pure Refused (λ v. omega arith)
-trait_adds t at w (Some p) = adds_then (adds_any (correct_alloc_type (ty.Path p) (Some at)))
+trait_adds t at w (Some p) = adds_then (adds_any (notes_type (ty.Path p) (Some at)))
     (λ i. adds_pure _ (λ v. weights.projected_less v.weight v.held t p w))
 
 pub with_trait_adds : (t : TypeRefId) (at : Pointer) (w : PathWalk) {p : Lowering (Option HirPath)} → Correct p (Adds free maybe_path)

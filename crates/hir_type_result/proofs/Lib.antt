@@ -25,7 +25,9 @@ pub mod TreeNotes
 pub mod Behind
 pub mod Whole
 pub mod Weighed
+pub mod Weighing
 pub mod Weights
+pub mod HeldBecoming
 pub mod InsideTypes
 pub mod InsideForms
 pub mod Fronts

@@ -76,6 +76,7 @@ deep_before d g h = record {
 }
 
 pub record Adds {A : Type 0} (was : Cost) (now : A → Cost) (final : Stored) (b c : Builder) (a : A) : Type 0 where
+  pub asks : (all number : ℕ) → asked final all number b ≤ asked final all number c
   pub earlier : (all number reach hold place : ℕ) → Deep (mark c) all reach hold place
       → Earlier was final b c all number (now a (view final all number reach hold place))
 
@@ -109,6 +110,7 @@ adds_pure a h = record {
     paired = d;
     stays = extends_refl b.stored;
     in_final = λ final pre. record {
+      asks = λ all number. omega arith;
       earlier = λ all number reach hold place d. record {
         reach = reach;
         hold = hold;
@@ -125,6 +127,7 @@ adds_pure a h = record {
 pub adds_then : {A B : Type 0} {was : Cost} {one : A → Cost} {now : B → Cost} {p : Lowering A} {q : A → Lowering B}
     → Correct p (Adds was one) → ((a : A) → Correct (q a) (Adds (one a) now)) → Correct (p >>= q) (Adds was now)
 adds_then h k = correct_as (correct_bind h k) (λ final b e x g row. record {
+  asks = λ all number. let u = row.first.asks all number in let w = row.second.asks all number in omega (arith, u, w);
   earlier = λ all number reach hold place d.
       let far = row.after.exprs in
       let y = row.second.earlier all number reach hold place d in
@@ -148,6 +151,7 @@ adds_then h k = correct_as (correct_bind h k) (λ final b e x g row. record {
 pub adds_beside : {A : Type 0} {now : A → Cost} {p : Lowering A} (more : Cost) → Correct p (Adds free now)
     → Correct p (Adds more (λ a. beside more (now a)))
 adds_beside more h = correct_as h (λ final b c a g row. record {
+  asks = row.asks;
   earlier = λ all number reach hold place d.
       let x = row.earlier all number reach hold place d in
       still_deep reach hold place g d (let e = x.counted in omega (arith, e));
@@ -159,6 +163,7 @@ pub adds_aside : {A : Type 0} {was : Cost} {now held : A → Cost} {p : Lowering
     → held a (view final all number reach hold place) ≤ now a (view final all number all hold place))
     → Correct p (Adds was now) → Correct p (Adds was held)
 adds_aside less_is h = correct_as h (λ final b c a g row. record {
+  asks = row.asks;
   earlier = λ all number reach hold place d.
       let x = row.earlier all number all hold place (record {
         all_of = d.all_of;
@@ -180,6 +185,7 @@ adds_aside less_is h = correct_as h (λ final b c a g row. record {
 pub adds_from : {A : Type 0} {was was' : Cost} {now : A → Cost} {p : Lowering A} → ((v : View) → was v ≤ was' v)
     → Correct p (Adds was now) → Correct p (Adds was' now)
 adds_from h q = correct_as q (λ final b c a g row. record {
+  asks = row.asks;
   earlier = λ all number reach hold place d.
       let x = row.earlier all number reach hold place d in record {
         reach = x.reach;
@@ -194,14 +200,15 @@ adds_from h q = correct_as q (λ final b c a g row. record {
 
 -- ---- steps that ask nothing
 
-same_asked : (final : Stored) (all number : ℕ) {b c : Builder} → c.notes.generics.where_predicates ≡ b.notes.generics.where_predicates
+same_asked : (final : Stored) (all number : ℕ) (b c : Builder) → c.notes.generics.where_predicates ≡ b.notes.generics.where_predicates
     → asked final all number c ≡ asked final all number b
-same_asked final all number e = let v = whole final all number in ap (λ ps. sum v.weight (all_of (by_predicate v) ps)) e
+same_asked final all number b c e = let v = whole final all number in ap (λ ps. sum v.weight (all_of (by_predicate v) ps)) e
 
 -- what is so of what is stored
 stands : {A : Type 0} {was : Cost} {now : A → Cost} {p : Lowering A} → Notes nothing p → CorrectOf p (plain.Adds was now)
     → Correct p (Adds was now)
 stands e h = stands_as (still_of e) h (λ final b c a same row. record {
+  asks = λ all number. let q = same_asked final all number b c same in omega (arith, q);
   earlier = λ all number reach hold place d.
       let x = row.earlier all number reach hold place d in record {
         reach = x.reach;
@@ -210,17 +217,18 @@ stands e h = stands_as (still_of e) h (λ final b c a same row. record {
         deep = x.deep;
         inside = x.inside;
         placed = x.placed;
-        counted = let g = x.counted in let q = same_asked final all number {b} {c} same in omega (arith, g, q);
+        counted = let g = x.counted in let q = same_asked final all number b c same in omega (arith, g, q);
       };
 })
 
 -- what only notes names of lifetimes, if anything: what is answered isn't looked at
-any_row : {A : Type 0} {was : Cost} {final : Stored} {b c : Builder} {a : A} → Longer b c
+pub any_row : {A : Type 0} {was : Cost} {final : Stored} {b c : Builder} {a : A} → Longer b c
     → c.notes.generics.where_predicates ≡ b.notes.generics.where_predicates → Adds was (λ a. was) final b c a
 any_row {final = final} {b = b} {c = c} g same = record {
+  asks = λ all number. let q = same_asked final all number b c same in omega (arith, q);
   earlier = λ all number reach hold place d.
       let e = less_grows number (mark b).nodes (mark c).nodes g.exprs in
-      let q = same_asked final all number {b} {c} same in
+      let q = same_asked final all number b c same in
       still_deep reach hold place g d (omega (arith, e, q));
 }
 

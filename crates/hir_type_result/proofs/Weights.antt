@@ -39,7 +39,7 @@ module _ (k : ExprId → ℕ) where
       let b = sum_append k (f y) (all_of f (xs ++ x ∷ [])) in
       let r = each_push f xs x in omega arith
 
-  each_append : {A : Type 0} (f : A → List Inside) (xs ys : List A)
+  pub each_append : {A : Type 0} (f : A → List Inside) (xs ys : List A)
       → sum k (all_of f (xs ++ ys)) ≡ sum k (all_of f xs) + sum k (all_of f ys)
   each_append f [] ys = omega arith
   each_append f (x ∷ xs) ys =
