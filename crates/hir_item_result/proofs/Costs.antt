@@ -82,17 +82,12 @@ params xs q = each (λ x. a_param x q) xs
 abbrev pub unless : Bool → ℕ → ℕ
 unless b n = if b then 0 else n
 
--- whether the bound of a predicate is left out: of what an `impl` became where not all count
-abbrev pub left_out : Bool → Bool → Bool
-left_out true of_impl = false
-left_out false of_impl = of_impl
-
-module _ (all : Bool) (store : Store) (source_map : SourceMap) where
+module _ (store : Store) (source_map : SourceMap) where
   abbrev pub predicates : List TypeRefId → List WherePredicate → Cost
   predicates seen [] q = 0
   predicates seen (predicate.TypeBound binder t b ∷ ps) q =
       unless (is_of_impl store source_map t) (unless (among t seen) (q.types t))
-      + (unless (left_out all (is_of_impl store source_map t)) (a_bound b q) + predicates (t ∷ seen) ps q)
+      + (a_bound b q + predicates (t ∷ seen) ps q)
   predicates seen (predicate.Lifetime l m ∷ ps) q = predicates seen ps q
 
 -- what the bounds of all predicates cost, whatever these are of
@@ -102,16 +97,6 @@ by_predicate (predicate.Lifetime l m) q = 0
 
 abbrev pub asked : List WherePredicate → Cost
 asked ps q = each (λ p. by_predicate p q) ps
-
--- where they count
-abbrev pub asked_if : Bool → List WherePredicate → Cost
-asked_if true ps q = asked ps q
-asked_if false ps q = 0
-
-pub asked_append : (all : Bool) (ps qs : List WherePredicate) (q : Meter)
-    → asked_if all (ps ++ qs) q ≡ asked_if all ps q + asked_if all qs q
-asked_append true ps qs q = each_append (λ p. by_predicate p q) ps qs
-asked_append false ps qs q = refl
 
 -- what predicates are of, the last first
 abbrev pub before_all : List TypeRefId → List WherePredicate → List TypeRefId
@@ -160,30 +145,28 @@ left_less ps qs t q = by (among t (before_all [] ps)) refl (among t (before_all 
     by true e false g =
         absurd (true≢false (sym (ap (among t) (before_append [] ps qs) ∙ among_more t (before_all [] ps) qs e) ∙ g))
 
-module _ (all : Bool) (store : Store) (source_map : SourceMap) where
+module _ (store : Store) (source_map : SourceMap) where
   pub predicates_append : (seen : List TypeRefId) (ps qs : List WherePredicate) (q : Meter)
-      → predicates all store source_map seen (ps ++ qs) q
-      ≡ predicates all store source_map seen ps q + predicates all store source_map (before_all seen ps) qs q
+      → predicates store source_map seen (ps ++ qs) q
+      ≡ predicates store source_map seen ps q + predicates store source_map (before_all seen ps) qs q
   predicates_append seen [] qs q = omega arith
   predicates_append seen (predicate.TypeBound binder t b ∷ ps) qs q =
       let e = predicates_append (t ∷ seen) ps qs q in omega (arith, e)
   predicates_append seen (predicate.Lifetime l m ∷ ps) qs q = predicates_append seen ps qs q
 
-one_asked : (all : Bool) (seen : List TypeRefId) (t : TypeRefId) (b : TypeBound) (ps : List WherePredicate) (q : Meter) (n : ℕ) (i : Bool)
-    → i ≡ true → n ≡ asked_if all ps q
-    → unless i (unless (among t seen) (q.types t)) + (unless (left_out all i) (a_bound b q) + n)
-    ≡ asked_if all (predicate.TypeBound None t b ∷ ps) q
-one_asked true seen t b ps q n true e h = omega (arith, h)
-one_asked false seen t b ps q n true e h = omega (arith, h)
-one_asked all seen t b ps q n false e h = absurd (true≢false (sym e))
+one_asked : (seen : List TypeRefId) (t : TypeRefId) (b : TypeBound) (ps : List WherePredicate) (q : Meter) (n : ℕ) (i : Bool)
+    → i ≡ true → n ≡ asked ps q
+    → unless i (unless (among t seen) (q.types t)) + (a_bound b q + n) ≡ asked (predicate.TypeBound None t b ∷ ps) q
+one_asked seen t b ps q n true e h = omega (arith, h)
+one_asked seen t b ps q n false e h = absurd (true≢false (sym e))
 
--- What is of what an `impl` became costs no more than its bounds.
-module _ (all : Bool) (store : Store) (source_map : SourceMap) where
+-- What is of what an `impl` became costs what its bounds do.
+module _ (store : Store) (source_map : SourceMap) where
   pub of_impl_asked : (seen : List TypeRefId) (t : TypeRefId) (bs : List TypeBound) (qs : List WherePredicate) (q : Meter)
       → is_of_impl store source_map t ≡ true
-      → ((before : List TypeRefId) → predicates all store source_map before qs q ≡ asked_if all qs q)
-      → predicates all store source_map seen (predicates_of t bs ++ qs) q ≡ asked_if all (predicates_of t bs ++ qs) q
+      → ((before : List TypeRefId) → predicates store source_map before qs q ≡ asked qs q)
+      → predicates store source_map seen (predicates_of t bs ++ qs) q ≡ asked (predicates_of t bs ++ qs) q
   of_impl_asked seen t [] qs q is h = h seen
-  of_impl_asked seen t (b ∷ bs) qs q is h = one_asked all seen t b (predicates_of t bs ++ qs) q
-      (predicates all store source_map (t ∷ seen) (predicates_of t bs ++ qs) q) (is_of_impl store source_map t) is
+  of_impl_asked seen t (b ∷ bs) qs q is h = one_asked seen t b (predicates_of t bs ++ qs) q
+      (predicates store source_map (t ∷ seen) (predicates_of t bs ++ qs) q) (is_of_impl store source_map t) is
       (of_impl_asked (t ∷ seen) t bs qs q is h)

@@ -47,7 +47,7 @@ use Rattle.hir_noted.proofs.TypeForms.{lifetime_notes}
 use Rattle.hir_noted.proofs.Tree.{bound_noted, constant_noted, type_noted}
 use Rattle.hir_item_result.specs.Once.{among, is_of_impl}
 use Rattle.hir_item_result.proofs.Costs.{Cost, Meter, a_bound, a_constant, a_param, a_trait, a_type, before_all, before_append, beside}
-use Rattle.hir_item_result.proofs.Costs.{among_first, each_append, free, left, left_less, left_out, maybe_constant, maybe_type, params, predicates}
+use Rattle.hir_item_result.proofs.Costs.{among_first, each_append, free, left, left_less, maybe_constant, maybe_type, params, predicates}
 use Rattle.hir_item_result.proofs.Costs.{predicates_append, unless, unless_less}
 use Rattle.hir_item_result.proofs.Counting.{Count, CountTo, Counts, Part, Sort, count_still, counted_both, counts_as, counts_beside}
 use Rattle.hir_item_result.proofs.Counting.{counts_pure, counts_then, noted, part_counts, then_to, to_as, to_beside}
@@ -111,21 +111,20 @@ module _ (S : Sort) where
       p = predicate.TypeBound binder t y
 
       by : (final : Stored) (q : Meter)
-          → left (ps ++ p ∷ []) t q + noted S.all final (with_predicate p b.notes) q
-          ≤ bound_and_left b t y q + noted S.all final b.notes q
+          → left (ps ++ p ∷ []) t q + noted final (with_predicate p b.notes) q
+          ≤ bound_and_left b t y q + noted final b.notes q
       by final q =
           let s = store_of final in
           let m = map_of final in
           let i = is_of_impl s m t in
-          let one = unless i (left ps t q) + unless (left_out S.all i) (a_bound y q) in
-          let e = predicates_append S.all s m [] ps (p ∷ []) q in
+          let one = unless i (left ps t q) + a_bound y q in
+          let e = predicates_append s m [] ps (p ∷ []) q in
           let among_it = ap (among t) (before_append [] ps (p ∷ [])) ∙ among_first t (before_all [] ps) in
-          let new = predicates S.all s m [] (ps ++ p ∷ []) q in
-          let old = predicates S.all s m [] ps q in
+          let new = predicates s m [] (ps ++ p ∷ []) q in
+          let old = predicates s m [] ps q in
           let of_it = unless_less i (left ps t q) in
-          let of_bound = unless_less (left_out S.all i) (a_bound y q) in
           one_more (params b.notes.generics.type_or_consts q) old new one (left ps t q) (left (ps ++ p ∷ []) t q) (a_bound y q)
-          (omega (arith, e)) (gone (among t (before_all [] (ps ++ p ∷ []))) among_it (q.types t)) (omega (arith, of_it, of_bound))
+          (omega (arith, e)) (gone (among t (before_all [] (ps ++ p ∷ []))) among_it (q.types t)) (omega (arith, of_it))
 
   -- where it answers, what is left then costs still
   abbrev AskTo : TypeRefId → Cost → Builder → Checked (Unit {0}) → Builder → Type 0
@@ -180,7 +179,7 @@ module _ (S : Sort) where
   unfolding add_predicate note_down
   lifetime_predicate l m = record {
     at = λ b d. count_still S refl d (λ final q.
-        let e = predicates_append S.all (store_of final) (map_of final) [] b.notes.generics.where_predicates (predicate.Lifetime l m ∷ []) q in
+        let e = predicates_append (store_of final) (map_of final) [] b.notes.generics.where_predicates (predicate.Lifetime l m ∷ []) q in
         omega (arith, e));
   }
 

@@ -1,6 +1,6 @@
 -- How much what is noted of an item costs, beside what steps answer and what is stored: the logic, of whatever is counted. Parts name
 -- nothing that was there before, so all is counted at one depth.
-use Rattle.std.proofs.Common.{◌≡◌, ◌∙◌, refl, sym, ap, subst, arith, Bool, true, false, ℕ, suc, ◌+◌, ◌≤◌, length, List, [], ◌∷◌, Ok, Err}
+use Rattle.std.proofs.Common.{◌≡◌, ◌∙◌, refl, sym, ap, subst, arith, ℕ, suc, ◌+◌, ◌≤◌, length, List, [], ◌∷◌, Ok, Err}
 use Rattle.hir_store.specs.Stored.{Stored, map_of, store_of}
 use Rattle.hir_store.specs.Storing.{Extends}
 use Rattle.hir_store.specs.declared.generics.WherePredicate.{WherePredicate}
@@ -15,14 +15,12 @@ use Rattle.hir_sets.specs.Noting.{Impl, Noting}
 use Rattle.hir_noted.specs.Lists.{Fits, Noted, unnamed}
 use Rattle.hir_noted.proofs.Logic as parts
 use Rattle.hir_item_result.specs.Once.{impl_became}
-use Rattle.hir_item_result.proofs.Costs.{Cost, Meter, a_param, asked_append, asked_if, before_all, beside, each_append, free}
+use Rattle.hir_item_result.proofs.Costs.{Cost, Meter, a_param, asked, before_all, beside, by_predicate, each_append, free}
 use Rattle.hir_item_result.proofs.Costs.{of_impl_asked, params, predicates, predicates_append}
 
 -- What is counted: how deep one looks, and for what; what each type and each constant costs in the end; what costs that is stored; and how
 -- much was given out.
 pub record Sort : Type 1 where
-  -- whether the bounds count of what is asked of parameters that `impl`s became
-  pub all : Bool
   pub View : Type 0
   pub Deep : Stored → Stored → View → Type 0
   pub meter : Stored → View → Meter
@@ -32,49 +30,40 @@ pub record Sort : Type 1 where
 
 -- ---- what is noted
 
-abbrev pub noted : Bool → Stored → Notes → Cost
-noted all final n q =
-    params n.generics.type_or_consts q + predicates all (store_of final) (map_of final) [] n.generics.where_predicates q
+abbrev pub noted : Stored → Notes → Cost
+noted final n q = params n.generics.type_or_consts q + predicates (store_of final) (map_of final) [] n.generics.where_predicates q
 
-module _ (all : Bool) where
-  impls_asked : (s final : Stored) → Extends s final → (is : List Impl) (ps : List WherePredicate) (k : ℕ) → Fits ps k is s
-      → (q : Meter) (seen : List TypeRefId) → predicates all (store_of final) (map_of final) seen ps q ≡ asked_if all ps q
-  impls_asked s final e [] ps k h q seen =
-      ap (λ l. predicates all (store_of final) (map_of final) seen l q) h ∙ (nothing_asked ∙ sym (ap (λ l. asked_if all l q) h))
-    where
-      by : (all : Bool) → 0 ≡ asked_if all [] q
-      by true = refl
-      by false = refl
-
-      nothing_asked : 0 ≡ asked_if all [] q
-      nothing_asked = by all
-  impls_asked s final e (i ∷ is) ps k h q seen =
-      let stands = found_stays e.types.entries h.target.0 _ h.stands in
-      let from = found_stays e.types.sources h.target.0 _ h.from in
-      ap (λ l. predicates all (store_of final) (map_of final) seen l q) h.are
-      ∙ (of_impl_asked all (store_of final) (map_of final) seen h.target h.bounds h.others q (λ j. impl_became (stands j) (from j))
-      (λ before. impls_asked s final e is h.others (suc k) h.rest_fits q before) ∙ sym (ap (λ l. asked_if all l q) h.are))
+impls_asked : (s final : Stored) → Extends s final → (is : List Impl) (ps : List WherePredicate) (k : ℕ) → Fits ps k is s
+    → (q : Meter) (seen : List TypeRefId) → predicates (store_of final) (map_of final) seen ps q ≡ asked ps q
+impls_asked s final e [] ps k h q seen =
+    ap (λ l. predicates (store_of final) (map_of final) seen l q) h ∙ sym (ap (λ l. asked l q) h)
+impls_asked s final e (i ∷ is) ps k h q seen =
+    let stands = found_stays e.types.entries h.target.0 _ h.stands in
+    let from = found_stays e.types.sources h.target.0 _ h.from in
+    ap (λ l. predicates (store_of final) (map_of final) seen l q) h.are
+    ∙ (of_impl_asked (store_of final) (map_of final) seen h.target h.bounds h.others q (λ j. impl_became (stands j) (from j))
+    (λ before. impls_asked s final e is h.others (suc k) h.rest_fits q before) ∙ sym (ap (λ l. asked l q) h.are))
 
 unnamed_free : (is : List Impl) (q : Meter) → params (unnamed is) q ≡ 0
 unnamed_free [] q = refl
 unnamed_free (i ∷ is) q = let r = unnamed_free is q in omega (arith, r)
 
 -- what parts note costs what is asked by it
-part_asked : (all : Bool) {n : Noting} {b c : Builder} → Noted n b c → (final : Stored) → Extends c.stored final → (q : Meter)
-    → noted all final c.notes q + asked_if all b.notes.generics.where_predicates q
-    ≡ noted all final b.notes q + asked_if all c.notes.generics.where_predicates q
-part_asked all {n = n} {b = b} {c = c} g final e q =
+part_asked : {n : Noting} {b c : Builder} → Noted n b c → (final : Stored) → Extends c.stored final → (q : Meter)
+    → noted final c.notes q + asked b.notes.generics.where_predicates q
+    ≡ noted final b.notes q + asked c.notes.generics.where_predicates q
+part_asked {n = n} {b = b} {c = c} g final e q =
     let s = store_of final in
     let m = map_of final in
     let xs = b.notes.generics.type_or_consts in
     let ps = b.notes.generics.where_predicates in
     let x = ap (λ l. params l q) g.params ∙ each_append (λ x. a_param x q) xs (unnamed n.impls) in
     let y = unnamed_free n.impls q in
-    let p = ap (λ l. predicates all s m [] l q) g.predicates ∙ predicates_append all s m [] ps g.added q in
-    let r = impls_asked all c.stored final e n.impls g.added (length xs) g.fits q (before_all [] ps) in
-    let o = ap (λ l. asked_if all l q) g.predicates ∙ asked_append all ps g.added q in
+    let p = ap (λ l. predicates s m [] l q) g.predicates ∙ predicates_append s m [] ps g.added q in
+    let r = impls_asked c.stored final e n.impls g.added (length xs) g.fits q (before_all [] ps) in
+    let o = ap (λ l. asked l q) g.predicates ∙ each_append (λ p. by_predicate p q) ps g.added in
     added (params xs q) (params (unnamed n.impls) q) (params c.notes.generics.type_or_consts q)
-    (predicates all s m [] ps q) (predicates all s m (before_all [] ps) g.added q) (predicates all s m [] c.notes.generics.where_predicates q)
+    (predicates s m [] ps q) (predicates s m (before_all [] ps) g.added q) (predicates s m [] c.notes.generics.where_predicates q)
     _ _ _ x y p r o
   where
     added : (a b c p q r u v w : ℕ) → c ≡ a + b → b ≡ 0 → r ≡ p + q → q ≡ v → w ≡ u + v → (c + r) + u ≡ (a + p) + w
@@ -86,8 +75,8 @@ module _ (S : Sort) where
     pub stays : Extends b.stored c.stored
     pub paired : Paired c.stored
     pub counted : (final : Stored) → Extends c.stored final → (v : S.View) → S.Deep c.stored final v → let q = S.meter final v in
-        now q + (noted S.all final c.notes q + (S.held final v c.stored + S.given v b.stored))
-        ≤ was q + (noted S.all final b.notes q + (S.held final v b.stored + S.given v c.stored))
+        now q + (noted final c.notes q + (S.held final v c.stored + S.given v b.stored))
+        ≤ was q + (noted final b.notes q + (S.held final v b.stored + S.given v c.stored))
 
   count_both : {was one now : Cost} {b c d : Builder} → Count was one b c → Count one now c d → Count was now b d
   count_both {was = was} {one = one} {now = now} {b = b} {c = c} {d = d} g h = record {
@@ -97,7 +86,7 @@ module _ (S : Sort) where
         let x = g.counted final (extends_trans h.stays e) v (S.deep_before c.stored d.stored final v h.stays deep) in
         let y = h.counted final e v deep in
         let q = S.meter final v in
-        added (was q) (one q) (now q) (noted S.all final b.notes q) (noted S.all final c.notes q) (noted S.all final d.notes q)
+        added (was q) (one q) (now q) (noted final b.notes q) (noted final c.notes q) (noted final d.notes q)
         (S.held final v b.stored) (S.held final v c.stored) (S.held final v d.stored)
         (S.given v b.stored) (S.given v c.stored) (S.given v d.stored) x y;
   }
@@ -198,7 +187,7 @@ module _ (S : Sort) where
 
   -- where what is noted costs as is said, and nothing is stored
   pub count_still : {was now : Cost} {b c : Builder} → c.stored ≡ b.stored → Paired b.stored
-      → ((final : Stored) (q : Meter) → now q + noted S.all final c.notes q ≤ was q + noted S.all final b.notes q)
+      → ((final : Stored) (q : Meter) → now q + noted final c.notes q ≤ was q + noted final b.notes q)
       → Count was now b c
   count_still {was = was} {now = now} {b = b} {c = c} e d h = record {
     stays = subst (λ s. Extends b.stored s) (sym e) (extends_refl b.stored);
@@ -208,7 +197,7 @@ module _ (S : Sort) where
         let g = h final q in
         let n = ap (λ s. S.held final v s) e in
         let l = ap (λ s. S.given v s) e in
-        still (now q) (was q) (noted S.all final c.notes q) (noted S.all final b.notes q) (S.held final v c.stored) (S.held final v b.stored)
+        still (now q) (was q) (noted final c.notes q) (noted final b.notes q) (S.held final v c.stored) (S.held final v b.stored)
         (S.given v b.stored) (S.given v c.stored) g n l;
   }
     where
@@ -225,8 +214,8 @@ module _ (S : Sort) where
     pub counted : (b c : Builder) (a : A) → Paired b.stored → p b ≡ (Ok a, c) → (final : Stored) → Extends c.stored final
         → (v : S.View) → S.Deep c.stored final v
         → let q = S.meter final v in
-        now a q + (asked_if S.all c.notes.generics.where_predicates q + (S.held final v c.stored + S.given v b.stored))
-        ≤ asked_if S.all b.notes.generics.where_predicates q + (S.held final v b.stored + S.given v c.stored)
+        now a q + (asked c.notes.generics.where_predicates q + (S.held final v c.stored + S.given v b.stored))
+        ≤ asked b.notes.generics.where_predicates q + (S.held final v b.stored + S.given v c.stored)
 
   part_to : {A : Type 0} {now : A → Cost} (n : Noting) {p : Lowering A} → Part now p → (b : Builder) → Paired b.stored
       → (o : Checked A) (c : Builder) → p b ≡ (o, c) → parts.NotesTo n b o c → CountTo free now b o c
@@ -236,8 +225,8 @@ module _ (S : Sort) where
     counted = λ final e v deep.
         let x = h.counted b c a d is final e v deep in
         let q = S.meter final v in
-        let y = part_asked S.all g.1 final e q in
-        part (now a q) (noted S.all final c.notes q) (noted S.all final b.notes q) _ _ _ _ x y;
+        let y = part_asked g.1 final e q in
+        part (now a q) (noted final c.notes q) (noted final b.notes q) _ _ _ _ x y;
   }
     where
       part : (a p q x y u v : ℕ) → a + (u + x) ≤ v + y → p + v ≡ q + u → a + (p + x) ≤ 0 + (q + y)

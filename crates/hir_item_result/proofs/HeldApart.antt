@@ -88,7 +88,7 @@ two_defaults def g limit new a is before between behind x y are c d first second
     let n = reaches_itself s c.expr in
     let l : 1 ≤ w d.expr = subst (λ z. 1 ≤ w z) same_expr n in
     absurd (many (params before q) (q.types x.ty) (w c.expr) (sum w (r.expr c.expr)) (params between q) (q.types y.ty) (w d.expr)
-    (sum w (r.expr d.expr)) (params behind q) (predicates false s m [] lists.where_predicates q) o (weighed (reached_to s deep) k held)
+    (sum w (r.expr d.expr)) (params behind q) (predicates s m [] lists.where_predicates q) o (weighed (reached_to s deep) k held)
     (params_held w r s m lists.type_or_consts lists.where_predicates) (ap (λ xs. params xs q) are)
     (each_append (λ x. a_param x q) before (param.ConstParamData x ∷ (between ++ later)))
     (each_append (λ x. a_param x q) between later) (ap (present q.constants) first) (ap (present q.constants) second) n l)

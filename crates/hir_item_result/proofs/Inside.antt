@@ -1,6 +1,6 @@
 -- The constants and ends of ranges that an item is answered with, and those of its parameters and predicates, reach each expression in one
 -- way only.
-use Rattle.std.proofs.Common.{◌≡◌, ap, refl, arith, ℕ, ◌+◌, ◌≤◌, Bool, true, false, if◌then◌else◌, length, List, [], ◌∷◌, ◌++◌}
+use Rattle.std.proofs.Common.{◌≡◌, ap, refl, arith, ℕ, ◌+◌, ◌≤◌, Bool, true, false, ◌||◌, if◌then◌else◌, length, List, [], ◌∷◌, ◌++◌}
 use Rattle.std.proofs.Common.{Option, Some, None}
 use Rattle.hir_store.specs.Pointers.{Pointer}
 use Rattle.hir_store.specs.Stored.{SourceMap, Store, Stored, map_of, store_of}
@@ -20,32 +20,32 @@ use Rattle.hir_store.specs.declared.type_ref.TypeBound.TheVariants as bound
 use Rattle.hir_store.specs.declared.type_ref.TypeRef.TheVariants as ty
 use Rattle.hir_store.proofs.Extending.{extends_refl}
 use Rattle.hir_env.specs.Answered as tree
-use Rattle.hir_env.specs.Answered.{Bound, Constant, Lifetime, OptionRet}
+use Rattle.hir_env.specs.Answered.{Constant, Lifetime, OptionRet}
 use Rattle.hir_env.specs.TypeLayers.{PathTypeReading}
 use Rattle.hir_lower_form.specs.Builder.{fresh}
 use Rattle.hir_lower_form.specs.Lowering.{Lowering, ◌>>=◌, alloc_type, param_type}
-use Rattle.hir_lower_form.specs.Lower.{lower_bound, lower_constant}
+use Rattle.hir_lower_form.specs.Lower.{lower_constant}
 use Rattle.hir_lower_item.specs.Lower as steps
 use Rattle.hir_meaning.specs.Inner.{Inners, Inside, all_of, of_bound, of_constant, of_present}
-use Rattle.hir_steps.proofs.Steps.{Correct, correct_in_store, correct_report}
-use Rattle.hir_steps.proofs.TypeAny.{lifetime_any, lifetime_option_any, uses_any}
-use Rattle.hir_steps.proofs.TypeSteps.{correct_alloc_lifetime}
-use Rattle.hir_one_result.proofs.AfterLowering.{after_lowering}
+use Rattle.hir_noted.proofs.Steps.{notes_report}
+use Rattle.hir_noted.proofs.TypeForms.{notes_lifetime}
+use Rattle.hir_steps.proofs.Logic.{longer as no_shorter}
 use Rattle.hir_same_meaning.specs.Reached.{of_each, reached_to}
 use Rattle.hir_type_result.specs.Unrun.{all_unruns, exprs_of}
 use Rattle.hir_type_result.proofs.Counted.{counted_spread, less, times, times_append}
-use Rattle.hir_type_result.proofs.Inside.{part_adds, path_adds, rooted_adds}
-use Rattle.hir_type_result.proofs.InsideTypes.{a_bound as bound_weight, maybe_path, maybe_type as maybe_weight, path_bound_adds}
-use Rattle.hir_type_result.proofs.InsideTypes.{unit_adds}
+use Rattle.hir_type_result.proofs.Asked.{Correct, after_lowering}
+use Rattle.hir_type_result.proofs.HeldBecoming.{lifetime_adds, lifetime_option_adds}
+use Rattle.hir_type_result.proofs.Inside.{bound_adds, part_adds, path_adds, rooted_adds}
+use Rattle.hir_type_result.proofs.InsideTypes.{a_bound as bound_weight, maybe_path, maybe_type as maybe_weight, unit_adds}
 use Rattle.hir_type_result.proofs.Meaning.{held_deep}
-use Rattle.hir_type_result.proofs.Weighed.{Adds, Cost as Weight, View, a_constant as constant_weight, a_type as type_weight, adds_any}
-use Rattle.hir_type_result.proofs.Weighed.{adds_from, adds_owning, adds_pure, adds_then, adds_type, free as weightless, sum, sum_append}
-use Rattle.hir_type_result.proofs.Weighed.{view}
+use Rattle.hir_type_result.proofs.Weighed.{Cost as Weight, View, a_constant as constant_weight, a_type as type_weight, free as weightless}
+use Rattle.hir_type_result.proofs.Weighed.{sum, sum_append, view}
+use Rattle.hir_type_result.proofs.Weighing.{Adds, adds_any, adds_from, adds_owning, adds_pure, adds_then, adds_type, by_predicate}
 use Rattle.hir_item_result.specs.Inside.{AliasesHoldOnce, AnswersHoldOnce, FunctionsHoldOnce, GenericsHoldOnce, Holding, ImplsHoldOnce}
-use Rattle.hir_item_result.specs.Inside.{TraitsHoldOnce, held_by_alias, held_by_bound, held_by_function, held_by_impl, held_by_param}
+use Rattle.hir_item_result.specs.Inside.{TraitsHoldOnce, held_by_alias, held_by_function, held_by_impl, held_by_param}
 use Rattle.hir_item_result.specs.Inside.{held_by_params, held_by_predicates, none_held}
 use Rattle.hir_item_result.specs.Once.{among, is_of_impl}
-use Rattle.hir_item_result.proofs.Costs.{Cost, Meter, a_bound, a_param, a_trait, each, free, maybe_type, params}
+use Rattle.hir_item_result.proofs.Costs.{Cost, Meter, a_bound, a_param, a_trait, asked, each, free, maybe_type, params}
 use Rattle.hir_item_result.proofs.Costs.{predicates, present, unless}
 use Rattle.hir_item_result.proofs.Counting.{Counts, Part, Sort, noted, to_answer}
 use Rattle.hir_item_result.proofs.CountedItems.{alias_counts, by_alias, by_function, by_impl, function_counts, impl_counts, trait_counts}
@@ -65,7 +65,6 @@ whole final v = view final v.0 v.1 v.0 (held_deep final) (length final.pats.entr
 
 exprs : Sort
 exprs = record {
-  all = false;
   View = ℕ × ℕ;
   Deep = λ now final v. length final.exprs.entries ≤ v.0;
   meter = λ final v. of_view (whole final v);
@@ -74,32 +73,51 @@ exprs = record {
   deep_before = λ b c final v e deep. deep;
 }
 
+module _ (w : ExprId → ℕ) (r : Inners) where
+  abbrev pub meter_of : Meter
+  meter_of = record { types = λ t. sum w (r.type t); constants = λ c. sum w (of_constant r c) }
+
+  -- a bound costs what it holds
+  bound_held : (b : TypeBound) → sum w (of_bound r b) ≡ a_bound b meter_of
+  bound_held (bound.Path t m) = refl
+  bound_held (bound.ForLifetime ns t) = refl
+  bound_held (bound.Lifetime l) = refl
+  bound_held (bound.Use us) = refl
+  bound_held bound.Error = refl
+
+-- what is asked costs what it holds
+asked_held : (v : View) (ps : List WherePredicate) → sum v.weight (all_of (by_predicate v) ps) ≡ asked ps (of_view v)
+asked_held v [] = refl
+asked_held v (predicate.TypeBound binder t b ∷ ps) =
+    let a = sum_append v.weight (of_bound v.held b) (all_of (by_predicate v) ps) in
+    let e = bound_held v.weight v.held b in
+    let r = asked_held v ps in omega (arith, a, e, r)
+asked_held v (predicate.Lifetime l m ∷ ps) = let r = asked_held v ps in omega (arith, r)
+
 part_of : {A : Type 0} {now : A → Weight} {cost : A → Cost} {p : Lowering A} → Correct p (Adds weightless now)
     → ((a : A) (v : View) → cost a (of_view v) ≤ now a v) → Part exprs cost p
 unfolding exprs
 part_of {now = now} {cost = cost} h le = record {
   counted = λ b c a d is final e v deep.
-      let r = after_lowering (correct_in_store h) b a c d is final e in
-      let n = r.nodes in
-      let x = (r.rel.earlier v.0 v.1 v.0 (held_deep final) (length final.pats.entries) (record {
-        all_of = omega (arith, n, deep);
-        deep = omega (arith, n, deep);
-        inside = omega (arith, n, r.entries);
-        placed = r.pats;
+      let n = no_shorter e.exprs.entries in
+      let m = no_shorter e.types.entries in
+      let p = no_shorter e.pats.entries in
+      let r = after_lowering h b a c d is final e in
+      let x = (r.earlier v.0 v.1 v.0 (held_deep final) (length final.pats.entries) (record {
+        all_of = omega (arith, deep);
+        deep = omega (arith, deep);
+        inside = omega (arith, n, m, p);
+        placed = p;
       })).counted in
-      part (cost a (of_view (whole final v))) (now a (whole final v)) _ _ x (le a (whole final v));
+      let w = whole final v in
+      part (cost a (of_view w)) (now a w) _ _ _ _ _ _ x (le a w) (asked_held w b.notes.generics.where_predicates)
+      (asked_held w c.notes.generics.where_predicates);
 }
   where
-    part : (a n u w : ℕ) → n + u ≤ 0 + w → a ≤ n → a + (0 + (0 + u)) ≤ 0 + (0 + w)
-    part a n u w g h = omega (arith, g, h)
+    part : (a n u w p q o r : ℕ) → n + (p + u) ≤ 0 + (q + w) → a ≤ n → q ≡ r → p ≡ o → a + (o + (0 + u)) ≤ r + (0 + w)
+    part a n u w p q o r g h i j = omega (arith, g, h, i, j)
 
 -- ---- its parts
-
-bound_adds : (b : Bound) → Correct (lower_bound b) (Adds weightless bound_weight)
-bound_adds tree.error_bound = adds_pure _ (λ v. omega arith)
-bound_adds (tree.path_bound at p maybe binder) = path_bound_adds at maybe binder (path_adds p)
-bound_adds (tree.lifetime_bound l) = adds_then (adds_any (lifetime_any l)) (λ i. adds_pure _ (λ v. omega arith))
-bound_adds (tree.use_bound us) = adds_then (adds_any (uses_any [] us)) (λ xs. adds_pure _ (λ v. omega arith))
 
 constant_adds : (c : Constant) → Correct (lower_constant c) (Adds weightless constant_weight)
 constant_adds (tree.constant e) = adds_owning (λ c. c.expr) (rooted_adds (tree.constant e))
@@ -116,9 +134,9 @@ trait_adds None = adds_pure None (λ v. omega arith)
 trait_adds (Some x) = adds_then (path_adds x.path) (λ r. stored_adds x.pointer r)
 
 self_adds : (borrow : Option Mutability) (l : Option Lifetime) → Correct (steps.self_form borrow l) (Adds weightless type_weight)
-self_adds None l = adds_then (adds_type _ None (λ v. omega arith)) (λ self. adds_then (adds_any (lifetime_option_any l))
+self_adds None l = adds_then (adds_type _ None (λ v. omega arith)) (λ self. adds_then (lifetime_option_adds l)
     (λ id. adds_pure self (λ v. omega arith)))
-self_adds (Some m) l = adds_then (adds_type _ None (λ v. omega arith)) (λ self. adds_then (adds_any (lifetime_option_any l))
+self_adds (Some m) l = adds_then (adds_type _ None (λ v. omega arith)) (λ self. adds_then (lifetime_option_adds l)
     (λ id. adds_type _ None (λ v. omega arith)))
 
 ret_adds : (r : OptionRet) → Correct (steps.present_ret r) (Adds weightless maybe_weight)
@@ -146,9 +164,6 @@ output_adds k r = adds_then (ret_adds r) (λ t. answer_adds k t)
 -- ---- what they cost is what they hold
 
 module _ (w : ExprId → ℕ) (r : Inners) where
-  abbrev pub meter_of : Meter
-  meter_of = record { types = λ t. sum w (r.type t); constants = λ c. sum w (of_constant r c) }
-
   present_held : {A : Type 0} (g : A → List Inside) (o : Option A) → sum w (of_present g o) ≡ present (λ a. sum w (g a)) o
   present_held g None = refl
   present_held g (Some a) = refl
@@ -159,56 +174,51 @@ module _ (w : ExprId → ℕ) (r : Inners) where
   each_held g c h (x ∷ xs) =
       let a = sum_append w (g x) (all_of g xs) in let e = h x in let s = each_held g c h xs in omega (arith, a, e, s)
 
-  bound_held : (b : TypeBound) → sum w (of_bound r b) ≡ a_bound b meter_of
-  bound_held (bound.Path t m) = refl
-  bound_held (bound.ForLifetime ns t) = refl
-  bound_held (bound.Lifetime l) = refl
-  bound_held (bound.Use us) = refl
-  bound_held bound.Error = refl
-
-  param_held : (x : TypeOrConstParamData) → sum w (held_by_param x r) ≡ a_param x meter_of
+  param_held : (x : TypeOrConstParamData) → sum w (held_by_param x r) ≡ a_param x (meter_of w r)
   param_held (param.TypeParamData x) = present_held r.type x.default
   param_held (param.ConstParamData x) =
       let a = sum_append w (r.type x.ty) (of_present (of_constant r) x.default) in
       let e = present_held (of_constant r) x.default in omega (arith, a, e)
 
-  one_held : (i a : Bool) (xs ys : List Inside) (n : ℕ) → sum w ys ≡ n
-      → sum w (if i then [] else ((if a then [] else xs) ++ ys)) ≡ unless i (unless a (sum w xs)) + unless i n
-  one_held true a xs ys n h = refl
-  one_held false true xs ys n h = omega (arith, h)
-  one_held false false xs ys n h = let e = sum_append w xs ys in omega (arith, e, h)
+  one_held : (i a : Bool) (xs : List Inside) → sum w (if i || a then [] else xs) ≡ unless i (unless a (sum w xs))
+  one_held true a xs = refl
+  one_held false true xs = refl
+  one_held false false xs = refl
 
   module _ (store : Store) (source_map : SourceMap) where
     predicates_held : (seen : List TypeRefId) (ps : List WherePredicate)
-        → sum w (held_by_predicates store source_map seen ps r) ≡ predicates false store source_map seen ps meter_of
+        → sum w (held_by_predicates store source_map seen ps r) ≡ predicates store source_map seen ps (meter_of w r)
     predicates_held seen [] = refl
     predicates_held seen (predicate.TypeBound binder t b ∷ ps) =
         let i = is_of_impl store source_map t in
-        let here = if i then [] else held_by_bound seen t b r in
-        let a = sum_append w here (held_by_predicates store source_map (t ∷ seen) ps r) in
-        let e = one_held i (among t seen) (r.type t) (of_bound r b) (a_bound b meter_of) (bound_held b) in
-        let s = predicates_held (t ∷ seen) ps in omega (arith, a, e, s)
+        let here = if i || among t seen then [] else r.type t in
+        let others = held_by_predicates store source_map (t ∷ seen) ps r in
+        let a = sum_append w here (of_bound r b ++ others) in
+        let x = sum_append w (of_bound r b) others in
+        let e = one_held i (among t seen) (r.type t) in
+        let y = bound_held w r b in
+        let s = predicates_held (t ∷ seen) ps in omega (arith, a, x, e, y, s)
     predicates_held seen (predicate.Lifetime l m ∷ ps) = predicates_held seen ps
 
     pub params_held : (xs : List TypeOrConstParamData) (ps : List WherePredicate)
-        → sum w (held_by_params store source_map xs ps r) ≡ params xs meter_of + predicates false store source_map [] ps meter_of
+        → sum w (held_by_params store source_map xs ps r) ≡ params xs (meter_of w r) + predicates store source_map [] ps (meter_of w r)
     params_held xs ps =
         let a = sum_append w (all_of (λ x. held_by_param x r) xs) (held_by_predicates store source_map [] ps r) in
-        let e = each_held (λ x. held_by_param x r) (λ x. a_param x meter_of) param_held xs in
+        let e = each_held (λ x. held_by_param x r) (λ x. a_param x (meter_of w r)) param_held xs in
         let s = predicates_held [] ps in omega (arith, a, e, s)
 
-  impl_held : (self : TypeRefId) (t : Option TraitRef) → sum w (held_by_impl self t r) ≡ by_impl self t meter_of
+  impl_held : (self : TypeRefId) (t : Option TraitRef) → sum w (held_by_impl self t r) ≡ by_impl self t (meter_of w r)
   impl_held self t =
       let a = sum_append w (r.type self) (of_present (λ t. r.type t.path) t) in
       let e = present_held (λ t. r.type t.path) t in omega (arith, a, e)
 
-  alias_held : (bs : List TypeBound) (t : Option TypeRefId) → sum w (held_by_alias bs t r) ≡ by_alias bs t meter_of
+  alias_held : (bs : List TypeBound) (t : Option TypeRefId) → sum w (held_by_alias bs t r) ≡ by_alias bs t (meter_of w r)
   alias_held bs t =
       let a = sum_append w (all_of (of_bound r) bs) (of_present r.type t) in
-      let e = each_held (of_bound r) (λ b. a_bound b meter_of) bound_held bs in
+      let e = each_held (of_bound r) (λ b. a_bound b (meter_of w r)) (bound_held w r) bs in
       let s = present_held r.type t in omega (arith, a, e, s)
 
-  function_held : (args : List TypeRefId) (ret : Option TypeRefId) → sum w (held_by_function args ret r) ≡ by_function args ret meter_of
+  function_held : (args : List TypeRefId) (ret : Option TypeRefId) → sum w (held_by_function args ret r) ≡ by_function args ret (meter_of w r)
   function_held args ret =
       let a = sum_append w (all_of r.type args) (of_present r.type ret) in
       let e = each_held r.type (λ t. sum w (r.type t)) (λ t. refl) args in
@@ -228,9 +238,9 @@ leaves = record {
   type_is = λ t. part_of (part_adds None t) (λ a v. omega arith);
   bound_is = λ b. part_of (bound_adds b) bound_less;
   constant_is = λ c. part_of (constant_adds c) (λ a v. omega arith);
-  lifetime_is = λ l. part_of (adds_any (lifetime_any l)) (λ a v. omega arith);
-  made_lifetime_is = λ l. part_of (adds_any (correct_alloc_lifetime l None)) (λ a v. omega arith);
-  fault_is = λ d. part_of (adds_any (correct_report d)) (λ a v. omega arith);
+  lifetime_is = λ l. part_of (lifetime_adds l) (λ a v. omega arith);
+  made_lifetime_is = λ l. part_of (adds_any (notes_lifetime l None)) (λ a v. omega arith);
+  fault_is = λ d. part_of (adds_any (notes_report d)) (λ a v. omega arith);
   param_type_is = λ def n. part_of (adds_type (param_type def n) None (λ v. omega arith)) (λ a v. omega arith);
   trait_is = λ x. part_of (trait_adds x) trait_less;
   self_is = λ borrow l. part_of (self_adds borrow l) (λ a v. omega arith);
@@ -262,7 +272,7 @@ hold_once {cost = cost} held same h limit new a is depth le =
     let params = held_by_params s m lists.type_or_consts lists.where_predicates r in
     counted_spread 0 (length final.exprs.entries) (of_each (reached_to s depth) (exprs_of (held a r ++ params))) (λ k.
     let w : ExprId → ℕ = λ i. times k (reached_to s depth i) in
-    sums (cost a (meter_of w r)) (noted false final new.notes (meter_of w r)) _ (g.counted final (extends_refl final) (depth, k) le)
+    sums (cost a (meter_of w r)) (noted final new.notes (meter_of w r)) _ (g.counted final (extends_refl final) (depth, k) le)
     (same a w r) (params_held w r s m lists.type_or_consts lists.where_predicates) (sum_append w (held a r) params)
     (weighed (reached_to s depth) k (held a r ++ params)))
 

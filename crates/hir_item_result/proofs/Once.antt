@@ -59,7 +59,6 @@ longer {xs = xs} p = let l = ap length p.is in let m = length-append xs p.more i
 -- so deep, for this number
 types : Sort
 types = record {
-  all = true;
   View = ℕ × ℕ;
   Deep = λ now final v. length now.types.entries ≤ v.0;
   meter = λ final v. of_look (types_reached final.types.entries v.0) v.1;
@@ -182,7 +181,7 @@ module _ (f : TypeRefId → List ℕ) (k : ℕ) where
 
   module _ (store : Store) (source_map : SourceMap) where
     predicates_named : (seen : List TypeRefId) (ps : List WherePredicate)
-        → times k (named_by_predicates store source_map seen ps f) ≡ predicates true store source_map seen ps (of_look f k)
+        → times k (named_by_predicates store source_map seen ps f) ≡ predicates store source_map seen ps (of_look f k)
     predicates_named seen [] = refl
     predicates_named seen (predicate.TypeBound binder t b ∷ ps) =
         let i = is_of_impl store source_map t in
@@ -197,7 +196,7 @@ module _ (f : TypeRefId → List ℕ) (k : ℕ) where
 
     params_named : (xs : List TypeOrConstParamData) (ps : List WherePredicate)
         → times k (named_by_params store source_map xs ps f)
-        ≡ params xs (of_look f k) + predicates true store source_map [] ps (of_look f k)
+        ≡ params xs (of_look f k) + predicates store source_map [] ps (of_look f k)
     params_named xs ps =
         let a = times_append k (of_each (λ x. named_by_param x f) xs) (named_by_predicates store source_map [] ps f) in
         let e = each_named (λ x. named_by_param x f) (λ x. a_param x (of_look f k)) param_named xs in
@@ -265,7 +264,7 @@ once {cost = cost} now same h limit new a is depth le =
     let exprs = of_exprs l new.stored.exprs.entries in
     let pats = of_pats l new.stored.pats.entries in
     counted_spread 0 (length new.stored.types.entries) ((now a f ++ params) ++ (exprs ++ pats)) (λ k.
-    sums (cost a (of_look f k)) (noted true new.stored new.notes (of_look f k)) (times k exprs) (times k pats) _ _
+    sums (cost a (of_look f k)) (noted new.stored new.notes (of_look f k)) (times k exprs) (times k pats) _ _
     (g.counted new.stored (extends_refl new.stored) (depth, k) le) (same a f k)
     (params_named f k s m lists.type_or_consts lists.where_predicates) (times_append k (now a f ++ params) (exprs ++ pats))
     (times_append k (now a f) params) (times_append k exprs pats))

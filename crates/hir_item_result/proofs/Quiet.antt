@@ -73,7 +73,6 @@ bare_still a f = record {
   at = λ b d. record {
     paired = d;
     stays = extends_refl b.stored;
-    longer = record { types = omega arith; pats = omega arith; bindings = omega arith };
     in_final = λ final pre. record { counted = λ s all k le. omega arith };
   };
 }

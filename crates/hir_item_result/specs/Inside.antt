@@ -1,6 +1,6 @@
 -- The constants that an item is answered with, and those of its parameters and predicates, and the ends of ranges in types there, are
 -- expressions of their own: what they reach, together with what they hold and don't run, is reached in one way only.
-use Rattle.std.specs.Prelude.{◌≡◌, ◌≢◌, ℕ, ◌≤◌, if◌then◌else◌, List, [], ◌∷◌, ◌++◌, length, Option, Some, Ok}
+use Rattle.std.specs.Prelude.{◌≡◌, ◌≢◌, ℕ, ◌≤◌, ◌||◌, if◌then◌else◌, List, [], ◌∷◌, ◌++◌, length, Option, Some, Ok}
 use Rattle.hir_store.specs.Stored.{SourceMap, Store, map_of, store_of}
 use Rattle.hir_store.specs.declared.generics.ConstParamData.{ConstParamData}
 use Rattle.hir_store.specs.declared.generics.GenericParams.{GenericParams}
@@ -50,16 +50,12 @@ abbrev pub held_by_param : TypeOrConstParamData → Holding
 held_by_param (param.TypeParamData x) r = of_present r.type x.default
 held_by_param (param.ConstParamData x) r = r.type x.ty ++ of_present (of_constant r) x.default
 
--- what one is of, unless one before was of it too, and its bound
-abbrev pub held_by_bound : List TypeRefId → TypeRefId → TypeBound → Holding
-held_by_bound before t b r = (if among t before then [] else r.type t) ++ of_bound r b
-
 module _ (store : Store) (source_map : SourceMap) where
-  -- Like what is named by predicates, but those of what an `impl` became aren't counted.
+  -- like what is named by predicates
   abbrev pub held_by_predicates : List TypeRefId → List WherePredicate → Holding
   held_by_predicates before [] r = []
   held_by_predicates before (predicate.TypeBound binder t b ∷ ps) r =
-      (if is_of_impl store source_map t then [] else held_by_bound before t b r) ++ held_by_predicates (t ∷ before) ps r
+      (if is_of_impl store source_map t || among t before then [] else r.type t) ++ (of_bound r b ++ held_by_predicates (t ∷ before) ps r)
   held_by_predicates before (predicate.Lifetime l m ∷ ps) r = held_by_predicates before ps r
 
   abbrev pub held_by_params : List TypeOrConstParamData → List WherePredicate → Holding

@@ -187,7 +187,7 @@ mutual
   bounds_add done tree.no_bounds = none_more (λ r b. of_bound r b) done
   bounds_add done (tree.more_bounds b bs) = one_more (λ r b. of_bound r b) (bound_adds b) (λ xs. bounds_add xs bs) done
 
-  bound_adds : (b : Bound) → Correct (lower_bound b) (Adds free a_bound)
+  pub bound_adds : (b : Bound) → Correct (lower_bound b) (Adds free a_bound)
   bound_adds tree.error_bound = adds_pure _ (λ v. omega arith)
   bound_adds (tree.path_bound at p may binder) = path_bound_adds at may binder (path_adds p)
   bound_adds (tree.lifetime_bound l) = adds_then (lifetime_adds l) (λ i. adds_pure _ (λ v. omega arith))
