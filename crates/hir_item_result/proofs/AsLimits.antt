@@ -17,10 +17,11 @@ use Rattle.hir_one_result.proofs.Tellings.{takes_of}
 use Rattle.hir_one_result.proofs.Took.{Grew, Room, Took}
 use Rattle.hir_one_result.proofs.TreeRooms.{body_takes, part_takes, path_tells, type_part_takes}
 use Rattle.hir_one_result.specs.Bodies.{GradingBodies}
-use Rattle.hir_told.specs.Silent.{silent}
+use Rattle.hir_steps.specs.Silent.{silent}
 use Rattle.hir_one_result.proofs.GradedBodies.{GradedBodies, body_graded}
-use Rattle.hir_one_result.proofs.Graded.{Graded}
-use Rattle.hir_one_result.proofs.GradedTree.{expr_part_graded, part_graded, path_graded}
+use Rattle.hir_steps.proofs.Graded.{Graded}
+use Rattle.hir_steps.proofs.ReadBack.{Unknown, unread}
+use Rattle.hir_steps.proofs.GradedTree.{expr_part_graded, part_graded, path_graded}
 use Rattle.hir_item_result.specs.Exceeding.{FitsBehind, FitsIn, HadRoom, HasRoom, InLimits, RoomIsThere}
 use Rattle.hir_item_result.proofs.Limits.{Limited, LimitsTo, limited_binding, limited_block, limited_close, limited_define, limited_expr}
 use Rattle.hir_item_result.proofs.Limits.{limited_jump, limited_lifetime, limited_made, limited_made_pat, limited_note_down, limited_number}
@@ -52,6 +53,8 @@ limits_graded = record {
   new_name_is = λ u is t with_it e. limited_then (limited_binding (new_binding u)) (λ b. limited_pure (b, with_it b));
   top_is = λ h. limited_then h (λ r. limited_then (limited_settle r.1) (λ u. limited_pure r.0));
   Where = λ C g p. Limited p;
+  Known = Unknown;
+  reads = unread;
   where_is = λ is h. h;
   where_any = λ h. h;
   where_less = λ is h. h;

@@ -23,7 +23,7 @@ use Rattle.hir_store.specs.declared.type_ref.TypeBound.{TypeBound}
 use Rattle.hir_env.specs.declared.place.ImplTrait.{ImplTrait}
 use Rattle.hir_env.specs.declared.place.ImplTrait.TheVariants as becomes
 use Rattle.hir_lower_form.specs.Lowering.{becoming}
-use Rattle.hir_one_result.specs.Grading.{grade_impl}
+use Rattle.hir_steps.specs.Grading.{grade_impl}
 use Rattle.hir_one_result.proofs.NoteRooms.{aliased_takes, becoming_takes, takes_noted}
 use Rattle.hir_lower_form.specs.Lowering.{open_label, open_try, point}
 use Rattle.hir_lower_form.specs.Made.{made_bind_form}
@@ -56,9 +56,10 @@ use Rattle.hir_one_result.proofs.Tellings.{takes_of, tells_any, tells_then}
 use Rattle.hir_one_result.proofs.Took.{Room, Same, nothing_first}
 use Rattle.hir_one_result.specs.Sizes.{bodies_sized, sizes}
 use Rattle.hir_one_result.specs.Bodies.{grade_self}
-use Rattle.hir_one_result.proofs.Answering.{Answering, AnsweredTo}
+use Rattle.hir_steps.proofs.Answering.{Answering, AnsweredTo}
 use Rattle.hir_one_result.proofs.GradedBodies.{GradedBodies}
-use Rattle.hir_one_result.proofs.Graded.{Graded}
+use Rattle.hir_steps.proofs.Graded.{Graded}
+use Rattle.hir_steps.proofs.ReadBack.{Unknown, unread}
 
 pub given : {A : Type 0} {P : A → Type 0} {n : Size} {p : Lowering A} → Takes n p → Answering P p → known.Tells n P p
 given {A = A} {P = P} {n = n} {p = p} h t = record { tells = λ b d. by b (p b).0 (p b).1 (h.takes b d) (t.answers b) }
@@ -203,6 +204,8 @@ rooms_graded = record {
   new_name_is = λ u is t with_it e. takes_end (takes_binding (new_binding u)) (λ b. takes_pure (b, with_it b));
   top_is = λ h. takes_end h (λ r. takes_end (settle_takes r.1) (λ u. takes_pure r.0));
   Where = λ C n p. Takes n p;
+  Known = Unknown;
+  reads = unread;
   where_is = λ is h. h;
   where_any = λ h. h;
   where_less = λ is h. h;

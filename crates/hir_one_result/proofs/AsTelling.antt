@@ -30,7 +30,7 @@ use Rattle.hir_store.specs.declared.type_ref.TypeBound.{TypeBound}
 use Rattle.hir_env.specs.declared.place.ImplTrait.{ImplTrait}
 use Rattle.hir_env.specs.declared.place.ImplTrait.TheVariants as becomes
 use Rattle.hir_lower_form.specs.Lowering.{becoming}
-use Rattle.hir_one_result.specs.Grading.{grade_impl}
+use Rattle.hir_steps.specs.Grading.{grade_impl}
 use Rattle.hir_steps.proofs.Noted.{correct_aliased, correct_becoming, correct_noted}
 use Rattle.hir_one_result.proofs.AfterLowering.{after_lowering}
 use Rattle.hir_one_result.proofs.Around.{block_is_rib, in_loop, loop_is_rib, try_is_rib}
@@ -44,10 +44,11 @@ use Rattle.hir_one_result.proofs.Telling.{Added, Listing, Tells, added_none, add
 use Rattle.hir_one_result.proofs.Telling.{owning_tells, rooted_tells, tells_alloc, tells_aside, tells_bind, tells_end, tells_enter_block}
 use Rattle.hir_one_result.proofs.Telling.{tells_point, tells_point_field, tells_pure, tells_report, tells_target}
 use Rattle.hir_one_result.specs.Lists.{bodies_listed, listed}
-use Rattle.hir_one_result.proofs.Answering.{Answering}
+use Rattle.hir_steps.proofs.Answering.{Answering}
 use Rattle.hir_one_result.proofs.GradedBodies.{GradedBodies}
-use Rattle.hir_one_result.proofs.CorrectWhere.{correct_where, correct_with}
-use Rattle.hir_one_result.proofs.Graded.{Graded}
+use Rattle.hir_steps.proofs.CorrectWhere.{correct_where, correct_with}
+use Rattle.hir_steps.proofs.Graded.{Graded}
+use Rattle.hir_steps.proofs.ReadBack.{Unknown, unread}
 
 module _ {X : Type 0} (L : Listing X) where
   pub tells_where : {A B : Type 0} {P : A → Type 0} {D E : List Scope → List X} {p : Lowering A} {f : A → Lowering B}
@@ -138,6 +139,8 @@ module _ {X : Type 0} (L : Listing X) where
     new_name_is = λ u is t with_it e. tells_end L (tells_binding L (new_binding u)) (λ b. tells_pure L (b, with_it b));
     top_is = λ h. tells_end L h (λ r. tells_end L (settle_tells L r.1) (λ u. tells_pure L r.0));
     Where = λ C D p. Correct p (Tells L D);
+    Known = Unknown;
+    reads = unread;
     where_is = λ is h. h;
     where_any = λ h. h;
     where_less = λ is h. h;

@@ -31,7 +31,8 @@ use Rattle.hir_store.specs.declared.ids.CfgId.{CfgId}
 use Rattle.hir_meaning.specs.Small.{at, label_a, root, stored_one}
 use Rattle.hir_one_result.specs.Forms.{leaves_with}
 use Rattle.hir_one_result.specs.Leads.{Way, Ways, expr_way, unled_way, overtaken, owned_way}
-use Rattle.hir_one_result.specs.Stands.{Absent, Stands, opened, statement_of, StandsLiteral, StandsEach, StandsContents}
+use Rattle.hir_one_result.specs.Stands.{Absent, Stands, opened, StandsLiteral, StandsEach, StandsContents}
+use Rattle.hir_steps.specs.Statements.{statement_of}
 use Rattle.hir_one_result.specs.Worked.{Jumps, other, literal_first, Statements, EntersInOrder, Leaves, letter, block_id}
 use Rattle.hir_one_result.specs.StandsMade.{StandsQuestion}
 use Rattle.hir_one_result.specs.Worked.{elements, PlainForms, LeavesWith, Tries, Iterates, Fors, for_one}

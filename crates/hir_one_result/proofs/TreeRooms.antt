@@ -8,15 +8,17 @@ use Rattle.hir_lower_form.specs.Lowering.{Lowering, ◌>>=◌}
 use Rattle.hir_lower_form.specs.Paths.{proceed}
 use Rattle.hir_lower_form.specs.Walks as walks
 use Rattle.hir_one_result.specs.Formals.{lower_body}
-use Rattle.hir_one_result.specs.PathRoom.{at_first, before, own_read, segment_read, segments_read, whole_read, yields}
+use Rattle.hir_steps.specs.PathSeen.{at_first, own_read, segment_read, segments_read, whole_read, yields}
+use Rattle.hir_one_result.specs.PathRoom.{before}
 use Rattle.hir_one_result.specs.Room.{args_size, body_size, segment_size, segments_size, size_part, type_part_size, type_size, whole_size}
 use Rattle.hir_one_result.specs.Size.{Size, ◌∪◌}
 use Rattle.hir_one_result.proofs.AsRooms.{given, rooms_bodies, rooms_graded}
-use Rattle.hir_one_result.proofs.Graded.{Told}
+use Rattle.hir_steps.proofs.Graded.{Told}
 use Rattle.hir_one_result.proofs.GradedBodies.{body_graded}
-use Rattle.hir_one_result.proofs.GradedTree.{args_graded, expr_part_graded, part_graded, path_graded, segment_graded, segments_graded}
-use Rattle.hir_one_result.proofs.GradedTree.{type_graded}
-use Rattle.hir_one_result.proofs.PathRooms.{Gives, GivesPath, Yields, proceed_tells, seen}
+use Rattle.hir_steps.proofs.GradedTree.{args_graded, expr_part_graded, part_graded, path_graded, segment_graded, segments_graded}
+use Rattle.hir_steps.proofs.GradedTree.{type_graded}
+use Rattle.hir_steps.proofs.PathAnswers.{Gives, GivesPath, Yields, seen}
+use Rattle.hir_one_result.proofs.PathRooms.{proceed_tells}
 use Rattle.hir_one_result.proofs.Rooms.{Takes, takes_as}
 use Rattle.hir_one_result.proofs.SizesAgree.{args_are, body_is, expr_part_is, part_is, segment_is, segments_are, type_is, whole_is}
 use Rattle.hir_one_result.proofs.Tellings.{Tells, tells_as, tells_then}

@@ -24,7 +24,7 @@ use Rattle.hir_steps.proofs.Logic.{Mark, mark, Grows, Rel, Answers, Holds, Corre
 use Rattle.hir_steps.proofs.Logic.{grows_trans}
 use Rattle.hir_steps.proofs.MadeSteps.{behind, correct_like}
 use Rattle.hir_steps.proofs.Steps.{Allocated, correct_alloc}
-use Rattle.hir_steps.proofs.Yields.{LeavesTo, Still, Raises, RaisedTo, raises_begin, raises_end, raises_noted, raises_pure, raises_still}
+use Rattle.hir_steps.proofs.Yields.{LeavesTo, Still, Raises, RaisedTo, raises_begin, raises_end, raises_noted, raises_pure}
 use Rattle.hir_steps.proofs.Yields.{raises_then}
 use Rattle.hir_steps.proofs.Yields.{still_expr, still_pure, still_then, still_trans}
 
@@ -170,10 +170,9 @@ module _ (p : Lowering ClosureParams) (t : Lowering (Option TypeRefId)) (e : Exp
       ∙ behind t (λ r d. grouped e (λ i. pure (l, r, i)) f d) c) b
 
 -- none stands in its parameters, nor in its type
-raises_all : {p : Lowering ClosureParams} {t : Lowering (Option TypeRefId)} {e : ExprSteps} {P : Rel ClosureParams}
-    {T : Rel (Option TypeRefId)} {y : Bool} → Correct p P → Still p → Correct t T → Still t → Raises y e → Raises y (all_of p t e)
-raises_all hp sp ht st he =
-    raises_begin (raises_still hp sp) (λ l. raises_begin (raises_still ht st) (λ r. raises_end he (λ i. raises_pure _)))
+raises_all : {p : Lowering ClosureParams} {t : Lowering (Option TypeRefId)} {e : ExprSteps} {y : Bool} → Raises false p → Raises false t
+    → Raises y e → Raises y (all_of p t e)
+raises_all hp ht he = raises_begin hp (λ l. raises_begin ht (λ r. raises_end he (λ i. raises_pure _)))
 
 -- Its parameters, its type and its body behind a barrier, and then the node, which is of a kind by whether its body yields.
 pub record ClosureRow (at : Pointer) (moves is_static : Bool) (p : Lowering ClosureParams) (t : Lowering (Option TypeRefId)) (e : ExprSteps)
@@ -183,7 +182,7 @@ pub record ClosureRow (at : Pointer) (moves is_static : Bool) (p : Lowering Clos
   pub ret : Option TypeRefId
   pub body : ExprId
   pub yields : Bool
-  pub raised : Still p → Still t → (z : Bool) → Raises z e → yields ≡ z
+  pub raised : Raises false p → Raises false t → (z : Bool) → Raises z e → yields ≡ z
   pub after_params : Mark
   pub after_ret : Mark
   pub left : Mark
@@ -217,7 +216,7 @@ module _ (at : Pointer) (moves is_static : Bool) {p : Lowering ClosureParams} {t
         ret = two.one;
         body = three.one;
         yields = row.yields;
-        raised = λ sp st z h. row.raised z (raises_all hp sp ht st h);
+        raised = λ rp rt z h. row.raised z (raises_all rp rt h);
         after_params = one.middle;
         after_ret = two.middle;
         left = row.left;

@@ -223,7 +223,7 @@ raises_still {p = p} {R = R} h s = record {
       as_raised b (p b).0 (p b).1 (pairs_of R b.stored ps b (p b).0 (p b).1 (h.holds b.stored ps b (ribs_frames b.scopes))) (s.still b) d;
 }
 
-raised_trans : {A : Type 0} (y z : Bool) (b c : Builder) → c.yields ≡ (b.yields || y) → (o : Checked A) (d : Builder) → RaisedTo z c o d
+pub raised_trans : {A : Type 0} (y z : Bool) (b c : Builder) → c.yields ≡ (b.yields || y) → (o : Checked A) (d : Builder) → RaisedTo z c o d
     → RaisedTo (y || z) b o d
 raised_trans y z b c e (Ok a) d x = (x.0, x.1 ∙ (ap (λ t. t || z) e ∙ or_assoc b.yields y z))
 raised_trans y z b c e (Err f) d x = tt
@@ -249,16 +249,6 @@ raises_as {p = p} e h = subst (λ t. Raises t p) e h
 pub raises_end : {A B : Type 0} {y : Bool} {p : Lowering A} {f : A → Lowering B} → Raises y p → ((a : A) → Raises false (f a))
     → Raises y (p >>= f)
 raises_end {y = y} h k = raises_as (or_false y) (raises_then {y = y} {z = false} h k)
-
--- where what the second is depends on what the first answers
-pub raises_by : {A B : Type 0} {y : Bool} {p : Lowering A} {f : A → Lowering B} → Raises false p
-    → ((b : Builder) (a : A) (c : Builder) → Paired b.stored → p b ≡ (Ok a, c) → Raises y (f a)) → Raises y (p >>= f)
-raises_by {A = A} {y = y} {p = p} {f = f} h k = record { at = λ b d. by b d (p b).0 (p b).1 refl (h.at b d) }
-  where
-    by : (b : Builder) → Paired b.stored → (o : Checked A) (c : Builder) → p b ≡ (o, c) → RaisedTo false b o c
-        → RaisedTo y b (go_on o c f).0 (go_on o c f).1
-    by b d (Ok a) c is x = raised_trans false y b c x.1 (f a c).0 (f a c).1 ((k b a c d is).at c x.0)
-    by b d (Err e) c is x = tt
 
 pub raises_pure : {A : Type 0} (a : A) → Raises false (pure a)
 raises_pure a = record { at = λ b d. (d, sym (or_false b.yields)) }

@@ -8,7 +8,7 @@ use Rattle.hir_store.specs.declared.type_ref.TypeBound.{TypeBound}
 use Rattle.hir_env.specs.declared.place.ImplTrait.{ImplTrait}
 use Rattle.hir_env.specs.declared.place.ImplTrait.TheVariants as becomes
 use Rattle.hir_lower_form.specs.Lowering.{becoming}
-use Rattle.hir_one_result.specs.Grading.{grade_impl}
+use Rattle.hir_steps.specs.Grading.{grade_impl}
 use Rattle.hir_lower_form.specs.Builder.{Builder}
 use Rattle.hir_lower_form.specs.Lowering.{Lowering}
 use Rattle.hir_data.specs.Data as datum
@@ -23,8 +23,9 @@ use Rattle.hir_told.specs.Expanded.{bodies_expanded, expansions}
 use Rattle.hir_told.specs.Laws.{BodiesExpand, ExprsExpand, PathsExpand, TypesExpand}
 use Rattle.hir_one_result.proofs.AsTelling.{behind, tells_graded}
 use Rattle.hir_one_result.proofs.GradedBodies.{GradedBodies, body_graded}
-use Rattle.hir_one_result.proofs.Graded.{Graded}
-use Rattle.hir_one_result.proofs.GradedTree.{expr_part_graded, part_graded, path_graded}
+use Rattle.hir_steps.proofs.Graded.{Graded}
+use Rattle.hir_steps.proofs.ReadBack.{Unknown, unread}
+use Rattle.hir_steps.proofs.GradedTree.{expr_part_graded, part_graded, path_graded}
 
 pub none_in_block : (n : Option BlockId) (s : Stored) → (with_block n s).expansions ≡ s.expansions ++ []
 none_in_block None s = sym (append-nil s.expansions)
@@ -77,6 +78,8 @@ expansions_graded = let all = tells_graded expanded in record {
   new_name_is = λ u is t with_it e. all.new_name_is u is t with_it e;
   top_is = λ h. all.top_is h;
   Where = λ C es p. Correct p (Tells expanded (λ ss. es));
+  Known = Unknown;
+  reads = unread;
   where_is = λ is h. h;
   where_any = λ h. h;
   where_less = λ is h. h;

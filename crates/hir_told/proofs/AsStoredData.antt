@@ -1,8 +1,8 @@
 -- What is stored of types and lifetimes reads back as is told, in each later store: an instance.
-use Rattle.std.proofs.Common.{◌≡◌, refl, ap, Bool, Option, Some, None, Ok, List}
+use Rattle.std.proofs.Common.{◌≡◌, refl, ap, Some, None, Ok, List}
 use Rattle.hir_store.specs.Pointers.{Pointer}
-use Rattle.hir_store.specs.Stored.{Stored, store_of}
-use Rattle.hir_store.specs.Storing.{Extends, record_root, root_at}
+use Rattle.hir_store.specs.Stored.{store_of}
+use Rattle.hir_store.specs.Storing.{record_root, root_at}
 use Rattle.hir_store.proofs.Extending.{extends_refl, extends_root}
 use Rattle.hir_store.specs.declared.type_ref.TypeBound.{TypeBound}
 use Rattle.hir_env.specs.declared.place.ImplTrait.{ImplTrait}
@@ -25,19 +25,21 @@ use Rattle.hir_steps.proofs.PatSteps.{correct_alloc_made_pat, correct_point_pat_
 use Rattle.hir_steps.proofs.Steps.{Correct, correct_as, correct_bind, correct_both, correct_point, correct_point_field, correct_report}
 use Rattle.hir_one_result.specs.OneResult.{fresh_owing, in_root_of, with_root}
 use Rattle.hir_one_result.proofs.AfterLowering.{after_lowering}
-use Rattle.hir_one_result.specs.Grading.{grade_impl}
-use Rattle.hir_told.specs.StoredData.{DataAdded, StoredData, bodies_stored, no_data, stored_data}
+use Rattle.hir_steps.specs.Grading.{grade_impl}
+use Rattle.hir_told.specs.StoredData.{DataAdded, StoredData, bodies_stored, stored_data}
 use Rattle.hir_told.specs.StoredLaws.{BodiesStore, ExprsStore, PathsStore, PatsStore, TypesStore, WholeBodiesStore, WholeTypesStore}
 use Rattle.hir_one_result.proofs.GradedBodies.{GradedBodies, body_graded}
-use Rattle.hir_one_result.proofs.CorrectWhere.{correct_where}
-use Rattle.hir_one_result.proofs.Graded.{Graded, TypeIs}
+use Rattle.hir_steps.proofs.CorrectWhere.{correct_where}
+use Rattle.hir_steps.proofs.Graded.{Graded}
+use Rattle.hir_steps.proofs.ReadBack.{TypeIs}
+use Rattle.hir_told.proofs.ReadingBack.{Surely, read_back}
 use Rattle.hir_told.proofs.Storing.{More, Stores, binding_stores, block_stores, closure_stores, coroutine_stores, data_of, define_stores}
 use Rattle.hir_told.proofs.Storing.{dots_stored, expr_stores, inner_stores, jump_stores, lifetime_stores, made_bind_stores, more_last}
 use Rattle.hir_told.proofs.Storing.{more_then, opened_stores, owning_stores, pat_stores, pure_stores, rooted_stores, settle_stores, still}
 use Rattle.hir_told.proofs.Storing.{stores_begin, stores_end, stores_opened, stores_then, stores_where, super_stored, try_stores}
 use Rattle.hir_told.proofs.Storing.{type_stores}
 use Rattle.hir_told.proofs.StoringPreludes.{coroutine_body_stores, coroutine_closure_stores, number_stores}
-use Rattle.hir_one_result.proofs.GradedTree.{expr_part_graded, part_graded, path_graded, top_graded}
+use Rattle.hir_steps.proofs.GradedTree.{expr_part_graded, part_graded, path_graded, top_graded}
 
 pub impls : (at : Pointer) (mode : ImplTrait) (bounds : List TypeBound) (shape : Shape) → let t = datum.typed (Some at) shape in
     Correct (becoming at mode bounds) (λ final ps m m' i.
@@ -58,6 +60,8 @@ data_graded = record {
   bind_is = λ h t k. stores_where h t k;
   makes_is = λ h t k. stores_where h t k;
   end_is = λ h k. stores_end h k;
+  Known = Surely;
+  reads = read_back;
   where_is = λ is h. correct_as (correct_both is h) (λ final ps m m' a g row. row.other row.one);
   where_any = λ h. correct_as h (λ final ps m m' a g row. λ c. row);
   where_less = λ is h. correct_as (correct_both is h) (λ final ps m m' a g row. λ d. row.other (row.one d));

@@ -1,9 +1,9 @@
-pub mod AsApart
-pub mod AsYields
 pub mod Listed
 pub mod AsExpansions
 pub mod CallRows
 pub mod Fitting
 pub mod Storing
 pub mod StoringPreludes
+pub mod ReadingBack
 pub mod AsStoredData
+pub mod Noted

@@ -1,5 +1,3 @@
-pub mod Silent
-pub mod Yields
 pub mod Expanded
 pub mod StoredData
 pub mod Laws

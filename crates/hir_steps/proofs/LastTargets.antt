@@ -22,7 +22,7 @@ use Rattle.hir_lower_form.specs.Lowering.{Checked, Lowering, alloc_made_pat, poi
 use Rattle.hir_lower_form.specs.Pats.{Elements, elements_form}
 use Rattle.hir_lower_form.specs.Targets as targets
 use Rattle.hir_lower_form.specs.Targets.{alloc_target, called_target}
-use Rattle.hir_one_result.proofs.LastStored.{EndsAt, LastPat, Stays, last_before, lastly, pats_in}
+use Rattle.hir_steps.proofs.LastStored.{EndsAt, LastPat, Stays, last_before, lastly, pats_in}
 
 abbrev hidden_pat : Bool → HirPat → Option Pointer → Sourced HirPat PatId → Checked PatId × Sourced HirPat PatId
 hidden_pat t x source a = if t then (Ok (pat_id (length a.entries)), with_made a x source) else (Err Full, a)

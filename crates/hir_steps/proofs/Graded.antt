@@ -45,15 +45,13 @@ use Rattle.hir_lower_form.specs.Preludes.{coroutine_closure_form}
 use Rattle.hir_lower_form.specs.Ranges.{inner_form}
 use Rattle.hir_lower_form.specs.Types.{TypeSteps}
 use Rattle.hir_lower_form.specs.Walks.{super_read, supers}
-use Rattle.hir_steps.proofs.Steps.{Mark, Correct}
-use Rattle.hir_one_result.proofs.LastStored.{LastPat, LastType}
-use Rattle.hir_one_result.proofs.NoteRooms.{KeepsParams}
-use Rattle.hir_one_result.specs.Grading.{Grading, grade_impl, made_bind}
-use Rattle.hir_one_result.proofs.Answering.{Answering, anything, answering_aliased, answering_any, answering_pure, answering_then, answering_less}
-
--- a type that reads back so
-abbrev pub TypeIs : TypeData → Stored → Mark → TypeRefId → Type 0
-TypeIs t final m i = stored_type (store_of final) (map_of final) i ≡ t
+use Rattle.hir_steps.proofs.Logic.{Mark}
+use Rattle.hir_steps.proofs.ReadBack.{Knowing, ReadBack, TypeIs}
+use Rattle.hir_steps.proofs.LastStored.{LastPat, LastType}
+use Rattle.hir_steps.proofs.Noted.{KeepsParams}
+use Rattle.hir_steps.specs.Grading.{Grading, grade_impl, made_bind}
+use Rattle.hir_steps.proofs.Answering.{Answering, anything, answering_aliased, answering_any, answering_pure, answering_then}
+use Rattle.hir_steps.proofs.Answering.{answering_less}
 
 -- how what is told is claimed of steps
 pub record Graded {ℓ} (S : Grading {ℓ}) : Type (ℓ ⊔ 1) where
@@ -71,19 +69,21 @@ pub record Graded {ℓ} (S : Grading {ℓ}) : Type (ℓ ⊔ 1) where
       → Claim g (p >>= f)
   -- ---- steps of which something is told where it is so, in a final store, of how far it had come before them and of their answer
   pub Where : {A : Type 0} → (Stored → Mark → A → Type 0) → S.G → Lowering A → Type 0
-  -- where it is so
-  pub where_is : {A : Type 0} {C : Stored → Mark → A → Type 0} {g : S.G} {p : Lowering A} → Correct p (λ final ps m m' a. C final m a)
+  -- where it is known to be so
+  pub Known : Knowing
+  pub reads : ReadBack Known
+  pub where_is : {A : Type 0} {C : Stored → Mark → A → Type 0} {g : S.G} {p : Lowering A} → Known p (λ final m m' a. C final m a)
       → Where C g p → Claim g p
   -- told in any case
   pub where_any : {A : Type 0} {C : Stored → Mark → A → Type 0} {g : S.G} {p : Lowering A} → Claim g p → Where C g p
   -- where it follows from something else
   pub where_less : {A : Type 0} {C D : Stored → Mark → A → Type 0} {g : S.G} {p : Lowering A}
-      → Correct p (λ final ps m m' a. D final m a → C final m a) → Where C g p → Where D g p
+      → Known p (λ final m m' a. D final m a → C final m a) → Where C g p → Where D g p
   -- behind steps, and behind those that bring it about
   pub where_next : {A B : Type 0} {C : Stored → B → Type 0} {g h : S.G} {p : Lowering A} {f : A → Lowering B} → Claim g p
       → ((a : A) → Where (λ final m b. C final b) h (f a)) → Where (λ final m b. C final b) (S.then' g h) (p >>= f)
   pub where_known : {A B : Type 0} {K : A → Stored → Mark → Type 0} {P : A → Type 0} {g h : S.G} {p : Lowering A} {f : A → Lowering B}
-      → Claim g p → Answering P p → Correct p (λ final ps m m' a. K a final m')
+      → Claim g p → Answering P p → Known p (λ final m m' a. K a final m')
       → ((a : A) → P a → Where (λ final m b. K a final m) h (f a)) → Claim (S.then' g h) (p >>= f)
   -- in front of steps, and where nothing is told of these
   pub where_first : {A B : Type 0} {K : Stored → Mark → Type 0} {g h : S.G} {p : Lowering A} {f : A → Lowering B}

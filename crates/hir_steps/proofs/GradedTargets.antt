@@ -14,13 +14,13 @@ use Rattle.hir_lower_form.specs.Lowering.{Lowering}
 use Rattle.hir_lower_form.specs.Pats.{Elements}
 use Rattle.hir_lower_form.specs.Targets as targets
 use Rattle.hir_lower_form.specs.Targets.{alloc_target}
-use Rattle.hir_one_result.specs.PathRoom.{Seen}
-use Rattle.hir_one_result.proofs.LastTargets.{made_pat_last}
-use Rattle.hir_one_result.proofs.PathRooms.{GivesPath, option_seen}
-use Rattle.hir_one_result.specs.Grading.{Grading, grade_assigned, grade_rest, grade_spread, or_missing_target}
-use Rattle.hir_one_result.proofs.Graded.{Graded, Told, next, map_is}
-use Rattle.hir_one_result.proofs.GradedPats.{elements_graded, named_graded}
-use Rattle.hir_one_result.proofs.GradedTypes.{claim_by_path}
+use Rattle.hir_steps.specs.PathSeen.{Seen}
+use Rattle.hir_steps.proofs.LastTargets.{made_pat_last}
+use Rattle.hir_steps.proofs.PathAnswers.{GivesPath, option_seen}
+use Rattle.hir_steps.specs.Grading.{Grading, grade_assigned, grade_rest, grade_spread, or_missing_target}
+use Rattle.hir_steps.proofs.Graded.{Graded, Told, next, map_is}
+use Rattle.hir_steps.proofs.GradedPats.{elements_graded, named_graded}
+use Rattle.hir_steps.proofs.GradedTypes.{claim_by_path}
 
 module _ {ℓ} {S : Grading {ℓ}} (L : Graded S) where
   -- the parts of a tuple or a call, with the place of the first two dots

@@ -6,7 +6,7 @@ use Rattle.hir_lower_form.specs.Builder.{Builder}
 use Rattle.hir_lower_form.specs.Lowering.{Checked, go_on, Lowering, ◌>>=◌}
 use Rattle.hir_steps.proofs.Frames.{Frame, ribs}
 use Rattle.hir_steps.proofs.Logic.{Rel, Answers, Holds, Correct, Seq, mark, grows_trans, kept_trans}
-use Rattle.hir_one_result.proofs.Answering.{Answering, AnsweredTo}
+use Rattle.hir_steps.proofs.Answering.{Answering, AnsweredTo}
 
 pub correct_where : {A B : Type 0} {p : Lowering A} {R : Rel A} {P : A → Type 0} {f : A → Lowering B} {Q : A → Rel B} → Correct p R
     → Answering P p → ((a : A) → P a → Correct (f a) (Q a)) → Correct (p >>= f) (Seq R Q)

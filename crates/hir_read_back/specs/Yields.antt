@@ -1,6 +1,6 @@
 -- Whether a `yield` stands in it: one that stands in a body inside counts there.
 use Rattle.std.specs.Prelude.{Bool, true, false, ◌||◌}
-use Rattle.hir_one_result.specs.Grading.{Grading}
+use Rattle.hir_steps.specs.Grading.{Grading}
 
 abbrev pub yields : Grading {0}
 yields = record {

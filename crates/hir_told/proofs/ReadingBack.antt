@@ -1,7 +1,7 @@
--- What a type reads back as in a final store.
-use Rattle.std.proofs.Common.{◌≡◌, ap, ℕ, ◌≤◌, ◌+◌, List, [], length, Option, Some, None}
+-- What a type reads back as in a final store, handed in where a property asks for it.
+use Rattle.std.proofs.Common.{◌≡◌, refl, ap, ℕ, ◌≤◌, ◌+◌, List, [], length, Option, Some, None}
 use Rattle.hir_store.specs.Pointers.{Pointer}
-use Rattle.hir_store.specs.Stored.{Stored, store_of, map_of}
+use Rattle.hir_store.specs.Stored.{Stored}
 use Rattle.hir_store.specs.declared.ids.TypeRefId.{TypeRefId}
 use Rattle.hir_store.specs.declared.path.Path.{Path as HirPath}
 use Rattle.hir_store.specs.declared.type_ref.TypeRef.{TypeRef}
@@ -9,27 +9,26 @@ use Rattle.hir_store.specs.declared.type_ref.TypeRef.TheVariants as ty
 use Rattle.hir_env.specs.Answered as tree
 use Rattle.hir_env.specs.Answered.{Binder, Parts, Type_}
 use Rattle.hir_lower_form.specs.Lower.{lower_parts, lower_type}
-use Rattle.hir_lower_form.specs.Lowering.{Lowering, alloc_type}
+use Rattle.hir_lower_form.specs.Lowering.{alloc_type}
 use Rattle.hir_lower_form.specs.Types.{TypeSteps}
-use Rattle.hir_steps.proofs.Steps.{AllocatedType, Correct, InStore, Mark, correct_alloc_type, correct_as, correct_in_store}
-use Rattle.hir_steps.proofs.Frames.{Frame}
+use Rattle.hir_steps.proofs.Steps.{Correct, Mark, correct_alloc_type, correct_as, correct_in_store}
 use Rattle.hir_data.specs.Data as datum
 use Rattle.hir_data.specs.Data.{Shape, TypeData, TypesData, typed}
 use Rattle.hir_data.specs.Reading.{stored_type}
 use Rattle.hir_data.specs.Rule.{PathRead}
 use Rattle.hir_data.specs.Written.{parts_data, shape_of_path, type_data}
-use Rattle.hir_read_back.proofs.Layers.{Pushed, Reads, a_type, a_shape, pushed_all, type_at, types_before, within}
-use Rattle.hir_read_back.proofs.Tree.{part_reads, type_reads}
-use Rattle.hir_read_back.proofs.Types.{types_more, types_none}
+use Rattle.hir_read_back.proofs.Layers.{Pushed, Reads, a_type, a_shape, pushed_all, type0, type_at, types_before, within}
+use Rattle.hir_read_back.proofs.Tree.{part_reads, path_reads, type_reads}
+use Rattle.hir_read_back.proofs.Types.{types_more, types_none, unit_type_reads}
 use Rattle.hir_read_back.proofs.Walk.{Answers, matches_read}
-use Rattle.hir_one_result.proofs.Graded.{TypeIs}
+use Rattle.hir_steps.proofs.ReadBack.{Knowing, ReadBack, TypeIs}
 
 pub type_in_store : {t : TypeData} {p : TypeSteps} → Correct p (Reads a_type t) → Correct p (λ final ps m m' i. TypeIs t final m i)
 unfolding stored_type
 type_in_store h = correct_as (correct_in_store h)
     (λ final ps m m' i g row. row.rel.is (length final.types.entries + length final.pats.entries) row.entries)
 
-pub type_in : (b : Option Binder) (t : Type_) → Correct (lower_type b t) (λ final ps m m' i. TypeIs (type_data b t) final m i)
+type_in : (b : Option Binder) (t : Type_) → Correct (lower_type b t) (λ final ps m m' i. TypeIs (type_data b t) final m i)
 type_in b t = type_in_store (type_reads b t)
 
 parts_pushed : (ps : Parts) (behind : TypesData) (done : List TypeRefId)
@@ -37,7 +36,7 @@ parts_pushed : (ps : Parts) (behind : TypesData) (done : List TypeRefId)
 parts_pushed tree.no_parts behind done = types_none behind done
 parts_pushed (tree.more_parts p ps) behind done = types_more behind (part_reads None p) (parts_pushed ps behind) done
 
-pub parts_read : (ps : Parts) → Correct (lower_parts [] ps) (Reads (types_before datum.no_types) (parts_data ps datum.no_types))
+parts_read : (ps : Parts) → Correct (lower_parts [] ps) (Reads (types_before datum.no_types) (parts_data ps datum.no_types))
 parts_read ps = pushed_all (parts_pushed ps datum.no_types [])
 
 -- where a type's shape reads back so at each depth past what was stored before
@@ -50,19 +49,38 @@ shaped t at shape K e = correct_as (correct_in_store (correct_alloc_type t at)) 
     read.is (length final.types.entries + length final.pats.entries) row.entries)
 
 -- the parts that a tuple is made of
-abbrev pub PartsAre : TypesData → List TypeRefId → Stored → Mark → Type 0
+abbrev PartsAre : TypesData → List TypeRefId → Stored → Mark → Type 0
 PartsAre ts is final m = (d : ℕ) → m.entries ≤ d → types_before datum.no_types final (within final d) is ≡ ts
 
-pub tuple_in : (ts : TypesData) (is : List TypeRefId) → Correct (alloc_type (ty.Tuple is) None)
+tuple_in : (ts : TypesData) (is : List TypeRefId) → Correct (alloc_type (ty.Tuple is) None)
     (λ final ps m m' i. PartsAre ts is final m → TypeIs (typed None (datum.tuple_shape ts)) final m i)
 tuple_in ts is = shaped (ty.Tuple is) None (datum.tuple_shape ts) (PartsAre ts is) (λ final m k d le. ap datum.tuple_shape (k d le))
 
 -- the path that a type is made of
-abbrev pub PathFound : Option PathRead → Option HirPath → Stored → Mark → Type 0
+abbrev PathFound : Option PathRead → Option HirPath → Stored → Mark → Type 0
 PathFound y o final m = Answers final m.entries y o
 
-pub path_in : (y : Option PathRead) (at : Pointer) (p : HirPath) → Correct (alloc_type (ty.Path p) (Some at))
+path_in : (y : Option PathRead) (at : Pointer) (p : HirPath) → Correct (alloc_type (ty.Path p) (Some at))
     (λ final ps m m' i. PathFound y (Some p) final m → TypeIs (typed (Some at) (shape_of_path y)) final m i)
 path_in None at p = shaped (ty.Path p) (Some at) (shape_of_path None) (PathFound None (Some p)) (λ final m k d le. absurd k)
 path_in (Some x) at p = shaped (ty.Path p) (Some at) (shape_of_path (Some x)) (PathFound (Some x) (Some p))
     (λ final m k d le. ap datum.path_shape (matches_read final m.entries x p k d le))
+
+-- ---- handed in
+
+-- what is so of correct steps
+abbrev pub Surely : Knowing
+Surely p R = Correct p (λ final ps m m' a. R final m m' a)
+
+abbrev pub read_back : ReadBack Surely
+read_back = record {
+  type_reads = λ b t. type_in b t;
+  error_reads = λ at. type_in_store (type0 ty.Error at (λ final r. refl));
+  unit_reads = type_in_store unit_type_reads;
+  PartsAre = λ ts is final m. PartsAre ts is final m;
+  parts_read = λ ts. correct_as (parts_read ts) (λ final ps m m' is g row. row.is);
+  tuple_reads = λ ts is. tuple_in ts is;
+  PathFound = λ y o final m. PathFound y o final m;
+  path_reads = λ p. correct_as (path_reads p) (λ final ps m m' o g row. row.is);
+  path_type_reads = λ y at p. path_in y at p;
+}

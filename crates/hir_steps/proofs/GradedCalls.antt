@@ -1,8 +1,7 @@
 -- What is told of calls of macros, whatever is told of what they stand for.
-use Rattle.std.proofs.Common.{Some, refl}
+use Rattle.std.proofs.Common.{Some}
 use Rattle.hir_store.specs.Pointers.{Pointer}
 use Rattle.hir_store.specs.declared.ids.PatId.{PatId}
-use Rattle.hir_store.specs.declared.type_ref.TypeRef.TheVariants as ty
 use Rattle.hir_env.specs.Answered as tree
 use Rattle.hir_env.specs.Answered.{Called}
 use Rattle.hir_data.specs.Uses.{FirstUses}
@@ -11,15 +10,13 @@ use Rattle.hir_lower_form.specs.Forms.{ExprSteps, called_form, paren_form, uncal
 use Rattle.hir_lower_form.specs.Lowering.{Lowering, ◌>>=◌, ◌>>◌, pure, point_pat}
 use Rattle.hir_lower_form.specs.Pats.{Table, called_pat_form, uncalled_pat}
 use Rattle.hir_lower_form.specs.Types.{TypeSteps, called_type_form, uncalled_type}
-use Rattle.hir_read_back.proofs.Layers.{type0}
-use Rattle.hir_one_result.proofs.LastStored.{LastPat, LastType, error_last, missing_pat_last}
-use Rattle.hir_one_result.proofs.PatRooms.{Keyed}
-use Rattle.hir_one_result.specs.Grading.{Grading, grade_uncalled_pat, grade_uncalled_type}
-use Rattle.hir_one_result.proofs.Answering.{answering_any, answering_pure, answering_then}
-use Rattle.hir_one_result.proofs.Graded.{Graded, HandsTold, hand_beside, made_next, next, told_any}
-use Rattle.hir_one_result.proofs.ReadingBack.{type_in_store}
-use Rattle.hir_one_result.proofs.GradedPats.{PatTold, missing_pat_graded}
-use Rattle.hir_one_result.proofs.GradedTypes.{error_graded}
+use Rattle.hir_steps.proofs.LastStored.{LastPat, LastType, error_last, missing_pat_last}
+use Rattle.hir_steps.proofs.PatAnswers.{Keyed}
+use Rattle.hir_steps.specs.Grading.{Grading, grade_uncalled_pat, grade_uncalled_type}
+use Rattle.hir_steps.proofs.Answering.{answering_any, answering_pure, answering_then}
+use Rattle.hir_steps.proofs.Graded.{Graded, HandsTold, hand_beside, made_next, next, told_any}
+use Rattle.hir_steps.proofs.GradedPats.{PatTold, missing_pat_graded}
+use Rattle.hir_steps.proofs.GradedTypes.{error_graded}
 
 module _ {ℓ} {S : Grading {ℓ}} (L : Graded S) where
   pub told_target_graded : (c : Called) {g : S.G} {p : Lowering PatId} → L.Claim g p → L.Claim (S.then' (S.told c) g) (told c >> p)
@@ -45,7 +42,7 @@ module _ {ℓ} {S : Grading {ℓ}} (L : Graded S) where
     called_type_graded c l h = next L (L.told_is c) (λ u. L.type_call_is at l h)
 
     pub uncalled_type_graded : (c : Called) → L.Claim (grade_uncalled_type S at c) (uncalled_type at c)
-    uncalled_type_graded tree.callless = L.where_is (type_in_store (type0 ty.Error (Some at) (λ final r. refl))) (L.type_is _ _ _)
+    uncalled_type_graded tree.callless = L.where_is (L.reads.error_reads (Some at)) (L.type_is _ _ _)
     uncalled_type_graded c = called_type_graded c error_last (error_graded L)
 
     pub called_type_pat_graded : (c : Called) {g : S.G} {p : Lowering PatId} → LastPat (λ i. i) p → L.Claim g p

@@ -1,5 +1,5 @@
 -- Where nothing is told.
-use Rattle.hir_one_result.specs.Grading.{Grading}
+use Rattle.hir_steps.specs.Grading.{Grading}
 
 abbrev pub silent : Grading {0}
 silent = record {

@@ -23,17 +23,17 @@ use Rattle.hir_lower_form.specs.Lowering.{Lowering, ◌>>=◌}
 use Rattle.hir_lower_form.specs.Pats as forms
 use Rattle.hir_lower_form.specs.Pats.{Elements, PatSteps, Table, enter_or, key_of, leave_or, missing_pat, no_elements}
 use Rattle.hir_lower_form.specs.Ranges as ranges
-use Rattle.hir_read_back.proofs.PatParts.{dots_behind, dots_here, one_further}
-use Rattle.hir_one_result.specs.PathRoom.{Seen}
-use Rattle.hir_one_result.specs.PatRoom.{is_known, names_after}
-use Rattle.hir_one_result.proofs.PathRooms.{GivesPath, option_seen}
-use Rattle.hir_one_result.proofs.PatRooms.{AsMany, Keyed, dots_use_none, from_none}
-use Rattle.hir_one_result.specs.Grading.{Grading, if_so, or_missing, grade_name, behind_comma, grade_or, grade_name_side}
-use Rattle.hir_one_result.proofs.Answering.{answering_any, answering_pure, answering_then}
-use Rattle.hir_one_result.proofs.Graded.{Graded, Told, HandsTold, next, made_next, expr_claim, map_is, told_any, hand_pure, hand_as, hand_less}
-use Rattle.hir_one_result.proofs.Graded.{hand_then, hand_beside, hand_beside_end, hand_end, hand_map, hand_last}
-use Rattle.hir_one_result.proofs.GradedAnswers.{KnownBy, keyed_more, known_by, same_dots}
-use Rattle.hir_one_result.proofs.GradedTypes.{claim_by_path, hand_by_path}
+use Rattle.hir_steps.proofs.TupleDots.{dots_behind, dots_here, one_further}
+use Rattle.hir_steps.specs.PathSeen.{Seen}
+use Rattle.hir_steps.specs.PatNames.{is_known, names_after}
+use Rattle.hir_steps.proofs.PathAnswers.{GivesPath, option_seen}
+use Rattle.hir_steps.proofs.PatAnswers.{AsMany, Keyed, dots_use_none, from_none}
+use Rattle.hir_steps.specs.Grading.{Grading, if_so, or_missing, grade_name, behind_comma, grade_or, grade_name_side}
+use Rattle.hir_steps.proofs.Answering.{answering_any, answering_pure, answering_then}
+use Rattle.hir_steps.proofs.Graded.{Graded, Told, HandsTold, next, made_next, expr_claim, map_is, told_any, hand_pure, hand_as, hand_less}
+use Rattle.hir_steps.proofs.Graded.{hand_then, hand_beside, hand_beside_end, hand_end, hand_map, hand_last}
+use Rattle.hir_steps.proofs.GradedAnswers.{KnownBy, keyed_more, known_by, same_dots}
+use Rattle.hir_steps.proofs.GradedTypes.{claim_by_path, hand_by_path}
 
 module _ {ℓ} {S : Grading {ℓ}} (L : Graded S) where
   abbrev pub PatTold : {A : Type 0} → S.G → FirstUses → FirstUses → (Table → Lowering (A × Table)) → Type 0

@@ -8,10 +8,10 @@ use Rattle.hir_data.specs.Data.{TypeData}
 use Rattle.hir_data.specs.Rule as rule
 use Rattle.hir_data.specs.Rule.{Item, Named, PathRead, empty_list, ended, ends, names, names_of, read, refused, refuses}
 use Rattle.hir_data.specs.Written.{items, type_data, outer, path_of, segments, what, written_path}
-use Rattle.hir_one_result.specs.PathRoom as walk
-use Rattle.hir_one_result.specs.PathRoom.{Read, Seen, after, at_first, found}
-use Rattle.hir_one_result.specs.PathRoom.{nothing_seen, outer_read, path_read, segment_read, segments_read}
-use Rattle.hir_one_result.specs.PathRoom.{whole_read}
+use Rattle.hir_steps.specs.PathSeen as walk
+use Rattle.hir_steps.specs.PathSeen.{Read, Seen, after, at_first, found}
+use Rattle.hir_steps.specs.PathSeen.{nothing_seen, outer_read, path_read, segment_read, segments_read}
+use Rattle.hir_steps.specs.PathSeen.{whole_read}
 
 -- ---- lists
 

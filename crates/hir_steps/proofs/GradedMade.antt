@@ -11,28 +11,29 @@ use Rattle.hir_env.specs.Answered.{ForItems, IsWrittenLabel, Label, QuestionItem
 use Rattle.hir_lower_form.specs.Forms.{ExprSteps, StoredContents, settled}
 use Rattle.hir_lower_form.specs.Lowering.{Lowering}
 use Rattle.hir_lower_form.specs.Made as made
-use Rattle.hir_one_result.specs.Grading.{Grading, if_so, condition, item_call, flow_arm, residual, for_turn, made_bind, wrapped}
-use Rattle.hir_one_result.proofs.Graded.{Graded, Told, next, made_next, map_is}
+use Rattle.hir_steps.specs.Grading.{Grading, if_so, condition, item_call, flow_arm, residual, for_turn, made_bind, wrapped}
+use Rattle.hir_steps.proofs.Graded.{Graded, Told, next, made_next, map_is}
 
 module _ {ℓ} {S : Grading {ℓ}} (L : Graded S) where
+  -- an arm for an item, with what is done with what the item holds
+  pub flow_arm_graded : (item : LangItemId) {g : S.G} {body : ℕ → ExprSteps} → ((n : ℕ) → L.Made g (body n))
+      → L.Claim (flow_arm S g) (made.flow_arm_form item body)
+  unfolding made.flow_arm_form
+  flow_arm_graded item h =
+      L.named_is Unannotated (λ n p. next L (L.pat_is _ None) (λ q. map_is L _ (L.made_is (h n))))
+
   module _ (at : Pointer) where
-    path_graded : (n : ℕ) → L.Made S.expr (made.made_path_form at n)
+    pub path_graded : (n : ℕ) → L.Made S.expr (made.made_path_form at n)
     unfolding made.made_path_form
     path_graded n = L.made_expr_is _ (Some at)
 
-    item_call_graded : (item : Option LangItemId) (argument : ExprId) → L.Made (item_call S) (made.item_call_form at item argument)
+    pub item_call_graded : (item : Option LangItemId) (argument : ExprId) → L.Made (item_call S) (made.item_call_form at item argument)
     unfolding made.item_call_form
     item_call_graded item argument = made_next L (L.made_is (L.made_expr_is _ (Some at))) (λ f. L.made_expr_is _ (Some at))
 
     -- ---- `?`
 
-    flow_arm_graded : (item : LangItemId) {g : S.G} {body : ℕ → ExprSteps} → ((n : ℕ) → L.Made g (body n))
-        → L.Claim (flow_arm S g) (made.flow_arm_form item body)
-    unfolding made.flow_arm_form
-    flow_arm_graded item h =
-        L.named_is Unannotated (λ n p. next L (L.pat_is _ None) (λ q. map_is L _ (L.made_is (h n))))
-
-    residual_graded : (items : QuestionItems) (n : ℕ) → L.Made (residual S) (made.residual_form at items n)
+    pub residual_graded : (items : QuestionItems) (n : ℕ) → L.Made (residual S) (made.residual_form at items n)
     unfolding made.residual_form
     residual_graded items n = made_next L (L.made_is (path_graded n)) (λ r. L.asked_is (λ t.
         made_next L (L.made_is (item_call_graded _ r)) (λ e. L.made_expr_is _ (Some at))))
@@ -52,7 +53,7 @@ module _ {ℓ} {S : Grading {ℓ}} (L : Graded S) where
     value_graded (Some e) = L.pure_is e
     value_graded None = L.made_is (L.made_expr_is _ (Some at))
 
-    wrapped_graded : (item : Option LangItemId) (tail : Option ExprId)
+    pub wrapped_graded : (item : Option LangItemId) (tail : Option ExprId)
         → L.Made (wrapped S (is_some tail)) (made.wrapped_form at item tail)
     unfolding made.wrapped_form
     wrapped_graded item tail = made_next L (L.made_is (L.made_expr_is _ (Some at))) (λ f.
@@ -105,14 +106,14 @@ module _ {ℓ} {S : Grading {ℓ}} (L : Graded S) where
     unfolding made.gives_arm_form
     gives_graded item p h = next L (L.pat_is _ None) (λ q. map_is L _ (L.made_is h))
 
-    turn_graded : (items : ForItems) (n : ℕ) (p : PatId) {g : S.G} {body : ExprSteps} → L.Made g body
+    pub turn_graded : (items : ForItems) (n : ℕ) (p : PatId) {g : S.G} {body : ExprSteps} → L.Made g body
         → L.Made (for_turn S g) (made.for_turn_form at items n p body)
     unfolding made.for_turn_form
     turn_graded items n p h = made_next L (L.made_is (next_graded items.next n)) (λ c. made_next L (done_graded items.is_done) (λ a.
         made_next L (gives_graded items.gives p h) (λ b. made_next L (L.made_is (L.made_expr_is _ (Some at))) (λ e.
         L.made_expr_is _ (Some at)))))
 
-    loop_graded : (label : Option Label) → IsWrittenLabel label → {g : S.G} {body : ExprSteps} → L.Made g body
+    pub loop_graded : (label : Option Label) → IsWrittenLabel label → {g : S.G} {body : ExprSteps} → L.Made g body
         → L.Made (S.looped label g) (made.made_loop_form at label body)
     unfolding made.made_loop_form
     loop_graded None is h = L.bare_is (L.made_is h) (λ i. L.made_expr_is _ (Some at))

@@ -1,7 +1,7 @@
 -- What is known of the answers of small steps: of a trait's path, of a `super`, of the names of a pattern, of two dots.
-use Rattle.std.proofs.Common.{◌≡◌, ◌∙◌, ◌⊎◌, inl, inr, refl, sym, ap, ℕ, ◌+◌, ◌^◌, nat_lt, Bool, true, false, not, ◌||◌}
+use Rattle.std.proofs.Common.{◌≡◌, ◌∙◌, ◌⊎◌, inl, inr, refl, sym, ap, ℕ, ◌+◌, ◌^◌, nat_lt, Bool, true, false, not}
 use Rattle.std.proofs.Common.{if◌then◌else◌, cond}
-use Rattle.std.proofs.Common.{List, [], ◌∷◌, ◌++◌, reverse, Option, Some, None, is_some, option_map, Ok, Err}
+use Rattle.std.proofs.Common.{List, [], ◌∷◌, ◌++◌, reverse, Option, Some, None, option_map}
 use Rattle.std.proofs.lemmas.List.{reverse-append}
 use Rattle.std.specs.Map.{lookup}
 use Rattle.hir_store.specs.declared.ids.BindingId.{BindingId}
@@ -9,27 +9,23 @@ use Rattle.hir_store.specs.declared.ids.TypeRefId.{TypeRefId}
 use Rattle.hir_store.specs.declared.name.Name.{Name}
 use Rattle.hir_store.specs.declared.path.Path.{Path as HirPath}
 use Rattle.hir_store.specs.declared.path.PathKind.TheVariants as kind
-use Rattle.hir_env.specs.Answered.{OptionExpr, Pat, Stmts, Use}
+use Rattle.hir_env.specs.Answered.{Pat, Use}
 use Rattle.hir_data.specs.Patterns as written
 use Rattle.hir_data.specs.Uses.{FirstUses, is_of, with_use}
 use Rattle.hir_lower_form.specs.declared.walk.PathWalk.{PathWalk}
 use Rattle.hir_lower_form.specs.declared.walk.Reading.TheVariants.{Refused, Open}
-use Rattle.hir_lower_form.specs.Builder.{Builder}
-use Rattle.hir_lower_form.specs.Lower.{StoredContents, kept_part, lower_stmts, settled}
-use Rattle.hir_lower_form.specs.Lowering.{Checked, count_out}
-use Rattle.hir_meaning.specs.Left.{is_left, gives_value}
+use Rattle.hir_lower_form.specs.Lowering.{count_out}
 use Rattle.hir_lower_form.specs.Paths.{counted}
 use Rattle.hir_lower_form.specs.Pats as forms
 use Rattle.hir_lower_form.specs.Pats.{Key, key_of, same_key}
 use Rattle.hir_lower_form.specs.Walks as walks
 use Rattle.hir_lower_form.specs.Walks.{supers, no_names, super_read, mod_path, add_trait}
-use Rattle.hir_read_back.proofs.PatParts.{IsDots, IsPart, dots_or_part}
-use Rattle.hir_one_result.specs.PatRoom.{is_known}
-use Rattle.hir_one_result.specs.PathRoom.{Seen, refused, goes_on, one_more, projected}
-use Rattle.hir_one_result.proofs.PathRooms.{seen, seen_of, path_seen, Gives as GivesRead}
-use Rattle.hir_one_result.proofs.Giving.{Gives, stmts_value}
-use Rattle.hir_one_result.proofs.PatRooms.{AreKeyed}
-use Rattle.hir_one_result.proofs.Answering.{Answering, AnsweredTo}
+use Rattle.hir_steps.proofs.TupleDots.{IsDots, IsPart, dots_or_part}
+use Rattle.hir_steps.specs.PatNames.{is_known}
+use Rattle.hir_steps.specs.PathSeen.{Seen, refused, goes_on, one_more, projected}
+use Rattle.hir_steps.proofs.PathAnswers.{seen, seen_of, path_seen, Gives as GivesRead}
+use Rattle.hir_steps.proofs.PatAnswers.{AreKeyed}
+use Rattle.hir_steps.proofs.Answering.{Answering}
 
 -- ---- what a trait's path says
 
@@ -110,20 +106,3 @@ same_dots p = by (dots_or_part p)
     by : IsDots p ⊎ IsPart p → written.is_dots p ≡ forms.is_dots p
     by (inl is) = is.1 ∙ sym is.0
     by (inr is) = is.1 ∙ sym is.0
-
--- ---- blocks
-
--- whether a block has a value
-pub block_value : (ss : Stmts) (e : OptionExpr)
-    → Answering (λ r. is_some (settled r.0 r.1).1 ≡ (is_left e || gives_value ss false)) (lower_stmts [] ss (kept_part e))
-block_value ss e = record { answers = λ b. let r = lower_stmts [] ss (kept_part e) b in by r.0 r.1 (record { gives = λ c. known.gives b }) }
-  where
-    HasValue : StoredContents → Type 0
-    HasValue r = is_some (settled r.0 r.1).1 ≡ (is_left e || gives_value ss false)
-
-    known : Gives HasValue (lower_stmts [] ss (kept_part e))
-    known = stmts_value ss e
-
-    by : (o : Checked StoredContents) (c : Builder) → Gives HasValue (λ d. (o, c)) → AnsweredTo HasValue o
-    by (Ok r) c h = h.gives c
-    by (Err e) c h = tt

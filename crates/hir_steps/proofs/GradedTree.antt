@@ -45,30 +45,28 @@ use Rattle.hir_lower_form.specs.Lower.{lower_stmts, lower_stmt, no_closure_param
 use Rattle.hir_lower_form.specs.Lowering.{Lowering}
 use Rattle.hir_lower_form.specs.Paths.{alias_of}
 use Rattle.hir_meaning.specs.Left.{is_left, gives_value}
-use Rattle.hir_read_back.proofs.Tree.{path_reads}
-use Rattle.hir_read_back.proofs.PatParts.{dots_behind, no_dots, dots_here, one_further}
-use Rattle.hir_one_result.specs.PathRoom.{at_first, found, segment_read, segments_read, path_read, outer_read, whole_read}
-use Rattle.hir_one_result.specs.PathRoom.{any_arg, yields}
-use Rattle.hir_one_result.specs.PatRoom.{names_after, names_after_part, names_after_each, names_after_fields, names_after_field}
-use Rattle.hir_one_result.proofs.LastStored.{lower_pat_last, type_last, type_pat_last}
-use Rattle.hir_one_result.proofs.LastTargets.{lower_target_last}
-use Rattle.hir_one_result.proofs.PathRooms.{seen, seen_read, seen_named, seen_dollar, seen_self, Gives, GivesPath, Yields, Fills, full}
-use Rattle.hir_one_result.proofs.PathRooms.{full_arg, full_binding, yields_full, or_nothing}
-use Rattle.hir_one_result.proofs.PatRooms.{none_keyed, from_none}
-use Rattle.hir_one_result.specs.Grading.{Grading, grade_try}
-use Rattle.hir_one_result.specs.Grades as g
-use Rattle.hir_one_result.proofs.Graded.{Graded, Told, next, made_next, map_is, told_any, told_less, told_map, told_pure, told_then, told_last}
-use Rattle.hir_one_result.proofs.Graded.{told_aliased, hand_pure, hand_as, hand_less, hand_then, hand_map, hand_last}
-use Rattle.hir_one_result.proofs.ReadingBack.{parts_read, type_in}
-use Rattle.hir_one_result.proofs.GradedTypes as forms
-use Rattle.hir_one_result.proofs.GradedPats as pats
-use Rattle.hir_one_result.proofs.GradedPats.{PatTold, PartsTold, LaterTold}
-use Rattle.hir_one_result.proofs.GradedTargets as targets
-use Rattle.hir_one_result.proofs.GradedTargets.{TargetsTold}
-use Rattle.hir_one_result.proofs.GradedCalls as calls
-use Rattle.hir_one_result.proofs.GradedExprs as exprs
-use Rattle.hir_one_result.proofs.GradedMade as made
-use Rattle.hir_one_result.proofs.GradedAnswers.{block_value}
+use Rattle.hir_steps.proofs.TupleDots.{dots_behind, no_dots, dots_here, one_further}
+use Rattle.hir_steps.specs.PathSeen.{at_first, found, segment_read, segments_read, path_read, outer_read, whole_read}
+use Rattle.hir_steps.specs.PathSeen.{any_arg, yields}
+use Rattle.hir_steps.specs.PatNames.{names_after, names_after_part, names_after_each, names_after_fields, names_after_field}
+use Rattle.hir_steps.proofs.LastStored.{lower_pat_last, type_last, type_pat_last}
+use Rattle.hir_steps.proofs.LastTargets.{lower_target_last}
+use Rattle.hir_steps.proofs.PathAnswers.{seen, seen_read, seen_named, seen_dollar, seen_self, Gives, GivesPath, Yields, Fills, full}
+use Rattle.hir_steps.proofs.PathAnswers.{full_arg, full_binding, yields_full, or_nothing}
+use Rattle.hir_steps.proofs.PatAnswers.{none_keyed, from_none}
+use Rattle.hir_steps.specs.Grading.{Grading, grade_try}
+use Rattle.hir_steps.specs.Grades as g
+use Rattle.hir_steps.proofs.Graded.{Graded, Told, next, made_next, map_is, told_any, told_less, told_map, told_pure, told_then, told_last}
+use Rattle.hir_steps.proofs.Graded.{told_aliased, hand_pure, hand_as, hand_less, hand_then, hand_map, hand_last}
+use Rattle.hir_steps.proofs.GradedTypes as forms
+use Rattle.hir_steps.proofs.GradedPats as pats
+use Rattle.hir_steps.proofs.GradedPats.{PatTold, PartsTold, LaterTold}
+use Rattle.hir_steps.proofs.GradedTargets as targets
+use Rattle.hir_steps.proofs.GradedTargets.{TargetsTold}
+use Rattle.hir_steps.proofs.GradedCalls as calls
+use Rattle.hir_steps.proofs.GradedExprs as exprs
+use Rattle.hir_steps.proofs.GradedMade as made
+use Rattle.hir_steps.proofs.Giving.{stmts_value}
 
 -- an argument that isn't left out fills the lists
 abbrev is_there : Arg → Bool
@@ -112,7 +110,7 @@ module _ {ℓ} {S : Grading {ℓ}} (L : Graded S) where
       → L.Claim h (lower_stmts [] ss (kept_part e))
       → L.Made (grade_try S typed number ss e h) (try_block_form at item typed number (lower_stmts [] ss (kept_part e)))
   try_graded at item typed number ss e h = made.try_block_graded L at item typed number (is_left e || gives_value ss false)
-      (record { claim = h; known = block_value ss e })
+      (record { claim = h; known = stmts_value ss e })
 
   mutual
     -- ---- types, paths, arguments and bounds
@@ -122,31 +120,32 @@ module _ {ℓ} {S : Grading {ℓ}} (L : Graded S) where
     type_graded b (tree.macro_type at c tree.no_type) = calls.uncalled_type_graded L at c
     type_graded b (tree.macro_type at c (tree.some_type t)) = calls.called_type_graded L at c (type_last b t) (type_graded b t)
     type_graded b (tree.for_type names t) = part_graded (Some names) t
-    type_graded b (tree.leaf_type at form) = L.where_is (type_in b (tree.leaf_type at form)) (L.type_is _ _ _)
+    type_graded b (tree.leaf_type at form) = L.where_is (L.reads.type_reads b (tree.leaf_type at form)) (L.type_is _ _ _)
     type_graded b (tree.over_type at form t) =
-        L.where_is (type_in b (tree.over_type at form t)) (forms.over_graded L at _ form (part_graded None t))
+        L.where_is (L.reads.type_reads b (tree.over_type at form t)) (forms.over_graded L at _ form (part_graded None t))
     type_graded b (tree.array_type at c t) =
-        L.where_is (type_in b (tree.array_type at c t)) (forms.array_graded L at _ (constant_graded c) (part_graded None t))
+        L.where_is (L.reads.type_reads b (tree.array_type at c t)) (forms.array_graded L at _ (constant_graded c) (part_graded None t))
     type_graded b (tree.tuple_type at ts) =
-        L.where_is (type_in b (tree.tuple_type at ts)) (forms.tuple_graded L at _ (parts_graded [] ts))
+        L.where_is (L.reads.type_reads b (tree.tuple_type at ts)) (forms.tuple_graded L at _ (parts_graded [] ts))
     type_graded b (tree.path_type at p) =
-        L.where_is (type_in b (tree.path_type at p)) (forms.path_type_graded L at _ (path_graded p).claim)
-    type_graded b (tree.ref_type at l mutability t) = L.where_is (type_in b (tree.ref_type at l mutability t))
+        L.where_is (L.reads.type_reads b (tree.path_type at p)) (forms.path_type_graded L at _ (path_graded p).claim)
+    type_graded b (tree.ref_type at l mutability t) = L.where_is (L.reads.type_reads b (tree.ref_type at l mutability t))
         (forms.ref_graded L at _ mutability (part_graded None t) (forms.lifetime_option_graded L l))
-    type_graded b (tree.fn_type at head ts r) = L.where_is (type_in b (tree.fn_type at head ts r))
+    type_graded b (tree.fn_type at head ts r) = L.where_is (L.reads.type_reads b (tree.fn_type at head ts r))
         (forms.fn_graded L at _ b head (or_unit_graded r) (parts_graded [] ts))
     type_graded b (tree.impl_type at mode bs) =
-        L.where_is (type_in b (tree.impl_type at mode bs)) (forms.impl_graded L at _ mode (bounds_graded [] bs))
-    type_graded b (tree.nested_impl at) = L.where_is (type_in b (tree.nested_impl at)) (L.type_is _ _ _)
-    type_graded b (tree.dyn_type at bs) = L.where_is (type_in b (tree.dyn_type at bs)) (forms.dyn_graded L at _ (bounds_graded [] bs))
-    type_graded b (tree.pattern_type at t own p) = L.where_is (type_in b (tree.pattern_type at t own p))
+        L.where_is (L.reads.type_reads b (tree.impl_type at mode bs)) (forms.impl_graded L at _ mode (bounds_graded [] bs))
+    type_graded b (tree.nested_impl at) = L.where_is (L.reads.type_reads b (tree.nested_impl at)) (L.type_is _ _ _)
+    type_graded b (tree.dyn_type at bs) =
+        L.where_is (L.reads.type_reads b (tree.dyn_type at bs)) (forms.dyn_graded L at _ (bounds_graded [] bs))
+    type_graded b (tree.pattern_type at t own p) = L.where_is (L.reads.type_reads b (tree.pattern_type at t own p))
         (forms.pattern_type_graded L at _ (part_graded None t) (type_pat_part_graded p))
 
     pub part_graded : (b : Option Binder) (t : OptionType) → L.Claim (g.grade_part_in S b t) (type_part b t)
     part_graded b tree.no_type = forms.error_graded L
     part_graded b (tree.some_type t) = type_graded b t
 
-    present_graded : (t : OptionType) → L.Claim (g.grade_present S t) (present_type t)
+    pub present_graded : (t : OptionType) → L.Claim (g.grade_present S t) (present_type t)
     present_graded tree.no_type = L.pure_is None
     present_graded (tree.some_type t) = map_is L _ (type_graded None t)
 
@@ -177,7 +176,7 @@ module _ {ℓ} {S : Grading {ℓ}} (L : Graded S) where
     segment_graded false (tree.trait_segment t at p) w = told_pure L _ refl
     segment_graded true (tree.trait_segment t at p) w =
         told_then L (told_any L (type_graded None t))
-        (λ i u. forms.trait_graded L (path_of p) i at w (path_graded p) (path_reads p))
+        (λ i u. forms.trait_graded L (path_of p) i at w (path_graded p) (L.reads.path_reads p))
 
     pub segments_graded : (ss : Segments) (w : PathWalk)
         → Told L (g.grade_segments S ss (seen w)) (Gives (segments_read ss (seen w))) (read_each ss w)
@@ -186,7 +185,7 @@ module _ {ℓ} {S : Grading {ℓ}} (L : Graded S) where
         forms.proceed_graded L r (segments_read ss (seen w)) (λ y. g.grade_segment S false s y) (λ y. segment_read false s y) e
         (λ v. segment_graded false s v))
 
-    reading_graded : (p : Path) (w : PathWalk) → Told L (g.grade_path S p (seen w)) (Gives (path_read p (seen w))) (read_path p w)
+    pub reading_graded : (p : Path) (w : PathWalk) → Told L (g.grade_path S p (seen w)) (Gives (path_read p (seen w))) (read_path p w)
     reading_graded (tree.path alias leading first rest use_) w =
         forms.whole_graded L (λ y. g.grade_outer S use_ y) (λ y. outer_read use_ y)
         (told_then L (segments_graded rest w) (λ r e.
@@ -211,7 +210,7 @@ module _ {ℓ} {S : Grading {ℓ}} (L : Graded S) where
     parens_graded : (ps : OptionParens) → L.Claim (g.grade_parens S ps) (parens_part ps)
     parens_graded tree.no_parens = L.pure_is None
     parens_graded (tree.some_parens ts r) =
-        forms.parens_graded L (parts_data ts no_types) (parts_graded [] ts) (parts_read ts) (output_graded r)
+        forms.parens_graded L (parts_data ts no_types) (parts_graded [] ts) (L.reads.parts_read ts) (output_graded r)
 
     output_graded : (r : OptionRet) → L.Claim (g.grade_output S r) (output_part r)
     output_graded tree.no_ret = forms.unit_graded L
@@ -242,7 +241,7 @@ module _ {ℓ} {S : Grading {ℓ}} (L : Graded S) where
     pub bound_graded : (b : Bound) → L.Claim (g.grade_bound S b) (lower_bound b)
     bound_graded tree.error_bound = L.pure_is _
     bound_graded (tree.path_bound at p maybe binder) =
-        forms.path_bound_graded L (path_of p) at maybe binder (path_graded p) (path_reads p)
+        forms.path_bound_graded L (path_of p) at maybe binder (path_graded p) (L.reads.path_reads p)
     bound_graded (tree.lifetime_bound l) = map_is L _ (forms.lifetime_graded L l)
     bound_graded (tree.use_bound us) = map_is L _ (forms.uses_graded L [] us)
 
@@ -402,10 +401,10 @@ module _ {ℓ} {S : Grading {ℓ}} (L : Graded S) where
 
     -- ---- constants
 
-    constant_graded : (c : Constant) → L.Claim (g.grade_constant S c) (lower_constant c)
+    pub constant_graded : (c : Constant) → L.Claim (g.grade_constant S c) (lower_constant c)
     constant_graded (tree.constant e) = L.constant_is e (expr_part_graded e)
 
-    rooted_graded : (c : Constant) → L.Claim (g.grade_rooted S c) (lower_rooted c)
+    pub rooted_graded : (c : Constant) → L.Claim (g.grade_rooted S c) (lower_rooted c)
     rooted_graded (tree.constant e) = L.rooted_is e (expr_part_graded e)
 
     -- ---- expressions
@@ -465,7 +464,7 @@ module _ {ℓ} {S : Grading {ℓ}} (L : Graded S) where
         exprs.range_graded L at form (expr_present_graded low) (expr_present_graded high)
     expr_graded (tree.assign_expr at own t e) = exprs.assign_graded L at (target_graded t) (expr_part_graded e)
 
-    params_graded : (l : ClosureParams) (xs : Params) → L.Claim (g.grade_params S xs) (lower_params l xs)
+    pub params_graded : (l : ClosureParams) (xs : Params) → L.Claim (g.grade_params S xs) (lower_params l xs)
     params_graded l tree.no_params = L.pure_is l
     params_graded l (tree.more_params x xs) = next L (param_graded l x) (λ m. params_graded m xs)
 
@@ -477,19 +476,19 @@ module _ {ℓ} {S : Grading {ℓ}} (L : Graded S) where
     expr_part_graded tree.no_expr = exprs.missing_graded L
     expr_part_graded (tree.some_expr e) = expr_graded e
 
-    expr_present_graded : (e : OptionExpr) → L.Claim (g.grade_expr_present S e) (present e)
+    pub expr_present_graded : (e : OptionExpr) → L.Claim (g.grade_expr_present S e) (present e)
     expr_present_graded tree.no_expr = L.pure_is None
     expr_present_graded (tree.some_expr e) = exprs.some_graded L (expr_graded e)
 
-    kept_part_graded : (e : OptionExpr) → L.Claim (g.grade_kept S e) (kept_part e)
+    pub kept_part_graded : (e : OptionExpr) → L.Claim (g.grade_kept S e) (kept_part e)
     kept_part_graded tree.no_expr = L.pure_is None
     kept_part_graded (tree.some_expr e) = exprs.kept_graded L e (expr_graded e)
 
-    exprs_graded : (done : List ExprId) (es : Exprs) → L.Claim (g.grade_exprs S es) (lower_each done es)
+    pub exprs_graded : (done : List ExprId) (es : Exprs) → L.Claim (g.grade_exprs S es) (lower_each done es)
     exprs_graded done tree.no_exprs = L.pure_is done
     exprs_graded done (tree.more_exprs e es) = next L (exprs.kept_graded L e (expr_graded e)) (λ x. exprs_graded _ es)
 
-    fields_graded : (done : List RecordLitField) (fs : Fields) → L.Claim (g.grade_fields S fs) (lower_fields done fs)
+    pub fields_graded : (done : List RecordLitField) (fs : Fields) → L.Claim (g.grade_fields S fs) (lower_fields done fs)
     fields_graded done tree.no_fields = L.pure_is done
     fields_graded done (tree.more_fields f fs) = next L (field_graded f) (λ x. fields_graded _ fs)
 
@@ -498,7 +497,7 @@ module _ {ℓ} {S : Grading {ℓ}} (L : Graded S) where
     field_graded (tree.nameless_field at e) = L.pure_is None
     field_graded (tree.named_field at name e) = exprs.field_graded L at name (expr_part_graded e)
 
-    arms_graded : (done : List MatchArm) (arms : Arms) → L.Claim (g.grade_arms S arms) (lower_arms done arms)
+    pub arms_graded : (done : List MatchArm) (arms : Arms) → L.Claim (g.grade_arms S arms) (lower_arms done arms)
     arms_graded done tree.no_arms = L.pure_is done
     arms_graded done (tree.more_arms a arms) = next L (arm_graded a) (λ x. arms_graded _ arms)
 
@@ -510,7 +509,7 @@ module _ {ℓ} {S : Grading {ℓ}} (L : Graded S) where
     guard_graded tree.no_guard = L.pure_is None
     guard_graded (tree.guard e) = exprs.some_graded L (expr_part_graded e)
 
-    spread_graded : (s : Spread) → L.Claim (g.grade_expr_spread S s) (lower_spread s)
+    pub spread_graded : (s : Spread) → L.Claim (g.grade_expr_spread S s) (lower_spread s)
     spread_graded tree.no_spread = L.pure_is _
     spread_graded tree.field_defaults = L.pure_is _
     spread_graded (tree.spread_of e) = map_is L _ (L.made_is (expr_graded e))
@@ -519,7 +518,7 @@ module _ {ℓ} {S : Grading {ℓ}} (L : Graded S) where
     block_graded (tree.block at is_unsafe label is number ss e) = exprs.labelled_graded L label is
         (λ n. exprs.block_graded L at is_unsafe n number (stmts_graded [] ss e (kept_part_graded e)))
 
-    block_part_graded : (b : OptionBlock) → L.Made (g.grade_block_part S b) (lower_block_part b)
+    pub block_part_graded : (b : OptionBlock) → L.Made (g.grade_block_part S b) (lower_block_part b)
     block_part_graded tree.no_block = exprs.missing_graded L
     block_part_graded (tree.some_block b) = block_graded b
 
@@ -527,7 +526,7 @@ module _ {ℓ} {S : Grading {ℓ}} (L : Graded S) where
     block_present_graded tree.no_block = L.pure_is None
     block_present_graded (tree.some_block b) = exprs.some_graded L (block_graded b)
 
-    stmts_graded : (done : List Statement) (ss : Stmts) (e : OptionExpr) → L.Claim (g.grade_kept S e) (kept_part e)
+    pub stmts_graded : (done : List Statement) (ss : Stmts) (e : OptionExpr) → L.Claim (g.grade_kept S e) (kept_part e)
         → L.Claim (g.grade_stmts S ss (g.grade_kept S e)) (lower_stmts done ss (kept_part e))
     stmts_graded done tree.no_stmts e h = map_is L _ h
     stmts_graded done (tree.more_stmts s ss) e h = next L (stmt_graded s) (λ x. exprs.behind_graded L s (stmts_graded _ ss e h))

@@ -27,11 +27,11 @@ use Rattle.hir_lower_form.specs.Forms.{ExprSteps, StoredContents, StoredFields, 
 use Rattle.hir_lower_form.specs.Lowering.{Lowering, report_await}
 use Rattle.hir_lower_form.specs.Ranges as ranges
 use Rattle.hir_lower_form.specs.Types.{TypeSteps}
-use Rattle.hir_one_result.specs.PathRoom.{Seen}
-use Rattle.hir_one_result.proofs.PathRooms.{GivesPath, option_seen}
-use Rattle.hir_one_result.specs.Grading.{Grading, grade_await, grade_behind, grade_front, grade_range, kept_of, labelled_of, record_of}
-use Rattle.hir_one_result.proofs.Graded.{Graded, Told, next, made_next, map_is}
-use Rattle.hir_one_result.proofs.GradedTypes.{made_by_path}
+use Rattle.hir_steps.specs.PathSeen.{Seen}
+use Rattle.hir_steps.proofs.PathAnswers.{GivesPath, option_seen}
+use Rattle.hir_steps.specs.Grading.{Grading, grade_await, grade_behind, grade_front, grade_range, kept_of, labelled_of, record_of}
+use Rattle.hir_steps.proofs.Graded.{Graded, Told, next, made_next, map_is}
+use Rattle.hir_steps.proofs.GradedTypes.{made_by_path}
 
 module _ {ℓ} {S : Grading {ℓ}} (L : Graded S) where
   pub missing_graded : L.Made S.expr missing

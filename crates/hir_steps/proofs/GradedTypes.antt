@@ -31,18 +31,14 @@ use Rattle.hir_data.specs.Data as datum
 use Rattle.hir_data.specs.Data.{Shape, TypesData, typed}
 use Rattle.hir_data.specs.Rule.{PathRead}
 use Rattle.hir_data.specs.Written.{absent_data, lifetime_data, shape_of_path, unit_data}
-use Rattle.hir_steps.proofs.Steps.{Correct, correct_as}
-use Rattle.hir_read_back.proofs.Going.{PathIs}
-use Rattle.hir_read_back.proofs.Layers.{Reads, types_before}
-use Rattle.hir_read_back.proofs.Types.{error_type_reads, unit_type_reads}
-use Rattle.hir_one_result.specs.PathRoom.{Seen, Read, goes_on, after, one_more, projected}
-use Rattle.hir_one_result.proofs.PathRooms.{seen, seen_of, option_seen, Gives, GivesPath, Yields}
-use Rattle.hir_one_result.proofs.NoteRooms.{naming_keeps}
-use Rattle.hir_one_result.specs.Grading.{Grading, if_so, before, grade_impl, grade_lifetime, grade_use, grade_uses}
-use Rattle.hir_one_result.proofs.Answering.{Answering, answering_any, answering_pure, answering_then, anything}
-use Rattle.hir_one_result.proofs.Graded.{Graded, HandsTold, Told, TypeIs, hand_beside, map_is, next, told_any, told_pure, told_then, type_next}
-use Rattle.hir_one_result.proofs.ReadingBack.{PartsAre, PathFound, path_in, tuple_in, type_in_store}
-use Rattle.hir_one_result.proofs.GradedAnswers.{counted_gives, projected_is}
+use Rattle.hir_steps.specs.PathSeen.{Seen, Read, goes_on, after, one_more, projected}
+use Rattle.hir_steps.proofs.PathAnswers.{seen, seen_of, option_seen, Gives, GivesPath, Yields}
+use Rattle.hir_steps.proofs.Noted.{naming_keeps}
+use Rattle.hir_steps.specs.Grading.{Grading, if_so, before, grade_impl, grade_lifetime, grade_use, grade_uses}
+use Rattle.hir_steps.proofs.Answering.{Answering, answering_any, answering_pure, answering_then, anything}
+use Rattle.hir_steps.proofs.Graded.{Graded, HandsTold, Told, hand_beside, map_is, next, told_any, told_pure, told_then, type_next}
+use Rattle.hir_steps.proofs.ReadBack.{TypeIs}
+use Rattle.hir_steps.proofs.GradedAnswers.{counted_gives, projected_is}
 
 module _ {ℓ} {S : Grading {ℓ}} (L : Graded S) where
   -- ---- where a path is read, and how far, what comes after is told by that
@@ -65,18 +61,18 @@ module _ {ℓ} {S : Grading {ℓ}} (L : Graded S) where
 
   -- where it is known what the path reads back as, too
   pub claim_of_path : {A : Type 0} {g : S.G} {x : Option Seen} {p : Lowering (Option HirPath)} {f : Option HirPath → Lowering A}
-      (y : Option PathRead) (k : Option Seen → S.G) → Told L g (GivesPath x) p → Correct p (PathIs y)
-      → ((o : Option HirPath) → L.Where (λ final m a. PathFound y o final m) (k (option_seen o)) (f o))
+      (y : Option PathRead) (k : Option Seen → S.G) → Told L g (GivesPath x) p
+      → L.Known p (λ final m m' o. L.reads.PathFound y o final m')
+      → ((o : Option HirPath) → L.Where (λ final m a. L.reads.PathFound y o final m) (k (option_seen o)) (f o))
       → L.Claim (S.then' g (k x)) (p >>= f)
-  claim_of_path {f = f} y k h reads more = L.where_known {K = λ o final m. PathFound y o final m} h.claim h.known
-      (correct_as reads (λ final ps m m' o g row. row.is))
-      (λ o e. subst (λ z. L.Where (λ final m a. PathFound y o final m) (k z) (f o)) e (more o))
+  claim_of_path {f = f} y k h reads more = L.where_known {K = λ o final m. L.reads.PathFound y o final m} h.claim h.known reads
+      (λ o e. subst (λ z. L.Where (λ final m a. L.reads.PathFound y o final m) (k z) (f o)) e (more o))
 
   -- a type of that path
   pub type_of_path : (y : Option PathRead) (at : Pointer) (p : HirPath)
-      → L.Where (λ final m i. PathFound y (Some p) final m) (S.type_as (typed (Some at) (shape_of_path y)))
+      → L.Where (λ final m i. L.reads.PathFound y (Some p) final m) (S.type_as (typed (Some at) (shape_of_path y)))
       (alloc_type (ty.Path p) (Some at))
-  type_of_path y at p = L.where_less (path_in y at p) (L.type_is _ _ _)
+  type_of_path y at p = L.where_less (L.reads.path_type_reads y at p) (L.type_is _ _ _)
 
   pub made_by_path : {g : S.G} {x : Option Seen} {p : Lowering (Option HirPath)} {f : Option HirPath → ExprSteps} (k : Option Seen → S.G)
       → Told L g (GivesPath x) p → ((o : Option HirPath) → L.Made (k (option_seen o)) (f o)) → L.Made (S.then' g (k x)) (p >>= f)
@@ -86,11 +82,11 @@ module _ {ℓ} {S : Grading {ℓ}} (L : Graded S) where
 
   pub error_graded : L.Claim (S.type_as absent_data) error_type
   unfolding error_type
-  error_graded = L.where_is (type_in_store error_type_reads) (L.type_is _ None _)
+  error_graded = L.where_is (L.reads.error_reads None) (L.type_is _ None _)
 
   pub unit_graded : L.Claim (S.type_as unit_data) unit_type
   unfolding unit_type
-  unit_graded = L.where_is (type_in_store unit_type_reads) (L.type_is _ None _)
+  unit_graded = L.where_is L.reads.unit_reads (L.type_is _ None _)
 
   pub lifetime_graded : (l : Lifetime) → L.Claim (S.lifetime_as (lifetime_data l)) (lower_lifetime l)
   unfolding lower_lifetime
@@ -161,13 +157,13 @@ module _ {ℓ} {S : Grading {ℓ}} (L : Graded S) where
 
   module _ (y : Option PathRead) (at : Pointer) where
     bound_of_graded : (maybe : Bool) (binder : Binder) (p : Option HirPath)
-        → L.Where (λ final m b. PathFound y p final m) (if_so S (is_some (option_seen p)) (S.type_as (typed (Some at) (shape_of_path y))))
-        (path_bound_of at maybe binder p)
+        → L.Where (λ final m b. L.reads.PathFound y p final m)
+        (if_so S (is_some (option_seen p)) (S.type_as (typed (Some at) (shape_of_path y)))) (path_bound_of at maybe binder p)
     bound_of_graded maybe binder None = L.where_any (L.pure_is _)
     bound_of_graded maybe binder (Some p) = L.where_end (type_of_path y at p) (λ i. L.pure_is _)
 
     pub path_bound_graded : (maybe : Bool) (binder : Binder) {g : S.G} {x : Option Seen} {p : Lowering (Option HirPath)}
-        → Told L g (GivesPath x) p → Correct p (PathIs y)
+        → Told L g (GivesPath x) p → L.Known p (λ final m m' o. L.reads.PathFound y o final m')
         → L.Claim (S.then' g (if_so S (is_some x) (S.type_as (typed (Some at) (shape_of_path y))))) (path_bound_form at maybe binder p)
     unfolding path_bound_form
     path_bound_graded maybe binder h reads = claim_of_path y (λ z. if_so S (is_some z) (S.type_as (typed (Some at) (shape_of_path y))))
@@ -194,7 +190,7 @@ module _ {ℓ} {S : Grading {ℓ}} (L : Graded S) where
   counted_graded w = record { claim = L.super_is w; known = counted_gives w }
 
   module _ (y : Option PathRead) (t : TypeRefId) (at : Pointer) (w : PathWalk) where
-    read_graded : (p : Option HirPath) → L.Where (λ final m r. PathFound y p final m)
+    read_graded : (p : Option HirPath) → L.Where (λ final m r. L.reads.PathFound y p final m)
         (if_so S (is_some (option_seen p)) (S.type_as (typed (Some at) (shape_of_path y)))) (steps.read_trait t at w p)
     read_graded None = L.where_any (L.pure_is _)
     read_graded (Some p) = L.where_end (type_of_path y at p) (λ i. L.pure_is _)
@@ -203,7 +199,8 @@ module _ {ℓ} {S : Grading {ℓ}} (L : Graded S) where
     gives_projected None = answering_pure Refused refl
     gives_projected (Some p) = answering_then (answering_any _) (λ i u. answering_pure _ (projected_is t p w))
 
-    pub trait_graded : {g : S.G} {x : Option Seen} {p : Lowering (Option HirPath)} → Told L g (GivesPath x) p → Correct p (PathIs y)
+    pub trait_graded : {g : S.G} {x : Option Seen} {p : Lowering (Option HirPath)} → Told L g (GivesPath x) p
+        → L.Known p (λ final m m' o. L.reads.PathFound y o final m')
         → Told L (S.then' g (if_so S (is_some x) (S.type_as (typed (Some at) (shape_of_path y))))) (Gives (projected x))
         (with_trait p t at w)
     unfolding with_trait
@@ -216,12 +213,11 @@ module _ {ℓ} {S : Grading {ℓ}} (L : Graded S) where
   -- ---- arguments
 
   pub parens_graded : (x : TypesData) {g k : S.G} {ts : Lowering (List TypeRefId)} {r : TypeSteps} → L.Claim g ts
-      → Correct ts (Reads (types_before datum.no_types) x) → L.Claim k r
+      → L.Known ts (λ final m m' is. L.reads.PartsAre x is final m') → L.Claim k r
       → L.Claim (S.then' g (S.then' (S.type_as (typed None (datum.tuple_shape x))) k)) (parens_form ts r)
   unfolding parens_form
-  parens_graded x h reads k = L.where_known {K = λ is final m. PartsAre x is final m} h (answering_any _)
-      (correct_as reads (λ final ps m m' is g row. row.is))
-      (λ is u. L.where_first (L.where_less (tuple_in x is) (L.type_is _ None _)) (λ t. map_is L _ k))
+  parens_graded x h reads k = L.where_known {K = λ is final m. L.reads.PartsAre x is final m} h (answering_any _) reads
+      (λ is u. L.where_first (L.where_less (L.reads.tuple_reads x is) (L.type_is _ None _)) (λ t. map_is L _ k))
 
   or_else_graded : (a : Option GenericArgs) {k : S.G} {more : Lowering (Option GenericArgs)} → L.Claim k more
       → L.Claim (if_so S (not (is_some a)) k) (or_else a more)

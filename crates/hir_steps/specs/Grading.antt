@@ -20,8 +20,8 @@ use Rattle.hir_data.specs.Data.{LifetimeData, TypeData}
 use Rattle.hir_data.specs.Uses.{FirstUses}
 use Rattle.hir_data.specs.Written.{absent_data, lifetime_data}
 use Rattle.hir_meaning.specs.Left.{is_left, gives_value}
-use Rattle.hir_one_result.specs.PathRoom.{Seen, Read, goes_on}
-use Rattle.hir_one_result.specs.PatRoom.{is_known}
+use Rattle.hir_steps.specs.PathSeen.{Seen, Read, goes_on}
+use Rattle.hir_steps.specs.PatNames.{is_known}
 
 -- What is told may be nothing, a list in scopes, a size. What no step of its own is told of tells nothing.
 pub record Grading {ℓ} : Type (ℓ + 1) where

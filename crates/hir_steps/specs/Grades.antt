@@ -14,12 +14,12 @@ use Rattle.hir_data.specs.Patterns.{is_dots, ellipsis_of}
 use Rattle.hir_data.specs.Targets.{target_dots}
 use Rattle.hir_data.specs.Uses.{FirstUses}
 use Rattle.hir_data.specs.Written.{absent_data, lifetime_data, parts_data, type_data, unit_data}
-use Rattle.hir_one_result.specs.PathRoom.{Seen, nothing_seen, at_first, segments_read, own_read, yields, whole_read}
-use Rattle.hir_one_result.specs.PatRoom.{names_after, names_after_part, names_after_each, names_after_field}
-use Rattle.hir_one_result.specs.Grading.{Grading, if_so, before, grade_lifetime, grade_uses, or_missing, grade_name, behind_comma, grade_or}
-use Rattle.hir_one_result.specs.Grading.{grade_name_side, grade_rest, grade_spread, kept_of, labelled_of, grade_front, record_of, grade_await}
-use Rattle.hir_one_result.specs.Grading.{grade_assigned, grade_behind, grade_uncalled_pat, grade_uncalled_type, or_missing_target}
-use Rattle.hir_one_result.specs.Grading.{grade_impl, grade_range, condition, made_bind, item_call, flow_arm, residual, for_turn, grade_try}
+use Rattle.hir_steps.specs.PathSeen.{Seen, nothing_seen, at_first, segments_read, own_read, yields, whole_read}
+use Rattle.hir_steps.specs.PatNames.{names_after, names_after_part, names_after_each, names_after_field}
+use Rattle.hir_steps.specs.Grading.{Grading, if_so, before, grade_lifetime, grade_uses, or_missing, grade_name, behind_comma, grade_or}
+use Rattle.hir_steps.specs.Grading.{grade_name_side, grade_rest, grade_spread, kept_of, labelled_of, grade_front, record_of, grade_await}
+use Rattle.hir_steps.specs.Grading.{grade_assigned, grade_behind, grade_uncalled_pat, grade_uncalled_type, or_missing_target}
+use Rattle.hir_steps.specs.Grading.{grade_impl, grade_range, condition, made_bind, item_call, flow_arm, residual, for_turn, grade_try}
 
 module _ {ℓ} (S : Grading {ℓ}) where
   abbrev mutual

@@ -1,5 +1,5 @@
 -- Whether a `yield` stands in it: an instance, beside that made names stay apart.
-use Rattle.std.proofs.Common.{◌≡◌, ◌∙◌, ap, subst, ◌||◌, ℕ, Bool, false, Some, None, Ok, Err, List}
+use Rattle.std.proofs.Common.{◌≡◌, subst, ◌||◌, ℕ, suc, Bool, false, List, [], ◌∷◌, Option, Some, None, Ok, Err}
 use Rattle.hir_binding.specs.declared.binding.BindingAnnotation.{BindingAnnotation}
 use Rattle.hir_store.specs.Pointers.{Pointer}
 use Rattle.hir_store.specs.declared.ids.LabelId.{LabelId}
@@ -7,51 +7,45 @@ use Rattle.hir_store.specs.declared.type_ref.TypeBound.{TypeBound}
 use Rattle.hir_env.specs.declared.place.ImplTrait.{ImplTrait}
 use Rattle.hir_env.specs.declared.place.ImplTrait.TheVariants as becomes
 use Rattle.hir_lower_form.specs.Lowering.{becoming}
-use Rattle.hir_one_result.specs.Grading.{grade_impl}
+use Rattle.hir_steps.specs.Grading.{grade_impl}
 use Rattle.hir_env.specs.Answered as tree
 use Rattle.hir_lower_form.specs.Builder.{Builder}
 use Rattle.hir_lower_form.specs.Forms.{ExprSteps, StoredContents}
 use Rattle.hir_lower_form.specs.Lowering.{Checked, go_on, Lowering, ◌>>=◌, close, made_number, open_try}
 use Rattle.hir_lower_form.specs.Made.{made_bind_form}
-use Rattle.hir_lower_form.specs.Pats.{new_binding}
+use Rattle.hir_lower_form.specs.declared.walk.Reading.{Reading}
+use Rattle.hir_lower_form.specs.Paths.{counted}
+use Rattle.hir_lower_form.specs.Pats as forms
+use Rattle.hir_lower_form.specs.Pats.{Key, Notes as PatNotes, Table, new_binding}
 use Rattle.hir_lower_form.specs.Walks.{super_read}
 use Rattle.hir_read_back.proofs.Definitions.{behind_raises, define_off}
-use Rattle.hir_steps.specs.Keeps.{Paired}
 use Rattle.hir_steps.proofs.Calls.{only_gone, only_note, only_told, point_pat_apart, point_target_apart, point_type_apart, still_only}
 use Rattle.hir_steps.proofs.Calls.{still_point_pat, still_point_target}
 use Rattle.hir_steps.proofs.Calls.{still_point_type}
 use Rattle.hir_steps.proofs.Apart.{Apart, binding_apart, point_apart, stored_type_apart, then_apart, try_target_apart}
-use Rattle.hir_steps.proofs.ApartPats.{settle_apart}
 use Rattle.hir_steps.proofs.Barriers.{raises_yield, still_closure, still_constant, still_coroutine, still_inner}
 use Rattle.hir_steps.proofs.CoroutineClosures.{still_coroutine_closure}
 use Rattle.hir_steps.proofs.MadeSteps.{correct_made_number}
 use Rattle.hir_steps.proofs.Opening.{raises_close, raises_open_label, raises_open_try}
 use Rattle.hir_steps.proofs.Owning.{raises_owning, still_owning}
 use Rattle.hir_steps.proofs.PatSteps.{correct_alloc_binding, correct_alloc_pat, correct_define}
-use Rattle.hir_steps.proofs.StillPats.{dots_still, settle_still}
 use Rattle.hir_steps.proofs.StillNotes.{raises_aliased, raises_noted_down, still_becoming}
-use Rattle.hir_steps.proofs.StillTypes.{counted_still}
 use Rattle.hir_steps.proofs.Steps.{Correct}
-use Rattle.hir_steps.proofs.Yields.{RaisedTo, Raises, Still, or_assoc, raises_begin, raises_end, raises_pure, raises_still, raises_then}
+use Rattle.hir_steps.proofs.Yields.{RaisedTo, Raises, Still, raised_trans, raises_begin, raises_end, raises_pure, raises_still}
+use Rattle.hir_steps.proofs.Yields.{raises_then, still_count_out, still_problem, still_pure, still_then}
 use Rattle.hir_steps.proofs.Yields.{still_binding, still_define, still_enter_block, still_expr, still_jump_target, still_lifetime}
 use Rattle.hir_steps.proofs.Yields.{still_made, still_made_number, still_made_pat, still_pat, still_point, still_point_field}
 use Rattle.hir_steps.proofs.Yields.{still_point_pat_field}
 use Rattle.hir_steps.proofs.Yields.{still_report, still_try_target, still_type}
-use Rattle.hir_told.specs.Laws.{ExprsNote, PatsNote, TargetsNote, TypesNote}
-use Rattle.hir_told.specs.Yields.{yields}
-use Rattle.hir_one_result.proofs.Answering.{Answering, AnsweredTo}
+use Rattle.hir_read_back.specs.Yields.{yields}
+use Rattle.hir_steps.proofs.Answering.{Answering, AnsweredTo}
 use Rattle.hir_data.specs.Data.{TypeData}
-use Rattle.hir_told.proofs.AsApart.{apart_graded, apart_where, impl_apart}
-use Rattle.hir_one_result.proofs.Graded.{Graded}
-use Rattle.hir_one_result.proofs.GradedTree.{expr_part_graded, part_graded, target_graded, top_graded}
+use Rattle.hir_steps.proofs.AsApart.{apart_graded, apart_where, impl_apart, settle_apart}
+use Rattle.hir_steps.proofs.Graded.{Graded}
+use Rattle.hir_steps.proofs.ReadBack.{Unknown, unread}
 
 abbrev pub Notes : {A : Type 0} → Bool → Lowering A → Type 0
 Notes y p = Correct p Apart × Raises y p
-
-raised_trans : {A : Type 0} (y z : Bool) (b c : Builder) → c.yields ≡ (b.yields || y) → (o : Checked A) (d : Builder) → RaisedTo z c o d
-    → RaisedTo (y || z) b o d
-raised_trans y z b c e (Ok a) d x = (x.0, x.1 ∙ (ap (λ t. t || z) e ∙ or_assoc b.yields y z))
-raised_trans y z b c e (Err f) d x = tt
 
 pub raises_where : {A B : Type 0} {P : A → Type 0} {y z : Bool} {p : Lowering A} {f : A → Lowering B} → Raises y p → Answering P p
     → ((a : A) → P a → Raises z (f a)) → Raises (y || z) (p >>= f)
@@ -66,6 +60,30 @@ raises_where {A = A} {P = P} {y = y} {z = z} {p = p} {f = f} h t k =
 -- none stands in it
 pub off : {A : Type 0} {p : Lowering A} → Correct p Apart → Still p → Notes false p
 off h s = (h, raises_still h s)
+
+-- nor in what is counted
+
+counted_still : (r : Option Reading) → Still (counted r)
+counted_still (Some r) = still_pure r
+counted_still None = still_count_out
+
+place_still : (place : Option ℕ) → Still (forms.counted_place place)
+place_still None = still_count_out
+place_still (Some n) = still_pure (Some n)
+
+dots_still : (comma : Bool) (place : Option ℕ) → Still (forms.counted_dots comma place)
+dots_still comma None = still_pure None
+dots_still comma (Some n) = place_still (forms.small_place comma n)
+
+-- nor in the names of a top pattern
+
+settle_from_still : (notes : PatNotes) (number : ℕ) (es : List (Key × BindingId)) → Still (forms.settle_from notes number es)
+settle_from_still notes number [] = still_pure tt
+settle_from_still notes number (e ∷ es) = still_then (still_problem _ _) (λ u. settle_from_still notes (suc number) es)
+
+settle_still : (t : Table) → Still (forms.settle t)
+unfolding forms.settle
+settle_still t = settle_from_still t.noted 0 t.bindings
 
 -- nor in a name that is made up and bound
 pub bind_off : (mode : BindingAnnotation) (n : ℕ) → Raises false (made_bind_form mode n)
@@ -118,6 +136,8 @@ yields_graded = let apart = apart_graded in record {
     raises_end h.1 (λ r. raises_end (raises_still (settle_apart r.1) (settle_still r.1)) (λ u. raises_pure r.0)),
   );
   Where = λ C y p. Notes y p;
+  Known = Unknown;
+  reads = unread;
   where_is = λ is h. h;
   where_any = λ h. h;
   where_less = λ is h. h;
@@ -205,20 +225,3 @@ yields_graded = let apart = apart_graded in record {
   coroutine_is = λ at kind moves number h. off (apart.coroutine_is at kind moves number h.0) (still_owning (λ i. i) (still_coroutine _));
   owning_is = λ h. (apart.owning_is h.0, raises_owning (λ i. i) h.1);
 }
-
--- what the answer and the builder behind it say
-noted : {A : Type 0} {y : Bool} {p : Lowering A} (b c : Builder) (a : A) → Notes y p → Paired b.stored → p b ≡ (Ok a, c)
-    → c.yields ≡ (b.yields || y)
-noted {y = y} b c a h d is = (subst (λ r. RaisedTo y b r.0 r.1) is (h.1.at b d)).1
-
-pub exprs_note : ExprsNote
-exprs_note e b i c d is = noted b c i (expr_part_graded yields_graded e) d is
-
-pub types_note : TypesNote
-types_note t b c i d is = noted b c i (part_graded yields_graded None t) d is
-
-pub pats_note : PatsNote
-pats_note p b c i d is = noted b c i (top_graded yields_graded p) d is
-
-pub targets_note : TargetsNote
-targets_note t b c i d is = noted b c i (target_graded yields_graded t) d is

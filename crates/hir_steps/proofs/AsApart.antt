@@ -1,37 +1,38 @@
 -- Made names stay apart: an instance.
-use Rattle.std.proofs.Common.{refl, Some, List}
+use Rattle.std.proofs.Common.{refl, ℕ, suc, Bool, List, [], ◌∷◌, Option, Some, None}
 use Rattle.hir_store.specs.Pointers.{Pointer}
+use Rattle.hir_store.specs.declared.hir.CoroutineKind.{CoroutineKind}
+use Rattle.hir_store.specs.declared.ids.BindingId.{BindingId}
+use Rattle.hir_store.specs.declared.ids.BlockId.{BlockId}
 use Rattle.hir_store.specs.declared.type_ref.TypeBound.{TypeBound}
 use Rattle.hir_env.specs.declared.place.ImplTrait.{ImplTrait}
-use Rattle.hir_env.specs.Answered.{OptionExpr}
 use Rattle.hir_env.specs.Answered as tree
-use Rattle.hir_lower_form.specs.Lower.{lower_part}
+use Rattle.hir_lower_form.specs.declared.walk.Reading.{Reading}
+use Rattle.hir_lower_form.specs.Forms.{StoredContents, coroutine_around_form, coroutine_block_form}
 use Rattle.hir_lower_form.specs.Lowering.{Lowering, ◌>>=◌, becoming, pure}
-use Rattle.hir_lower_form.specs.Pats.{new_binding}
+use Rattle.hir_lower_form.specs.Paths.{counted}
+use Rattle.hir_lower_form.specs.Pats as forms
+use Rattle.hir_lower_form.specs.Pats.{Key, Notes, Table, new_binding}
 use Rattle.hir_lower_form.specs.Walks.{super_read}
-use Rattle.hir_steps.proofs.CallForms.{gone_apart, note_apart, told_apart}
-use Rattle.hir_steps.proofs.Calls.{point_pat_apart, point_target_apart, point_type_apart}
+use Rattle.hir_steps.proofs.Calls.{apart_only, only_gone, only_note, only_told, point_pat_apart, point_target_apart, point_type_apart}
 use Rattle.hir_steps.proofs.Apart.{Apart, apart_trans, binding_apart, closure_apart, constant_apart, coroutine_apart}
 use Rattle.hir_steps.proofs.Apart.{define_apart}
 use Rattle.hir_steps.proofs.Apart.{enter_block_apart, expr_apart, inner_apart, jump_apart, made_apart, named_apart, opened_apart}
 use Rattle.hir_steps.proofs.Apart.{opened_try_apart, owning_apart, point_apart, point_field_apart, point_pat_field_apart, pure_apart}
 use Rattle.hir_steps.proofs.Apart.{report_apart, stored_lifetime_apart, stored_pat_apart, stored_type_apart, then_apart}
-use Rattle.hir_steps.proofs.Apart.{try_target_apart}
-use Rattle.hir_steps.proofs.ApartForms.{coroutine_block_apart}
-use Rattle.hir_steps.proofs.ApartPats.{dots_apart, settle_apart}
+use Rattle.hir_steps.proofs.Apart.{set_problem_apart, try_target_apart}
 use Rattle.hir_steps.proofs.ApartPreludes.{coroutine_closure_apart}
-use Rattle.hir_steps.proofs.ApartTypes.{counted_apart}
 use Rattle.hir_steps.proofs.Barriers.{correct_yield}
 use Rattle.hir_steps.proofs.Definitions as definitions
 use Rattle.hir_steps.proofs.Frames.{block_at, loop_at}
 use Rattle.hir_steps.proofs.Noted.{correct_aliased, correct_becoming, correct_noted}
-use Rattle.hir_steps.proofs.Steps.{Correct, correct_as}
+use Rattle.hir_steps.proofs.Steps.{Correct, correct_as, correct_count_out}
 use Rattle.hir_steps.proofs.TargetSteps.{made_pat_apart}
-use Rattle.hir_told.specs.Silent.{silent}
-use Rattle.hir_one_result.proofs.Answering.{Answering}
-use Rattle.hir_one_result.proofs.CorrectWhere.{correct_where}
-use Rattle.hir_one_result.proofs.Graded.{Graded}
-use Rattle.hir_one_result.proofs.GradedTree.{expr_part_graded}
+use Rattle.hir_steps.specs.Silent.{silent}
+use Rattle.hir_steps.proofs.Answering.{Answering}
+use Rattle.hir_steps.proofs.CorrectWhere.{correct_where}
+use Rattle.hir_steps.proofs.Graded.{Graded}
+use Rattle.hir_steps.proofs.ReadBack.{Unknown, unread}
 
 pub apart_where : {A B : Type 0} {P : A → Type 0} {p : Lowering A} {f : A → Lowering B} → Correct p Apart → Answering P p
     → ((a : A) → P a → Correct (f a) Apart) → Correct (p >>= f) Apart
@@ -39,6 +40,36 @@ apart_where h t k = correct_as (correct_where h t k) (λ final ps m m' b g row. 
 
 pub impl_apart : (at : Pointer) (mode : ImplTrait) (bounds : List TypeBound) → Correct (becoming at mode bounds) Apart
 impl_apart at mode bounds = correct_becoming at mode bounds (λ t e. stored_type_apart t (Some at))
+
+-- what is counted
+
+counted_apart : (r : Option Reading) → Correct (counted r) Apart
+counted_apart (Some r) = pure_apart r
+counted_apart None = correct_count_out Apart
+
+place_apart : (place : Option ℕ) → Correct (forms.counted_place place) Apart
+place_apart None = correct_count_out Apart
+place_apart (Some n) = pure_apart (Some n)
+
+pub dots_apart : (comma : Bool) (place : Option ℕ) → Correct (forms.counted_dots comma place) Apart
+dots_apart comma None = pure_apart None
+dots_apart comma (Some n) = place_apart (forms.small_place comma n)
+
+-- the names of a top pattern
+
+settle_from_apart : (notes : Notes) (number : ℕ) (es : List (Key × BindingId)) → Correct (forms.settle_from notes number es) Apart
+settle_from_apart notes number [] = pure_apart tt
+settle_from_apart notes number (e ∷ es) = then_apart (set_problem_apart _ _) (λ u. settle_from_apart notes (suc number) es)
+
+pub settle_apart : (t : Table) → Correct (forms.settle t) Apart
+unfolding forms.settle
+settle_apart t = settle_from_apart t.noted 0 t.bindings
+
+coroutine_block_apart : (at : Pointer) (kind : CoroutineKind) (moves : Bool) (number : Option BlockId) {c : Lowering StoredContents}
+    → Correct c Apart → Correct (coroutine_block_form at kind moves number c) Apart
+unfolding coroutine_block_form coroutine_around_form
+coroutine_block_apart at kind moves number h = then_apart (enter_block_apart number)
+    (λ u. then_apart h (λ r. then_apart (expr_apart _ None) (λ b. expr_apart _ (Some at))))
 
 abbrev pub apart_graded : Graded silent
 apart_graded = record {
@@ -59,6 +90,8 @@ apart_graded = record {
   new_name_is = λ u is t with_it e. then_apart (binding_apart (new_binding u) is) (λ b. pure_apart (b, with_it b));
   top_is = λ h. then_apart h (λ r. then_apart (settle_apart r.1) (λ u. pure_apart r.0));
   Where = λ C g p. Correct p Apart;
+  Known = Unknown;
+  reads = unread;
   where_is = λ is h. h;
   where_any = λ h. h;
   where_less = λ is h. h;
@@ -81,9 +114,9 @@ apart_graded = record {
   define_is = λ b p. define_apart b p;
   field_is = λ p at. point_pat_field_apart p at;
   fault_is = λ d. report_apart d;
-  noted_is = λ c. note_apart c;
-  told_is = λ c. told_apart c;
-  gone_is = λ why. gone_apart why;
+  noted_is = λ c. apart_only (only_note c);
+  told_is = λ c. apart_only (only_told c);
+  gone_is = λ why. apart_only (only_gone why);
   type_call_is = λ at l h. then_apart h (λ i. then_apart (point_type_apart at i) (λ u. pure_apart i));
   pat_call_is = λ at l h. then_apart h (λ i. then_apart (point_pat_apart at i) (λ u. pure_apart i));
   target_way_is = λ at l h. then_apart h (λ i. then_apart (point_target_apart at i) (λ u. pure_apart i));
@@ -111,6 +144,3 @@ apart_graded = record {
   coroutine_is = λ at kind moves number h. owning_apart (λ i. i) (coroutine_apart (coroutine_block_apart at kind moves number h));
   owning_is = λ h. owning_apart (λ i. i) h;
 }
-
-pub parts_apart : (e : OptionExpr) → Correct (lower_part e) Apart
-parts_apart e = expr_part_graded apart_graded e
