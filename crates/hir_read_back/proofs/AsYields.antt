@@ -2,6 +2,7 @@
 use Rattle.std.proofs.Common.{◌≡◌, subst, ◌||◌, ℕ, suc, Bool, false, List, [], ◌∷◌, Option, Some, None, Ok, Err}
 use Rattle.hir_binding.specs.declared.binding.BindingAnnotation.{BindingAnnotation}
 use Rattle.hir_store.specs.Pointers.{Pointer}
+use Rattle.hir_store.specs.declared.ids.BindingId.{BindingId}
 use Rattle.hir_store.specs.declared.ids.LabelId.{LabelId}
 use Rattle.hir_store.specs.declared.type_ref.TypeBound.{TypeBound}
 use Rattle.hir_env.specs.declared.place.ImplTrait.{ImplTrait}
@@ -63,7 +64,7 @@ off h s = (h, raises_still h s)
 
 -- nor in what is counted
 
-counted_still : (r : Option Reading) → Still (counted r)
+pub counted_still : (r : Option Reading) → Still (counted r)
 counted_still (Some r) = still_pure r
 counted_still None = still_count_out
 
@@ -71,7 +72,7 @@ place_still : (place : Option ℕ) → Still (forms.counted_place place)
 place_still None = still_count_out
 place_still (Some n) = still_pure (Some n)
 
-dots_still : (comma : Bool) (place : Option ℕ) → Still (forms.counted_dots comma place)
+pub dots_still : (comma : Bool) (place : Option ℕ) → Still (forms.counted_dots comma place)
 dots_still comma None = still_pure None
 dots_still comma (Some n) = place_still (forms.small_place comma n)
 
@@ -81,7 +82,7 @@ settle_from_still : (notes : PatNotes) (number : ℕ) (es : List (Key × Binding
 settle_from_still notes number [] = still_pure tt
 settle_from_still notes number (e ∷ es) = still_then (still_problem _ _) (λ u. settle_from_still notes (suc number) es)
 
-settle_still : (t : Table) → Still (forms.settle t)
+pub settle_still : (t : Table) → Still (forms.settle t)
 unfolding forms.settle
 settle_still t = settle_from_still t.noted 0 t.bindings
 

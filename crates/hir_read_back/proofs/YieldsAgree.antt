@@ -126,12 +126,12 @@ limit_off (tree.before_limit item s) = refl
 -- what stands beside a path
 beside_path : (F : Bool → Bool → Bool) → ((y : Bool) → F true y ≡ y) → ((y : Bool) → F false y ≡ false) → (q : OptionPath) {x y : Bool}
     → x ≡ y → F (is_some (whole_read q)) x ≡ now.yields_if_read (path_of q) y
-beside_path F yes no q {x = x} {y = y} e = by (path_of q) (is_some (whole_read q)) (read_alike q)
+beside_path F there gone q {x = x} {y = y} e = by (path_of q) (is_some (whole_read q)) (read_alike q)
   where
     by : (o : Option PathRead) (b : Bool) → is_some (option_map data_of o) ≡ b → F b x ≡ now.yields_if_read o y
     by None true k = absurd (true≢false (sym k))
-    by None false k = no x
-    by (Some a) true k = yes x ∙ e
+    by None false k = gone x
+    by (Some a) true k = there x ∙ e
     by (Some a) false k = absurd (true≢false k)
 
 -- a disabled one is nothing

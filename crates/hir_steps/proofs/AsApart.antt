@@ -43,7 +43,7 @@ impl_apart at mode bounds = correct_becoming at mode bounds (λ t e. stored_type
 
 -- what is counted
 
-counted_apart : (r : Option Reading) → Correct (counted r) Apart
+pub counted_apart : (r : Option Reading) → Correct (counted r) Apart
 counted_apart (Some r) = pure_apart r
 counted_apart None = correct_count_out Apart
 
@@ -65,7 +65,7 @@ pub settle_apart : (t : Table) → Correct (forms.settle t) Apart
 unfolding forms.settle
 settle_apart t = settle_from_apart t.noted 0 t.bindings
 
-coroutine_block_apart : (at : Pointer) (kind : CoroutineKind) (moves : Bool) (number : Option BlockId) {c : Lowering StoredContents}
+pub coroutine_block_apart : (at : Pointer) (kind : CoroutineKind) (moves : Bool) (number : Option BlockId) {c : Lowering StoredContents}
     → Correct c Apart → Correct (coroutine_block_form at kind moves number c) Apart
 unfolding coroutine_block_form coroutine_around_form
 coroutine_block_apart at kind moves number h = then_apart (enter_block_apart number)

@@ -5,17 +5,16 @@ use Rattle.hir_store.specs.Stored.{Stored}
 use Rattle.hir_store.specs.Storing as storing
 use Rattle.hir_store.specs.declared.hir.Expr.TheVariants as hir
 use Rattle.hir_store.specs.declared.ids.ExprId.{ExprId}
-use Rattle.hir_store.specs.declared.ids.PatId.{PatId}
 use Rattle.hir_store.specs.declared.ids.TypeRefId.{TypeRefId}
 use Rattle.hir_store.proofs.Extending.{extends_trans}
 use Rattle.hir_scope.specs.Ribs.{barrier_rib}
 use Rattle.hir_lower_scope.specs.Labels.{rest}
 use Rattle.hir_lower_form.specs.declared.closures.ClosureParams.{ClosureParams}
 use Rattle.hir_lower_form.specs.Builder.{Builder}
-use Rattle.hir_lower_form.specs.Forms.{ExprSteps, stored_closure, add_param}
+use Rattle.hir_lower_form.specs.Forms.{ExprSteps, stored_closure}
 use Rattle.hir_lower_form.specs.Lowering.{Checked, go_on, Lowering, ◌>>=◌, ◌>>◌, pure, alloc_expr, open_barrier, close_barrier}
 use Rattle.hir_lower_form.specs.Lowering.{enter_root, leave_root, outside_root, record_root, note_yield}
-use Rattle.hir_lower_form.specs.Lower.{closure_form, constant_form, coroutine_form, param_form, value_form, yield_form}
+use Rattle.hir_lower_form.specs.Lower.{closure_form, constant_form, coroutine_form, value_form, yield_form}
 use Rattle.hir_lower_form.specs.Ranges.{inner_form}
 use Rattle.hir_steps.specs.Keeps.{Paired}
 use Rattle.hir_steps.proofs.Constants.{entered, leaving}
@@ -26,7 +25,7 @@ use Rattle.hir_steps.proofs.MadeSteps.{behind, correct_like}
 use Rattle.hir_steps.proofs.Steps.{Allocated, correct_alloc}
 use Rattle.hir_steps.proofs.Yields.{LeavesTo, Still, Raises, RaisedTo, raises_begin, raises_end, raises_noted, raises_pure}
 use Rattle.hir_steps.proofs.Yields.{raises_then}
-use Rattle.hir_steps.proofs.Yields.{still_expr, still_pure, still_then, still_trans}
+use Rattle.hir_steps.proofs.Yields.{still_expr, still_trans}
 
 -- ---- constants
 
@@ -263,10 +262,6 @@ module _ (at : Pointer) (moves is_static : Bool) (p : Lowering ClosureParams) (t
           → LeavesTo b (go_on o c (after_list b.yields)).0 (go_on o c (after_list b.yields)).1
       by_params b (Ok l) c = by_type b l (t c).0 (t c).1
       by_params b (Err f) c = tt
-
-pub param_still : (l : ClosureParams) {p : Lowering PatId} {t : Lowering (Option TypeRefId)} → Still p → Still t → Still (param_form l p t)
-unfolding param_form
-param_still l hp ht = still_then hp (λ i. still_then ht (λ r. still_pure (add_param l i r)))
 
 -- ---- `yield`
 

@@ -72,18 +72,18 @@ pub record Graded {ℓ} (S : Grading {ℓ}) : Type (ℓ ⊔ 1) where
   -- where it is known to be so
   pub Known : Knowing
   pub reads : ReadBack Known
-  pub where_is : {A : Type 0} {C : Stored → Mark → A → Type 0} {g : S.G} {p : Lowering A} → Known p (λ final m m' a. C final m a)
+  pub where_is : {A : Type 0} {C : Stored → Mark → A → Type 0} {g : S.G} {p : Lowering A} → Known A p (λ final m m' a. C final m a)
       → Where C g p → Claim g p
   -- told in any case
   pub where_any : {A : Type 0} {C : Stored → Mark → A → Type 0} {g : S.G} {p : Lowering A} → Claim g p → Where C g p
   -- where it follows from something else
   pub where_less : {A : Type 0} {C D : Stored → Mark → A → Type 0} {g : S.G} {p : Lowering A}
-      → Known p (λ final m m' a. D final m a → C final m a) → Where C g p → Where D g p
+      → Known A p (λ final m m' a. D final m a → C final m a) → Where C g p → Where D g p
   -- behind steps, and behind those that bring it about
   pub where_next : {A B : Type 0} {C : Stored → B → Type 0} {g h : S.G} {p : Lowering A} {f : A → Lowering B} → Claim g p
       → ((a : A) → Where (λ final m b. C final b) h (f a)) → Where (λ final m b. C final b) (S.then' g h) (p >>= f)
   pub where_known : {A B : Type 0} {K : A → Stored → Mark → Type 0} {P : A → Type 0} {g h : S.G} {p : Lowering A} {f : A → Lowering B}
-      → Claim g p → Answering P p → Known p (λ final m m' a. K a final m')
+      → Claim g p → Answering P p → Known A p (λ final m m' a. K a final m')
       → ((a : A) → P a → Where (λ final m b. K a final m) h (f a)) → Claim (S.then' g h) (p >>= f)
   -- in front of steps, and where nothing is told of these
   pub where_first : {A B : Type 0} {K : Stored → Mark → Type 0} {g h : S.G} {p : Lowering A} {f : A → Lowering B}

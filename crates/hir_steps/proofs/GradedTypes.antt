@@ -62,7 +62,7 @@ module _ {ℓ} {S : Grading {ℓ}} (L : Graded S) where
   -- where it is known what the path reads back as, too
   pub claim_of_path : {A : Type 0} {g : S.G} {x : Option Seen} {p : Lowering (Option HirPath)} {f : Option HirPath → Lowering A}
       (y : Option PathRead) (k : Option Seen → S.G) → Told L g (GivesPath x) p
-      → L.Known p (λ final m m' o. L.reads.PathFound y o final m')
+      → L.Known (Option HirPath) p (λ final m m' o. L.reads.PathFound y o final m')
       → ((o : Option HirPath) → L.Where (λ final m a. L.reads.PathFound y o final m) (k (option_seen o)) (f o))
       → L.Claim (S.then' g (k x)) (p >>= f)
   claim_of_path {f = f} y k h reads more = L.where_known {K = λ o final m. L.reads.PathFound y o final m} h.claim h.known reads
@@ -163,7 +163,7 @@ module _ {ℓ} {S : Grading {ℓ}} (L : Graded S) where
     bound_of_graded maybe binder (Some p) = L.where_end (type_of_path y at p) (λ i. L.pure_is _)
 
     pub path_bound_graded : (maybe : Bool) (binder : Binder) {g : S.G} {x : Option Seen} {p : Lowering (Option HirPath)}
-        → Told L g (GivesPath x) p → L.Known p (λ final m m' o. L.reads.PathFound y o final m')
+        → Told L g (GivesPath x) p → L.Known (Option HirPath) p (λ final m m' o. L.reads.PathFound y o final m')
         → L.Claim (S.then' g (if_so S (is_some x) (S.type_as (typed (Some at) (shape_of_path y))))) (path_bound_form at maybe binder p)
     unfolding path_bound_form
     path_bound_graded maybe binder h reads = claim_of_path y (λ z. if_so S (is_some z) (S.type_as (typed (Some at) (shape_of_path y))))
@@ -200,7 +200,7 @@ module _ {ℓ} {S : Grading {ℓ}} (L : Graded S) where
     gives_projected (Some p) = answering_then (answering_any _) (λ i u. answering_pure _ (projected_is t p w))
 
     pub trait_graded : {g : S.G} {x : Option Seen} {p : Lowering (Option HirPath)} → Told L g (GivesPath x) p
-        → L.Known p (λ final m m' o. L.reads.PathFound y o final m')
+        → L.Known (Option HirPath) p (λ final m m' o. L.reads.PathFound y o final m')
         → Told L (S.then' g (if_so S (is_some x) (S.type_as (typed (Some at) (shape_of_path y))))) (Gives (projected x))
         (with_trait p t at w)
     unfolding with_trait
@@ -213,7 +213,7 @@ module _ {ℓ} {S : Grading {ℓ}} (L : Graded S) where
   -- ---- arguments
 
   pub parens_graded : (x : TypesData) {g k : S.G} {ts : Lowering (List TypeRefId)} {r : TypeSteps} → L.Claim g ts
-      → L.Known ts (λ final m m' is. L.reads.PartsAre x is final m') → L.Claim k r
+      → L.Known (List TypeRefId) ts (λ final m m' is. L.reads.PartsAre x is final m') → L.Claim k r
       → L.Claim (S.then' g (S.then' (S.type_as (typed None (datum.tuple_shape x))) k)) (parens_form ts r)
   unfolding parens_form
   parens_graded x h reads k = L.where_known {K = λ is final m. L.reads.PartsAre x is final m} h (answering_any _) reads

@@ -6,7 +6,6 @@ use Rattle.hir_store.specs.Pointers.{Pointer}
 use Rattle.hir_store.specs.Stored.{Stored}
 use Rattle.hir_store.specs.Storing as storing
 use Rattle.hir_store.specs.Storing.{Storing}
-use Rattle.hir_store.specs.declared.diagnostics.AwaitLocation.{AwaitLocation}
 use Rattle.hir_store.specs.declared.diagnostics.ExpressionStoreDiagnostics.{ExpressionStoreDiagnostics}
 use Rattle.hir_store.specs.declared.hir.Expr.{Expr}
 use Rattle.hir_store.specs.declared.ids.BindingId.{BindingId}
@@ -24,8 +23,8 @@ use Rattle.hir_lower_form.specs.Builder.{Builder}
 use Rattle.hir_lower_form.specs.Lowering.{Checked, go_on, Lowering, ◌>>=◌, pure, stored, alloc_expr, alloc_made, alloc_type, alloc_lifetime}
 use Rattle.hir_lower_form.specs.Lowering.{alloc_pat, alloc_made_pat, alloc_binding, define, set_problem, point_pat_field, count_out}
 use Rattle.hir_lower_form.specs.Lowering.{made_number}
-use Rattle.hir_lower_form.specs.Lowering.{open_label, open_as, open_try, open_try_as, open_try_named, try_target, close, enter_block}
-use Rattle.hir_lower_form.specs.Lowering.{note_yield, jump_target, found_or_fault, report, report_await, point, point_field}
+use Rattle.hir_lower_form.specs.Lowering.{open_label, open_as, open_try, open_try_as, open_try_named, try_target, enter_block}
+use Rattle.hir_lower_form.specs.Lowering.{note_yield, jump_target, found_or_fault, report, point, point_field}
 use Rattle.hir_steps.specs.Keeps.{Paired}
 use Rattle.hir_steps.proofs.Frames.{frames, ribs_frames, Frame}
 use Rattle.hir_steps.proofs.Logic.{Rel, Holds, Correct}
@@ -73,11 +72,6 @@ still_made e at = still_stored (storing.alloc_made e at)
 pub still_report : (d : ExpressionStoreDiagnostics) → Still (report d)
 unfolding report
 still_report d = still_stored (storing.report d)
-
-pub still_report_await : (at : Pointer) (location : Option AwaitLocation) → Still (report_await at location)
-unfolding report_await
-still_report_await at None = still_pure tt
-still_report_await at (Some l) = still_report _
 
 pub still_point : (at : Pointer) (i : ExprId) → Still (point at i)
 unfolding point
@@ -159,10 +153,6 @@ still_try_named at typed n = still_then (still_stored _) (λ i. still_then (stil
 pub still_open_try : (at : Pointer) (typed : Bool) → Still (open_try at typed)
 unfolding open_try
 still_open_try at typed = still_then still_made_number (λ n. still_try_named at typed n)
-
-pub still_close : Still close
-unfolding close
-still_close = record { still = λ b. refl }
 
 pub still_try_target : Still try_target
 unfolding try_target

@@ -70,7 +70,7 @@ path_in (Some x) at p = shaped (ty.Path p) (Some at) (shape_of_path (Some x)) (P
 
 -- what is so of correct steps
 abbrev pub Surely : Knowing
-Surely p R = Correct p (λ final ps m m' a. R final m m' a)
+Surely A p R = Correct p (λ final ps m m' a. R final m m' a)
 
 abbrev pub read_back : ReadBack Surely
 read_back = record {
