@@ -12,7 +12,7 @@ use Rattle.hir_env.specs.Answered.{Formal, Formals, OptionExpr, SelfFormal}
 use Rattle.hir_data.specs.Tops.{Tops}
 use Rattle.hir_lower_form.specs.Forms.{push_some, some}
 use Rattle.hir_lower_form.specs.Lower.{lower_part, lower_top}
-use Rattle.hir_lower_form.specs.Lowering.{Lowering, pure, alloc_binding, owning, report}
+use Rattle.hir_lower_form.specs.Lowering.{Lowering, ◌>>=◌, ◌>>◌, pure, alloc_binding, owning, report}
 use Rattle.hir_lower_form.specs.Pats.{missing_pat, new_binding}
 use Rattle.hir_lower_form.specs.Preludes.{let_params, let_self, lower_handed, made_coroutine_form}
 use Rattle.hir_lower_form.specs.declared.preludes.Handed.{Handed}
