@@ -72,7 +72,7 @@ path_in (Some x) at p = shaped (ty.Path p) (Some at) (shape_of_path (Some x)) (P
 abbrev pub Surely : Knowing
 Surely A p R = Correct p (λ final ps m m' a. R final m m' a)
 
-abbrev pub read_back : ReadBack Surely
+pub read_back : ReadBack Surely
 read_back = record {
   type_reads = λ b t. type_in b t;
   error_reads = λ at. type_in_store (type0 ty.Error at (λ final r. refl));
