@@ -40,6 +40,9 @@ use Rattle.hir_one_result.proofs.ClosureRooms.{closure_takes, coroutine_takes, t
 use Rattle.hir_one_result.proofs.CoroutineRooms.{coroutine_closure_takes}
 use Rattle.hir_one_result.proofs.Last.{EndsWith, IsLast, coroutine_last, hands_pure, hands_then, last_alloc}
 use Rattle.hir_one_result.proofs.Last.{last_hands, last_made, last_then, owning_last, paren_last, quiet_close}
+use Rattle.hir_one_result.proofs.LastStored.{LastPat, LastType, becoming_last, last_before, last_given, lastly, lastly_where}
+use Rattle.hir_one_result.proofs.LastStored.{made_pat_last, or_last, pat_last, pats_in, stays_define, stays_point_pat, stays_point_target}
+use Rattle.hir_one_result.proofs.LastStored.{stays_point_type, stored_last, types_in}
 use Rattle.hir_one_result.proofs.LastTree.{closure_last, coroutine_block_last, coroutine_closure_last}
 use Rattle.hir_one_result.proofs.MadeRooms.{made_bind_takes, takes_made, takes_number, takes_target, takes_try}
 use Rattle.hir_one_result.proofs.PatRooms.{settle_takes}
@@ -163,6 +166,12 @@ pub named_past_last : (mode : BindingAnnotation) {A : Type 0} (p : Lowering A) {
     → IsLast (made_number >>= (λ n. p >>= (λ a. made_bind_form mode n >>= (λ q. f n a q))))
 named_past_last mode p k = last_then made_number (λ n. last_then p (λ a. last_then (made_bind_form mode n) (λ q. k n a q)))
 
+-- ---- the last pattern
+
+pub pats_take : {A B : Type 0} {P : A → Type 0} {pat_in : B → PatId} {n m : Size} {p : Lowering A} {f : A → Lowering B} → Takes n p
+    → Answering P p → ((a : A) → P a → Takes m (f a) × LastPat pat_in (f a)) → Takes (n ∪ m) (p >>= f) × LastPat pat_in (p >>= f)
+pats_take h t k = (takes_of (tells_then (given h t) (λ a x. tells_any (k a x).0)), lastly_where pats_in t (λ a x. (k a x).1))
+
 -- ---- a `yield`, and a `try`
 
 pub yield_takes : (at : Pointer) (e : Lowering (Option ExprId)) {n : Size} → Takes n (value_form at hir.Yield e) → Takes n (yield_form at e)
@@ -190,10 +199,17 @@ rooms_graded = record {
   Claim = λ n p. Takes n p;
   Made = λ n p. Takes n p × IsLast p;
   Hands = λ t n p. Takes n p;
+  MadePat = λ n p. Takes n p × LastPat (λ i. i) p;
+  MadeType = λ t n p. Takes n p × LastType p;
+  HandsPat = λ t n p. Takes n p × LastPat (λ r. r.0) p;
   made_is = λ h. h.0;
+  pat_made_is = λ h. h.0;
+  type_made_is = λ is h. h.0;
   pure_is = λ a. takes_pure a;
   bind_is = λ h t k. takes_of (tells_then (given h t) (λ a x. tells_any (k a x)));
   makes_is = λ h t k. (takes_of (tells_then (given h t) (λ a x. tells_any (k a x).0)), last_where t (λ a x. (k a x).1));
+  makes_pat_is = λ h t k. pats_take h t k;
+  makes_type_is = λ h k. (takes_then h (λ a. (k a).0), lastly types_in _ (λ a. (k a).1));
   end_is = λ h k. takes_end h k;
   hands_pure_is = λ a t u e. takes_pure (a, u);
   hands_as_is = λ t u e h. h;
@@ -201,25 +217,33 @@ rooms_graded = record {
   beside_is = λ table h t k. takes_of (tells_then (given h t) (λ a x. tells_any (k a x)));
   hands_end_is = λ table h k. takes_end h k;
   beside_end_is = λ table h k. takes_end h k;
+  hands_pat_is = λ t h. h.0;
+  hands_makes_is = λ table h t k. pats_take h t k;
+  beside_makes_is = λ table h t k. pats_take h t k;
+  alone_is = λ t u e h. (takes_end h.0 (λ i. takes_pure (i, u)), last_given pats_in (λ i. (i, u)) (λ i. refl) h.1);
+  named_alone_is = λ b t u e h. (
+    takes_end h.0 (λ i. takes_end (takes_define b i) (λ v. takes_pure (i, u))),
+    last_before pats_in (λ i. (i, u)) (λ i. refl) h.1 (λ i. stays_define b i),
+  );
+  or_is = λ at ps t p first known later more whole. (whole, or_last at ps t p first.1);
   new_name_is = λ u is t with_it e. takes_end (takes_binding (new_binding u)) (λ b. takes_pure (b, with_it b));
   top_is = λ h. takes_end h (λ r. takes_end (settle_takes r.1) (λ u. takes_pure r.0));
   Where = λ C n p. Takes n p;
   Known = Unknown;
   reads = unread;
-  where_is = λ is h. h;
+  where_type = λ h. h.0;
   where_any = λ h. h;
   where_less = λ is h. h;
-  where_next = λ h k. takes_then h k;
   where_known = λ h t is k. takes_of (tells_then (given h t) (λ a x. tells_any (k a x)));
   where_first = λ h k. takes_then h k;
   where_end = λ h k. takes_end h k;
-  type_is = λ t at shape. takes_type t at;
+  type_is = λ t at shape. (takes_type t at, stored_last t at);
   lifetime_is = λ l at. takes_lifetime l at;
   noted_down_is = λ f k h. takes_noted f k h;
   aliased_is = λ alias h. aliased_takes alias h;
-  impl_is = λ at mode bounds shape. impls at mode bounds shape;
-  pat_is = λ p at. takes_pat p at;
-  made_pat_is = λ p at. takes_made_pat p at;
+  impl_is = λ at mode bounds shape. (impls at mode bounds shape, becoming_last at mode bounds);
+  pat_is = λ p at. (takes_pat p at, pat_last p at);
+  made_pat_is = λ p at. (takes_made_pat p at, made_pat_last p at);
   expr_is = λ e at. (takes_alloc e at, last_alloc e at);
   made_expr_is = λ e at. (takes_made e at, last_made e at);
   point_is = λ at h. (takes_end h.0 (λ i. takes_end (takes_point at i) (λ u. takes_pure i)), pointed_last at h.1);
@@ -231,10 +255,22 @@ rooms_graded = record {
   noted_is = λ c. takes_only (only_note c);
   told_is = λ c. takes_told c;
   gone_is = λ why. takes_gone why;
-  type_call_is = λ at l h. takes_called_type at l h;
-  pat_call_is = λ at l h. takes_of (tells_called at (λ i. i) l (tells_any h));
-  target_way_is = λ at l h. takes_pointed at l h;
-  hands_call_is = λ at t l h. takes_of (tells_called at (λ r. r.0) l (tells_any h));
+  type_call_is = λ at t h. (
+    takes_called_type at h.1 h.0,
+    last_before types_in (λ i. i) (λ i. refl) h.1 (λ i. stays_point_type at i),
+  );
+  pat_call_is = λ at h. (
+    takes_of (tells_called at (λ i. i) h.1 (tells_any h.0)),
+    last_before pats_in (λ i. i) (λ i. refl) h.1 (λ i. stays_point_pat at i),
+  );
+  target_way_is = λ at h. (
+    takes_pointed at h.1 h.0,
+    last_before pats_in (λ i. i) (λ i. refl) h.1 (λ i. stays_point_target at i),
+  );
+  hands_call_is = λ at t h. (
+    takes_of (tells_called at (λ r. r.0) h.1 (tells_any h.0)),
+    last_before pats_in (λ r. r) (λ r. refl) h.1 (λ r. stays_point_pat at r.0),
+  );
   super_is = λ w. takes_of (counted_tells w);
   dots_is = λ comma place. dots_take comma place;
   def_is = λ k d. define_takes k d;

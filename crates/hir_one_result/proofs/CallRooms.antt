@@ -14,7 +14,7 @@ use Rattle.hir_lower_form.specs.Lowering.{Checked, go_on, Lowering, ◌>>=◌, p
 use Rattle.hir_steps.proofs.Calls.{only_gone, only_told, pointing_pat, pointing_type}
 use Rattle.hir_one_result.specs.Size.{Size, a_pat_call, a_type_call, nothing}
 use Rattle.hir_one_result.specs.Size.{◌∪◌}
-use Rattle.hir_steps.proofs.LastStored.{EndsAt, LastPat, LastType, pats_in, types_in}
+use Rattle.hir_one_result.proofs.LastStored.{EndsAt, LastPat, LastType, pats_in, types_in}
 use Rattle.hir_one_result.proofs.Owners.{no_owners}
 use Rattle.hir_one_result.proofs.Rooms.{Takes, takes_only}
 use Rattle.hir_one_result.proofs.Tellings.{Tells, Told}

@@ -28,7 +28,7 @@ module _ {ℓ} {S : Grading {ℓ}} (L : Graded S) where
   formal_graded : (skipped : Bool) (f : Formal) → L.Claim (grade_formal S skipped f) (lower_formal skipped f)
   formal_graded false (tree.disabled_formal at by) = map_is L _ (L.fault_is _)
   formal_graded true (tree.disabled_formal at by) = map_is L _ (L.fault_is _)
-  formal_graded true (tree.formal p) = map_is L _ (missing_pat_graded L)
+  formal_graded true (tree.formal p) = map_is L _ (L.pat_made_is (missing_pat_graded L))
   formal_graded false (tree.formal p) = map_is L _ (top_graded L p)
 
   formals_graded : (skipped : Bool) (done : List PatId) (fs : List Formal)

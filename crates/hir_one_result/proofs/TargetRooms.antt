@@ -10,7 +10,7 @@ use Rattle.hir_lower_form.specs.Lowering.{Checked, go_on, Lowering, ◌>>=◌, p
 use Rattle.hir_steps.proofs.Calls.{pointing_target}
 use Rattle.hir_one_result.specs.Size.{Size, a_target_way, ◌∪◌}
 use Rattle.hir_one_result.proofs.CallRooms.{before_one}
-use Rattle.hir_steps.proofs.LastStored.{EndsAt, LastPat, pats_in}
+use Rattle.hir_one_result.proofs.LastStored.{EndsAt, LastPat, pats_in}
 use Rattle.hir_one_result.proofs.Owners.{no_owners}
 use Rattle.hir_one_result.proofs.Rooms.{Takes}
 use Rattle.hir_one_result.proofs.Took.{Room, Took, grew_none, no_sources, short_first, still, took_then, unnamed}

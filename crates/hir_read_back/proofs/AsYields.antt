@@ -117,10 +117,17 @@ yields_graded = let apart = apart_graded in record {
   Claim = λ y p. Notes y p;
   Made = λ y p. Notes y p;
   Hands = λ t y p. Notes y p;
+  MadePat = λ y p. Notes y p;
+  MadeType = λ t y p. Notes y p;
+  HandsPat = λ t y p. Notes y p;
   made_is = λ h. h;
+  pat_made_is = λ h. h;
+  type_made_is = λ is h. h;
   pure_is = λ a. (apart.pure_is a, raises_pure a);
   bind_is = λ h t k. (apart_where h.0 t (λ a x. (k a x).0), raises_where h.1 t (λ a x. (k a x).1));
   makes_is = λ h t k. (apart_where h.0 t (λ a x. (k a x).0), raises_where h.1 t (λ a x. (k a x).1));
+  makes_pat_is = λ h t k. (apart_where h.0 t (λ a x. (k a x).0), raises_where h.1 t (λ a x. (k a x).1));
+  makes_type_is = λ h k. (then_apart h.0 (λ a. (k a).0), raises_then h.1 (λ a. (k a).1));
   end_is = λ h k. (apart.end_is h.0 (λ a. (k a).0), raises_end h.1 (λ a. (k a).1));
   hands_pure_is = λ a t u e. (apart.hands_pure_is a t u e, raises_pure (a, u));
   hands_as_is = λ t u e h. h;
@@ -128,6 +135,15 @@ yields_graded = let apart = apart_graded in record {
   beside_is = λ table h t k. (apart_where h.0 t (λ a x. (k a x).0), raises_where h.1 t (λ a x. (k a x).1));
   hands_end_is = λ table h k. (apart.end_is h.0 (λ a. (k a).0), raises_end h.1 (λ a. (k a).1));
   beside_end_is = λ table h k. (apart.end_is h.0 (λ a. (k a).0), raises_end h.1 (λ a. (k a).1));
+  hands_pat_is = λ t h. h;
+  hands_makes_is = λ table h t k. (apart_where h.0 t (λ a x. (k a x).0), raises_where h.1 t (λ a x. (k a x).1));
+  beside_makes_is = λ table h t k. (apart_where h.0 t (λ a x. (k a x).0), raises_where h.1 t (λ a x. (k a x).1));
+  alone_is = λ t u e h. (apart.alone_is t u e h.0, raises_end h.1 (λ i. raises_pure (i, u)));
+  named_alone_is = λ b t u e h. (
+    apart.named_alone_is b t u e h.0,
+    raises_end h.1 (λ i. raises_end (raises_still (apart.define_is b i) (still_define b i)) (λ v. raises_pure (i, u))),
+  );
+  or_is = λ at ps t p first known later more whole. whole;
   new_name_is = λ u is t with_it e. (
     apart.new_name_is u is t with_it e,
     raises_end (raises_still (binding_apart (new_binding u) is) (still_binding (new_binding u))) (λ b. raises_pure (b, with_it b)),
@@ -139,10 +155,9 @@ yields_graded = let apart = apart_graded in record {
   Where = λ C y p. Notes y p;
   Known = Unknown;
   reads = unread;
-  where_is = λ is h. h;
+  where_type = λ h. h;
   where_any = λ h. h;
   where_less = λ is h. h;
-  where_next = λ h k. (then_apart h.0 (λ a. (k a).0), raises_then h.1 (λ a. (k a).1));
   where_known = λ h t is k. (apart_where h.0 t (λ a x. (k a x).0), raises_where h.1 t (λ a x. (k a x).1));
   where_first = λ h k. (then_apart h.0 (λ a. (k a).0), raises_then h.1 (λ a. (k a).1));
   where_end = λ h k. (apart.end_is h.0 (λ a. (k a).0), raises_end h.1 (λ a. (k a).1));
@@ -167,20 +182,20 @@ yields_graded = let apart = apart_graded in record {
   noted_is = λ c. off (apart.noted_is c) (still_only (only_note c));
   told_is = λ c. off (apart.told_is c) (still_only (only_told c));
   gone_is = λ why. off (apart.gone_is why) (still_only (only_gone why));
-  type_call_is = λ at l h. (
-    apart.type_call_is at l h.0,
+  type_call_is = λ at t h. (
+    apart.type_call_is at t h.0,
     raises_then h.1 (λ i. raises_begin (raises_still (point_type_apart at i) (still_point_type at i)) (λ u. raises_pure i)),
   );
-  pat_call_is = λ at l h. (
-    apart.pat_call_is at l h.0,
+  pat_call_is = λ at h. (
+    apart.pat_call_is at h.0,
     raises_then h.1 (λ i. raises_begin (raises_still (point_pat_apart at i) (still_point_pat at i)) (λ u. raises_pure i)),
   );
-  target_way_is = λ at l h. (
-    apart.target_way_is at l h.0,
+  target_way_is = λ at h. (
+    apart.target_way_is at h.0,
     raises_then h.1 (λ i. raises_begin (raises_still (point_target_apart at i) (still_point_target at i)) (λ u. raises_pure i)),
   );
-  hands_call_is = λ at t l h. (
-    apart.hands_call_is at t l h.0,
+  hands_call_is = λ at t h. (
+    apart.hands_call_is at t h.0,
     raises_then h.1 (λ r. raises_begin (raises_still (point_pat_apart at r.0) (still_point_pat at r.0)) (λ u. raises_pure r)),
   );
   super_is = λ w. off (apart.super_is w) (counted_still (super_read w));

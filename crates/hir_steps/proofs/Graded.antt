@@ -3,7 +3,7 @@ use Rattle.std.proofs.Common.{◌≡◌, refl, ℕ, Bool, List, [], ◌∷◌, �
 use Rattle.hir_binding.specs.declared.binding.BindingAnnotation.{BindingAnnotation}
 use Rattle.hir_store.specs.Names.{IsWritten}
 use Rattle.hir_store.specs.Pointers.{Pointer}
-use Rattle.hir_store.specs.Stored.{Stored, store_of, map_of}
+use Rattle.hir_store.specs.Stored.{Stored}
 use Rattle.hir_store.specs.declared.diagnostics.ExpressionStoreDiagnostics.{ExpressionStoreDiagnostics}
 use Rattle.hir_store.specs.declared.hir.CoroutineKind.{CoroutineKind}
 use Rattle.hir_store.specs.declared.hir.Expr.{Expr as HirExpr}
@@ -21,11 +21,10 @@ use Rattle.hir_store.specs.declared.type_ref.LifetimeRef.{LifetimeRef}
 use Rattle.hir_store.specs.declared.type_ref.TypeBound.{TypeBound}
 use Rattle.hir_store.specs.declared.type_ref.TypeRef.{TypeRef}
 use Rattle.hir_env.specs.declared.place.ImplTrait.{ImplTrait}
-use Rattle.hir_env.specs.Answered.{Called, Entered, Gone, Jump, Label, Limit, OptionExpr, OptionType, Params, Use}
+use Rattle.hir_env.specs.Answered.{Called, Entered, Gone, Jump, Label, Limit, OptionExpr, OptionType, Params, Pats, Use}
 use Rattle.hir_data.specs.Data as datum
 use Rattle.hir_data.specs.Data.{Shape, TypeData}
 use Rattle.hir_data.specs.Patterns.{moved_by}
-use Rattle.hir_data.specs.Reading.{stored_type}
 use Rattle.hir_scope.specs.Ribs.{Try}
 use Rattle.hir_lower_form.specs.declared.closures.ClosureParams.{ClosureParams}
 use Rattle.hir_lower_form.specs.declared.generics.Notes.{Notes}
@@ -33,55 +32,66 @@ use Rattle.hir_lower_form.specs.declared.walk.PathWalk.{PathWalk}
 use Rattle.hir_lower_form.specs.Calls.{define_form, inside_macro, note, note_gone, told}
 use Rattle.hir_lower_form.specs.Forms.{ExprSteps, StoredContents, closure_form, constant_form, coroutine_block_form}
 use Rattle.hir_lower_form.specs.Forms.{coroutine_form, no_closure_params, value_form, yield_form}
-use Rattle.hir_lower_form.specs.Lower.{lower_params, lower_part, present_type}
+use Rattle.hir_lower_form.specs.Lower.{lower_later, lower_params, lower_part, present_type}
 use Rattle.hir_lower_form.specs.Lowering.{Lowering, ◌>>=◌, pure, alloc_binding, alloc_expr, alloc_lifetime, alloc_made, alloc_made_pat}
 use Rattle.hir_lower_form.specs.Lowering.{alloc_pat, alloc_type, close, define, enter_block, jump_target, made_number, open_label}
 use Rattle.hir_lower_form.specs.Lowering.{open_try, owning, point, point_field, point_pat, point_pat_field, point_target, point_type}
 use Rattle.hir_lower_form.specs.Lowering.{◌>>◌, becoming, note_down, report, try_target}
 use Rattle.hir_lower_form.specs.Made.{made_bind_form}
 use Rattle.hir_lower_form.specs.Paths.{aliased, counted}
-use Rattle.hir_lower_form.specs.Pats.{Table, counted_dots, key_of, new_binding, no_names, settle}
+use Rattle.hir_lower_form.specs.Pats.{PatSteps, Table, counted_dots, enter_or, key_of, new_binding, no_names, or_form}
+use Rattle.hir_lower_form.specs.Pats.{settle}
 use Rattle.hir_lower_form.specs.Preludes.{coroutine_closure_form}
 use Rattle.hir_lower_form.specs.Ranges.{inner_form}
 use Rattle.hir_lower_form.specs.Types.{TypeSteps}
 use Rattle.hir_lower_form.specs.Walks.{super_read, supers}
 use Rattle.hir_steps.proofs.Logic.{Mark}
 use Rattle.hir_steps.proofs.ReadBack.{Knowing, ReadBack, TypeIs}
-use Rattle.hir_steps.proofs.LastStored.{LastPat, LastType}
 use Rattle.hir_steps.proofs.Noted.{KeepsParams}
 use Rattle.hir_steps.specs.Grading.{Grading, grade_impl, made_bind}
 use Rattle.hir_steps.proofs.Answering.{Answering, anything, answering_aliased, answering_any, answering_pure, answering_then}
 use Rattle.hir_steps.proofs.Answering.{answering_less}
 
+-- alternatives of which the first is this
+abbrev pub FirstIs : PatId → List PatId × Table → Type 0
+FirstIs i rs = (more : List PatId) × (rs.0 ≡ i ∷ more)
+
 -- how what is told is claimed of steps
 pub record Graded {ℓ} (S : Grading {ℓ}) : Type (ℓ ⊔ 1) where
+  -- what is to be known, and what is, of what reads back
+  pub Known : Knowing
+  pub reads : ReadBack Known
   pub Claim : {A : Type 0} → S.G → Lowering A → Type 0
   -- of steps that make an expression, which came since
   pub Made : S.G → ExprSteps → Type 0
   pub made_is : {g : S.G} {p : ExprSteps} → Made g p → Claim g p
+  -- so of those that make a pattern, and of those that make a type, where it reads back so
+  pub MadePat : S.G → Lowering PatId → Type 0
+  pub pat_made_is : {g : S.G} {p : Lowering PatId} → MadePat g p → Claim g p
+  pub MadeType : TypeData → S.G → TypeSteps → Type 0
+  pub type_made_is : {t : TypeData} {g : S.G} {p : TypeSteps} → Known TypeRefId p (λ final m m' i. TypeIs t final m i) → MadeType t g p
+      → Claim g p
   pub pure_is : {A : Type 0} (a : A) → Claim S.none (pure a)
   -- ---- one after another, where it is known what the first answers, or where nothing is told of what comes after
   pub bind_is : {A B : Type 0} {P : A → Type 0} {g h : S.G} {p : Lowering A} {f : A → Lowering B} → Claim g p → Answering P p
       → ((a : A) → P a → Claim h (f a)) → Claim (S.then' g h) (p >>= f)
   pub makes_is : {A : Type 0} {P : A → Type 0} {g h : S.G} {p : Lowering A} {f : A → ExprSteps} → Claim g p → Answering P p
       → ((a : A) → P a → Made h (f a)) → Made (S.then' g h) (p >>= f)
+  pub makes_pat_is : {A : Type 0} {P : A → Type 0} {g h : S.G} {p : Lowering A} {f : A → Lowering PatId} → Claim g p → Answering P p
+      → ((a : A) → P a → MadePat h (f a)) → MadePat (S.then' g h) (p >>= f)
+  pub makes_type_is : {A : Type 0} {t : TypeData} {g h : S.G} {p : Lowering A} {f : A → TypeSteps} → Claim g p
+      → ((a : A) → MadeType t h (f a)) → MadeType t (S.then' g h) (p >>= f)
   pub end_is : {A B : Type 0} {g : S.G} {p : Lowering A} {f : A → Lowering B} → Claim g p → ((a : A) → Claim S.none (f a))
       → Claim g (p >>= f)
   -- ---- steps of which something is told where it is so, in a final store, of how far it had come before them and of their answer
   pub Where : {A : Type 0} → (Stored → Mark → A → Type 0) → S.G → Lowering A → Type 0
-  -- where it is known to be so
-  pub Known : Knowing
-  pub reads : ReadBack Known
-  pub where_is : {A : Type 0} {C : Stored → Mark → A → Type 0} {g : S.G} {p : Lowering A} → Known A p (λ final m m' a. C final m a)
-      → Where C g p → Claim g p
+  pub where_type : {t : TypeData} {g : S.G} {p : TypeSteps} → MadeType t g p → Where (TypeIs t) g p
   -- told in any case
   pub where_any : {A : Type 0} {C : Stored → Mark → A → Type 0} {g : S.G} {p : Lowering A} → Claim g p → Where C g p
   -- where it follows from something else
   pub where_less : {A : Type 0} {C D : Stored → Mark → A → Type 0} {g : S.G} {p : Lowering A}
       → Known A p (λ final m m' a. D final m a → C final m a) → Where C g p → Where D g p
-  -- behind steps, and behind those that bring it about
-  pub where_next : {A B : Type 0} {C : Stored → B → Type 0} {g h : S.G} {p : Lowering A} {f : A → Lowering B} → Claim g p
-      → ((a : A) → Where (λ final m b. C final b) h (f a)) → Where (λ final m b. C final b) (S.then' g h) (p >>= f)
+  -- behind steps that bring it about
   pub where_known : {A B : Type 0} {K : A → Stored → Mark → Type 0} {P : A → Type 0} {g h : S.G} {p : Lowering A} {f : A → Lowering B}
       → Claim g p → Answering P p → Known A p (λ final m m' a. K a final m')
       → ((a : A) → P a → Where (λ final m b. K a final m) h (f a)) → Claim (S.then' g h) (p >>= f)
@@ -104,6 +114,25 @@ pub record Graded {ℓ} (S : Grading {ℓ}) : Type (ℓ ⊔ 1) where
       → Hands t g p → ((r : A × Table) → Hands r.1 S.none (f r)) → Hands t g (p >>= f)
   pub beside_end_is : {A B : Type 0} (t : Table) {g : S.G} {p : Lowering A} {f : A → Lowering (B × Table)} → Claim g p
       → ((a : A) → Hands t S.none (f a)) → Hands t g (p >>= f)
+  -- a pattern that came since is handed on, too: behind steps that hand names on, and beside such as hand none on
+  pub HandsPat : Table → S.G → Lowering (PatId × Table) → Type 0
+  pub hands_pat_is : (t : Table) {g : S.G} {p : Lowering (PatId × Table)} → HandsPat t g p → Hands t g p
+  pub hands_makes_is : {A : Type 0} {P : A × Table → Type 0} (t : Table) {g h : S.G} {p : Lowering (A × Table)}
+      {f : A × Table → Lowering (PatId × Table)} → Hands t g p → Answering P p → ((r : A × Table) → P r → HandsPat r.1 h (f r))
+      → HandsPat t (S.then' g h) (p >>= f)
+  pub beside_makes_is : {A : Type 0} {P : A → Type 0} (t : Table) {g h : S.G} {p : Lowering A} {f : A → Lowering (PatId × Table)}
+      → Claim g p → Answering P p → ((a : A) → P a → HandsPat t h (f a)) → HandsPat t (S.then' g h) (p >>= f)
+  -- it is made alone, or a name is of it
+  pub alone_is : (t u : Table) {g : S.G} {p : Lowering PatId} → u.bindings ≡ t.bindings → MadePat g p
+      → HandsPat t g (p >>= (λ i. pure (i, u)))
+  pub named_alone_is : (b : BindingId) (t u : Table) {g : S.G} {p : Lowering PatId} → u.bindings ≡ t.bindings → MadePat g p
+      → HandsPat t g (p >>= (λ i. define b i >>= (λ v. pure (i, u))))
+  -- or it is of several, or the first of them where there is one
+  pub or_is : (at : Pointer) (ps : Pats) (t : Table) {P : PatId × Table → Type 0} {g h k : S.G} (p : PatSteps)
+      → HandsPat (enter_or t) g (p (enter_or t)) → Answering P (p (enter_or t))
+      → ((r : PatId × Table) → P r → Hands r.1 h (lower_later ps (r.0 ∷ []) r.1))
+      → ((r : PatId × Table) → P r → Answering (FirstIs r.0) (lower_later ps (r.0 ∷ []) r.1))
+      → Hands t k (or_form at p (lower_later ps) t) → HandsPat t k (or_form at p (lower_later ps) t)
   -- a written name that is bound
   pub new_name_is : (u : Use) → IsWritten u.name → (t : Table) (with_it : BindingId → Table)
       → ((b : BindingId) → (with_it b).bindings ≡ t.bindings ++ (key_of u, b) ∷ [])
@@ -112,11 +141,11 @@ pub record Graded {ℓ} (S : Grading {ℓ}) : Type (ℓ ⊔ 1) where
   pub top_is : {g : S.G} {p : Lowering (PatId × Table)} → Hands no_names g p → Claim g (p >>= (λ r. settle r.1 >>= (λ _. pure r.0)))
   -- ---- what is stored
   pub type_is : (t : TypeRef) (at : Option Pointer) (shape : Shape)
-      → Where (TypeIs (datum.typed at shape)) (S.type_as (datum.typed at shape)) (alloc_type t at)
+      → MadeType (datum.typed at shape) (S.type_as (datum.typed at shape)) (alloc_type t at)
   pub lifetime_is : (l : LifetimeRef) (at : Option Pointer)
       → Claim (S.lifetime_as (record { lifetime = l; from = at })) (alloc_lifetime l at)
-  pub pat_is : (p : HirPat) (at : Option Pointer) → Claim (S.pat_at at) (alloc_pat p at)
-  pub made_pat_is : (p : HirPat) (at : Option Pointer) → Claim (S.made_pat_at at) (alloc_made_pat p at)
+  pub pat_is : (p : HirPat) (at : Option Pointer) → MadePat (S.pat_at at) (alloc_pat p at)
+  pub made_pat_is : (p : HirPat) (at : Option Pointer) → MadePat (S.made_pat_at at) (alloc_made_pat p at)
   pub expr_is : (e : HirExpr) (at : Option Pointer) → Made S.expr (alloc_expr e at)
   -- of a node that is made up
   pub made_expr_is : (e : HirExpr) (at : Option Pointer) → Made S.expr (alloc_made e at)
@@ -132,22 +161,22 @@ pub record Graded {ℓ} (S : Grading {ℓ}) : Type (ℓ ⊔ 1) where
       → Claim g (note_down f >> p)
   pub aliased_is : (alias : Option (List Bool)) {g : S.G} {p : Lowering (Option HirPath)} → Claim g p → Claim g (aliased alias p)
   pub impl_is : (at : Pointer) (mode : ImplTrait) (bounds : List TypeBound) (shape : Shape)
-      → Where (TypeIs (datum.typed (Some at) shape)) (grade_impl S mode (datum.typed (Some at) shape)) (becoming at mode bounds)
+      → MadeType (datum.typed (Some at) shape) (grade_impl S mode (datum.typed (Some at) shape)) (becoming at mode bounds)
   -- ---- what is reported, counted, entered and asked
   pub fault_is : (d : ExpressionStoreDiagnostics) → Claim (S.fault d) (report d)
-  -- of calls of macros; the node of one leads to the last pattern, or to the last type
+  -- of calls of macros; the node of one leads to the pattern or the type that was made
   pub noted_is : (c : Entered) → Claim (S.noted c) (note c)
   pub told_is : (c : Called) → Claim (S.told c) (told c)
   pub gone_is : (why : Gone) → Claim (S.gone why) (note_gone why)
-  pub type_call_is : (at : Pointer) {g : S.G} {t : TypeSteps} → LastType t → Claim g t
-      → Claim (S.then' g (S.type_call at)) (t >>= (λ i. point_type at i >>= (λ _. pure i)))
-  pub pat_call_is : (at : Pointer) {g : S.G} {p : Lowering PatId} → LastPat (λ i. i) p → Claim g p
-      → Claim (S.then' g (S.pat_call at)) (p >>= (λ i. point_pat at i >>= (λ _. pure i)))
+  pub type_call_is : (at : Pointer) (t : TypeData) {g : S.G} {p : TypeSteps} → MadeType t g p
+      → MadeType t (S.then' g (S.type_call at)) (p >>= (λ i. point_type at i >>= (λ _. pure i)))
+  pub pat_call_is : (at : Pointer) {g : S.G} {p : Lowering PatId} → MadePat g p
+      → MadePat (S.then' g (S.pat_call at)) (p >>= (λ i. point_pat at i >>= (λ _. pure i)))
   -- so does a node that is assigned to
-  pub target_way_is : (at : Pointer) {g : S.G} {p : Lowering PatId} → LastPat (λ i. i) p → Claim g p
-      → Claim (S.then' g (S.target_way at)) (p >>= (λ i. point_target at i >>= (λ _. pure i)))
-  pub hands_call_is : (at : Pointer) (t : Table) {g : S.G} {p : Lowering (PatId × Table)} → LastPat (λ r. r.0) p → Hands t g p
-      → Hands t (S.then' g (S.pat_call at)) (p >>= (λ r. point_pat at r.0 >>= (λ _. pure r)))
+  pub target_way_is : (at : Pointer) {g : S.G} {p : Lowering PatId} → MadePat g p
+      → MadePat (S.then' g (S.target_way at)) (p >>= (λ i. point_target at i >>= (λ _. pure i)))
+  pub hands_call_is : (at : Pointer) (t : Table) {g : S.G} {p : Lowering (PatId × Table)} → HandsPat t g p
+      → HandsPat t (S.then' g (S.pat_call at)) (p >>= (λ r. point_pat at r.0 >>= (λ _. pure r)))
   pub super_is : (w : PathWalk) → Claim (S.super (supers w.kind)) (counted (super_read w))
   pub dots_is : (comma : Bool) (place : Option ℕ) → Claim (S.dots (moved_by comma place)) (counted_dots comma place)
   pub def_is : (k : ℕ) (d : Option MacroDefId) → Claim (S.def k) (define_form k d)
@@ -217,10 +246,9 @@ module _ {ℓ} {S : Grading {ℓ}} (L : Graded S) where
   pub map_is : {A B : Type 0} {g : S.G} {p : Lowering A} (f : A → B) → L.Claim g p → L.Claim g (p >>= (λ a. pure (f a)))
   map_is f h = L.end_is h (λ a. L.pure_is (f a))
 
-  -- behind steps, where the type that is stored in the end reads back so
-  pub type_next : {A : Type 0} {t : TypeData} {g h : S.G} {p : Lowering A} {f : A → TypeSteps} → L.Claim g p
-      → ((a : A) → L.Where (TypeIs t) h (f a)) → L.Where (TypeIs t) (S.then' g h) (p >>= f)
-  type_next {t = t} h k = L.where_next {C = λ final i. stored_type (store_of final) (map_of final) i ≡ t} h k
+  pub pat_next : {A : Type 0} {g h : S.G} {p : Lowering A} {f : A → Lowering PatId} → L.Claim g p → ((a : A) → L.MadePat h (f a))
+      → L.MadePat (S.then' g h) (p >>= f)
+  pat_next {p = p} h k = L.makes_pat_is h (answering_any p) (λ a u. k a)
 
   pub told_any : {A : Type 0} {g : S.G} {p : Lowering A} → L.Claim g p → Told L g anything p
   told_any {p = p} h = record { claim = h; known = answering_any p }
@@ -315,3 +343,44 @@ module _ {ℓ} {S : Grading {ℓ}} (L : Graded S) {A B : Type 0} {t : Table} whe
   pub hand_last : {Q : B × Table → Type 0} {g : S.G} {p : Lowering A} (f : A → B) (u : Table) → u.bindings ≡ t.bindings → L.Claim g p
       → ((a : A) → Q (f a, u)) → HandsTold L t g Q (p >>= (λ a. pure (f a, u)))
   hand_last f u e h k = hand_beside_end L h (λ a. hand_pure L (f a) u e (k a))
+
+-- and of those that hand a pattern on which came since
+pub record MadeTold {ℓ} {S : Grading {ℓ}} (L : Graded S) (t : Table) (g : S.G) (P : PatId × Table → Type 0)
+    (p : Lowering (PatId × Table)) : Type 0 where
+  pub claim : L.HandsPat t g p
+  pub known : Answering P p
+
+module _ {ℓ} {S : Grading {ℓ}} (L : Graded S) {t : Table} where
+  pub pat_hands : {P : PatId × Table → Type 0} {g : S.G} {p : Lowering (PatId × Table)} → MadeTold L t g P p → HandsTold L t g P p
+  pat_hands h = record { claim = L.hands_pat_is t h.claim; known = h.known }
+
+  pub pat_then : {A : Type 0} {P : A × Table → Type 0} {Q : PatId × Table → Type 0} {g h : S.G} {p : Lowering (A × Table)}
+      {f : A × Table → Lowering (PatId × Table)} → HandsTold L t g P p → ((r : A × Table) → P r → MadeTold L r.1 h Q (f r))
+      → MadeTold L t (S.then' g h) Q (p >>= f)
+  pat_then x k = record {
+    claim = L.hands_makes_is t x.claim x.known (λ r y. (k r y).claim);
+    known = answering_then x.known (λ r y. (k r y).known);
+  }
+
+  pub pat_beside : {A : Type 0} {P : A → Type 0} {Q : PatId × Table → Type 0} {g h : S.G} {p : Lowering A}
+      {f : A → Lowering (PatId × Table)} → Told L g P p → ((a : A) → P a → MadeTold L t h Q (f a)) → MadeTold L t (S.then' g h) Q (p >>= f)
+  pat_beside x k = record {
+    claim = L.beside_makes_is t x.claim x.known (λ a y. (k a y).claim);
+    known = answering_then x.known (λ a y. (k a y).known);
+  }
+
+  -- alone, and then this table
+  pub pat_last : {Q : PatId × Table → Type 0} {g : S.G} {p : Lowering PatId} (u : Table) → u.bindings ≡ t.bindings → L.MadePat g p
+      → ((i : PatId) → Q (i, u)) → MadeTold L t g Q (p >>= (λ i. pure (i, u)))
+  pat_last {p = p} u e h k = record {
+    claim = L.alone_is t u e h;
+    known = answering_then (answering_any p) (λ i x. answering_pure (i, u) (k i));
+  }
+
+  -- a name is of it
+  pub pat_named : {Q : PatId × Table → Type 0} {g : S.G} {p : Lowering PatId} (b : BindingId) (u : Table) → u.bindings ≡ t.bindings
+      → L.MadePat g p → ((i : PatId) → Q (i, u)) → MadeTold L t g Q (p >>= (λ i. define b i >>= (λ v. pure (i, u))))
+  pat_named {p = p} b u e h k = record {
+    claim = L.named_alone_is b t u e h;
+    known = answering_then (answering_any p) (λ i x. answering_then (answering_any (define b i)) (λ v y. answering_pure (i, u) (k i)));
+  }

@@ -20,7 +20,7 @@ module _ {ℓ} {S : Grading {ℓ}} (L : Graded S) where
       → L.Claim (flow_arm S g) (made.flow_arm_form item body)
   unfolding made.flow_arm_form
   flow_arm_graded item h =
-      L.named_is Unannotated (λ n p. next L (L.pat_is _ None) (λ q. map_is L _ (L.made_is (h n))))
+      L.named_is Unannotated (λ n p. next L (L.pat_made_is (L.pat_is _ None)) (λ q. map_is L _ (L.made_is (h n))))
 
   module _ (at : Pointer) where
     pub path_graded : (n : ℕ) → L.Made S.expr (made.made_path_form at n)
@@ -99,12 +99,12 @@ module _ {ℓ} {S : Grading {ℓ}} (L : Graded S) where
 
     done_graded : (item : LangItemId) → L.Claim (S.then' (S.pat_at None) S.expr) (made.done_arm_form at item)
     unfolding made.done_arm_form
-    done_graded item = next L (L.pat_is _ None) (λ p. map_is L _ (L.made_is (L.made_expr_is _ (Some at))))
+    done_graded item = next L (L.pat_made_is (L.pat_is _ None)) (λ p. map_is L _ (L.made_is (L.made_expr_is _ (Some at))))
 
     gives_graded : (item : LangItemId) (p : PatId) {g : S.G} {body : ExprSteps} → L.Made g body
         → L.Claim (S.then' (S.pat_at None) g) (made.gives_arm_form item p body)
     unfolding made.gives_arm_form
-    gives_graded item p h = next L (L.pat_is _ None) (λ q. map_is L _ (L.made_is h))
+    gives_graded item p h = next L (L.pat_made_is (L.pat_is _ None)) (λ q. map_is L _ (L.made_is h))
 
     pub turn_graded : (items : ForItems) (n : ℕ) (p : PatId) {g : S.G} {body : ExprSteps} → L.Made g body
         → L.Made (for_turn S g) (made.for_turn_form at items n p body)

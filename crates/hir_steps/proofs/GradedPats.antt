@@ -18,7 +18,7 @@ use Rattle.hir_env.specs.Answered.{Pat, Pats, PatUnary, Signed, Use}
 use Rattle.hir_data.specs.Patterns.{is_dots, moved_by}
 use Rattle.hir_data.specs.Uses.{FirstUses, with_use}
 use Rattle.hir_lower_form.specs.Forms.{ExprSteps}
-use Rattle.hir_lower_form.specs.Lower.{lower_pat}
+use Rattle.hir_lower_form.specs.Lower.{lower_later, lower_pat}
 use Rattle.hir_lower_form.specs.Lowering.{Lowering, ◌>>=◌}
 use Rattle.hir_lower_form.specs.Pats as forms
 use Rattle.hir_lower_form.specs.Pats.{Elements, PatSteps, Table, enter_or, key_of, leave_or, missing_pat, no_elements}
@@ -29,15 +29,23 @@ use Rattle.hir_steps.specs.PatNames.{is_known, names_after}
 use Rattle.hir_steps.proofs.PathAnswers.{GivesPath, option_seen}
 use Rattle.hir_steps.proofs.PatAnswers.{AsMany, Keyed, dots_use_none, from_none}
 use Rattle.hir_steps.specs.Grading.{Grading, if_so, or_missing, grade_name, behind_comma, grade_or, grade_name_side}
-use Rattle.hir_steps.proofs.Answering.{answering_any, answering_pure, answering_then}
-use Rattle.hir_steps.proofs.Graded.{Graded, Told, HandsTold, next, made_next, expr_claim, map_is, told_any, hand_pure, hand_as, hand_less}
-use Rattle.hir_steps.proofs.Graded.{hand_then, hand_beside, hand_beside_end, hand_end, hand_map, hand_last}
+use Rattle.hir_steps.proofs.Answering.{answering_any, answering_less, answering_pure, answering_then}
+use Rattle.hir_steps.proofs.Graded.{Graded, Told, HandsTold, MadeTold, next, made_next, expr_claim, map_is, told_any, hand_pure}
+use Rattle.hir_steps.proofs.Graded.{hand_as, hand_less, hand_then, hand_end, hand_map, hand_last, pat_beside, pat_hands, pat_last}
+use Rattle.hir_steps.proofs.Graded.{pat_named, pat_next, pat_then}
 use Rattle.hir_steps.proofs.GradedAnswers.{KnownBy, keyed_more, known_by, same_dots}
 use Rattle.hir_steps.proofs.GradedTypes.{claim_by_path, hand_by_path}
 
 module _ {ℓ} {S : Grading {ℓ}} (L : Graded S) where
   abbrev pub PatTold : {A : Type 0} → S.G → FirstUses → FirstUses → (Table → Lowering (A × Table)) → Type 0
   PatTold {A = A} g us vs p = (t : Table) → Keyed us t → HandsTold L {A = A} t g (λ r. Keyed vs r.1) (p t)
+
+  -- a pattern that is made
+  abbrev pub PatMade : S.G → FirstUses → FirstUses → PatSteps → Type 0
+  PatMade g us vs p = (t : Table) → Keyed us t → MadeTold L t g (λ r. Keyed vs r.1) (p t)
+
+  pub only_names : {g : S.G} {us vs : FirstUses} {p : PatSteps} → PatMade g us vs p → PatTold g us vs p
+  only_names h t k = pat_hands L (h t k)
 
   -- the parts of a tuple, with the place of the first two dots
   abbrev pub ElementsTold : S.G → FirstUses → FirstUses → Option ℕ → (Table → Lowering (Elements × Table)) → Type 0
@@ -54,12 +62,12 @@ module _ {ℓ} {S : Grading {ℓ}} (L : Graded S) where
       → HandsTold L {A = List PatId} t g (λ r. Keyed vs r.1 × ((new : List PatId) × (r.0 ≡ done ++ new) × AsMany ps new))
       (p done t)
 
-  pub missing_pat_graded : L.Claim (S.pat_at None) missing_pat
+  pub missing_pat_graded : L.MadePat (S.pat_at None) missing_pat
   unfolding missing_pat
   missing_pat_graded = L.pat_is _ None
 
-  pub alone_graded : (us : FirstUses) {g : S.G} {p : Lowering PatId} → L.Claim g p → PatTold g us us (forms.alone p)
-  alone_graded us h t k = hand_last L (λ i. i) t refl h (λ i. k)
+  pub alone_graded : (us : FirstUses) {g : S.G} {p : Lowering PatId} → L.MadePat g p → PatMade g us us (forms.alone p)
+  alone_graded us h t k = pat_last L t refl h (λ i. k)
 
   -- ---- names
 
@@ -86,7 +94,7 @@ module _ {ℓ} {S : Grading {ℓ}} (L : Graded S) where
     where
       by : (comma : Bool) → L.Claim (behind_comma S comma (S.dots (moved_by comma es.1))) (forms.elements_form comma es)
       by false = L.end_is (L.dots_is false es.1) (λ dots. L.pure_is _)
-      by true = next L (L.dots_is true es.1) (λ dots. map_is L _ (map_is L _ missing_pat_graded))
+      by true = next L (L.dots_is true es.1) (λ dots. map_is L _ (map_is L _ (L.pat_made_is missing_pat_graded)))
 
   -- Two dots are no part, but say where parts are left out.
   step_graded : (dots : Bool) (done : Elements) (t : Table) {g : S.G} {us vs : FirstUses} (d : Option ℕ) {p : PatSteps}
@@ -125,17 +133,28 @@ module _ {ℓ} {S : Grading {ℓ}} (L : Graded S) where
   or_of_graded at tree.no_pats i [] h = L.pure_is i
   or_of_graded at tree.no_pats i (j ∷ is) h = absurd h
   or_of_graded at (tree.more_pats p ps) i [] h = absurd h
-  or_of_graded at (tree.more_pats p ps) i (j ∷ is) h = L.pat_is _ (Some at)
+  or_of_graded at (tree.more_pats p ps) i (j ∷ is) h = L.pat_made_is (L.pat_is _ (Some at))
   or_of_graded at (tree.noted_pats c ps) i is h = or_of_graded at ps i is h
 
-  pub or_graded : (at : Pointer) (ps : Pats) {g h : S.G} {us vs ws : FirstUses} {first : PatSteps}
-      {later : List PatId → Table → Lowering (List PatId × Table)} → PatTold g us vs first → LaterTold h vs ws ps later
-      → PatTold (S.then' g (S.then' h (grade_or S at ps))) us ws (forms.or_form at first later)
+  alternatives_graded : (at : Pointer) (ps : Pats) {g h : S.G} {us vs ws : FirstUses} {first : PatSteps} → PatTold g us vs first
+      → LaterTold h vs ws ps (lower_later ps)
+      → PatTold (S.then' g (S.then' h (grade_or S at ps))) us ws (forms.or_form at first (lower_later ps))
   unfolding forms.or_form
-  or_graded at ps one more t k = hand_then L (hand_as L (enter_or t) refl (one (enter_or t) (record { each = k.each }))) (λ r e.
+  alternatives_graded at ps one more t k = hand_then L (hand_as L (enter_or t) refl (one (enter_or t) (record { each = k.each }))) (λ r e.
       hand_then L (more (r.0 ∷ []) r.1 e) (λ rs x.
       hand_last L (λ i. i) (leave_or rs.1) refl (subst (λ is. L.Claim (grade_or S at ps) (forms.or_of at is)) (sym x.1.1)
       (or_of_graded at ps r.0 x.1.0 x.1.2)) (λ i. record { each = x.0.each })))
+
+  pub or_graded : (at : Pointer) (ps : Pats) {g h : S.G} {us vs ws : FirstUses} {first : PatSteps} → PatMade g us vs first
+      → LaterTold h vs ws ps (lower_later ps)
+      → PatMade (S.then' g (S.then' h (grade_or S at ps))) us ws (forms.or_form at first (lower_later ps))
+  or_graded at ps {first = first} one more t k =
+      let whole = alternatives_graded at ps (only_names one) more t k in
+      let before = one (enter_or t) (record { each = k.each }) in record {
+        claim = L.or_is at ps t first before.claim before.known (λ r e. (more (r.0 ∷ []) r.1 e).claim)
+            (λ r e. answering_less (λ rs x. (x.1.0, x.1.1)) (more (r.0 ∷ []) r.1 e).known) whole.claim;
+        known = whole.known;
+      }
 
   -- ---- forms of patterns
 
@@ -145,43 +164,43 @@ module _ {ℓ} {S : Grading {ℓ}} (L : Graded S) where
 
   module _ (at : Pointer) where
     pub path_pat_graded : {g : S.G} {q : Lowering (Option HirPath)} → L.Claim g q
-        → L.Claim (S.then' g (S.pat_at (Some at))) (forms.path_pat_form at q)
+        → L.MadePat (S.then' g (S.pat_at (Some at))) (forms.path_pat_form at q)
     unfolding forms.path_pat_form
-    path_pat_graded h = next L h (λ p. L.pat_is _ _)
+    path_pat_graded h = pat_next L h (λ p. L.pat_is _ _)
 
     pub bind_graded : (u : Use) → IsWritten u.name → {g : S.G} {us vs : FirstUses} {s : Table → Lowering (Option PatId × Table)}
         → PatTold g us vs s
-        → PatTold (S.then' g (S.then' (grade_name S vs u) (S.pat_at (Some at)))) us (with_use vs u) (forms.bind_form at u s)
+        → PatMade (S.then' g (S.then' (grade_name S vs u) (S.pat_at (Some at)))) us (with_use vs u) (forms.bind_form at u s)
     unfolding forms.bind_form
-    bind_graded u is {vs = vs} h t k = hand_then L (h t k) (λ s e. hand_then L (name_graded u is vs s.1 e) (λ b e'.
-        hand_beside_end L (L.pat_is _ (Some at)) (λ i. hand_beside_end L (L.define_is b.0 i) (λ v. hand_pure L i b.1 refl e'))))
+    bind_graded u is {vs = vs} h t k = pat_then L (h t k) (λ s e. pat_then L (name_graded u is vs s.1 e) (λ b e'.
+        pat_named L b.0 b.1 refl (L.pat_is _ (Some at)) (λ i. e')))
 
     pub over_pat_graded : (form : PatUnary) {g : S.G} {us vs : FirstUses} {p : PatSteps} → PatTold g us vs p
-        → PatTold (S.then' g (S.pat_at (Some at))) us vs (forms.over_pat_form at form p)
+        → PatMade (S.then' g (S.pat_at (Some at))) us vs (forms.over_pat_form at form p)
     unfolding forms.over_pat_form
-    over_pat_graded form h t k = hand_then L (h t k) (λ r e. hand_last L (λ i. i) r.1 refl (L.pat_is _ (Some at)) (λ i. e))
+    over_pat_graded form h t k = pat_then L (h t k) (λ r e. pat_last L r.1 refl (L.pat_is _ (Some at)) (λ i. e))
 
     pub tuple_pat_graded : (comma : Bool) {g : S.G} {us vs : FirstUses} {d : Option ℕ} {p : Table → Lowering (Elements × Table)}
         → ElementsTold g us vs d p
-        → PatTold (S.then' g (S.then' (behind_comma S comma (S.dots (moved_by comma d))) (S.pat_at (Some at)))) us vs
+        → PatMade (S.then' g (S.then' (behind_comma S comma (S.dots (moved_by comma d))) (S.pat_at (Some at)))) us vs
         (forms.tuple_pat_form at comma p)
     unfolding forms.tuple_pat_form
-    tuple_pat_graded comma {d = d} h t k = hand_then L (h t k) (λ r e. hand_beside L (told_any L (elements_graded comma r.0 d e.1)) (λ es x.
-        hand_last L (λ i. i) r.1 refl (L.pat_is _ (Some at)) (λ i. e.0)))
+    tuple_pat_graded comma {d = d} h t k = pat_then L (h t k) (λ r e. pat_beside L (told_any L (elements_graded comma r.0 d e.1)) (λ es x.
+        pat_last L r.1 refl (L.pat_is _ (Some at)) (λ i. e.0)))
 
     struct_of_graded : (comma : Bool) {g : S.G} {us vs : FirstUses} {d : Option ℕ} {p : Table → Lowering (Elements × Table)}
-        → ElementsTold g us vs d p → (t : Table) → Keyed us t → (o : Option HirPath) → HandsTold L {A = PatId} t
+        → ElementsTold g us vs d p → (t : Table) → Keyed us t → (o : Option HirPath) → MadeTold L t
         (or_missing S (is_some (option_seen o))
         (S.then' g (S.then' (behind_comma S comma (S.dots (moved_by comma d))) (S.pat_at (Some at)))))
         (λ r. Keyed (if is_some (option_seen o) then vs else us) r.1) (forms.tuple_struct_of at comma p o t)
     struct_of_graded comma {us = us} h t k None = alone_graded us missing_pat_graded t k
     struct_of_graded comma {d = d} h t k (Some o) =
-        hand_then L (h t k) (λ r e. hand_beside L (told_any L (elements_graded comma r.0 d e.1)) (λ es x.
-        hand_last L (λ i. i) r.1 refl (L.pat_is _ (Some at)) (λ i. e.0)))
+        pat_then L (h t k) (λ r e. pat_beside L (told_any L (elements_graded comma r.0 d e.1)) (λ es x.
+        pat_last L r.1 refl (L.pat_is _ (Some at)) (λ i. e.0)))
 
     pub tuple_struct_graded : (comma : Bool) {x : Option Seen} {f g : S.G} {us vs : FirstUses} {d : Option ℕ}
         {q : Lowering (Option HirPath)} {p : Table → Lowering (Elements × Table)} → Told L f (GivesPath x) q → ElementsTold g us vs d p
-        → PatTold (S.then' f (or_missing S (is_some x)
+        → PatMade (S.then' f (or_missing S (is_some x)
         (S.then' g (S.then' (behind_comma S comma (S.dots (moved_by comma d))) (S.pat_at (Some at)))))) us
         (if is_some x then vs else us) (forms.tuple_struct_form at comma p q)
     unfolding forms.tuple_struct_form
@@ -190,16 +209,16 @@ module _ {ℓ} {S : Grading {ℓ}} (L : Graded S) where
         (λ y r. Keyed (if is_some y then vs else us) r.1) hq (λ o. struct_of_graded comma h t k o)
 
     record_of_graded : (dots : Bool) {g : S.G} {us vs : FirstUses} {fs : Table → Lowering (List RecordFieldPat × Table)}
-        → PatTold g us vs fs → (t : Table) → Keyed us t → (o : Option HirPath) → HandsTold L {A = PatId} t
+        → PatTold g us vs fs → (t : Table) → Keyed us t → (o : Option HirPath) → MadeTold L t
         (or_missing S (is_some (option_seen o)) (S.then' g (S.pat_at (Some at))))
         (λ r. Keyed (if is_some (option_seen o) then vs else us) r.1) (forms.record_pat_of at dots fs o t)
     record_of_graded dots {us = us} h t k None = alone_graded us missing_pat_graded t k
     record_of_graded dots h t k (Some o) =
-        hand_then L (h t k) (λ r e. hand_last L (λ i. i) r.1 refl (L.pat_is _ (Some at)) (λ i. e))
+        pat_then L (h t k) (λ r e. pat_last L r.1 refl (L.pat_is _ (Some at)) (λ i. e))
 
     pub record_pat_graded : (dots : Bool) {x : Option Seen} {f g : S.G} {us vs : FirstUses} {q : Lowering (Option HirPath)}
         {fs : Table → Lowering (List RecordFieldPat × Table)} → Told L f (GivesPath x) q → PatTold g us vs fs
-        → PatTold (S.then' f (or_missing S (is_some x) (S.then' g (S.pat_at (Some at))))) us (if is_some x then vs else us)
+        → PatMade (S.then' f (or_missing S (is_some x) (S.then' g (S.pat_at (Some at))))) us (if is_some x then vs else us)
         (forms.record_pat_form at dots fs q)
     unfolding forms.record_pat_form
     record_pat_graded dots {g = g} {us = us} {vs = vs} hq h t k = hand_by_path L
@@ -215,15 +234,15 @@ module _ {ℓ} {S : Grading {ℓ}} (L : Graded S) where
 
     pub slice_graded : {f g h : S.G} {us vs ws xs : FirstUses} {b a : Table → Lowering (List PatId × Table)}
         {c : Table → Lowering (Option PatId × Table)} → PatTold f us vs b → PatTold g vs ws c → PatTold h ws xs a
-        → PatTold (S.then' f (S.then' g (S.then' h (S.pat_at (Some at))))) us xs (forms.slice_pat_form at b c a)
+        → PatMade (S.then' f (S.then' g (S.then' h (S.pat_at (Some at))))) us xs (forms.slice_pat_form at b c a)
     unfolding forms.slice_pat_form
-    slice_graded hb hc ha t k = hand_then L (hb t k) (λ b e. hand_then L (hc b.1 e) (λ m e. hand_then L (ha m.1 e) (λ a e.
-        hand_last L (λ i. i) a.1 refl (L.pat_is _ (Some at)) (λ i. e))))
+    slice_graded hb hc ha t k = pat_then L (hb t k) (λ b e. pat_then L (hc b.1 e) (λ m e. pat_then L (ha m.1 e) (λ a e.
+        pat_last L a.1 refl (L.pat_is _ (Some at)) (λ i. e))))
 
     pub literal_pat_graded : (own : Option Pointer) (s : Signed)
-        → L.Claim (S.then' S.expr (S.pat_at (Some at))) (forms.literal_pat_form at own s)
+        → L.MadePat (S.then' S.expr (S.pat_at (Some at))) (forms.literal_pat_form at own s)
     unfolding forms.literal_pat_form
-    literal_pat_graded own s = next L (expr_claim L _ _) (λ e. L.pat_is _ (Some at))
+    literal_pat_graded own s = pat_next L (expr_claim L _ _) (λ e. L.pat_is _ (Some at))
 
     pub literal_side_graded : (s : Signed) → L.Claim S.expr (forms.literal_side_form at s)
     unfolding forms.literal_side_form
@@ -239,9 +258,9 @@ module _ {ℓ} {S : Grading {ℓ}} (L : Graded S) where
     path_side_graded h = claim_by_path L (λ y. if_so S (is_some y) S.expr) h (λ p. side_of_graded at p)
 
     pub range_pat_graded : (op : Option RangeOp) {g h : S.G} {s e : Lowering (Option ExprId)} → L.Claim g s → L.Claim h e
-        → L.Claim (S.then' g (S.then' h (S.pat_at (Some at)))) (forms.range_pat_form at op s e)
+        → L.MadePat (S.then' g (S.then' h (S.pat_at (Some at)))) (forms.range_pat_form at op s e)
     unfolding forms.range_pat_form
-    range_pat_graded op hs he = next L hs (λ s. next L he (λ e. L.pat_is _ (Some at)))
+    range_pat_graded op hs he = pat_next L hs (λ s. pat_next L he (λ e. L.pat_is _ (Some at)))
 
     -- ---- patterns of types
 
@@ -259,14 +278,14 @@ module _ {ℓ} {S : Grading {ℓ}} (L : Graded S) where
     path_limit_graded h = made_next L h (λ p. L.expr_is _ (Some at))
 
     pub limits_graded : {g h : S.G} {s e : ExprSteps} → L.Claim g s → L.Claim h e
-        → L.Claim (S.then' g (S.then' h (S.pat_at (Some at)))) (ranges.limits_form at s e)
+        → L.MadePat (S.then' g (S.then' h (S.pat_at (Some at)))) (ranges.limits_form at s e)
     unfolding ranges.limits_form
-    limits_graded hs he = next L hs (λ s. next L he (λ e. L.pat_is _ (Some at)))
+    limits_graded hs he = pat_next L hs (λ s. pat_next L he (λ e. L.pat_is _ (Some at)))
 
     pub type_alternatives_graded : {g : S.G} {ps : Lowering (List PatId)} → L.Claim g ps
-        → L.Claim (S.then' g (S.pat_at (Some at))) (ranges.type_alternatives_form at ps)
+        → L.MadePat (S.then' g (S.pat_at (Some at))) (ranges.type_alternatives_form at ps)
     unfolding ranges.type_alternatives_form
-    type_alternatives_graded h = next L h (λ ps. L.pat_is _ (Some at))
+    type_alternatives_graded h = pat_next L h (λ ps. L.pat_is _ (Some at))
 
   pub item_graded : (item : Option LangItemId) → L.Made S.expr (ranges.item_form item)
   unfolding ranges.item_form

@@ -24,7 +24,7 @@ use Rattle.hir_data.specs.Data.{no_types}
 use Rattle.hir_data.specs.Patterns.{dots_among}
 use Rattle.hir_data.specs.Targets.{target_dots}
 use Rattle.hir_data.specs.Uses.{FirstUses}
-use Rattle.hir_data.specs.Written.{parts_data, path_of}
+use Rattle.hir_data.specs.Written.{part_data, parts_data, path_of, type_data}
 use Rattle.hir_lower_form.specs.declared.args.ArgLists.{ArgLists}
 use Rattle.hir_lower_form.specs.declared.closures.ClosureParams.{ClosureParams}
 use Rattle.hir_lower_form.specs.declared.walk.PathWalk.{PathWalk}
@@ -49,18 +49,17 @@ use Rattle.hir_steps.proofs.TupleDots.{dots_behind, no_dots, dots_here, one_furt
 use Rattle.hir_steps.specs.PathSeen.{at_first, found, segment_read, segments_read, path_read, outer_read, whole_read}
 use Rattle.hir_steps.specs.PathSeen.{any_arg, yields}
 use Rattle.hir_steps.specs.PatNames.{names_after, names_after_part, names_after_each, names_after_fields, names_after_field}
-use Rattle.hir_steps.proofs.LastStored.{lower_pat_last, type_last, type_pat_last}
-use Rattle.hir_steps.proofs.LastTargets.{lower_target_last}
 use Rattle.hir_steps.proofs.PathAnswers.{seen, seen_read, seen_named, seen_dollar, seen_self, Gives, GivesPath, Yields, Fills, full}
 use Rattle.hir_steps.proofs.PathAnswers.{full_arg, full_binding, yields_full, or_nothing}
 use Rattle.hir_steps.proofs.PatAnswers.{none_keyed, from_none}
 use Rattle.hir_steps.specs.Grading.{Grading, grade_try}
 use Rattle.hir_steps.specs.Grades as g
-use Rattle.hir_steps.proofs.Graded.{Graded, Told, next, made_next, map_is, told_any, told_less, told_map, told_pure, told_then, told_last}
-use Rattle.hir_steps.proofs.Graded.{told_aliased, hand_pure, hand_as, hand_less, hand_then, hand_map, hand_last}
+use Rattle.hir_steps.proofs.Graded.{Graded, Told, next, made_next, map_is, told_any, told_less, told_map, told_pure, told_then}
+use Rattle.hir_steps.proofs.Graded.{told_aliased, told_last, hand_pure, hand_as, hand_less, hand_then, hand_map, hand_last}
+use Rattle.hir_steps.proofs.Graded.{pat_hands, pat_next}
 use Rattle.hir_steps.proofs.GradedTypes as forms
 use Rattle.hir_steps.proofs.GradedPats as pats
-use Rattle.hir_steps.proofs.GradedPats.{PatTold, PartsTold, LaterTold}
+use Rattle.hir_steps.proofs.GradedPats.{PatMade, PatTold, PartsTold, LaterTold}
 use Rattle.hir_steps.proofs.GradedTargets as targets
 use Rattle.hir_steps.proofs.GradedTargets.{TargetsTold}
 use Rattle.hir_steps.proofs.GradedCalls as calls
@@ -112,46 +111,47 @@ module _ {ℓ} {S : Grading {ℓ}} (L : Graded S) where
   try_graded at item typed number ss e h = made.try_block_graded L at item typed number (is_left e || gives_value ss false)
       (record { claim = h; known = stmts_value ss e })
 
+  -- a type reads back as it is written
+  type_told : (b : Option Binder) (t : Type_) {h : S.G} → L.MadeType (type_data b t) h (lower_type b t) → L.Claim h (lower_type b t)
+  type_told b t h = L.type_made_is (L.reads.type_reads b t) h
+
   mutual
     -- ---- types, paths, arguments and bounds
 
-    pub type_graded : (b : Option Binder) (t : Type_) → L.Claim (g.grade_type_in S b t) (lower_type b t)
-    type_graded b (tree.paren_type t) = part_graded b t
-    type_graded b (tree.macro_type at c tree.no_type) = calls.uncalled_type_graded L at c
-    type_graded b (tree.macro_type at c (tree.some_type t)) = calls.called_type_graded L at c (type_last b t) (type_graded b t)
-    type_graded b (tree.for_type names t) = part_graded (Some names) t
-    type_graded b (tree.leaf_type at form) = L.where_is (L.reads.type_reads b (tree.leaf_type at form)) (L.type_is _ _ _)
-    type_graded b (tree.over_type at form t) =
-        L.where_is (L.reads.type_reads b (tree.over_type at form t)) (forms.over_graded L at _ form (part_graded None t))
-    type_graded b (tree.array_type at c t) =
-        L.where_is (L.reads.type_reads b (tree.array_type at c t)) (forms.array_graded L at _ (constant_graded c) (part_graded None t))
-    type_graded b (tree.tuple_type at ts) =
-        L.where_is (L.reads.type_reads b (tree.tuple_type at ts)) (forms.tuple_graded L at _ (parts_graded [] ts))
-    type_graded b (tree.path_type at p) =
-        L.where_is (L.reads.type_reads b (tree.path_type at p)) (forms.path_type_graded L at _ (path_graded p).claim)
-    type_graded b (tree.ref_type at l mutability t) = L.where_is (L.reads.type_reads b (tree.ref_type at l mutability t))
-        (forms.ref_graded L at _ mutability (part_graded None t) (forms.lifetime_option_graded L l))
-    type_graded b (tree.fn_type at head ts r) = L.where_is (L.reads.type_reads b (tree.fn_type at head ts r))
-        (forms.fn_graded L at _ b head (or_unit_graded r) (parts_graded [] ts))
-    type_graded b (tree.impl_type at mode bs) =
-        L.where_is (L.reads.type_reads b (tree.impl_type at mode bs)) (forms.impl_graded L at _ mode (bounds_graded [] bs))
-    type_graded b (tree.nested_impl at) = L.where_is (L.reads.type_reads b (tree.nested_impl at)) (L.type_is _ _ _)
-    type_graded b (tree.dyn_type at bs) =
-        L.where_is (L.reads.type_reads b (tree.dyn_type at bs)) (forms.dyn_graded L at _ (bounds_graded [] bs))
-    type_graded b (tree.pattern_type at t own p) = L.where_is (L.reads.type_reads b (tree.pattern_type at t own p))
-        (forms.pattern_type_graded L at _ (part_graded None t) (type_pat_part_graded p))
+    pub type_made : (b : Option Binder) (t : Type_) → L.MadeType (type_data b t) (g.grade_type_in S b t) (lower_type b t)
+    type_made b (tree.paren_type t) = part_made b t
+    type_made b (tree.macro_type at c tree.no_type) = calls.uncalled_type_graded L at c
+    type_made b (tree.macro_type at c (tree.some_type t)) = calls.called_type_graded L at c (type_made b t)
+    type_made b (tree.for_type names t) = part_made (Some names) t
+    type_made b (tree.leaf_type at form) = L.type_is _ _ _
+    type_made b (tree.over_type at form t) = forms.over_graded L at _ form (part_graded None t)
+    type_made b (tree.array_type at c t) = forms.array_graded L at _ (constant_graded c) (part_graded None t)
+    type_made b (tree.tuple_type at ts) = forms.tuple_graded L at _ (parts_graded [] ts)
+    type_made b (tree.path_type at p) = forms.path_type_graded L at _ (path_graded p).claim
+    type_made b (tree.ref_type at l mutability t) =
+        forms.ref_graded L at _ mutability (part_graded None t) (forms.lifetime_option_graded L l)
+    type_made b (tree.fn_type at head ts r) = forms.fn_graded L at _ b head (or_unit_graded r) (parts_graded [] ts)
+    type_made b (tree.impl_type at mode bs) = forms.impl_graded L at _ mode (bounds_graded [] bs)
+    type_made b (tree.nested_impl at) = L.type_is _ _ _
+    type_made b (tree.dyn_type at bs) = forms.dyn_graded L at _ (bounds_graded [] bs)
+    type_made b (tree.pattern_type at t own p) =
+        forms.pattern_type_graded L at _ (part_graded None t) (L.pat_made_is (type_pat_part_graded p))
+
+    part_made : (b : Option Binder) (t : OptionType) → L.MadeType (part_data b t) (g.grade_part_in S b t) (type_part b t)
+    part_made b tree.no_type = forms.error_made L
+    part_made b (tree.some_type t) = type_made b t
 
     pub part_graded : (b : Option Binder) (t : OptionType) → L.Claim (g.grade_part_in S b t) (type_part b t)
     part_graded b tree.no_type = forms.error_graded L
-    part_graded b (tree.some_type t) = type_graded b t
+    part_graded b (tree.some_type t) = type_told b t (type_made b t)
 
     pub present_graded : (t : OptionType) → L.Claim (g.grade_present S t) (present_type t)
     present_graded tree.no_type = L.pure_is None
-    present_graded (tree.some_type t) = map_is L _ (type_graded None t)
+    present_graded (tree.some_type t) = map_is L _ (type_told None t (type_made None t))
 
     or_unit_graded : (t : OptionType) → L.Claim (g.grade_ret S t) (type_or_unit t)
     or_unit_graded tree.no_type = forms.unit_graded L
-    or_unit_graded (tree.some_type t) = type_graded None t
+    or_unit_graded (tree.some_type t) = type_told None t (type_made None t)
 
     parts_graded : (done : List TypeRefId) (ts : Parts) → L.Claim (g.grade_parts S ts) (lower_parts done ts)
     parts_graded done tree.no_parts = L.pure_is done
@@ -172,10 +172,10 @@ module _ {ℓ} {S : Grading {ℓ}} (L : Graded S) where
     segment_graded true tree.self_segment w = told_pure L _ (seen_self w)
     segment_graded first tree.super_segment w = forms.counted_graded L w
     segment_graded false (tree.type_segment t) w = told_pure L _ refl
-    segment_graded true (tree.type_segment t) w = told_last L _ (type_graded None t) (λ i. refl)
+    segment_graded true (tree.type_segment t) w = told_last L _ (type_told None t (type_made None t)) (λ i. refl)
     segment_graded false (tree.trait_segment t at p) w = told_pure L _ refl
     segment_graded true (tree.trait_segment t at p) w =
-        told_then L (told_any L (type_graded None t))
+        told_then L (told_any L (type_told None t (type_made None t)))
         (λ i u. forms.trait_graded L (path_of p) i at w (path_graded p) (L.reads.path_reads p))
 
     pub segments_graded : (ss : Segments) (w : PathWalk)
@@ -247,22 +247,22 @@ module _ {ℓ} {S : Grading {ℓ}} (L : Graded S) where
 
     -- ---- patterns of types
 
-    pub type_pat_graded : (p : TypePat) → L.Claim (g.grade_type_pat S p) (lower_type_pat p)
+    pub type_pat_graded : (p : TypePat) → L.MadePat (g.grade_type_pat S p) (lower_type_pat p)
     type_pat_graded (tree.not_null_type_pat at) = L.pat_is _ _
     type_pat_graded (tree.macro_type_pat at c tree.no_type_pat) = calls.uncalled_pat_graded L at c
     type_pat_graded (tree.macro_type_pat at c (tree.some_type_pat p)) =
-        calls.called_type_pat_graded L at c (type_pat_last p) (type_pat_graded p)
+        calls.called_type_pat_graded L at c (type_pat_graded p)
     type_pat_graded (tree.or_type_pat at ps) = pats.type_alternatives_graded L at (type_pats_graded [] ps)
     type_pat_graded (tree.range_type_pat at low high) = pats.limits_graded L at (limit_graded low) (limit_graded high)
     type_pat_graded (tree.other_type_pat at) = L.pat_is _ _
 
-    pub type_pat_part_graded : (p : OptionTypePat) → L.Claim (g.grade_type_pat_part S p) (lower_type_pat_part p)
+    pub type_pat_part_graded : (p : OptionTypePat) → L.MadePat (g.grade_type_pat_part S p) (lower_type_pat_part p)
     type_pat_part_graded tree.no_type_pat = pats.missing_pat_graded L
     type_pat_part_graded (tree.some_type_pat p) = type_pat_graded p
 
     type_pats_graded : (done : List PatId) (ps : TypePats) → L.Claim (g.grade_type_pats S ps) (lower_type_pats done ps)
     type_pats_graded done tree.no_type_pats = L.pure_is done
-    type_pats_graded done (tree.more_type_pats p ps) = next L (type_pat_graded p) (λ i. type_pats_graded _ ps)
+    type_pats_graded done (tree.more_type_pats p ps) = next L (L.pat_made_is (type_pat_graded p)) (λ i. type_pats_graded _ ps)
 
     limit_graded : (l : Limit) → L.Claim (g.grade_limit S l) (lower_limit l)
     limit_graded (tree.item_limit item) = L.inner_is (tree.item_limit item) (pats.item_graded L item)
@@ -278,7 +278,7 @@ module _ {ℓ} {S : Grading {ℓ}} (L : Graded S) where
 
     -- ---- patterns
 
-    pub pat_graded : (p : Pat) (us : FirstUses) → PatTold L (g.grade_pat S p us) us (names_after p us) (lower_pat p)
+    pub pat_graded : (p : Pat) (us : FirstUses) → PatMade L (g.grade_pat S p us) us (names_after p us) (lower_pat p)
     pat_graded (tree.leaf_pat at form) us = pats.alone_graded L us (L.pat_is _ _)
     pat_graded (tree.bind_pat at u is sub) us = pats.bind_graded L at u is (subpat_graded sub us)
     pat_graded (tree.name_pat at u _) us = pats.alone_graded L us (L.pat_is _ _)
@@ -290,52 +290,53 @@ module _ {ℓ} {S : Grading {ℓ}} (L : Graded S) where
     pat_graded (tree.or_pat at ps) us = alternatives_graded at ps us
     pat_graded (tree.paren_pat at p) us = pat_part_graded p us
     pat_graded (tree.macro_pat at c tree.no_pat) us = pats.alone_graded L us (calls.uncalled_pat_graded L at c)
-    pat_graded (tree.macro_pat at c (tree.some_pat p)) us = calls.called_pat_graded L at c (lower_pat_last p) (pat_graded p us)
-    pat_graded (tree.barred_pat at) us = pats.alone_graded L us (next L (L.fault_is _) (λ u. pats.missing_pat_graded L))
+    pat_graded (tree.macro_pat at c (tree.some_pat p)) us = calls.called_pat_graded L at c (pat_graded p us)
+    pat_graded (tree.barred_pat at) us = pats.alone_graded L us (pat_next L (L.fault_is _) (λ u. pats.missing_pat_graded L))
     pat_graded (tree.slice_pat at before middle behind) us =
         pats.slice_graded L at (pats_graded before us []) (subpat_graded middle (names_after_each before us))
         (pats_graded behind (names_after_part middle (names_after_each before us)) [])
-    pat_graded (tree.over_pat at form p) us = pats.over_pat_graded L at form (pat_part_graded p us)
+    pat_graded (tree.over_pat at form p) us = pats.over_pat_graded L at form (pats.only_names L (pat_part_graded p us))
     pat_graded (tree.literal_pat at own l) us = pats.alone_graded L us (pats.literal_pat_graded L at own l)
     pat_graded (tree.range_pat at op low high) us =
         pats.alone_graded L us (pats.range_pat_graded L at op (side_graded low) (side_graded high))
 
     alternatives_graded : (at : Pointer) (ps : Pats) (us : FirstUses)
-        → PatTold L (g.grade_alternatives S at ps us) us (names_after_each ps us) (lower_alternatives at ps)
+        → PatMade L (g.grade_alternatives S at ps us) us (names_after_each ps us) (lower_alternatives at ps)
     alternatives_graded at tree.no_pats us = pats.alone_graded L us (L.pat_is _ _)
     alternatives_graded at (tree.more_pats p ps) us =
         pats.or_graded L at ps (pat_graded p us) (later_graded ps (names_after p us))
-    alternatives_graded at (tree.noted_pats c ps) us = λ t k. calls.told_hands L c (alternatives_graded at ps us t k)
+    alternatives_graded at (tree.noted_pats c ps) us = λ t k. calls.told_pat L c (alternatives_graded at ps us t k)
 
     later_graded : (ps : Pats) (us : FirstUses)
         → LaterTold L (g.grade_pats S ps us) us (names_after_each ps us) ps (λ done t. lower_later ps done t)
     later_graded tree.no_pats us done t k = hand_pure L done t refl (k, ([], sym (append-nil done), tt))
     later_graded (tree.more_pats p ps) us done t k =
-        hand_then L (hand_as L (next_alternative t) refl (pat_graded p us (next_alternative t) (record { each = k.each }))) (λ r e.
+        let now = pat_graded p us (next_alternative t) (record { each = k.each }) in
+        hand_then L (hand_as L (next_alternative t) refl (pat_hands L now)) (λ r e.
         hand_less L (λ s x. (x.0, (r.0 ∷ x.1.0, x.1.1 ∙ append_assoc done (r.0 ∷ []) x.1.0, x.1.2)))
         (later_graded ps (names_after p us) (done ++ r.0 ∷ []) r.1 e))
     later_graded (tree.noted_pats c ps) us done t k = calls.told_hands L c (later_graded ps us done t k)
 
-    pat_part_graded : (p : OptionPat) (us : FirstUses) → PatTold L (g.grade_pat_part S p us) us (names_after_part p us) (pat_part p)
+    pat_part_graded : (p : OptionPat) (us : FirstUses) → PatMade L (g.grade_pat_part S p us) us (names_after_part p us) (pat_part p)
     pat_part_graded tree.no_pat us t k = pats.alone_graded L us (pats.missing_pat_graded L) t k
     pat_part_graded (tree.some_pat p) us t k = pat_graded p us t k
 
     subpat_graded : (p : OptionPat) (us : FirstUses) → PatTold L (g.grade_subpat S p us) us (names_after_part p us) (present_pat p)
     subpat_graded tree.no_pat us t k = hand_pure L None t refl k
-    subpat_graded (tree.some_pat p) us t k = hand_map L (λ r. Some r.0) (pat_graded p us t k) (λ r e. e)
+    subpat_graded (tree.some_pat p) us t k = hand_map L (λ r. Some r.0) (pat_hands L (pat_graded p us t k)) (λ r e. e)
 
     pats_graded : (ps : Pats) (us : FirstUses) (done : List PatId)
         → PatTold L (g.grade_pats S ps us) us (names_after_each ps us) (lower_pats done ps)
     pats_graded tree.no_pats us done t k = hand_pure L done t refl k
     pats_graded (tree.more_pats p ps) us done t k =
-        hand_then L (pat_graded p us t k) (λ r e. pats_graded ps (names_after p us) _ r.1 e)
+        hand_then L (pat_hands L (pat_graded p us t k)) (λ r e. pats_graded ps (names_after p us) _ r.1 e)
     pats_graded (tree.noted_pats c ps) us done t k = calls.told_hands L c (pats_graded ps us done t k)
 
     elements_graded : (ps : Pats) (us : FirstUses)
         → PartsTold L (g.grade_elements S ps us) us (names_after_each ps us) (dots_among ps) (λ done t. lower_elements done ps t)
     elements_graded tree.no_pats us done t k = hand_pure L done t refl (k, no_dots (length done.0) done.1)
     elements_graded (tree.more_pats p ps) us done t k =
-        pats.element_graded L p (pat_graded p us) (elements_graded ps (names_after p us)) done t k
+        pats.element_graded L p (pats.only_names L (pat_graded p us)) (elements_graded ps (names_after p us)) done t k
     elements_graded (tree.noted_pats c ps) us done t k = calls.told_hands L c (elements_graded ps us done t k)
 
     pat_fields_graded : (fs : PatFields) (us : FirstUses) (done : List RecordFieldPat)
@@ -348,7 +349,7 @@ module _ {ℓ} {S : Grading {ℓ}} (L : Graded S) where
         → PatTold L (g.grade_pat_field S f us) us (names_after_field f us) (lower_pat_field f)
     pat_field_graded (tree.disabled_pat_field at by f) us t k = hand_last L (λ u. None) t refl (L.fault_is _) (λ u. k)
     pat_field_graded tree.partless_pat_field us t k = hand_pure L None t refl k
-    pat_field_graded (tree.pat_field at n p) us t k = pats.pat_field_graded L at n (pat_graded p us) t k
+    pat_field_graded (tree.pat_field at n p) us t k = pats.pat_field_graded L at n (pats.only_names L (pat_graded p us)) t k
 
     side_graded : (s : Side) → L.Claim (g.grade_side S s) (lower_side s)
     side_graded tree.no_side = L.pure_is None
@@ -358,17 +359,17 @@ module _ {ℓ} {S : Grading {ℓ}} (L : Graded S) where
     side_graded tree.other_side = L.pure_is None
 
     pub top_graded : (p : OptionPat) → L.Claim (g.grade_top S p) (lower_top p)
-    top_graded tree.no_pat = pats.missing_pat_graded L
-    top_graded (tree.some_pat p) = L.top_is (pat_graded p [] no_names none_keyed).claim
+    top_graded tree.no_pat = L.pat_made_is (pats.missing_pat_graded L)
+    top_graded (tree.some_pat p) = L.top_is (L.hands_pat_is no_names (pat_graded p [] no_names none_keyed).claim)
 
     -- ---- what is assigned to
 
-    pub target_graded : (t : Target) → L.Claim (g.grade_target S t) (lower_target t)
+    pub target_graded : (t : Target) → L.MadePat (g.grade_target S t) (lower_target t)
     target_graded (tree.absent_target call) = L.made_pat_is _ call
     target_graded (tree.place_target at e) = targets.place_graded L at (L.made_is (expr_graded e))
     target_graded (tree.macro_target None c t) = calls.told_target_graded L c (target_graded t)
     target_graded (tree.macro_target (Some at) c t) =
-        calls.told_target_graded L c (L.target_way_is at (lower_target_last t) (target_graded t))
+        calls.told_target_graded L c (L.target_way_is at (target_graded t))
     target_graded (tree.wild_target at) = targets.assigned_graded L _ at
     target_graded (tree.path_target at p h) =
         targets.path_target_graded L at h (L.aliased_is (alias_of p) (map_is L _ (reading_graded p start).claim))
@@ -383,7 +384,7 @@ module _ {ℓ} {S : Grading {ℓ}} (L : Graded S) where
     targets_graded : (ts : Targets) (done : Elements) → Told L {A = Elements} (g.grade_targets S ts)
         (λ r. r.1 ≡ dots_behind (length done.0) done.1 (target_dots ts)) (lower_targets done ts)
     targets_graded tree.no_targets done = told_pure L _ (no_dots (length done.0) done.1)
-    targets_graded (tree.more_targets t ts) done = told_then L (told_any L (target_graded t)) (λ i u.
+    targets_graded (tree.more_targets t ts) done = told_then L (told_any L (L.pat_made_is (target_graded t))) (λ i u.
         told_less L (λ r e. e ∙ one_further done.0 i done.1 (target_dots ts)) (targets_graded ts (add_target done i)))
     targets_graded (tree.dots_targets ts) done =
         told_less L (λ r e. e ∙ dots_here done.0 done.1 (target_dots ts)) (targets_graded ts (add_target_dots done))
@@ -397,7 +398,7 @@ module _ {ℓ} {S : Grading {ℓ}} (L : Graded S) where
     target_field_graded : (f : TargetField) → L.Claim (g.grade_target_field S f) (lower_target_field f)
     target_field_graded (tree.disabled_target_field at by) = map_is L _ (L.fault_is _)
     target_field_graded tree.partless_target_field = L.pure_is None
-    target_field_graded (tree.target_field at n t) = targets.target_field_graded L at n (target_graded t)
+    target_field_graded (tree.target_field at n t) = targets.target_field_graded L at n (L.pat_made_is (target_graded t))
 
     -- ---- constants
 
@@ -425,7 +426,7 @@ module _ {ℓ} {S : Grading {ℓ}} (L : Graded S) where
         try_graded at item false number ss e (stmts_graded [] ss e (kept_part_graded e))
     expr_graded (tree.try_expr at item (tree.some_type t) number ss e) =
         made.typed_try_graded L at
-        (try_graded at item true number ss e (stmts_graded [] ss e (kept_part_graded e))) (type_graded None t)
+        (try_graded at item true number ss e (stmts_graded [] ss e (kept_part_graded e))) (type_told None t (type_made None t))
     expr_graded (tree.coroutine_expr at kind moves number ss e) =
         L.coroutine_is at kind moves number (stmts_graded [] ss e (kept_part_graded e))
     expr_graded (tree.call_expr at f has_list es) = exprs.call_graded L at (expr_part_graded f) (exprs_graded [] es)
@@ -462,7 +463,7 @@ module _ {ℓ} {S : Grading {ℓ}} (L : Graded S) where
     expr_graded (tree.match_expr at e arms) = exprs.match_graded L at (expr_part_graded e) (arms_graded [] arms)
     expr_graded (tree.range_expr at form low high) =
         exprs.range_graded L at form (expr_present_graded low) (expr_present_graded high)
-    expr_graded (tree.assign_expr at own t e) = exprs.assign_graded L at (target_graded t) (expr_part_graded e)
+    expr_graded (tree.assign_expr at own t e) = exprs.assign_graded L at (L.pat_made_is (target_graded t)) (expr_part_graded e)
 
     pub params_graded : (l : ClosureParams) (xs : Params) → L.Claim (g.grade_params S xs) (lower_params l xs)
     params_graded l tree.no_params = L.pure_is l
@@ -539,3 +540,6 @@ module _ {ℓ} {S : Grading {ℓ}} (L : Graded S) where
     stmt_graded (tree.macro_stmt k d) = L.def_is k d
     stmt_graded (tree.let_stmt p t e b) =
         exprs.let_stmt_graded L (top_graded p) (present_graded t) (expr_present_graded e) (block_present_graded b)
+
+  pub type_graded : (b : Option Binder) (t : Type_) → L.Claim (g.grade_type_in S b t) (lower_type b t)
+  type_graded b t = type_told b t (type_made b t)

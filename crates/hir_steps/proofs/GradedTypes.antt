@@ -36,8 +36,7 @@ use Rattle.hir_steps.proofs.PathAnswers.{seen, seen_of, option_seen, Gives, Give
 use Rattle.hir_steps.proofs.Noted.{naming_keeps}
 use Rattle.hir_steps.specs.Grading.{Grading, if_so, before, grade_impl, grade_lifetime, grade_use, grade_uses}
 use Rattle.hir_steps.proofs.Answering.{Answering, answering_any, answering_pure, answering_then, anything}
-use Rattle.hir_steps.proofs.Graded.{Graded, HandsTold, Told, hand_beside, map_is, next, told_any, told_pure, told_then, type_next}
-use Rattle.hir_steps.proofs.ReadBack.{TypeIs}
+use Rattle.hir_steps.proofs.Graded.{Graded, MadeTold, Told, map_is, next, pat_beside, told_any, told_pure, told_then}
 use Rattle.hir_steps.proofs.GradedAnswers.{counted_gives, projected_is}
 
 module _ {ℓ} {S : Grading {ℓ}} (L : Graded S) where
@@ -53,11 +52,16 @@ module _ {ℓ} {S : Grading {ℓ}} (L : Graded S) where
       → L.Claim (S.then' g (k x)) (p >>= f)
   claim_by_path k h more = (told_by_path k (λ y. anything) h (λ o. told_any L (more o))).claim
 
-  pub hand_by_path : {A : Type 0} {t : Table} {g : S.G} {x : Option Seen} {p : Lowering (Option HirPath)}
-      {f : Option HirPath → Lowering (A × Table)} (k : Option Seen → S.G) (P : Option Seen → A × Table → Type 0) → Told L g (GivesPath x) p
-      → ((o : Option HirPath) → HandsTold L t (k (option_seen o)) (P (option_seen o)) (f o))
-      → HandsTold L t (S.then' g (k x)) (P x) (p >>= f)
-  hand_by_path {t = t} {f = f} k P h more = hand_beside L h (λ o e. subst (λ y. HandsTold L t (k y) (P y) (f o)) e (more o))
+  pub hand_by_path : {t : Table} {g : S.G} {x : Option Seen} {p : Lowering (Option HirPath)}
+      {f : Option HirPath → Lowering (PatId × Table)} (k : Option Seen → S.G) (P : Option Seen → PatId × Table → Type 0)
+      → Told L g (GivesPath x) p → ((o : Option HirPath) → MadeTold L t (k (option_seen o)) (P (option_seen o)) (f o))
+      → MadeTold L t (S.then' g (k x)) (P x) (p >>= f)
+  hand_by_path {t = t} {f = f} k P h more = pat_beside L h (λ o e. subst (λ y. MadeTold L t (k y) (P y) (f o)) e (more o))
+
+  pub target_by_path : {g : S.G} {x : Option Seen} {p : Lowering (Option HirPath)} {f : Option HirPath → Lowering PatId}
+      (k : Option Seen → S.G) → Told L g (GivesPath x) p → ((o : Option HirPath) → L.MadePat (k (option_seen o)) (f o))
+      → L.MadePat (S.then' g (k x)) (p >>= f)
+  target_by_path {f = f} k h more = L.makes_pat_is h.claim h.known (λ o e. subst (λ y. L.MadePat (k y) (f o)) e (more o))
 
   -- where it is known what the path reads back as, too
   pub claim_of_path : {A : Type 0} {g : S.G} {x : Option Seen} {p : Lowering (Option HirPath)} {f : Option HirPath → Lowering A}
@@ -72,7 +76,7 @@ module _ {ℓ} {S : Grading {ℓ}} (L : Graded S) where
   pub type_of_path : (y : Option PathRead) (at : Pointer) (p : HirPath)
       → L.Where (λ final m i. L.reads.PathFound y (Some p) final m) (S.type_as (typed (Some at) (shape_of_path y)))
       (alloc_type (ty.Path p) (Some at))
-  type_of_path y at p = L.where_less (L.reads.path_type_reads y at p) (L.type_is _ _ _)
+  type_of_path y at p = L.where_less (L.reads.path_type_reads y at p) (L.where_type (L.type_is _ _ _))
 
   pub made_by_path : {g : S.G} {x : Option Seen} {p : Lowering (Option HirPath)} {f : Option HirPath → ExprSteps} (k : Option Seen → S.G)
       → Told L g (GivesPath x) p → ((o : Option HirPath) → L.Made (k (option_seen o)) (f o)) → L.Made (S.then' g (k x)) (p >>= f)
@@ -80,13 +84,17 @@ module _ {ℓ} {S : Grading {ℓ}} (L : Graded S) where
 
   -- ---- types
 
+  pub error_made : L.MadeType absent_data (S.type_as absent_data) error_type
+  unfolding error_type
+  error_made = L.type_is _ None _
+
   pub error_graded : L.Claim (S.type_as absent_data) error_type
   unfolding error_type
-  error_graded = L.where_is (L.reads.error_reads None) (L.type_is _ None _)
+  error_graded = L.type_made_is (L.reads.error_reads None) (L.type_is _ None _)
 
   pub unit_graded : L.Claim (S.type_as unit_data) unit_type
   unfolding unit_type
-  unit_graded = L.where_is L.reads.unit_reads (L.type_is _ None _)
+  unit_graded = L.type_made_is L.reads.unit_reads (L.type_is _ None _)
 
   pub lifetime_graded : (l : Lifetime) → L.Claim (S.lifetime_as (lifetime_data l)) (lower_lifetime l)
   unfolding lower_lifetime
@@ -110,48 +118,48 @@ module _ {ℓ} {S : Grading {ℓ}} (L : Graded S) where
     It = S.type_as (typed (Some at) shape)
 
     abbrev TypeGraded : S.G → TypeSteps → Type 0
-    TypeGraded g t = L.Where (TypeIs (typed (Some at) shape)) g t
+    TypeGraded g t = L.MadeType (typed (Some at) shape) g t
 
     pub over_graded : (form : TypeUnary) {g : S.G} {t : TypeSteps} → L.Claim g t → TypeGraded (S.then' g It) (over_form at form t)
     unfolding over_form
-    over_graded form h = type_next L h (λ t. L.type_is _ _ _)
+    over_graded form h = L.makes_type_is h (λ t. L.type_is _ _ _)
 
     pub array_graded : {g k : S.G} {n : Lowering ConstRef} {t : TypeSteps} → L.Claim g n → L.Claim k t
         → TypeGraded (S.then' g (S.then' k It)) (array_type_form at n t)
     unfolding array_type_form
-    array_graded h k = type_next L h (λ n. type_next L k (λ t. L.type_is _ _ _))
+    array_graded h k = L.makes_type_is h (λ n. L.makes_type_is k (λ t. L.type_is _ _ _))
 
     pub tuple_graded : {g : S.G} {ts : Lowering (List TypeRefId)} → L.Claim g ts → TypeGraded (S.then' g It) (tuple_type_form at ts)
     unfolding tuple_type_form
-    tuple_graded h = type_next L h (λ ts. L.type_is _ _ _)
+    tuple_graded h = L.makes_type_is h (λ ts. L.type_is _ _ _)
 
     pub path_type_graded : {g : S.G} {p : Lowering (Option HirPath)} → L.Claim g p → TypeGraded (S.then' g It) (path_type_form at p)
     unfolding path_type_form
-    path_type_graded h = type_next L h (λ p. L.type_is _ _ _)
+    path_type_graded h = L.makes_type_is h (λ p. L.type_is _ _ _)
 
     pub ref_graded : (mutability : Mutability) {g k : S.G} {t : TypeSteps} {l : Lowering (Option LifetimeRefId)} → L.Claim g t
         → L.Claim k l → TypeGraded (S.then' g (S.then' k It)) (ref_type_form at mutability t l)
     unfolding ref_type_form
-    ref_graded mutability h k = type_next L h (λ t. type_next L k (λ l. L.type_is _ _ _))
+    ref_graded mutability h k = L.makes_type_is h (λ t. L.makes_type_is k (λ l. L.type_is _ _ _))
 
     pub fn_graded : (binder : Option Binder) (head : FnHead) {g k : S.G} {ts : Lowering (List TypeRefId)} {r : TypeSteps} → L.Claim g r
         → L.Claim k ts → TypeGraded (S.then' g (S.then' k It)) (fn_type_form at binder head ts r)
     unfolding fn_type_form
-    fn_graded binder head h k = type_next L h (λ r. type_next L k (λ ts. L.type_is _ _ _))
+    fn_graded binder head h k = L.makes_type_is h (λ r. L.makes_type_is k (λ ts. L.type_is _ _ _))
 
     pub impl_graded : (mode : ImplTrait) {g : S.G} {bs : Lowering (List TypeBound)} → L.Claim g bs
         → TypeGraded (S.then' g (grade_impl S mode (typed (Some at) shape))) (impl_type_form at mode bs)
     unfolding impl_type_form
-    impl_graded mode h = type_next L h (λ bs. L.impl_is at mode bs shape)
+    impl_graded mode h = L.makes_type_is h (λ bs. L.impl_is at mode bs shape)
 
     pub dyn_graded : {g : S.G} {bs : Lowering (List TypeBound)} → L.Claim g bs → TypeGraded (S.then' g It) (dyn_type_form at bs)
     unfolding dyn_type_form
-    dyn_graded h = type_next L h (λ bs. L.type_is _ _ _)
+    dyn_graded h = L.makes_type_is h (λ bs. L.type_is _ _ _)
 
     pub pattern_type_graded : {g k : S.G} {t : TypeSteps} {p : Lowering PatId} → L.Claim g t → L.Claim k p
         → TypeGraded (S.then' g (S.then' k It)) (pattern_type_form at t p)
     unfolding pattern_type_form
-    pattern_type_graded h k = type_next L h (λ t. type_next L k (λ p. L.type_is _ _ _))
+    pattern_type_graded h k = L.makes_type_is h (λ t. L.makes_type_is k (λ p. L.type_is _ _ _))
 
   -- ---- bounds, and the trait of a path, which are types of paths
 
@@ -217,7 +225,7 @@ module _ {ℓ} {S : Grading {ℓ}} (L : Graded S) where
       → L.Claim (S.then' g (S.then' (S.type_as (typed None (datum.tuple_shape x))) k)) (parens_form ts r)
   unfolding parens_form
   parens_graded x h reads k = L.where_known {K = λ is final m. L.reads.PartsAre x is final m} h (answering_any _) reads
-      (λ is u. L.where_first (L.where_less (L.reads.tuple_reads x is) (L.type_is _ None _)) (λ t. map_is L _ k))
+      (λ is u. L.where_first (L.where_less (L.reads.tuple_reads x is) (L.where_type (L.type_is _ None _))) (λ t. map_is L _ k))
 
   or_else_graded : (a : Option GenericArgs) {k : S.G} {more : Lowering (Option GenericArgs)} → L.Claim k more
       → L.Claim (if_so S (not (is_some a)) k) (or_else a more)

@@ -22,8 +22,6 @@ pub mod ApartPreludes
 pub mod Calls
 pub mod TargetSteps
 pub mod Definitions
-pub mod LastStored
-pub mod LastTargets
 pub mod TupleDots
 pub mod PathAnswers
 pub mod PatAnswers

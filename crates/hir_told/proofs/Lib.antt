@@ -6,4 +6,10 @@ pub mod Storing
 pub mod StoringPreludes
 pub mod ReadingBack
 pub mod AsStoredData
+pub mod Onward
+pub mod Ways
+pub mod NameWays
+pub mod OwnedWays
+pub mod PreludeWays
+pub mod AsWays
 pub mod Noted

@@ -6,3 +6,4 @@ pub mod Worked
 pub mod WorkedOrders
 pub mod WorkedTargets
 pub mod WorkedData
+pub mod LeadsOn

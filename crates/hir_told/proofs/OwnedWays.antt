@@ -15,8 +15,9 @@ use Rattle.hir_lower_form.specs.Forms.{ExprSteps, StoredContents, coroutine_bloc
 use Rattle.hir_lower_form.specs.Lowering.{Checked, Lowering, ◌>>=◌, bindings_end, close_barrier, go_on, own, owning, pure}
 use Rattle.hir_lower_form.specs.Forms.{coroutine_around_form}
 use Rattle.hir_steps.proofs.Owning.{with_owned}
-use Rattle.hir_lower.proofs.Onward.{Goes, Leading, Low, OwnersStay, Went, any, makes, since}
-use Rattle.hir_lower.proofs.Ways.{leading_alloc, leading_barrier, leading_block}
+use Rattle.hir_told.specs.LeadsOn.{OwnersStay, Went}
+use Rattle.hir_told.proofs.Onward.{Goes, Leading, Low, any, makes, since}
+use Rattle.hir_told.proofs.Ways.{leading_alloc, leading_barrier, leading_block}
 
 -- owners from a place on that is behind a list
 owned_beyond : (os more : List (Option ExprId)) (n : ℕ) (id : ExprId) → length os ≤ n → Prefix os (own_from n id (os ++ more))

@@ -23,10 +23,10 @@ use Rattle.hir_lower_form.specs.declared.closures.ClosureParams.{ClosureParams}
 use Rattle.hir_lower_form.specs.declared.preludes.Handed.{Handed}
 use Rattle.hir_lower_form.specs.declared.preludes.OwnName.{OwnName}
 use Rattle.hir_lower_form.specs.declared.preludes.Prelude.{Prelude}
-use Rattle.hir_lower.proofs.OwnedWays.{leading_owning}
-use Rattle.hir_lower.proofs.Onward.{Leading, any, anyway, leading_pure, makes, since, then', went_refl}
-use Rattle.hir_lower.proofs.Ways.{leading_alloc, leading_alloc_binding, leading_barrier, leading_close_barrier, leading_define}
-use Rattle.hir_lower.proofs.Ways.{leading_made_pat, leading_number}
+use Rattle.hir_told.proofs.OwnedWays.{leading_owning}
+use Rattle.hir_told.proofs.Onward.{Leading, any, anyway, leading_pure, makes, since, then', went_refl}
+use Rattle.hir_told.proofs.Ways.{leading_alloc, leading_alloc_binding, leading_barrier, leading_close_barrier, leading_define}
+use Rattle.hir_told.proofs.Ways.{leading_made_pat, leading_number}
 
 -- nothing is stored where something is read
 leading_read : {A : Type 0} (read : Stored → A) → Leading any (λ b. (Ok (read b.stored), b))

@@ -3,20 +3,17 @@ use Rattle.std.proofs.Common.{arith, ◌≡◌, ◌∙◌, refl, sym, ap, subst,
 use Rattle.std.proofs.Common.{if◌then◌else◌, length-append}
 use Rattle.std.proofs.Common.{List, [], ◌∷◌, Option, Some, None, Ok, Err, ◌⊎◌, inl, inr, ⊎_elim, true≢false, is_some}
 use Rattle.hir_store.specs.Pointers.{Pointer, same_pointer, found}
-use Rattle.hir_store.specs.Arenas.{Prefix, Sourced, pointed, with_entry, with_made}
-use Rattle.hir_store.proofs.Extending.{extends_refl}
+use Rattle.hir_store.specs.Arenas.{Sourced, pointed, with_entry, with_made}
 use Rattle.hir_store.proofs.Arenas.{prefix_refl, prefix_trans}
 use Rattle.hir_store.specs.Stored.{Stored}
 use Rattle.hir_store.specs.declared.fault.StoreFault.TheVariants.{Full}
 use Rattle.hir_store.specs.declared.ids.ExprId.{ExprId}
-use Rattle.hir_store.specs.declared.ids.LabelId.{LabelId}
-use Rattle.hir_store.specs.declared.ids.LifetimeRefId.{LifetimeRefId}
 use Rattle.hir_store.specs.declared.ids.PatId.{PatId}
 use Rattle.hir_store.specs.declared.ids.TypeRefId.{TypeRefId}
 use Rattle.hir_lower_form.specs.Builder.{Builder}
 use Rattle.hir_lower_form.specs.Lowering.{Checked, go_on, Lowering, ◌>>=◌, pure}
-use Rattle.hir_one_result.specs.Laws.{MayBeOwned}
-use Rattle.hir_lower.specs.Stays.{LeadsOn, Stays}
+use Rattle.hir_steps.proofs.Answering.{Answering, AnsweredTo, answering_any}
+use Rattle.hir_told.specs.LeadsOn.{LeadsOn, Onward, Went, expr_place, label_place, lifetime_place, pat_place, type_place}
 
 -- maps
 
@@ -61,10 +58,7 @@ module _ {I : Type 0} (place : I → ℕ) (n : ℕ) where
 on_sooner : {I : Type 0} (place : I → ℕ) (n m : ℕ) (a b : List (Pointer × I)) → n ≤ m → LeadsOn place m a b → LeadsOn place n a b
 on_sooner place n m a b le h = λ p t f. let x = h p t f in (x.0, (x.1.0, ⊎_elim (λ e. inl e) (λ l. inr (omega arith)) x.1.1))
 
--- an arena with no entry lost, whose nodes lead on
-pub record Onward {E I : Type 0} (place : I → ℕ) (a b : Sourced E I) : Type 0 where
-  pub grown : length a.entries ≤ length b.entries
-  pub ways : LeadsOn place (length a.entries) a.map b.map
+-- an arena
 
 module _ {E I : Type 0} (place : I → ℕ) where
   pub onward_refl : (a : Sourced E I) → Onward place a a
@@ -97,36 +91,6 @@ made_up number t x source a = if t then (Ok (number (length a.entries)), with_ma
 
 -- what is stored
 
-abbrev pub expr_place : ExprId → ℕ
-expr_place i = i.0
-
-abbrev pub label_place : LabelId → ℕ
-label_place n = n.0
-
-abbrev pub pat_place : PatId → ℕ
-pat_place p = p.0
-
-abbrev pub type_place : TypeRefId → ℕ
-type_place i = i.0
-
-abbrev pub lifetime_place : LifetimeRefId → ℕ
-lifetime_place i = i.0
-
--- what owns bindings stays, and it is stored of each that came too
-abbrev pub OwnersStay : Stored → Stored → Type 0
-OwnersStay a b = MayBeOwned a → Prefix a.bindings.owners b.bindings.owners × MayBeOwned b
-
-pub record Went (a b : Stored) : Type 0 where
-  pub exprs : Onward expr_place a.exprs b.exprs
-  pub labels : Onward label_place a.labels b.labels
-  pub pats : Onward pat_place a.pats b.pats
-  -- so do the nodes of what is assigned to
-  pub targets : LeadsOn pat_place (length a.pats.entries) a.target_map b.target_map
-  pub types : Onward type_place a.types b.types
-  pub lifetimes : Onward lifetime_place a.lifetimes b.lifetimes
-  pub bindings : Prefix a.bindings.entries b.bindings.entries
-  pub owners : OwnersStay a b
-
 pub went_refl : (a : Stored) → Went a a
 went_refl a = record {
   exprs = onward_refl expr_place _;
@@ -137,19 +101,6 @@ went_refl a = record {
   lifetimes = onward_refl lifetime_place _;
   bindings = prefix_refl _;
   owners = λ m. (prefix_refl _, m);
-}
-
-pub stays_refl : (a : Stored) → Stays a a
-stays_refl a = record {
-  extends = extends_refl a;
-  bindings = prefix_refl _;
-  owners = prefix_refl _;
-  exprs = on_refl expr_place _ _;
-  labels = on_refl label_place _ _;
-  pats = on_refl pat_place _ _;
-  targets = on_refl pat_place _ _;
-  types = on_refl type_place _ _;
-  lifetimes = on_refl lifetime_place _ _;
 }
 
 -- the arenas are those of before, and so are the bindings, what owns them, and where what is assigned to leads
@@ -215,33 +166,47 @@ went_of L b (Err e) c h = h
 pub went : {A : Type 0} {L : Low A} {p : Lowering A} → Leading L p → (b : Builder) → Went b.stored (p b).1.stored
 went {L = L} {p = p} h b = went_of L b (p b).0 (p b).1 (h.goes b)
 
--- one after another, of which the first says L and, after that, the other M
-pub in_turn : {A B : Type 0} {L : Low A} {p : Lowering A} {f : A → Lowering B} (M : A → Low B) (N : Low B)
+-- one after another, of which the first says L and, after that, the other M, where it is known what the first answers
+pub turn_where : {A B : Type 0} {P : A → Type 0} {L : Low A} {p : Lowering A} {f : A → Lowering B} (M : A → Low B) (N : Low B)
     → ((s t : Stored) (a : A) (x : B) → Went s t → L s a → M a t x → N s x)
-    → Leading L p → ((a : A) → Leading (M a) (f a)) → Leading N (p >>= f)
-in_turn {A = A} {B = B} {L = L} {p = p} {f = f} M N so h k = record { goes = λ b. first b (p b).0 (p b).1 (h.goes b) }
+    → Leading L p → Answering P p → ((a : A) → P a → Leading (M a) (f a)) → Leading N (p >>= f)
+turn_where {A = A} {B = B} {P = P} {L = L} {p = p} {f = f} M N so h t k =
+    record { goes = λ b. first b (p b).0 (p b).1 (h.goes b) (t.answers b) }
   where
     second : (b b' : Builder) (a : A) → Went b.stored b'.stored → L b.stored a → (o : Checked B) (c : Builder) → Goes (M a) b' o c
         → Goes N b o c
     second b b' a x l (Ok e) c y = (went_trans _ _ _ x y.0, so _ _ a e x l y.1)
     second b b' a x l (Err e) c y = went_trans _ _ _ x y
 
-    first : (b : Builder) (o : Checked A) (c : Builder) → Goes L b o c → Goes N b (go_on o c f).0 (go_on o c f).1
-    first b (Ok a) c x = second b c a x.0 x.1 (f a c).0 (f a c).1 ((k a).goes c)
-    first b (Err e) c x = x
+    first : (b : Builder) (o : Checked A) (c : Builder) → Goes L b o c → AnsweredTo P o → Goes N b (go_on o c f).0 (go_on o c f).1
+    first b (Ok a) c x is = second b c a x.0 x.1 (f a c).0 (f a c).1 ((k a is).goes c)
+    first b (Err e) c x is = x
+
+pub in_turn : {A B : Type 0} {L : Low A} {p : Lowering A} {f : A → Lowering B} (M : A → Low B) (N : Low B)
+    → ((s t : Stored) (a : A) (x : B) → Went s t → L s a → M a t x → N s x)
+    → Leading L p → ((a : A) → Leading (M a) (f a)) → Leading N (p >>= f)
+in_turn {p = p} M N so h k = turn_where M N so h (answering_any p) (λ a u. k a)
+
+pub then_where : {A B : Type 0} {P : A → Type 0} {L : Low A} {p : Lowering A} {f : A → Lowering B} → Leading L p → Answering P p
+    → ((a : A) → P a → Leading any (f a)) → Leading any (p >>= f)
+then_where h t k = turn_where (λ a. any) any (λ s t a x w l y. tt) h t k
 
 pub then' : {A B : Type 0} {L : Low A} {p : Lowering A} {f : A → Lowering B} → Leading L p
     → ((a : A) → Leading any (f a)) → Leading any (p >>= f)
-then' h k = in_turn (λ a. any) any (λ s t a x w l y. tt) h k
+then' {p = p} h k = then_where h (answering_any p) (λ a u. k a)
 
 -- and what it answers came since
+pub makes_where : {A : Type 0} {P : A → Type 0} {L : Low A} {p : Lowering A} {f : A → Lowering ExprId} → Leading L p → Answering P p
+    → ((a : A) → P a → Leading since (f a)) → Leading since (p >>= f)
+makes_where h t k = turn_where (λ a. since) since (λ s t a x w l y. let grown = w.exprs.grown in omega (arith, grown, y)) h t k
+
 pub makes : {A : Type 0} {L : Low A} {p : Lowering A} {f : A → Lowering ExprId} → Leading L p
     → ((a : A) → Leading since (f a)) → Leading since (p >>= f)
-makes h k = in_turn (λ a. since) since (λ s t a x w l y. let grown = w.exprs.grown in omega (arith, grown, y)) h k
+makes {p = p} h k = makes_where h (answering_any p) (λ a u. k a)
 
-pub makes_pat : {A : Type 0} {L : Low A} {p : Lowering A} {f : A → Lowering PatId} → Leading L p
-    → ((a : A) → Leading new_pat (f a)) → Leading new_pat (p >>= f)
-makes_pat h k = in_turn (λ a. new_pat) new_pat (λ s t a x w l y. let grown = w.pats.grown in omega (arith, grown, y)) h k
+pub makes_pat : {A : Type 0} {P : A → Type 0} {L : Low A} {p : Lowering A} {f : A → Lowering PatId} → Leading L p → Answering P p
+    → ((a : A) → P a → Leading new_pat (f a)) → Leading new_pat (p >>= f)
+makes_pat h t k = turn_where (λ a. new_pat) new_pat (λ s t a x w l y. let grown = w.pats.grown in omega (arith, grown, y)) h t k
 
 pub makes_type : {A : Type 0} {L : Low A} {p : Lowering A} {f : A → Lowering TypeRefId} → Leading L p
     → ((a : A) → Leading new_type (f a)) → Leading new_type (p >>= f)

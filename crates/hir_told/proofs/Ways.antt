@@ -34,13 +34,12 @@ use Rattle.hir_store.specs.declared.type_ref.TypeBound.{TypeBound}
 use Rattle.hir_env.specs.declared.place.ImplTrait.{ImplTrait}
 use Rattle.hir_env.specs.declared.place.ImplTrait.TheVariants as becomes
 use Rattle.hir_env.specs.Answered as tree
-use Rattle.hir_env.specs.Answered.{Called, Entered, Gone, Label, Jump, Origin, Stmt}
-use Rattle.hir_env.specs.Targets.{source_of}
+use Rattle.hir_env.specs.Answered.{Called, Entered, Gone, Label, Jump}
 use Rattle.hir_env.specs.Answers.{Eager}
 use Rattle.hir_env.specs.NodeMap.{Site}
 use Rattle.hir_scope.specs.Ribs.{Target, reachable, unreachable, undeclared, target}
 use Rattle.hir_lower_form.specs.Builder.{Builder}
-use Rattle.hir_lower_form.specs.Calls.{behind, define_form, defined, inside_macro, note, note_each, note_gone, record_each}
+use Rattle.hir_lower_form.specs.Calls.{define_form, defined, inside_macro, note, note_each, note_gone, record_each}
 use Rattle.hir_lower_form.specs.Calls.{report_condition, told}
 use Rattle.hir_lower_form.specs.Lowering.{Checked, go_on, Lowering, ◌>>=◌, pure, alloc_expr, alloc_lifetime, alloc_type, point, report}
 use Rattle.hir_lower_form.specs.Lowering.{alloc_binding, alloc_made, alloc_made_pat, alloc_pat, define, made_number, point_pat}
@@ -54,12 +53,11 @@ use Rattle.hir_lower_form.specs.Generics.{with_bounds}
 use Rattle.hir_lower_form.specs.Lowering.{◌>>◌, add_param, argument_form, becoming, input_end, note_down, param_numbered}
 use Rattle.hir_lower_form.specs.Lowering.{with_notes, with_stored}
 use Rattle.hir_lower_form.specs.Paths.{aliased, cut_back}
-use Rattle.hir_lower_form.specs.Targets.{alloc_target}
 use Rattle.hir_steps.proofs.Logic.{one_more}
-use Rattle.hir_lower.proofs.Onward.{on_refl, on_trans, on_insert, onward_refl, onward_entry, onward_made, made, made_up, expr_place}
-use Rattle.hir_lower.proofs.Onward.{label_place}
-use Rattle.hir_lower.proofs.Onward.{pat_place, type_place, lifetime_place, Went, went_refl, went_same, Low, any, since, new_pat, new_type}
-use Rattle.hir_lower.proofs.Onward.{Goes, Leading, makes_type, then', leading_pure}
+use Rattle.hir_told.specs.LeadsOn.{expr_place, label_place, pat_place, type_place, lifetime_place, Went}
+use Rattle.hir_told.proofs.Onward.{on_refl, on_trans, on_insert, onward_refl, onward_entry, onward_made, made, made_up}
+use Rattle.hir_told.proofs.Onward.{went_refl, went_same, Low, any, since, new_pat, new_type}
+use Rattle.hir_told.proofs.Onward.{Goes, Leading, makes_type, then', leading_pure}
 
 pub leading_count_out : {A : Type 0} → Leading any (count_out {A = A})
 unfolding count_out
@@ -162,13 +160,9 @@ pub leading_close : Leading any close
 unfolding close
 leading_close = record { goes = λ b. (went_same _ _ (refl, (refl, (refl, (refl, (refl, (refl, (refl, refl))))))), tt) }
 
-leading_inside_macro : {A : Type 0} (d : MacroDefId) {p : Lowering A} → Leading any p → Leading any (inside_macro d p)
+pub leading_inside_macro : {A : Type 0} (d : MacroDefId) {p : Lowering A} → Leading any p → Leading any (inside_macro d p)
 unfolding inside_macro
 leading_inside_macro d h = then' (leading_open_macro d) (λ u. then' h (λ x. then' leading_close (λ v. leading_pure x)))
-
-pub leading_behind : {A : Type 0} (s : Stmt) {p : Lowering A} → Leading any p → Leading any (behind s p)
-leading_behind (tree.macro_stmt k (Some d)) h = leading_inside_macro d h
-leading_behind s h = h
 
 pub leading_jump : (j : Option Jump) → Leading any (jump_target j)
 unfolding jump_target report storing.report
@@ -545,10 +539,6 @@ leading_point_target at {p = p} h = record { goes = λ b. by b (p b).0 (p b).1 (
       x.1,
     )
     by b (Err e) c x = x
-
-pub leading_target : (p : HirPat) (at : Origin) → Leading new_pat (alloc_target p at)
-unfolding alloc_target
-leading_target p at = leading_point_target at.node (leading_made_pat p (Some (source_of at)))
 
 pub leading_point_type : (at : Pointer) {p : Lowering TypeRefId} → Leading new_type p
     → Leading new_type (p >>= (λ i. point_type at i >>= (λ _. pure i)))
