@@ -35,7 +35,6 @@ use Rattle.hir_one_result.specs.Diagnostics.{forget}
 use Rattle.hir_one_result.specs.Leads.{OwnedBy}
 use Rattle.hir_one_result.specs.Stands.{StandsPart}
 use Rattle.hir_one_result.proofs.Last.{EndsWith}
-use Rattle.hir_one_result.proofs.LastTree.{part_last}
 use Rattle.hir_one_result.proofs.Owners.{last_owns}
 use Rattle.hir_one_result.proofs.AllStand.{all_stand, part_shown}
 use Rattle.hir_one_result.proofs.Leading.{Shown}
@@ -44,7 +43,7 @@ use Rattle.hir_one_result.proofs.TreeFaults.{diagnostics_are}
 use Rattle.hir_one_result.proofs.TreeBlocks.{blocks_are}
 use Rattle.hir_one_result.proofs.Fits.{all_fit}
 use Rattle.hir_one_result.proofs.Took.{Room, Took}
-use Rattle.hir_one_result.proofs.TreeRooms.{part_takes}
+use Rattle.hir_one_result.proofs.TreeRooms.{part_last, part_takes}
 use Rattle.hir_told.specs.LeadsOn.{Went}
 use Rattle.hir_told.proofs.AsExpansions.{exprs_expand}
 use Rattle.hir_told.proofs.AsStoredData.{exprs_store}

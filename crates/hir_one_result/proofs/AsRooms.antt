@@ -43,7 +43,7 @@ use Rattle.hir_one_result.proofs.Last.{last_hands, last_made, last_then, owning_
 use Rattle.hir_one_result.proofs.LastStored.{LastPat, LastType, becoming_last, last_before, last_given, lastly, lastly_where}
 use Rattle.hir_one_result.proofs.LastStored.{made_pat_last, or_last, pat_last, pats_in, stays_define, stays_point_pat, stays_point_target}
 use Rattle.hir_one_result.proofs.LastStored.{stays_point_type, stored_last, types_in}
-use Rattle.hir_one_result.proofs.LastTree.{closure_last, coroutine_block_last, coroutine_closure_last}
+use Rattle.hir_one_result.proofs.Last.{closure_last, coroutine_block_last, coroutine_closure_last}
 use Rattle.hir_one_result.proofs.MadeRooms.{made_bind_takes, takes_made, takes_number, takes_target, takes_try}
 use Rattle.hir_one_result.proofs.PatRooms.{settle_takes}
 use Rattle.hir_one_result.proofs.PathRooms.{counted_tells, counts_out}

@@ -1,6 +1,6 @@
 -- Steps whose answer is the last expression that is stored.
 use Rattle.std.proofs.Common.{arith, ◌≡◌, ◌∙◌, refl, sym, ap, suc, Bool, true, false, nat_lt, length, length-append, List, [], ◌∷◌}
-use Rattle.std.proofs.Common.{Option, None, Ok, Err}
+use Rattle.std.proofs.Common.{Option, Some, None, Ok, Err}
 use Rattle.hir_store.specs.Pointers.{Pointer}
 use Rattle.hir_store.specs.Storing as storing
 use Rattle.hir_store.specs.declared.hir.CoroutineKind.{CoroutineKind}
@@ -9,16 +9,16 @@ use Rattle.hir_store.specs.declared.hir.CoroutineSource.TheVariants as source
 use Rattle.hir_store.specs.declared.hir.Expr.{Expr}
 use Rattle.hir_store.specs.declared.hir.Statement.{Statement}
 use Rattle.hir_store.specs.declared.ids.BindingId.{BindingId}
+use Rattle.hir_store.specs.declared.ids.BlockId.{BlockId}
 use Rattle.hir_store.specs.declared.ids.ExprId.{ExprId}
 use Rattle.hir_store.specs.declared.ids.TypeRefId.{TypeRefId}
 use Rattle.hir_lower_form.specs.Builder.{Builder}
 use Rattle.hir_lower_form.specs.declared.closures.ClosureParams.{ClosureParams}
-use Rattle.hir_env.specs.Answered.{Called}
-use Rattle.hir_lower_form.specs.Calls.{told}
-use Rattle.hir_lower_form.specs.Forms.{ExprSteps, called_form, constant_form, coroutine_form, missing, paren_form, uncalled_form}
+use Rattle.hir_lower_form.specs.Forms.{ExprSteps, StoredContents, closure_form, constant_form, coroutine_around_form, coroutine_block_form}
+use Rattle.hir_lower_form.specs.Forms.{coroutine_form, paren_form}
 use Rattle.hir_lower_form.specs.Lowering.{Checked, go_on, Lowering, ◌>>=◌, pure, alloc_expr, alloc_made, bindings_end, close, close_barrier}
-use Rattle.hir_lower_form.specs.Lowering.{enter_root, leave_root, open_barrier, outside_root, own, owning, point, record_root}
-use Rattle.hir_lower_form.specs.Preludes.{let_params, made_coroutine_form, no_prelude, within_form}
+use Rattle.hir_lower_form.specs.Lowering.{enter_block, enter_root, leave_root, open_barrier, outside_root, own, owning, point, record_root}
+use Rattle.hir_lower_form.specs.Preludes.{coroutine_closure_form, let_params, lower_handed, made_coroutine_form, no_prelude, within_form}
 use Rattle.hir_one_result.proofs.MadeRooms.{hidden_expr}
 use Rattle.hir_one_result.proofs.Rooms.{made_expr}
 
@@ -132,23 +132,11 @@ last_made e source = record { last = λ b. by b (nat_lt (length b.stored.exprs.e
     by b true = let more = length-append b.stored.exprs.entries (e ∷ []) in omega (arith, more)
     by b false = tt
 
-pub missing_last : IsLast missing
-unfolding missing
-missing_last = last_alloc _ None
-
 -- ---- what hands on an expression
 
 pub paren_last : (at : Pointer) {p : ExprSteps} → IsLast p → IsLast (paren_form at p)
 unfolding paren_form
 paren_last at h = last_hands h (λ i. hands_then (quiet_point at i) (λ u. hands_pure i refl))
-
-pub called_last : (at : Pointer) (c : Called) {p : ExprSteps} → IsLast p → IsLast (called_form at c p)
-unfolding called_form
-called_last at c h = last_then (told c) (λ u. paren_last at h)
-
-pub uncalled_last : (at : Pointer) (c : Called) → IsLast (uncalled_form at c)
-unfolding uncalled_form
-uncalled_last at c = last_then (told c) (λ u. last_alloc _ _)
 
 pub owning_last : {A : Type 0} {owner : A → ExprId} {p : Lowering A} → Last owner p → Last owner (owning owner p)
 unfolding owning
@@ -176,3 +164,25 @@ pub coroutine_last : {p : ExprSteps} → IsLast p → IsLast (coroutine_form p)
 unfolding coroutine_form
 coroutine_last h = last_then open_barrier
     (λ outside. last_hands h (λ id. hands_then (quiet_close_barrier outside) (λ y. hands_pure id refl)))
+
+-- ---- closures and coroutines
+
+module _ (at : Pointer) where
+  pub closure_last : (moves is_static : Bool) (p : Lowering ClosureParams) (t : Lowering (Option TypeRefId)) (e : ExprSteps)
+      → IsLast (closure_form at moves is_static p t e)
+  unfolding closure_form
+  closure_last moves is_static p t e = last_then open_barrier (λ outside. last_then p (λ l. last_then t (λ r. last_then e
+      (λ i. last_then (close_barrier outside) (λ y. last_alloc _ (Some at))))))
+
+  pub coroutine_closure_last : (kind : CoroutineKind) (moves : Bool) (p : Lowering ClosureParams) (t : Lowering (Option TypeRefId))
+      (e : ExprSteps) → IsLast (coroutine_closure_form at kind moves p t e)
+  unfolding coroutine_closure_form
+  coroutine_closure_last kind moves p t e = last_then open_barrier (λ outside.
+      last_then (owning (λ w. w.coroutine) (within_form kind p t e)) (λ w. last_then (lower_handed [] w.handed)
+      (λ ps. last_then (close_barrier outside) (λ y. last_alloc _ (Some at)))))
+
+  pub coroutine_block_last : (kind : CoroutineKind) (moves : Bool) (number : Option BlockId) (c : Lowering StoredContents)
+      → IsLast (coroutine_block_form at kind moves number c)
+  unfolding coroutine_block_form coroutine_around_form
+  coroutine_block_last kind moves number c =
+      last_then (enter_block number) (λ u. last_then c (λ r. last_then (alloc_expr _ None) (λ b. last_alloc _ (Some at))))
