@@ -30,81 +30,108 @@ use Rattle.hir_lower_form.specs.Pats.{PatSteps, Table, next_alternative}
 use Rattle.hir_steps.proofs.Calls.{only_told}
 use Rattle.hir_steps.proofs.Answering.{Answering, AnsweredTo, answering_any}
 
--- ---- what is last of what is counted so
+-- ---- what is the last of its kind
 
-module _ (count : Stored → ℕ) where
-  abbrev pub EndsAt : {A : Type 0} → (A → ℕ) → Checked A → Builder → Type 0
-  EndsAt number (Ok a) c = suc (number a) ≡ count c.stored
-  EndsAt number (Err e) c = Unit {0}
+-- what is counted in a store, by numbers
+pub record Counted (I : Type 0) : Type 0 where
+  pub place : I → ℕ
+  pub count : Stored → ℕ
 
-  pub record LastOf {A : Type 0} (number : A → ℕ) (p : Lowering A) : Type 0 where
-    pub last : (b : Builder) → EndsAt number (p b).0 (p b).1
+module _ {I : Type 0} (C : Counted I) where
+  abbrev pub EndsAt : {A : Type 0} → (A → I) → Checked A → Builder → Type 0
+  EndsAt owner (Ok a) c = suc (C.place (owner a)) ≡ C.count c.stored
+  EndsAt owner (Err e) c = Unit {0}
+
+  pub record LastOf {A : Type 0} (owner : A → I) (p : Lowering A) : Type 0 where
+    pub last : (b : Builder) → EndsAt owner (p b).0 (p b).1
 
   -- whatever comes before, and where it is known what that answers
-  pub lastly_where : {A B : Type 0} {P : A → Type 0} {number : B → ℕ} {p : Lowering A} {f : A → Lowering B} → Answering P p
-      → ((a : A) → P a → LastOf number (f a)) → LastOf number (p >>= f)
-  lastly_where {A = A} {P = P} {number = number} {p = p} {f = f} t h = record { last = λ b. by (p b).0 (p b).1 (t.answers b) }
+  pub lastly_where : {A B : Type 0} {P : A → Type 0} {owner : B → I} {p : Lowering A} {f : A → Lowering B} → Answering P p
+      → ((a : A) → P a → LastOf owner (f a)) → LastOf owner (p >>= f)
+  lastly_where {A = A} {P = P} {owner = owner} {p = p} {f = f} t h = record { last = λ b. by (p b).0 (p b).1 (t.answers b) }
     where
-      by : (o : Checked A) (c : Builder) → AnsweredTo P o → EndsAt number (go_on o c f).0 (go_on o c f).1
+      by : (o : Checked A) (c : Builder) → AnsweredTo P o → EndsAt owner (go_on o c f).0 (go_on o c f).1
       by (Ok a) c x = (h a x).last c
       by (Err e) c x = tt
 
-  pub lastly : {A B : Type 0} {number : B → ℕ} (p : Lowering A) {f : A → Lowering B} → ((a : A) → LastOf number (f a))
-      → LastOf number (p >>= f)
+  pub lastly : {A B : Type 0} {owner : B → I} (p : Lowering A) {f : A → Lowering B} → ((a : A) → LastOf owner (f a))
+      → LastOf owner (p >>= f)
   lastly p h = lastly_where (answering_any p) (λ a x. h a)
 
   -- one after another, and then a third
-  last_joined : {A B C : Type 0} {number : C → ℕ} (p : Lowering A) (f : A → Lowering B) (g : B → Lowering C)
-      → ((a : A) → LastOf number (f a >>= g)) → LastOf number ((p >>= f) >>= g)
-  last_joined {A = A} {number = number} p f g h = record { last = λ b. by (p b).0 (p b).1 }
+  last_joined : {A B D : Type 0} {owner : D → I} (p : Lowering A) (f : A → Lowering B) (g : B → Lowering D)
+      → ((a : A) → LastOf owner (f a >>= g)) → LastOf owner ((p >>= f) >>= g)
+  last_joined {A = A} {owner = owner} p f g h = record { last = λ b. by (p b).0 (p b).1 }
     where
       by : (o : Checked A) (c : Builder)
-          → EndsAt number (go_on (go_on o c f).0 (go_on o c f).1 g).0 (go_on (go_on o c f).0 (go_on o c f).1 g).1
+          → EndsAt owner (go_on (go_on o c f).0 (go_on o c f).1 g).0 (go_on (go_on o c f).0 (go_on o c f).1 g).1
       by (Ok a) c = (h a).last c
       by (Err e) c = tt
 
-  -- that store none
+  -- steps that store none
   abbrev pub StaysAt : {A : Type 0} → Builder → Checked A → Builder → Type 0
-  StaysAt b (Ok a) c = count c.stored ≡ count b.stored
+  StaysAt b (Ok a) c = C.count c.stored ≡ C.count b.stored
   StaysAt b (Err e) c = Unit {0}
 
   pub record Stays {A : Type 0} (p : Lowering A) : Type 0 where
     pub stays : (b : Builder) → StaysAt b (p b).0 (p b).1
 
-  -- what is made of the answer has the same number
-  pub last_given : {A B : Type 0} {number : A → ℕ} {now : B → ℕ} {p : Lowering A} (g : A → B) → ((a : A) → now (g a) ≡ number a)
-      → LastOf number p → LastOf now (p >>= (λ a. pure (g a)))
-  last_given {A = A} {number = number} {now = now} {p = p} g e h = record { last = λ b. by (p b).0 (p b).1 (h.last b) }
-    where
-      by : (o : Checked A) (c : Builder) → EndsAt number o c
-          → EndsAt now (go_on o c (λ a. pure (g a))).0 (go_on o c (λ a. pure (g a))).1
-      by (Ok a) c x = ap suc (e a) ∙ x
-      by (Err f) c x = tt
+  -- and answer this one
+  abbrev HandsOn : {A : Type 0} → (A → I) → I → Builder → Checked A → Builder → Type 0
+  HandsOn owner i b (Ok a) c = (owner a ≡ i) × (C.count c.stored ≡ C.count b.stored)
+  HandsOn owner i b (Err e) c = Unit {0}
 
-  -- behind which none is stored
-  pub last_before : {A B C : Type 0} {number : A → ℕ} {now : C → ℕ} {p : Lowering A} {q : A → Lowering B} (g : A → C)
-      → ((a : A) → now (g a) ≡ number a) → LastOf number p → ((a : A) → Stays (q a))
-      → LastOf now (p >>= (λ a. q a >>= (λ v. pure (g a))))
-  last_before {A = A} {B = B} {C = C} {number = number} {now = now} {p = p} {q = q} g e h k =
+  pub record Hands {A : Type 0} (owner : A → I) (i : I) (p : Lowering A) : Type 0 where
+    pub hands : (b : Builder) → HandsOn owner i b (p b).0 (p b).1
+
+  pub hands_pure : {A : Type 0} {owner : A → I} {i : I} (a : A) → owner a ≡ i → Hands owner i (pure a)
+  hands_pure a e = record { hands = λ b. (e, refl) }
+
+  pub hands_then : {A B : Type 0} {owner : B → I} {i : I} {p : Lowering A} {f : A → Lowering B} → Stays p
+      → ((a : A) → Hands owner i (f a)) → Hands owner i (p >>= f)
+  hands_then {A = A} {B = B} {owner = owner} {i = i} {p = p} {f = f} h k =
+      record { hands = λ b. first b (p b).0 (p b).1 (h.stays b) }
+    where
+      second : (b c : Builder) → C.count c.stored ≡ C.count b.stored → (o : Checked B) (d : Builder) → HandsOn owner i c o d
+          → HandsOn owner i b o d
+      second b c e (Ok x) d y = (y.0, y.1 ∙ e)
+      second b c e (Err g) d y = tt
+
+      first : (b : Builder) (o : Checked A) (c : Builder) → StaysAt b o c → HandsOn owner i b (go_on o c f).0 (go_on o c f).1
+      first b (Ok a) c x = second b c x (f a c).0 (f a c).1 ((k a).hands c)
+      first b (Err e) c x = tt
+
+  pub last_hands : {A B : Type 0} {made : A → I} {owner : B → I} {p : Lowering A} {f : A → Lowering B} → LastOf made p
+      → ((a : A) → Hands owner (made a) (f a)) → LastOf owner (p >>= f)
+  last_hands {A = A} {B = B} {made = made} {owner = owner} {p = p} {f = f} h k =
       record { last = λ b. first (p b).0 (p b).1 (h.last b) }
     where
-      second : (a : A) (c : Builder) → suc (number a) ≡ count c.stored → (o : Checked B) (d : Builder) → StaysAt c o d
-          → EndsAt now (go_on o d (λ v. pure (g a))).0 (go_on o d (λ v. pure (g a))).1
-      second a c x (Ok v) d y = ap suc (e a) ∙ (x ∙ sym y)
-      second a c x (Err f) d y = tt
+      second : (i : I) (c : Builder) → suc (C.place i) ≡ C.count c.stored → (o : Checked B) (d : Builder) → HandsOn owner i c o d
+          → EndsAt owner o d
+      second i c e (Ok x) d y = ap (λ j. suc (C.place j)) y.0 ∙ (e ∙ sym y.1)
+      second i c e (Err g) d y = tt
 
-      first : (o : Checked A) (c : Builder) → EndsAt number o c
-          → EndsAt now (go_on o c (λ a. q a >>= (λ v. pure (g a)))).0 (go_on o c (λ a. q a >>= (λ v. pure (g a)))).1
-      first (Ok a) c x = second a c x (q a c).0 (q a c).1 ((k a).stays c)
-      first (Err f) c x = tt
+      first : (o : Checked A) (c : Builder) → EndsAt made o c → EndsAt owner (go_on o c f).0 (go_on o c f).1
+      first (Ok a) c x = second (made a) c x (f a c).0 (f a c).1 ((k a).hands c)
+      first (Err e) c x = tt
+
+  -- what is made of the answer holds it, too, and so behind what stores none
+  pub last_given : {A B : Type 0} {made : A → I} {owner : B → I} {p : Lowering A} (g : A → B) → ((a : A) → owner (g a) ≡ made a)
+      → LastOf made p → LastOf owner (p >>= (λ a. pure (g a)))
+  last_given g e h = last_hands h (λ a. hands_pure (g a) (e a))
+
+  pub last_before : {A B D : Type 0} {made : A → I} {owner : D → I} {p : Lowering A} {q : A → Lowering B} (g : A → D)
+      → ((a : A) → owner (g a) ≡ made a) → LastOf made p → ((a : A) → Stays (q a))
+      → LastOf owner (p >>= (λ a. q a >>= (λ v. pure (g a))))
+  last_before g e h k = last_hands h (λ a. hands_then (k a) (λ v. hands_pure (g a) (e a)))
 
 -- ---- patterns
 
-abbrev pub pats_in : Stored → ℕ
-pats_in s = length s.pats.entries
+abbrev pub in_pats : Counted PatId
+in_pats = record { place = λ i. i.0; count = λ s. length s.pats.entries }
 
 abbrev pub LastPat : {A : Type 0} → (A → PatId) → Lowering A → Type 0
-LastPat pat_in p = LastOf pats_in (λ a. (pat_in a).0) p
+LastPat pat_in p = LastOf in_pats pat_in p
 
 abbrev made_pat : Bool → HirPat → Option Pointer → Sourced HirPat PatId → Checked PatId × Sourced HirPat PatId
 made_pat t x source a = if t then (Ok (pat_id (length a.entries)), with_entry pat_id a x source) else (Err Full, a)
@@ -113,7 +140,7 @@ pub pat_last : (x : HirPat) (source : Option Pointer) → LastPat (λ i. i) (all
 unfolding alloc_pat storing.alloc_pat
 pat_last x source = record { last = λ b. by b (nat_lt (length b.stored.pats.entries) b.stored.pats.limit) }
   where
-    by : (b : Builder) (t : Bool) → EndsAt pats_in (λ i. i.0) (made_pat t x source b.stored.pats).0
+    by : (b : Builder) (t : Bool) → EndsAt in_pats (λ i. i) (made_pat t x source b.stored.pats).0
         (record b { stored = record b.stored { pats = (made_pat t x source b.stored.pats).1 } })
     by b true = let more = length-append b.stored.pats.entries (x ∷ []) in omega (arith, more)
     by b false = tt
@@ -125,20 +152,20 @@ pub made_pat_last : (x : HirPat) (source : Option Pointer) → LastPat (λ i. i)
 unfolding alloc_made_pat storing.alloc_made_pat
 made_pat_last x source = record { last = λ b. by b (nat_lt (length b.stored.pats.entries) b.stored.pats.limit) }
   where
-    by : (b : Builder) (t : Bool) → EndsAt pats_in (λ i. i.0) (hidden_pat t x source b.stored.pats).0
+    by : (b : Builder) (t : Bool) → EndsAt in_pats (λ i. i) (hidden_pat t x source b.stored.pats).0
         (record b { stored = record b.stored { pats = (hidden_pat t x source b.stored.pats).1 } })
     by b true = let more = length-append b.stored.pats.entries (x ∷ []) in omega (arith, more)
     by b false = tt
 
-pub stays_point_pat : (at : Pointer) (i : PatId) → Stays pats_in (point_pat at i)
+pub stays_point_pat : (at : Pointer) (i : PatId) → Stays in_pats (point_pat at i)
 unfolding point_pat storing.point_pat
 stays_point_pat at i = record { stays = λ b. refl }
 
-pub stays_define : (b : BindingId) (i : PatId) → Stays pats_in (define b i)
+pub stays_define : (b : BindingId) (i : PatId) → Stays in_pats (define b i)
 unfolding define storing.define
 stays_define b i = record { stays = λ c. refl }
 
-pub stays_point_target : (at : Pointer) (i : PatId) → Stays pats_in (point_target at i)
+pub stays_point_target : (at : Pointer) (i : PatId) → Stays in_pats (point_target at i)
 unfolding point_target storing.point_target
 stays_point_target at i = record { stays = λ b. refl }
 
@@ -180,7 +207,7 @@ module _ (at : Pointer) where
 
   chosen_last : (i j : PatId) (more : List PatId) (rs : List PatId × Table) → rs.0 ≡ i ∷ (j ∷ more) → LastWith (chosen rs)
   chosen_last i j more rs e = subst (λ is. LastWith (pats.or_of at is >>= (λ k. pure (k, pats.leave_or rs.1)))) (sym e)
-      (last_given pats_in (λ k. (k, pats.leave_or rs.1)) (λ k. refl) (pat_last _ _))
+      (last_given in_pats (λ k. (k, pats.leave_or rs.1)) (λ k. refl) (pat_last _ _))
 
   -- behind two of them
   many_last : (ps : Pats) (i j : PatId) (t : Table) → LastWith (lower.lower_later ps (i ∷ (j ∷ [])) t >>= chosen)
@@ -190,41 +217,41 @@ module _ (at : Pointer) where
   }
     where
       by : (o : Checked (List PatId × Table)) (c : Builder) → Behind (i ∷ (j ∷ [])) o
-          → EndsAt pats_in (λ (r : PatId × Table). r.0.0) (go_on o c chosen).0 (go_on o c chosen).1
+          → EndsAt in_pats (λ (r : PatId × Table). r.0) (go_on o c chosen).0 (go_on o c chosen).1
       by (Ok rs) c h = (chosen_last i j h.0 rs h.1).last c
       by (Err e) c h = tt
 
   -- behind one of them, which is the last by then; what is told of a call stores none
-  later_last : (ps : Pats) (i : PatId) (t : Table) (b : Builder) → suc i.0 ≡ pats_in b.stored
-      → let r = (lower.lower_later ps (i ∷ []) t >>= chosen) b in EndsAt pats_in (λ (x : PatId × Table). x.0.0) r.0 r.1
+  later_last : (ps : Pats) (i : PatId) (t : Table) (b : Builder) → suc i.0 ≡ length b.stored.pats.entries
+      → let r = (lower.lower_later ps (i ∷ []) t >>= chosen) b in EndsAt in_pats (λ (x : PatId × Table). x.0) r.0 r.1
   later_last tree.no_pats i t b e = e
   later_last (tree.more_pats q qs) i t b e =
-      (last_joined pats_in (lower.lower_pat q (next_alternative t)) (λ s. lower.lower_later qs (i ∷ (s.0 ∷ [])) s.1) chosen
+      (last_joined in_pats (lower.lower_pat q (next_alternative t)) (λ s. lower.lower_later qs (i ∷ (s.0 ∷ [])) s.1) chosen
       (λ s. many_last qs i s.0 s.1)).last b
   later_last (tree.noted_pats called qs) i t b e = subst (λ r. EndsFrom r.0 r.1) (sym ((only_told called).is b)) (later_last qs i t _ e)
     where
       EndsFrom : Checked (Unit {0}) → Builder → Type 0
       EndsFrom o c =
           let x = go_on o c (λ u. lower.lower_later qs (i ∷ []) t) in
-          let y = go_on x.0 x.1 chosen in EndsAt pats_in (λ (z : PatId × Table). z.0.0) y.0 y.1
+          let y = go_on x.0 x.1 chosen in EndsAt in_pats (λ (z : PatId × Table). z.0) y.0 y.1
 
   pub or_last : (ps : Pats) (t : Table) (p : PatSteps) → LastWith (p (pats.enter_or t))
       → LastWith (pats.or_form at p (lower.lower_later ps) t)
   unfolding pats.or_form
   or_last ps t p h = record { last = λ b. by (p (pats.enter_or t) b).0 (p (pats.enter_or t) b).1 (h.last b) }
     where
-      by : (o : Checked (PatId × Table)) (c : Builder) → EndsAt pats_in (λ r. r.0.0) o c
-          → let x = go_on o c (λ r. lower.lower_later ps (r.0 ∷ []) r.1 >>= chosen) in EndsAt pats_in (λ (x : PatId × Table). x.0.0) x.0 x.1
+      by : (o : Checked (PatId × Table)) (c : Builder) → EndsAt in_pats (λ r. r.0) o c
+          → let x = go_on o c (λ r. lower.lower_later ps (r.0 ∷ []) r.1 >>= chosen) in EndsAt in_pats (λ (x : PatId × Table). x.0) x.0 x.1
       by (Ok r) c e = later_last ps r.0 r.1 c e
       by (Err f) c e = tt
 
 -- ---- types
 
-abbrev pub types_in : Stored → ℕ
-types_in s = length s.types.entries
+abbrev pub in_types : Counted TypeRefId
+in_types = record { place = λ i. i.0; count = λ s. length s.types.entries }
 
 abbrev pub LastType : Lowering TypeRefId → Type 0
-LastType p = LastOf types_in (λ i. i.0) p
+LastType p = LastOf in_types (λ i. i) p
 
 abbrev made_type : Bool → TypeRef → Option Pointer → Sourced TypeRef TypeRefId → Checked TypeRefId × Sourced TypeRef TypeRefId
 made_type t x source a = if t then (Ok (type_id (length a.entries)), with_entry type_id a x source) else (Err Full, a)
@@ -233,18 +260,18 @@ pub stored_last : (x : TypeRef) (source : Option Pointer) → LastType (alloc_ty
 unfolding alloc_type storing.alloc_type
 stored_last x source = record { last = λ b. by b (nat_lt (length b.stored.types.entries) b.stored.types.limit) }
   where
-    by : (b : Builder) (t : Bool) → EndsAt types_in (λ i. i.0) (made_type t x source b.stored.types).0
+    by : (b : Builder) (t : Bool) → EndsAt in_types (λ i. i) (made_type t x source b.stored.types).0
         (record b { stored = record b.stored { types = (made_type t x source b.stored.types).1 } })
     by b true = let more = length-append b.stored.types.entries (x ∷ []) in omega (arith, more)
     by b false = tt
 
-pub stays_point_type : (at : Pointer) (i : TypeRefId) → Stays types_in (point_type at i)
+pub stays_point_type : (at : Pointer) (i : TypeRefId) → Stays in_types (point_type at i)
 unfolding point_type storing.point_type
 stays_point_type at i = record { stays = λ b. refl }
 
 -- what an `impl` becomes
 
-stays_note_down : (f : Notes → Notes) → Stays types_in (note_down f)
+stays_note_down : (f : Notes → Notes) → Stays in_types (note_down f)
 unfolding note_down
 stays_note_down f = record { stays = λ b. refl }
 
@@ -252,5 +279,5 @@ pub becoming_last : (at : Pointer) (mode : ImplTrait) (bounds : List TypeBound) 
 unfolding argument_form
 becoming_last at becomes.Error bounds = stored_last _ _
 becoming_last at becomes.Opaque bounds = stored_last _ _
-becoming_last at (becomes.Argument def) bounds = lastly types_in (add_param _)
-    (λ k. last_before types_in (λ i. i) (λ i. refl) (stored_last _ _) (λ t. stays_note_down _))
+becoming_last at (becomes.Argument def) bounds = lastly in_types (add_param _)
+    (λ k. last_before in_types (λ i. i) (λ i. refl) (stored_last _ _) (λ t. stays_note_down _))
