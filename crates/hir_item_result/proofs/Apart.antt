@@ -1,16 +1,17 @@
 -- Names that lowering an item makes up stand apart.
-use Rattle.std.proofs.Common.{List, [], Option, Some, None}
+use Rattle.std.proofs.Common.{List, Option, Some, None}
 use Rattle.hir_store.specs.Pointers.{Pointer}
 use Rattle.hir_store.specs.declared.path.Path.{Path as HirPath}
-use Rattle.hir_env.specs.Answered as tree
-use Rattle.hir_env.specs.Answered.{Bound, OptionPath}
+use Rattle.hir_env.specs.Answered.{OptionPath}
 use Rattle.hir_lower_form.specs.declared.generics.Notes.{Notes}
 use Rattle.hir_lower_form.specs.Lowering.{Lowering, ◌>>=◌, note_down}
-use Rattle.hir_lower_form.specs.Lower.{lower_bound, lower_path}
+use Rattle.hir_lower_form.specs.Lower.{lower_path}
 use Rattle.hir_lower_item.specs.Lower.{stored_trait}
 use Rattle.hir_steps.proofs.Apart.{Apart, pure_apart, report_apart, stored_lifetime_apart, stored_type_apart, then_apart}
 use Rattle.hir_steps.proofs.ApartTree.{a_constant_apart, lower_path_apart, one_type_apart}
-use Rattle.hir_steps.proofs.ApartTypes.{lifetime_apart, path_bound_apart, uses_apart}
+use Rattle.hir_steps.proofs.AsApart.{apart_graded}
+use Rattle.hir_steps.proofs.GradedTree.{bound_graded}
+use Rattle.hir_steps.proofs.GradedTypes.{lifetime_graded}
 use Rattle.hir_steps.proofs.Keeping.{apart_by}
 use Rattle.hir_steps.proofs.Noted.{correct_noted}
 use Rattle.hir_steps.proofs.Steps.{Correct}
@@ -26,12 +27,6 @@ pub record ApartAll {A : Type 0} (xs : List Part) (p : Lowering A) : Type 0 wher
 
 record ApartOne {A : Type 0} (x : Part) (p : Lowering A) : Type 0 where
   apart : Correct p Apart
-
-bound_apart : (b : Bound) → Correct (lower_bound b) Apart
-bound_apart tree.error_bound = pure_apart _
-bound_apart (tree.path_bound at p maybe binder) = path_bound_apart at maybe binder (lower_path_apart p)
-bound_apart (tree.lifetime_bound l) = then_apart (lifetime_apart l) (λ i. pure_apart _)
-bound_apart (tree.use_bound us) = then_apart (uses_apart [] us) (λ xs. pure_apart _)
 
 stored_apart : (at : Pointer) (p : Option HirPath) → Correct (stored_trait at p) Apart
 stored_apart at None = pure_apart None
@@ -55,10 +50,10 @@ apart = record {
   noted_is = λ f h k. beside f k;
   type_is = λ t. record { apart = one_type_apart None t };
   made_is = λ t shape h. record { apart = stored_type_apart t None };
-  bound_is = λ b. record { apart = bound_apart b };
+  bound_is = λ b. record { apart = bound_graded apart_graded b };
   trait_is = λ at p. record { apart = trait_apart at p };
   constant_is = λ c. record { apart = a_constant_apart c };
-  lifetime_is = λ l. record { apart = lifetime_apart l };
+  lifetime_is = λ l. record { apart = lifetime_graded apart_graded l };
   made_lifetime_is = λ l. record { apart = stored_lifetime_apart l None };
   fault_is = λ d. record { apart = report_apart d };
   param_is = λ x. record { apart = correct_param x (λ k. pure_apart k) };

@@ -17,10 +17,11 @@ use Rattle.hir_one_result.proofs.Tellings.{takes_of}
 use Rattle.hir_one_result.proofs.Took.{Grew, Room, Took}
 use Rattle.hir_one_result.proofs.TreeRooms.{body_takes, part_takes, path_tells, type_part_takes}
 use Rattle.hir_one_result.specs.Bodies.{GradingBodies}
-use Rattle.hir_told.specs.Silent.{silent}
+use Rattle.hir_steps.specs.Silent.{silent}
 use Rattle.hir_one_result.proofs.GradedBodies.{GradedBodies, body_graded}
-use Rattle.hir_one_result.proofs.Graded.{Graded}
-use Rattle.hir_one_result.proofs.GradedTree.{expr_part_graded, part_graded, path_graded}
+use Rattle.hir_steps.proofs.Graded.{Graded}
+use Rattle.hir_steps.proofs.ReadBack.{Unknown, unread}
+use Rattle.hir_steps.proofs.GradedTree.{expr_part_graded, part_graded, path_graded}
 use Rattle.hir_item_result.specs.Exceeding.{FitsBehind, FitsIn, HadRoom, HasRoom, InLimits, RoomIsThere}
 use Rattle.hir_item_result.proofs.Limits.{Limited, LimitsTo, limited_binding, limited_block, limited_close, limited_define, limited_expr}
 use Rattle.hir_item_result.proofs.Limits.{limited_jump, limited_lifetime, limited_made, limited_made_pat, limited_note_down, limited_number}
@@ -38,10 +39,17 @@ limits_graded = record {
   Claim = λ g p. Limited p;
   Made = λ g p. Limited p;
   Hands = λ t g p. Limited p;
+  MadePat = λ g p. Limited p;
+  MadeType = λ t g p. Limited p;
+  HandsPat = λ t g p. Limited p;
   made_is = λ h. h;
+  pat_made_is = λ h. h;
+  type_made_is = λ is h. h;
   pure_is = λ a. limited_pure a;
   bind_is = λ h t k. limited_where h t k;
   makes_is = λ h t k. limited_where h t k;
+  makes_pat_is = λ h t k. limited_where h t k;
+  makes_type_is = λ h k. limited_then h k;
   end_is = λ h k. limited_then h k;
   hands_pure_is = λ a t u e. limited_pure (a, u);
   hands_as_is = λ t u e h. h;
@@ -49,13 +57,20 @@ limits_graded = record {
   beside_is = λ table h t k. limited_where h t k;
   hands_end_is = λ table h k. limited_then h k;
   beside_end_is = λ table h k. limited_then h k;
+  hands_pat_is = λ t h. h;
+  hands_makes_is = λ table h t k. limited_where h t k;
+  beside_makes_is = λ table h t k. limited_where h t k;
+  alone_is = λ t u e h. limited_then h (λ i. limited_pure (i, u));
+  named_alone_is = λ b t u e h. limited_then h (λ i. limited_then (limited_define b i) (λ v. limited_pure (i, u)));
+  or_is = λ at ps t p first known later more whole. whole;
   new_name_is = λ u is t with_it e. limited_then (limited_binding (new_binding u)) (λ b. limited_pure (b, with_it b));
   top_is = λ h. limited_then h (λ r. limited_then (limited_settle r.1) (λ u. limited_pure r.0));
   Where = λ C g p. Limited p;
-  where_is = λ is h. h;
+  Known = Unknown;
+  reads = unread;
+  where_type = λ h. h;
   where_any = λ h. h;
   where_less = λ is h. h;
-  where_next = λ h k. limited_then h k;
   where_known = λ h t is k. limited_where h t k;
   where_first = λ h k. limited_then h k;
   where_end = λ h k. limited_then h k;
@@ -77,10 +92,10 @@ limits_graded = record {
   noted_is = λ c. limited_only (only_note c);
   told_is = λ c. limited_only (only_told c);
   gone_is = λ why. limited_only (only_gone why);
-  type_call_is = λ at l h. limited_then h (λ i. limited_then (limited_point_type at i) (λ u. limited_pure i));
-  pat_call_is = λ at l h. limited_then h (λ i. limited_then (limited_point_pat at i) (λ u. limited_pure i));
-  target_way_is = λ at l h. limited_then h (λ i. limited_then (limited_point_target at i) (λ u. limited_pure i));
-  hands_call_is = λ at t l h. limited_then h (λ r. limited_then (limited_point_pat at r.0) (λ u. limited_pure r));
+  type_call_is = λ at t h. limited_then h (λ i. limited_then (limited_point_type at i) (λ u. limited_pure i));
+  pat_call_is = λ at h. limited_then h (λ i. limited_then (limited_point_pat at i) (λ u. limited_pure i));
+  target_way_is = λ at h. limited_then h (λ i. limited_then (limited_point_target at i) (λ u. limited_pure i));
+  hands_call_is = λ at t h. limited_then h (λ r. limited_then (limited_point_pat at r.0) (λ u. limited_pure r));
   super_is = λ w. limited_counted (super_read w);
   dots_is = λ comma place. limited_dots comma place;
   def_is = λ k d. limited_define_form k d;

@@ -29,15 +29,15 @@ use Rattle.hir_steps.proofs.Steps.{Correct}
 use Rattle.hir_read_back.proofs.Layers.{Reads, a_shape, a_type, type0}
 use Rattle.hir_read_back.proofs.Tree.{part_reads}
 use Rattle.hir_read_back.proofs.Types.{unit_type_reads}
-use Rattle.hir_one_result.specs.Grades.{grade_part}
-use Rattle.hir_one_result.specs.Grading.{grade_lifetime}
+use Rattle.hir_steps.specs.Grades.{grade_part}
+use Rattle.hir_steps.specs.Grading.{grade_lifetime}
 use Rattle.hir_told.specs.StoredData.{StoredData, and_then, no_data, stored_data}
 use Rattle.hir_told.proofs.AsStoredData.{added, data_graded}
-use Rattle.hir_one_result.proofs.Graded.{type_next}
-use Rattle.hir_one_result.proofs.ReadingBack.{type_in_store}
+use Rattle.hir_steps.proofs.Graded.{type_next}
+use Rattle.hir_told.proofs.ReadingBack.{type_in_store}
 use Rattle.hir_told.proofs.Storing.{Stores, pure_stores, stores_then}
-use Rattle.hir_one_result.proofs.GradedTree.{bound_graded, part_graded, type_graded}
-use Rattle.hir_one_result.proofs.GradedTypes as forms
+use Rattle.hir_steps.proofs.GradedTree.{bound_graded, part_graded, type_graded}
+use Rattle.hir_steps.proofs.GradedTypes as forms
 use Rattle.hir_item_result.specs.Answers.{borrowed_data, coroutine_path_data, coroutine_shape, self_data}
 use Rattle.hir_item_result.specs.Parts as part
 use Rattle.hir_item_result.specs.Parts.{Part, alias_parts, coroutine_parts, function_parts, generics_parts, impl_parts}

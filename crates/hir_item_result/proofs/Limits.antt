@@ -38,8 +38,8 @@ use Rattle.hir_lower_form.specs.Lowering.{with_stored}
 use Rattle.hir_lower_form.specs.declared.generics.Notes.{Notes}
 use Rattle.hir_steps.specs.Calls.{Expansions}
 use Rattle.hir_steps.proofs.Calls.{Only}
-use Rattle.hir_one_result.proofs.NoteRooms.{KeepsParams}
-use Rattle.hir_one_result.proofs.Answering.{Answering, AnsweredTo}
+use Rattle.hir_steps.proofs.Noted.{KeepsParams}
+use Rattle.hir_steps.proofs.Answering.{Answering, AnsweredTo}
 use Rattle.hir_item_result.specs.Exceeding.{InLimits}
 
 abbrev pub LimitsTo : {A : Type 0} → Checked A → Builder → Type 0

@@ -22,7 +22,7 @@ use Rattle.hir_lower_form.specs.Lower.{lower_bound, lower_constant, lower_path, 
 use Rattle.hir_lower_form.specs.Types.{lower_lifetime}
 use Rattle.hir_lower_item.specs.Lower.{stored_trait}
 use Rattle.hir_steps.specs.Keeps.{Paired}
-use Rattle.hir_one_result.proofs.NoteRooms.{KeepsParams, naming_keeps}
+use Rattle.hir_steps.proofs.Noted.{KeepsParams, naming_keeps}
 use Rattle.hir_item_result.specs.Parts as part
 use Rattle.hir_item_result.specs.Parts.{Part}
 

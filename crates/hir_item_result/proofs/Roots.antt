@@ -20,7 +20,7 @@ use Rattle.hir_lower_form.specs.Lower.{lower_bound, lower_constant, lower_path, 
 use Rattle.hir_lower_item.specs.Lower.{stored_trait}
 use Rattle.hir_steps.specs.Keeps.{KeepsAll, Paired}
 use Rattle.hir_steps.proofs.Calls.{only_report}
-use Rattle.hir_one_result.specs.PathRoom.{whole_read}
+use Rattle.hir_steps.specs.PathSeen.{whole_read}
 use Rattle.hir_one_result.specs.Room.{bound_size, constant_size, type_size}
 use Rattle.hir_one_result.specs.Size.{a_type, if_so}
 use Rattle.hir_type_result.specs.Roots.{RootsAre, lengths_of, no_lengths}

@@ -6,7 +6,7 @@ use Rattle.hir_store.specs.declared.generics.TypeOrConstParamData.{TypeOrConstPa
 use Rattle.hir_store.specs.declared.path.Path.{Path as HirPath}
 use Rattle.hir_store.specs.declared.type_ref.TypeRef.{TypeRef}
 use Rattle.hir_env.specs.Answered as tree
-use Rattle.hir_env.specs.Answered.{Constant, OptionPath, Type_}
+use Rattle.hir_env.specs.Answered.{Constant, OptionPath}
 use Rattle.hir_data.specs.Data.{TypeData, typed}
 use Rattle.hir_data.specs.Rule.{PathRead}
 use Rattle.hir_data.specs.Written.{path_of, shape_of_path}
@@ -17,19 +17,17 @@ use Rattle.hir_lower_form.specs.Lower.{lower_constant, lower_path}
 use Rattle.hir_lower_item.specs.Lower.{stored_trait}
 use Rattle.hir_steps.specs.Keeps.{Paired}
 use Rattle.hir_steps.proofs.Aside.{aside_type}
-use Rattle.hir_read_back.proofs.Tree.{path_reads}
 use Rattle.hir_one_result.proofs.Telling.{Listing, tells_aside, tells_pure}
-use Rattle.hir_one_result.proofs.PathRooms.{option_seen}
+use Rattle.hir_steps.proofs.PathAnswers.{option_seen}
 use Rattle.hir_told.specs.Expanded.{expansions}
-use Rattle.hir_one_result.specs.Grades.{grade_constant}
-use Rattle.hir_one_result.specs.Grading.{Grading, if_so}
+use Rattle.hir_steps.specs.Grades.{grade_constant}
+use Rattle.hir_steps.specs.Grading.{Grading, if_so}
 use Rattle.hir_one_result.specs.Lists.{blocks, faults}
 use Rattle.hir_told.proofs.AsExpansions.{expansions_graded}
 use Rattle.hir_one_result.proofs.AsTelling.{behind, entered, reported, tells_graded}
-use Rattle.hir_one_result.proofs.Graded.{Graded, next}
-use Rattle.hir_one_result.proofs.ReadingBack.{PathFound}
-use Rattle.hir_one_result.proofs.GradedTree.{bound_graded, expr_part_graded, path_graded, type_graded}
-use Rattle.hir_one_result.proofs.GradedTypes as forms
+use Rattle.hir_steps.proofs.Graded.{Graded, next}
+use Rattle.hir_steps.proofs.GradedTree.{bound_graded, expr_part_graded, path_graded, type_graded}
+use Rattle.hir_steps.proofs.GradedTypes as forms
 use Rattle.hir_item_result.specs.Parts as part
 use Rattle.hir_item_result.specs.Parts.{Part}
 use Rattle.hir_item_result.specs.Told.{grade_item, grade_item_part}
@@ -54,7 +52,7 @@ module _ {ℓ} {S : Grading {ℓ}} (L : Graded S) where
   pub constant_graded : (c : Constant) → L.Claim (grade_constant S c) (lower_constant c)
   constant_graded (tree.constant e) = L.constant_is e (expr_part_graded L e)
 
-  stored_graded : (y : Option PathRead) (at : Pointer) (p : Option HirPath) → L.Where (λ final m t. PathFound y p final m)
+  stored_graded : (y : Option PathRead) (at : Pointer) (p : Option HirPath) → L.Where (λ final m t. L.reads.PathFound y p final m)
       (if_so S (is_some (option_seen p)) (S.type_as (typed (Some at) (shape_of_path y)))) (stored_trait at p)
   stored_graded y at None = L.where_any (L.pure_is None)
   stored_graded y at (Some p) = L.where_end (forms.type_of_path L y at p) (λ i. L.pure_is _)
@@ -63,8 +61,8 @@ module _ {ℓ} {S : Grading {ℓ}} (L : Graded S) where
       → L.Claim (grade_item_part S (part.trait_read at p)) (lower_path p >>= stored_trait at)
   trait_graded at p =
       let y = path_of p in
-      forms.claim_of_path L y (λ z. if_so S (is_some z) (S.type_as (typed (Some at) (shape_of_path y)))) (path_graded L p) (path_reads p)
-      (λ o. stored_graded y at o)
+      forms.claim_of_path L y (λ z. if_so S (is_some z) (S.type_as (typed (Some at) (shape_of_path y)))) (path_graded L p)
+      (L.reads.path_reads p) (λ o. stored_graded y at o)
 
   -- in front of others
   beside : {B : Type 0} {ys : List Part} (f : Notes → Notes) → Beside f → {k : Unit {0} → Lowering B}

@@ -27,18 +27,18 @@ use Rattle.hir_noted.proofs.Steps.{notes_report, notes_type}
 use Rattle.hir_noted.proofs.Tree.{bound_noted, constant_noted, one_type_noted, whole_noted}
 use Rattle.hir_noted.proofs.TypeForms.{lifetime_notes}
 use Rattle.hir_one_result.specs.Laws.{Grown}
-use Rattle.hir_one_result.specs.PathRoom.{Seen, whole_read}
+use Rattle.hir_steps.specs.PathSeen.{Seen, whole_read}
 use Rattle.hir_one_result.specs.Room.{Short, bound_size, constant_size}
 use Rattle.hir_one_result.specs.Size.{Size, a_param, a_type, if_so, nothing, ◌∪◌}
 use Rattle.hir_one_result.proofs.ClosureRooms.{takes_owned}
-use Rattle.hir_one_result.proofs.LastTree.{part_last}
 use Rattle.hir_one_result.proofs.NoteRooms.{takes_add_param, takes_note_down}
-use Rattle.hir_one_result.proofs.PathRooms.{GivesPath, lifetime_takes, option_seen, path_bound_takes, uses_take}
+use Rattle.hir_steps.proofs.PathAnswers.{GivesPath, option_seen}
+use Rattle.hir_one_result.proofs.PathRooms.{lifetime_takes, path_bound_takes, uses_take}
 use Rattle.hir_one_result.proofs.Rooms.{Takes, takes_end, takes_lifetime, takes_pure, takes_report, takes_type}
 use Rattle.hir_one_result.proofs.Tellings.{Tells, anything, takes_of, tells_any, tells_then}
 use Rattle.hir_one_result.proofs.Took.{Room, Took, may_be_owned, none_before, short_as, short_first, short_then, took_as, took_none}
 use Rattle.hir_one_result.proofs.Took.{took_then}
-use Rattle.hir_one_result.proofs.TreeRooms.{part_takes, path_tells, type_takes}
+use Rattle.hir_one_result.proofs.TreeRooms.{part_last, part_takes, path_tells, type_takes}
 use Rattle.hir_item_result.specs.Exceeding.{Exceeds}
 use Rattle.hir_item_result.specs.Fits.{FitsTo, ItemFits, ItemsFit, Refused, RefusedItems}
 use Rattle.hir_item_result.specs.Items.{OfItems}

@@ -1,7 +1,7 @@
 -- How much is stored where parts of an item are read, and how much there is no room for.
 use Rattle.std.specs.Prelude.{ℕ, ◌+◌, ◌<◌, ◌≤◌, ◌^◌, ◌⊎◌, List, [], ◌∷◌, length, Some, None, is_some}
 use Rattle.hir_lower_form.specs.Builder.{Builder}
-use Rattle.hir_one_result.specs.PathRoom.{whole_read}
+use Rattle.hir_steps.specs.PathSeen.{whole_read}
 use Rattle.hir_one_result.specs.Room.{Short, bound_size, constant_size, type_size, whole_size}
 use Rattle.hir_one_result.specs.Size.{Size, a_lifetime, a_param, a_type, if_so, nothing, ◌∪◌}
 use Rattle.hir_item_result.specs.Exceeding.{Exceeds, FitsIn}

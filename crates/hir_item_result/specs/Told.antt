@@ -6,12 +6,12 @@ use Rattle.hir_store.specs.Stored.{Store, SourceMap}
 use Rattle.hir_env.specs.Answered as tree
 use Rattle.hir_data.specs.Data.{typed}
 use Rattle.hir_data.specs.Written.{lifetime_data, type_data}
-use Rattle.hir_one_result.specs.PathRoom.{whole_read}
+use Rattle.hir_steps.specs.PathSeen.{whole_read}
 use Rattle.hir_one_result.specs.Leads.{Ways, No, ◌&◌}
 use Rattle.hir_one_result.specs.Stands.{BoundWays, Open, TypePartWays, WholeWays}
 use Rattle.hir_one_result.specs.StandsWhole.{ConstantWays}
-use Rattle.hir_one_result.specs.Grades.{grade_bound, grade_constant, grade_type, grade_whole}
-use Rattle.hir_one_result.specs.Grading.{Grading, if_so}
+use Rattle.hir_steps.specs.Grades.{grade_bound, grade_constant, grade_type, grade_whole}
+use Rattle.hir_steps.specs.Grading.{Grading, if_so}
 use Rattle.hir_item_result.specs.Parts as part
 use Rattle.hir_item_result.specs.Parts.{Part}
 

@@ -26,8 +26,8 @@ use Rattle.hir_steps.specs.Keeps.{IsOneOf, name_alone}
 use Rattle.hir_steps.proofs.Always.{correct_always}
 use Rattle.hir_steps.proofs.Apart.{Apart, ApartIn, Once, Times, apart_of, apart_same, apart_trans, binding_apart, more_of}
 use Rattle.hir_steps.proofs.Apart.{pure_apart, report_apart, sum, then_apart, times}
-use Rattle.hir_steps.proofs.ApartForms.{some_apart}
-use Rattle.hir_steps.proofs.ApartPats.{missing_pat_apart}
+use Rattle.hir_steps.proofs.AsApart.{apart_graded}
+use Rattle.hir_steps.proofs.GradedPats.{missing_pat_graded}
 use Rattle.hir_steps.proofs.ApartPreludes.{NewNames, bound_twice, coroutine_names, coroutine_times, handed_hand_out, let_params_add}
 use Rattle.hir_steps.proofs.ApartPreludes.{names_of, rebound_apart, times_handed}
 use Rattle.hir_steps.proofs.ApartTree.{part_apart, top_apart}
@@ -44,12 +44,12 @@ use Rattle.hir_one_result.proofs.Formals.{HasSelf, self_known}
 self_apart : (s : SelfFormal) → Correct (lower_self s) Apart
 self_apart tree.no_self = pure_apart None
 self_apart (tree.disabled_self at by) = then_apart (report_apart _) (λ u. pure_apart None)
-self_apart (tree.self_formal at u w) = some_apart (binding_apart (new_binding u) w)
+self_apart (tree.self_formal at u w) = then_apart (binding_apart (new_binding u) w) (λ a. pure_apart (Some a))
 
 formal_apart : (skipped : Bool) (f : Formal) → Correct (lower_formal skipped f) Apart
 formal_apart skipped (tree.disabled_formal at by) = then_apart (report_apart _) (λ u. pure_apart None)
-formal_apart true (tree.formal p) = some_apart missing_pat_apart
-formal_apart false (tree.formal p) = some_apart (top_apart p)
+formal_apart true (tree.formal p) = then_apart (missing_pat_graded apart_graded) (λ a. pure_apart (Some a))
+formal_apart false (tree.formal p) = then_apart (top_apart p) (λ a. pure_apart (Some a))
 
 each_apart : (skipped : Bool) (done : List PatId) (fs : List Formal) → Correct (each_formal skipped done fs) Apart
 each_apart skipped done [] = pure_apart done

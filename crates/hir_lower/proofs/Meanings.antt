@@ -35,7 +35,6 @@ use Rattle.hir_one_result.specs.Diagnostics.{forget}
 use Rattle.hir_one_result.specs.Leads.{OwnedBy}
 use Rattle.hir_one_result.specs.Stands.{StandsPart}
 use Rattle.hir_one_result.proofs.Last.{EndsWith}
-use Rattle.hir_one_result.proofs.LastTree.{part_last}
 use Rattle.hir_one_result.proofs.Owners.{last_owns}
 use Rattle.hir_one_result.proofs.AllStand.{all_stand, part_shown}
 use Rattle.hir_one_result.proofs.Leading.{Shown}
@@ -44,7 +43,8 @@ use Rattle.hir_one_result.proofs.TreeFaults.{diagnostics_are}
 use Rattle.hir_one_result.proofs.TreeBlocks.{blocks_are}
 use Rattle.hir_one_result.proofs.Fits.{all_fit}
 use Rattle.hir_one_result.proofs.Took.{Room, Took}
-use Rattle.hir_one_result.proofs.TreeRooms.{part_takes}
+use Rattle.hir_one_result.proofs.TreeRooms.{part_last, part_takes}
+use Rattle.hir_told.specs.LeadsOn.{Went}
 use Rattle.hir_told.proofs.AsExpansions.{exprs_expand}
 use Rattle.hir_told.proofs.AsStoredData.{exprs_store}
 use Rattle.hir_type_result.proofs.Inside.{expr_inside}
@@ -55,9 +55,10 @@ use Rattle.hir_lower.specs.Calls.{Outside}
 use Rattle.hir_lower.specs.Roots.{root_of}
 use Rattle.hir_lower.specs.Stays.{Stays}
 use Rattle.hir_lower.proofs.Behind.{closed, rooted}
-use Rattle.hir_lower.proofs.OwnedWays.{went_owned}
-use Rattle.hir_lower.proofs.Onward.{Went, went}
-use Rattle.hir_lower.proofs.TreeWays.{part_leads}
+use Rattle.hir_told.proofs.AsWays.{part_leads}
+use Rattle.hir_told.proofs.Onward.{went}
+use Rattle.hir_told.proofs.OwnedWays.{went_owned}
+use Rattle.hir_lower.proofs.StaysOn.{stays_on}
 use Rattle.hir_lower.specs.Means.{Lives, Rooted}
 
 -- owned from this binding on by the root, which is recorded
@@ -114,17 +115,7 @@ root_stays e b m =
     let c = (lower_part e (closed b)).1 in
     let ways : Went b.stored (go_on o c (recorded (first b))).1.stored = recorded_went b o c (went (part_leads e) (closed b)) in
     rw (root_steps e b)
-    (record {
-      extends = recorded_stays b o c (keeping e (closed b));
-      bindings = ways.bindings;
-      owners = (ways.owners m).0;
-      exprs = ways.exprs.ways;
-      labels = ways.labels.ways;
-      pats = ways.pats.ways;
-      types = ways.types.ways;
-      targets = ways.targets;
-      lifetimes = ways.lifetimes.ways;
-    })
+    (stays_on (recorded_stays b o c (keeping e (closed b))) ways m)
 
 pub stays_unless : (e : OptionExpr) (b b' : Builder) (r : Checked ExprId) → Lowers HasExpr (root_of e) b r b' → MayBeOwned b.stored
     → r ≢ Err Memory → Stays b.stored b'.stored

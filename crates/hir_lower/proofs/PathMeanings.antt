@@ -33,6 +33,7 @@ use Rattle.hir_one_result.proofs.TreeBlocks.{whole_enters}
 use Rattle.hir_one_result.proofs.TreeFaults.{whole_reports}
 use Rattle.hir_one_result.proofs.TreeRooms.{path_tells}
 use Rattle.hir_one_result.proofs.TreeStands.{whole_left}
+use Rattle.hir_told.specs.LeadsOn.{Went}
 use Rattle.hir_told.proofs.AsExpansions.{paths_expand}
 use Rattle.hir_told.proofs.AsStoredData.{paths_store}
 use Rattle.hir_type_result.specs.Roots.{RootsOf, recorded}
@@ -48,8 +49,9 @@ use Rattle.hir_lower.specs.Calls.{Outside, refusal}
 use Rattle.hir_lower.specs.Means.{BearsNames, ConstantsLive, PathRooted, ReadsBack, whole_path}
 use Rattle.hir_lower.specs.Stays.{Stays}
 use Rattle.hir_lower.proofs.BesideTraits.{beside_law}
-use Rattle.hir_lower.proofs.Onward.{Went, went}
-use Rattle.hir_lower.proofs.TreeWays.{option_path_leads}
+use Rattle.hir_told.proofs.AsWays.{path_leads}
+use Rattle.hir_told.proofs.Onward.{went}
+use Rattle.hir_lower.proofs.StaysOn.{stays_on}
 
 extends_of : (b : Builder) (o : Checked (Option Path)) (c : Builder) → Keeps b o c → Extends b.stored c.stored
 extends_of b (Ok x) c h = h.stays
@@ -91,22 +93,12 @@ module _ (at : Spot) (x : AstPath) (b b' : Builder) where
   none_around none = subst (λ rs. Around [] rs) (sym none) refl
 
   path_went : Went b.stored (lower_path (whole_path at x) b).1.stored
-  path_went = went (option_path_leads (whole_path at x)) b
+  path_went = went (path_leads (whole_path at x)) b
 
   path_stays : MayBeOwned b.stored → Stays b.stored (lower_path (whole_path at x) b).1.stored
   path_stays m =
       let o = lower_path (whole_path at x) b in
-      let ways = path_went in record {
-        extends = extends_of b o.0 o.1 (paths_keep (whole_path at x) b);
-        bindings = ways.bindings;
-        owners = (ways.owners m).0;
-        exprs = ways.exprs.ways;
-        labels = ways.labels.ways;
-        pats = ways.pats.ways;
-        types = ways.types.ways;
-        targets = ways.targets;
-        lifetimes = ways.lifetimes.ways;
-      }
+      stays_on (extends_of b o.0 o.1 (paths_keep (whole_path at x) b)) path_went m
 
   constants_live : (later : Stored) → b.scopes ≡ [] → MayBeOwned b.stored → Settled b.stored b'.stored
       → Shown (WholeWays (store_of later) (map_of later) b.scopes (whole_path at x)) b.stored b'.stored

@@ -37,7 +37,7 @@ use Rattle.hir_lower.specs.Calls.{Outside}
 use Rattle.hir_lower.specs.Data.{data_in_type}
 use Rattle.hir_lower.specs.Means.{AddsType, NoRoomForType, RoomForType, expanded_in_type, whole_type}
 use Rattle.hir_lower.specs.Roots.{AnswersFromNothing, RefusedAtEnd}
-use Rattle.hir_lower.proofs.Onward.{made}
+use Rattle.hir_told.proofs.Onward.{made}
 
 -- what the step does
 abbrev after : Bool → Builder → TypeRef → Pointer → Checked TypeRefId × Builder

@@ -4,7 +4,7 @@ use Rattle.std.specs.Prelude.{Bool, Option}
 use Rattle.hir_store.specs.declared.hir.CoroutineKind.{CoroutineKind}
 use Rattle.hir_env.specs.Answered.{Formals, OptionExpr, OptionPath, OptionType}
 use Rattle.hir_one_result.specs.Bodies.{grade_body}
-use Rattle.hir_one_result.specs.Grades.{grade_expr_part, grade_part, grade_whole}
+use Rattle.hir_steps.specs.Grades.{grade_expr_part, grade_part, grade_whole}
 use Rattle.hir_told.specs.StoredData.{StoredData, bodies_stored, stored_data}
 
 abbrev pub data_in : OptionExpr → StoredData

@@ -59,7 +59,7 @@ use Rattle.hir_one_result.specs.Stands.{StandsPart, WholeWays}
 use Rattle.hir_one_result.specs.Bodies.{grade_body}
 use Rattle.hir_told.specs.Expanded as told
 use Rattle.hir_told.specs.StoredData.{DataAdded}
-use Rattle.hir_one_result.specs.Grades.{grade_expr_part, grade_part, grade_whole}
+use Rattle.hir_steps.specs.Grades.{grade_expr_part, grade_part, grade_whole}
 use Rattle.hir_item_result.specs.Answers.{parameter_type}
 use Rattle.hir_lower.specs.declared.body.Param.{Param}
 use Rattle.hir_lower.specs.Data.{data_in, data_in_path}

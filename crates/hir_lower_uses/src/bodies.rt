@@ -19,28 +19,25 @@ pub fn lowered<E: LowerEnv>(
 ) -> Result<(Body, BodySourceMap), LowerError>
     ensures { IfOk result (λ r. InRange r.0.store r.1.store) }
 {
-    let owner = DefWithBodyId::FunctionId(FunctionId(0));
     let node = AstPtr {
         node: item.id,
         range: item.range,
     };
-    let params = item.params.as_ref();
     let body = match &item.body {
         Some(body) => Some(body.get()),
         None => None,
     };
-    let (is_async, is_gen) = (item.async_, item.gen_);
     lower_body(
         alloc,
         env,
-        owner,
+        DefWithBodyId::FunctionId(FunctionId(0)),
         node,
         HirFileId(0),
         ModuleId(0),
-        params,
+        item.params.as_ref(),
         body,
-        is_async,
-        is_gen,
+        item.async_,
+        item.gen_,
     )
 }
 

@@ -18,12 +18,12 @@ use Rattle.hir_data.specs.Patterns.{moved_by}
 use Rattle.hir_lower_form.specs.Lower.{lower_part}
 use Rattle.hir_lower_form.specs.Builder.{Builder}
 use Rattle.hir_lower_form.specs.Forms.{ExprSteps, StoredContents, paren_form, value_form, yield_form}
-use Rattle.hir_lower_form.specs.Lowering.{Checked, go_on, Lowering, ◌>>=◌, pure, close, count_out, made_number, note_yield}
+use Rattle.hir_lower_form.specs.Lowering.{Checked, Lowering, ◌>>=◌, pure, close, count_out, made_number, note_yield}
 use Rattle.hir_store.specs.declared.type_ref.TypeBound.{TypeBound}
 use Rattle.hir_env.specs.declared.place.ImplTrait.{ImplTrait}
 use Rattle.hir_env.specs.declared.place.ImplTrait.TheVariants as becomes
 use Rattle.hir_lower_form.specs.Lowering.{becoming}
-use Rattle.hir_one_result.specs.Grading.{grade_impl}
+use Rattle.hir_steps.specs.Grading.{grade_impl}
 use Rattle.hir_one_result.proofs.NoteRooms.{aliased_takes, becoming_takes, takes_noted}
 use Rattle.hir_lower_form.specs.Lowering.{open_label, open_try, point}
 use Rattle.hir_lower_form.specs.Made.{made_bind_form}
@@ -38,9 +38,12 @@ use Rattle.hir_one_result.proofs.DefRooms.{define_takes, inside_takes}
 use Rattle.hir_one_result.proofs.FunctionRooms.{coroutine_body_takes}
 use Rattle.hir_one_result.proofs.ClosureRooms.{closure_takes, coroutine_takes, takes_owned, takes_owning}
 use Rattle.hir_one_result.proofs.CoroutineRooms.{coroutine_closure_takes}
-use Rattle.hir_one_result.proofs.Last.{EndsWith, IsLast, coroutine_last, hands_pure, hands_then, last_alloc}
-use Rattle.hir_one_result.proofs.Last.{last_hands, last_made, last_then, owning_last, paren_last, quiet_close}
-use Rattle.hir_one_result.proofs.LastTree.{closure_last, coroutine_block_last, coroutine_closure_last}
+use Rattle.hir_one_result.proofs.Last.{IsLast, coroutine_last, in_exprs, last_alloc}
+use Rattle.hir_one_result.proofs.Last.{last_made, last_then, owning_last, paren_last, quiet_close}
+use Rattle.hir_one_result.proofs.LastStored.{LastPat, LastType, becoming_last, last_before, last_given, lastly, lastly_where}
+use Rattle.hir_one_result.proofs.LastStored.{made_pat_last, or_last, pat_last, in_pats, stays_define, stays_point_pat, stays_point_target}
+use Rattle.hir_one_result.proofs.LastStored.{stays_point_type, stored_last, in_types}
+use Rattle.hir_one_result.proofs.Last.{closure_last, coroutine_block_last, coroutine_closure_last}
 use Rattle.hir_one_result.proofs.MadeRooms.{made_bind_takes, takes_made, takes_number, takes_target, takes_try}
 use Rattle.hir_one_result.proofs.PatRooms.{settle_takes}
 use Rattle.hir_one_result.proofs.PathRooms.{counted_tells, counts_out}
@@ -56,9 +59,10 @@ use Rattle.hir_one_result.proofs.Tellings.{takes_of, tells_any, tells_then}
 use Rattle.hir_one_result.proofs.Took.{Room, Same, nothing_first}
 use Rattle.hir_one_result.specs.Sizes.{bodies_sized, sizes}
 use Rattle.hir_one_result.specs.Bodies.{grade_self}
-use Rattle.hir_one_result.proofs.Answering.{Answering, AnsweredTo}
+use Rattle.hir_steps.proofs.Answering.{Answering, AnsweredTo}
 use Rattle.hir_one_result.proofs.GradedBodies.{GradedBodies}
-use Rattle.hir_one_result.proofs.Graded.{Graded}
+use Rattle.hir_steps.proofs.Graded.{Graded}
+use Rattle.hir_steps.proofs.ReadBack.{Unknown, unread}
 
 pub given : {A : Type 0} {P : A → Type 0} {n : Size} {p : Lowering A} → Takes n p → Answering P p → known.Tells n P p
 given {A = A} {P = P} {n = n} {p = p} h t = record { tells = λ b d. by b (p b).0 (p b).1 (h.takes b d) (t.answers b) }
@@ -127,14 +131,6 @@ dots_take true (Some n) = place_takes true n (suc n) (add-one n)
 
 -- ---- the last expression
 
-pub last_where : {A : Type 0} {P : A → Type 0} {p : Lowering A} {f : A → ExprSteps} → Answering P p → ((a : A) → P a → IsLast (f a))
-    → IsLast (p >>= f)
-last_where {A = A} {P = P} {p = p} {f = f} t h = record { last = λ b. by (p b).0 (p b).1 (t.answers b) }
-  where
-    by : (o : Checked A) (c : Builder) → AnsweredTo P o → EndsWith (λ i. i) (go_on o c f).0 (go_on o c f).1
-    by (Ok a) c x = (h a x).last c
-    by (Err e) c x = tt
-
 pub pointed_last : (at : Pointer) {p : ExprSteps} → IsLast p → IsLast (p >>= (λ i. point at i >>= (λ _. pure i)))
 unfolding paren_form
 pointed_last at h = paren_last at h
@@ -145,7 +141,7 @@ loop_last l p k = last_then (open_label l) (λ n. last_then p (λ i. last_then c
 
 pub labelled_last : (l : Label) {f : LabelId → ExprSteps} → ((n : LabelId) → IsLast (f n))
     → IsLast (open_label l >>= (λ n. f n >>= (λ i. close >>= (λ _. pure i))))
-labelled_last l k = last_then (open_label l) (λ n. last_hands (k n) (λ i. hands_then quiet_close (λ u. hands_pure i refl)))
+labelled_last l k = last_then (open_label l) (λ n. last_before in_exprs (λ i. i) (λ i. refl) (k n) (λ i. quiet_close))
 
 try_last : (at : Pointer) (typed : Bool) (s : Lowering (Unit {0})) (p : Lowering StoredContents) {f : LabelId → StoredContents → ExprSteps}
     → ((n : LabelId) (r : StoredContents) → IsLast (f n r))
@@ -161,6 +157,12 @@ pub named_past_last : (mode : BindingAnnotation) {A : Type 0} (p : Lowering A) {
     → ((n : ℕ) (a : A) (q : PatId) → IsLast (f n a q))
     → IsLast (made_number >>= (λ n. p >>= (λ a. made_bind_form mode n >>= (λ q. f n a q))))
 named_past_last mode p k = last_then made_number (λ n. last_then p (λ a. last_then (made_bind_form mode n) (λ q. k n a q)))
+
+-- ---- the last pattern
+
+pub pats_take : {A B : Type 0} {P : A → Type 0} {pat_in : B → PatId} {n m : Size} {p : Lowering A} {f : A → Lowering B} → Takes n p
+    → Answering P p → ((a : A) → P a → Takes m (f a) × LastPat pat_in (f a)) → Takes (n ∪ m) (p >>= f) × LastPat pat_in (p >>= f)
+pats_take h t k = (takes_of (tells_then (given h t) (λ a x. tells_any (k a x).0)), lastly_where in_pats t (λ a x. (k a x).1))
 
 -- ---- a `yield`, and a `try`
 
@@ -189,10 +191,17 @@ rooms_graded = record {
   Claim = λ n p. Takes n p;
   Made = λ n p. Takes n p × IsLast p;
   Hands = λ t n p. Takes n p;
+  MadePat = λ n p. Takes n p × LastPat (λ i. i) p;
+  MadeType = λ t n p. Takes n p × LastType p;
+  HandsPat = λ t n p. Takes n p × LastPat (λ r. r.0) p;
   made_is = λ h. h.0;
+  pat_made_is = λ h. h.0;
+  type_made_is = λ is h. h.0;
   pure_is = λ a. takes_pure a;
   bind_is = λ h t k. takes_of (tells_then (given h t) (λ a x. tells_any (k a x)));
-  makes_is = λ h t k. (takes_of (tells_then (given h t) (λ a x. tells_any (k a x).0)), last_where t (λ a x. (k a x).1));
+  makes_is = λ h t k. (takes_of (tells_then (given h t) (λ a x. tells_any (k a x).0)), lastly_where in_exprs t (λ a x. (k a x).1));
+  makes_pat_is = λ h t k. pats_take h t k;
+  makes_type_is = λ h k. (takes_then h (λ a. (k a).0), lastly in_types _ (λ a. (k a).1));
   end_is = λ h k. takes_end h k;
   hands_pure_is = λ a t u e. takes_pure (a, u);
   hands_as_is = λ t u e h. h;
@@ -200,23 +209,33 @@ rooms_graded = record {
   beside_is = λ table h t k. takes_of (tells_then (given h t) (λ a x. tells_any (k a x)));
   hands_end_is = λ table h k. takes_end h k;
   beside_end_is = λ table h k. takes_end h k;
+  hands_pat_is = λ t h. h.0;
+  hands_makes_is = λ table h t k. pats_take h t k;
+  beside_makes_is = λ table h t k. pats_take h t k;
+  alone_is = λ t u e h. (takes_end h.0 (λ i. takes_pure (i, u)), last_given in_pats (λ i. (i, u)) (λ i. refl) h.1);
+  named_alone_is = λ b t u e h. (
+    takes_end h.0 (λ i. takes_end (takes_define b i) (λ v. takes_pure (i, u))),
+    last_before in_pats (λ i. (i, u)) (λ i. refl) h.1 (λ i. stays_define b i),
+  );
+  or_is = λ at ps t p first known later more whole. (whole, or_last at ps t p first.1);
   new_name_is = λ u is t with_it e. takes_end (takes_binding (new_binding u)) (λ b. takes_pure (b, with_it b));
   top_is = λ h. takes_end h (λ r. takes_end (settle_takes r.1) (λ u. takes_pure r.0));
   Where = λ C n p. Takes n p;
-  where_is = λ is h. h;
+  Known = Unknown;
+  reads = unread;
+  where_type = λ h. h.0;
   where_any = λ h. h;
   where_less = λ is h. h;
-  where_next = λ h k. takes_then h k;
   where_known = λ h t is k. takes_of (tells_then (given h t) (λ a x. tells_any (k a x)));
   where_first = λ h k. takes_then h k;
   where_end = λ h k. takes_end h k;
-  type_is = λ t at shape. takes_type t at;
+  type_is = λ t at shape. (takes_type t at, stored_last t at);
   lifetime_is = λ l at. takes_lifetime l at;
   noted_down_is = λ f k h. takes_noted f k h;
   aliased_is = λ alias h. aliased_takes alias h;
-  impl_is = λ at mode bounds shape. impls at mode bounds shape;
-  pat_is = λ p at. takes_pat p at;
-  made_pat_is = λ p at. takes_made_pat p at;
+  impl_is = λ at mode bounds shape. (impls at mode bounds shape, becoming_last at mode bounds);
+  pat_is = λ p at. (takes_pat p at, pat_last p at);
+  made_pat_is = λ p at. (takes_made_pat p at, made_pat_last p at);
   expr_is = λ e at. (takes_alloc e at, last_alloc e at);
   made_expr_is = λ e at. (takes_made e at, last_made e at);
   point_is = λ at h. (takes_end h.0 (λ i. takes_end (takes_point at i) (λ u. takes_pure i)), pointed_last at h.1);
@@ -228,10 +247,22 @@ rooms_graded = record {
   noted_is = λ c. takes_only (only_note c);
   told_is = λ c. takes_told c;
   gone_is = λ why. takes_gone why;
-  type_call_is = λ at l h. takes_called_type at l h;
-  pat_call_is = λ at l h. takes_of (tells_called at (λ i. i) l (tells_any h));
-  target_way_is = λ at l h. takes_pointed at l h;
-  hands_call_is = λ at t l h. takes_of (tells_called at (λ r. r.0) l (tells_any h));
+  type_call_is = λ at t h. (
+    takes_called_type at h.1 h.0,
+    last_before in_types (λ i. i) (λ i. refl) h.1 (λ i. stays_point_type at i),
+  );
+  pat_call_is = λ at h. (
+    takes_of (tells_called at (λ i. i) h.1 (tells_any h.0)),
+    last_before in_pats (λ i. i) (λ i. refl) h.1 (λ i. stays_point_pat at i),
+  );
+  target_way_is = λ at h. (
+    takes_pointed at h.1 h.0,
+    last_before in_pats (λ i. i) (λ i. refl) h.1 (λ i. stays_point_target at i),
+  );
+  hands_call_is = λ at t h. (
+    takes_of (tells_called at (λ r. r.0) h.1 (tells_any h.0)),
+    last_before in_pats (λ r. r) (λ r. refl) h.1 (λ r. stays_point_pat at r.0),
+  );
   super_is = λ w. takes_of (counted_tells w);
   dots_is = λ comma place. dots_take comma place;
   def_is = λ k d. define_takes k d;

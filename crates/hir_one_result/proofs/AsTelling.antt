@@ -30,7 +30,7 @@ use Rattle.hir_store.specs.declared.type_ref.TypeBound.{TypeBound}
 use Rattle.hir_env.specs.declared.place.ImplTrait.{ImplTrait}
 use Rattle.hir_env.specs.declared.place.ImplTrait.TheVariants as becomes
 use Rattle.hir_lower_form.specs.Lowering.{becoming}
-use Rattle.hir_one_result.specs.Grading.{grade_impl}
+use Rattle.hir_steps.specs.Grading.{grade_impl}
 use Rattle.hir_steps.proofs.Noted.{correct_aliased, correct_becoming, correct_noted}
 use Rattle.hir_one_result.proofs.AfterLowering.{after_lowering}
 use Rattle.hir_one_result.proofs.Around.{block_is_rib, in_loop, loop_is_rib, try_is_rib}
@@ -44,10 +44,11 @@ use Rattle.hir_one_result.proofs.Telling.{Added, Listing, Tells, added_none, add
 use Rattle.hir_one_result.proofs.Telling.{owning_tells, rooted_tells, tells_alloc, tells_aside, tells_bind, tells_end, tells_enter_block}
 use Rattle.hir_one_result.proofs.Telling.{tells_point, tells_point_field, tells_pure, tells_report, tells_target}
 use Rattle.hir_one_result.specs.Lists.{bodies_listed, listed}
-use Rattle.hir_one_result.proofs.Answering.{Answering}
+use Rattle.hir_steps.proofs.Answering.{Answering}
 use Rattle.hir_one_result.proofs.GradedBodies.{GradedBodies}
-use Rattle.hir_one_result.proofs.CorrectWhere.{correct_where, correct_with}
-use Rattle.hir_one_result.proofs.Graded.{Graded}
+use Rattle.hir_steps.proofs.CorrectWhere.{correct_where, correct_with}
+use Rattle.hir_steps.proofs.Graded.{Graded}
+use Rattle.hir_steps.proofs.ReadBack.{Unknown, unread}
 
 module _ {X : Type 0} (L : Listing X) where
   pub tells_where : {A B : Type 0} {P : A → Type 0} {D E : List Scope → List X} {p : Lowering A} {f : A → Lowering B}
@@ -124,10 +125,17 @@ module _ {X : Type 0} (L : Listing X) where
     Claim = λ D p. Correct p (Tells L D);
     Made = λ D p. Correct p (Tells L D);
     Hands = λ t D p. Correct p (Tells L D);
+    MadePat = λ D p. Correct p (Tells L D);
+    MadeType = λ t D p. Correct p (Tells L D);
+    HandsPat = λ t D p. Correct p (Tells L D);
     made_is = λ h. h;
+    pat_made_is = λ h. h;
+    type_made_is = λ is h. h;
     pure_is = λ a. tells_pure L a;
     bind_is = λ h t k. tells_where h t k;
     makes_is = λ h t k. tells_where h t k;
+    makes_pat_is = λ h t k. tells_where h t k;
+    makes_type_is = λ h k. tells_bind L h k;
     end_is = λ h k. tells_end L h k;
     hands_pure_is = λ a t u e. tells_pure L (a, u);
     hands_as_is = λ t u e h. h;
@@ -135,13 +143,20 @@ module _ {X : Type 0} (L : Listing X) where
     beside_is = λ table h t k. tells_where h t k;
     hands_end_is = λ table h k. tells_end L h k;
     beside_end_is = λ table h k. tells_end L h k;
+    hands_pat_is = λ t h. h;
+    hands_makes_is = λ table h t k. tells_where h t k;
+    beside_makes_is = λ table h t k. tells_where h t k;
+    alone_is = λ t u e h. tells_end L h (λ i. tells_pure L (i, u));
+    named_alone_is = λ b t u e h. tells_end L h (λ i. tells_end L (tells_define L b i) (λ v. tells_pure L (i, u)));
+    or_is = λ at ps t p first known later more whole. whole;
     new_name_is = λ u is t with_it e. tells_end L (tells_binding L (new_binding u)) (λ b. tells_pure L (b, with_it b));
     top_is = λ h. tells_end L h (λ r. tells_end L (settle_tells L r.1) (λ u. tells_pure L r.0));
     Where = λ C D p. Correct p (Tells L D);
-    where_is = λ is h. h;
+    Known = Unknown;
+    reads = unread;
+    where_type = λ h. h;
     where_any = λ h. h;
     where_less = λ is h. h;
-    where_next = λ h k. tells_bind L h k;
     where_known = λ h t is k. tells_where h t k;
     where_first = λ h k. tells_bind L h k;
     where_end = λ h k. tells_end L h k;
@@ -163,10 +178,10 @@ module _ {X : Type 0} (L : Listing X) where
     noted_is = λ c. note_tells L c;
     told_is = λ c. told_tells L c;
     gone_is = λ why. gone_tells L why;
-    type_call_is = λ at l h. tells_bind L h (λ i. tells_end L (tells_point_type L at i) (λ u. tells_pure L i));
-    pat_call_is = λ at l h. tells_bind L h (λ i. tells_end L (tells_point_pat L at i) (λ u. tells_pure L i));
-    target_way_is = λ at l h. tells_bind L h (λ i. tells_end L (tells_point_target L at i) (λ u. tells_pure L i));
-    hands_call_is = λ at t l h. tells_bind L h (λ r. tells_end L (tells_point_pat L at r.0) (λ u. tells_pure L r));
+    type_call_is = λ at t h. tells_bind L h (λ i. tells_end L (tells_point_type L at i) (λ u. tells_pure L i));
+    pat_call_is = λ at h. tells_bind L h (λ i. tells_end L (tells_point_pat L at i) (λ u. tells_pure L i));
+    target_way_is = λ at h. tells_bind L h (λ i. tells_end L (tells_point_target L at i) (λ u. tells_pure L i));
+    hands_call_is = λ at t h. tells_bind L h (λ r. tells_end L (tells_point_pat L at r.0) (λ u. tells_pure L r));
     super_is = λ w. tells_aside L (counted_aside (super_read w));
     dots_is = λ comma place. dots_tell comma place;
     def_is = λ k d. define_tells L k d;

@@ -25,14 +25,14 @@ use Rattle.hir_data.specs.Written.{written_path}
 use Rattle.hir_meaning.specs.Left.{gives_value, is_left}
 use Rattle.hir_scope.specs.Scopes.{Scope, barrier, block_scope, loop_scope, macro_scope, try_scope}
 use Rattle.hir_one_result.specs.Blocks as now
-use Rattle.hir_one_result.specs.PatRoom.{names_after, names_after_each, names_after_field, names_after_part}
-use Rattle.hir_one_result.specs.PathRoom.{Read, Seen, at_first, ended, goes_on, nothing_seen, own_read, refused, segments_read, whole_read}
-use Rattle.hir_one_result.specs.PathRoom.{yields}
-use Rattle.hir_one_result.specs.Grades as g
-use Rattle.hir_one_result.specs.Grading as p
+use Rattle.hir_steps.specs.PatNames.{names_after, names_after_each, names_after_field, names_after_part}
+use Rattle.hir_steps.specs.PathSeen.{Read, Seen, at_first, ended, goes_on, nothing_seen, own_read, refused, segments_read, whole_read}
+use Rattle.hir_steps.specs.PathSeen.{yields}
+use Rattle.hir_steps.specs.Grades as g
+use Rattle.hir_steps.specs.Grading as p
 use Rattle.hir_one_result.specs.Lists.{blocks}
 use Rattle.hir_one_result.proofs.ConditionsAgree.{blocks_of_condition}
-use Rattle.hir_one_result.proofs.PathsAgree.{read_alike}
+use Rattle.hir_read_back.proofs.PathsAgree.{read_alike}
 
 -- ---- small parts
 

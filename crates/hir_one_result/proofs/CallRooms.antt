@@ -14,7 +14,7 @@ use Rattle.hir_lower_form.specs.Lowering.{Checked, go_on, Lowering, ◌>>=◌, p
 use Rattle.hir_steps.proofs.Calls.{only_gone, only_told, pointing_pat, pointing_type}
 use Rattle.hir_one_result.specs.Size.{Size, a_pat_call, a_type_call, nothing}
 use Rattle.hir_one_result.specs.Size.{◌∪◌}
-use Rattle.hir_one_result.proofs.LastStored.{EndsAt, LastPat, LastType, pats_in, types_in}
+use Rattle.hir_one_result.proofs.LastStored.{EndsAt, LastPat, LastType, in_pats, in_types}
 use Rattle.hir_one_result.proofs.Owners.{no_owners}
 use Rattle.hir_one_result.proofs.Rooms.{Takes, takes_only}
 use Rattle.hir_one_result.proofs.Tellings.{Tells, Told}
@@ -86,7 +86,7 @@ unfolding point_pat storing.point_pat
 tells_called at {A = A} pat_in {n = n} {P = P} {p = p} l h =
     record { tells = λ b d. by b (p b).0 (p b).1 (l.last b) (h.tells b d) }
   where
-    by : (b : Builder) (o : Checked A) (c : Builder) → EndsAt pats_in (λ a. (pat_in a).0) o c → Told n P b o c
+    by : (b : Builder) (o : Checked A) (c : Builder) → EndsAt in_pats pat_in o c → Told n P b o c
         → Told (n ∪ a_pat_call at) P b (go_on o c (λ r. point_pat at (pat_in r) >>= (λ v. pure r))).0
         (go_on o c (λ r. point_pat at (pat_in r) >>= (λ v. pure r))).1
     by b (Ok r) c e x = (took_then b c _ x.0 (pats_called c at (pat_in r) e), x.1)
@@ -97,7 +97,7 @@ pub takes_called_type : (at : Pointer) {n : Size} {p : Lowering TypeRefId} → L
 unfolding point_type storing.point_type
 takes_called_type at {n = n} {p = p} l h = record { takes = λ b d. by b (p b).0 (p b).1 (l.last b) (h.takes b d) }
   where
-    by : (b : Builder) (o : Checked TypeRefId) (c : Builder) → EndsAt types_in (λ i. i.0) o c → Room n b o c
+    by : (b : Builder) (o : Checked TypeRefId) (c : Builder) → EndsAt in_types (λ i. i) o c → Room n b o c
         → Room (n ∪ a_type_call at) b (go_on o c (λ r. point_type at r >>= (λ v. pure r))).0
         (go_on o c (λ r. point_type at r >>= (λ v. pure r))).1
     by b (Ok r) c e x = took_then b c _ x (types_called c at r e)

@@ -18,7 +18,7 @@ use Rattle.hir_meaning.specs.InnerWritten.{InnerBody}
 use Rattle.hir_one_result.specs.Size.{Size, a_body, an_expr, owned, ◌∪◌}
 use Rattle.hir_one_result.proofs.Knowing.{Known, TakesIf, takes_always, takes_any}
 use Rattle.hir_one_result.proofs.Last.{EndsWith, IsLast, Last, constant_last, coroutine_last}
-use Rattle.hir_one_result.proofs.LastTree.{closure_last, coroutine_block_last}
+use Rattle.hir_one_result.proofs.Last.{closure_last, coroutine_block_last}
 use Rattle.hir_one_result.proofs.Owners.{as_many_owned, last_owns}
 use Rattle.hir_one_result.proofs.Rooms.{Takes, takes_alloc, takes_barrier, takes_begin, takes_block, takes_close_barrier, takes_constant}
 use Rattle.hir_one_result.proofs.Rooms.{takes_end, takes_pure, takes_then}

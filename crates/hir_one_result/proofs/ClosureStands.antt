@@ -27,9 +27,8 @@ use Rattle.hir_lower_form.specs.Lowering.{Lowering, ◌>>=◌, ◌>>◌, owning,
 use Rattle.hir_lower_form.specs.Forms.{coroutine_around_form}
 use Rattle.hir_meaning.specs.Left.{is_left, gives_value}
 use Rattle.hir_read_back.proofs.ClosureKinds.{captures_as, kind_as}
-use Rattle.hir_read_back.proofs.YieldTree.{part_raises}
+use Rattle.hir_read_back.proofs.YieldTree.{params_raise, part_raises, present_type_raises}
 use Rattle.hir_steps.proofs.Frames.{ribs}
-use Rattle.hir_steps.proofs.StillTree.{params_still, present_type_still}
 use Rattle.hir_one_result.specs.Leads.{OneUnled, OneWay, OwnedBy, Ways, ◌&◌}
 use Rattle.hir_one_result.specs.Stands.{Open, StandsParams}
 use Rattle.hir_one_result.specs.StandsMade.{StandsClosure, StandsCoroutine, StandsParam, StoredParams}
@@ -136,7 +135,7 @@ pub closure_stands : (P : Stored → Open → StoredParams → Ways) {T : Of (Op
     (λ l. P final (barrier_rib ∷ rs) l) (λ y. T final (barrier_rib ∷ rs) y) (λ x. S final (barrier_rib ∷ rs) x) i)))
 closure_stands P at moves is_static xs t e hp ht he = owning_shows (λ i. i)
     (correct_as (correct_closure at moves is_static hp ht he) (λ final ps m m' i g row.
-    let noted = row.raised (params_still no_closure_params xs) (present_type_still t) (yields_in e) (part_raises e) in record {
+    let noted = row.raised (params_raise no_closure_params xs) (present_type_raises t) (yields_in e) (part_raises e) in record {
       shown = shown_as (shown_both row.in_params.shown (shown_both row.in_ret.shown (shown_both row.in_body.shown (own row.made))))
           (λ ws z. let x = z.first in
           let is = closure_as row.ret row.body x.1 x.2 (kind_as is_static e noted) (captures_as moves) in (

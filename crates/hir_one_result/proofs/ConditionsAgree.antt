@@ -4,7 +4,7 @@ use Rattle.std.proofs.lemmas.List.Sorted.{IsPermutation-trans, IsPermutation-app
 use Rattle.hir_store.specs.declared.ids.BlockId.{BlockId}
 use Rattle.hir_scope.specs.Scopes.{Scope}
 use Rattle.hir_one_result.specs.Diagnostics.{Faults}
-use Rattle.hir_one_result.specs.Grading.{condition}
+use Rattle.hir_steps.specs.Grading.{condition}
 use Rattle.hir_one_result.specs.Lists.{blocks, faults}
 
 pub blocks_of_condition : (lets : Bool) (D : List Scope → List BlockId) (ss : List Scope) {ns : List BlockId} → D ss ≡ ns

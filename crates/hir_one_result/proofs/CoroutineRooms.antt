@@ -21,7 +21,7 @@ use Rattle.hir_one_result.specs.Size.{Size, an_expr, owned, ◌∪◌}
 use Rattle.hir_one_result.proofs.ClosureRooms.{takes_owning}
 use Rattle.hir_one_result.proofs.Knowing.{Known, Lasting, Now, owning_now, takes_always, takes_any, takes_if_then, takes_now}
 use Rattle.hir_one_result.proofs.Last.{within_last}
-use Rattle.hir_one_result.proofs.LastTree.{coroutine_closure_last}
+use Rattle.hir_one_result.proofs.Last.{coroutine_closure_last}
 use Rattle.hir_one_result.proofs.PreludeRooms.{Froms, froms_last, hand_from, let_params_take, lower_handed_takes, made_coroutine_takes}
 use Rattle.hir_one_result.proofs.Rooms.{Takes, takes_alloc, takes_barrier, takes_begin, takes_close_barrier, takes_end, takes_pure}
 

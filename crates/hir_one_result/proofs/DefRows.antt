@@ -10,7 +10,8 @@ use Rattle.hir_env.specs.Answered.{Stmts}
 use Rattle.hir_scope.specs.Ribs.{macro_rib}
 use Rattle.hir_lower_form.specs.Forms.{StoredContents}
 use Rattle.hir_one_result.specs.Leads.{Way, Ways}
-use Rattle.hir_one_result.specs.Stands.{Open, StandsContents, StandsKept, statement_of}
+use Rattle.hir_one_result.specs.Stands.{Open, StandsContents, StandsKept}
+use Rattle.hir_steps.specs.Statements.{statement_of}
 use Rattle.hir_one_result.specs.WorkedDefinitions.{Definitions, stored_defs, written_defs}
 
 -- what a block has, where its one statement is this and nothing is its tail

@@ -16,7 +16,8 @@ use Rattle.hir_one_result.specs.Leads.{Way, Ways, ◌&◌}
 use Rattle.hir_one_result.specs.Stands.{Open}
 use Rattle.hir_one_result.proofs.Lasting.{Correct, correct_as, correct_bind, keeping, settled_as}
 use Rattle.hir_one_result.proofs.Leading.{Shown, shown_after, shown_as}
-use Rattle.hir_one_result.proofs.PatStanding.{Behind, push_append}
+use Rattle.hir_one_result.proofs.PatStanding.{Behind}
+use Rattle.hir_steps.proofs.Settled.{push_append}
 use Rattle.hir_one_result.proofs.Standing.{Facts, Of, Shows, moved_pure}
 
 pub define_facts : (k : ℕ) (d : Option MacroDefId) → Correct (define_form k d) (Facts (λ final x. x ≡ Some (defined d)))

@@ -10,7 +10,7 @@ use Rattle.hir_env.specs.Answered as tree
 use Rattle.hir_env.specs.Answered.{Pat, Pats}
 use Rattle.hir_data.specs.Patterns.{is_dots, uses_after, uses_after_each, uses_of, each_uses}
 use Rattle.hir_data.specs.Uses.{FirstUses}
-use Rattle.hir_read_back.proofs.PatParts.{IsDots, IsPart}
+use Rattle.hir_steps.proofs.TupleDots.{IsDots, IsPart}
 use Rattle.hir_lower_form.specs.Lower.{lower_pat, lower_elements}
 use Rattle.hir_lower_form.specs.Lowering.{Lowering, ◌>>=◌, pure, alloc_pat}
 use Rattle.hir_lower_form.specs.Pats as forms

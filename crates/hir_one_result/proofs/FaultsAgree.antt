@@ -25,15 +25,15 @@ use Rattle.hir_steps.specs.Calls.{called_faults}
 use Rattle.hir_one_result.specs.Blocks.{unless, where_goes_on, where_some}
 use Rattle.hir_one_result.specs.Diagnostics as now
 use Rattle.hir_one_result.specs.Diagnostics.{Faults, await_faults, spread_faults}
-use Rattle.hir_one_result.specs.PatRoom.{names_after, names_after_each, names_after_field, names_after_part}
-use Rattle.hir_one_result.specs.PathRoom.{Read, Seen, at_first, ended, goes_on, nothing_seen, own_read, refused, segments_read, whole_read}
-use Rattle.hir_one_result.specs.PathRoom.{yields}
-use Rattle.hir_one_result.specs.Grades as g
-use Rattle.hir_one_result.specs.Grading as p
+use Rattle.hir_steps.specs.PatNames.{names_after, names_after_each, names_after_field, names_after_part}
+use Rattle.hir_steps.specs.PathSeen.{Read, Seen, at_first, ended, goes_on, nothing_seen, own_read, refused, segments_read, whole_read}
+use Rattle.hir_steps.specs.PathSeen.{yields}
+use Rattle.hir_steps.specs.Grades as g
+use Rattle.hir_steps.specs.Grading as p
 use Rattle.hir_one_result.specs.Lists.{faults}
 use Rattle.hir_one_result.proofs.FaultLists.{Like, as_is, behind, behind_none, both, first, same, then_none, turned}
 use Rattle.hir_one_result.proofs.ConditionsAgree.{faults_of_condition, turned_two}
-use Rattle.hir_one_result.proofs.PathsAgree.{read_alike}
+use Rattle.hir_read_back.proofs.PathsAgree.{read_alike}
 
 -- ---- small parts
 

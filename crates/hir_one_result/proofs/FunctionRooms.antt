@@ -33,7 +33,8 @@ use Rattle.hir_one_result.proofs.CoroutineRooms.{Unknown, Written, written_lasts
 use Rattle.hir_one_result.proofs.Formals.{HasSelf, each_now, formals_read_as, self_known, self_lasts}
 use Rattle.hir_one_result.proofs.Knowing.{Now, TakesIf, owning_now, takes_always, takes_any, takes_if_end, takes_if_then}
 use Rattle.hir_one_result.proofs.Knowing.{takes_now}
-use Rattle.hir_one_result.proofs.Last.{Last, hands_pure, last_hands, last_then, made_coroutine_last}
+use Rattle.hir_one_result.proofs.Last.{Last, in_exprs, last_then, made_coroutine_last}
+use Rattle.hir_one_result.proofs.LastStored.{hands_pure, last_hands}
 use Rattle.hir_one_result.proofs.PreludeRooms.{Froms, froms_last, hand_from, let_params_take, lower_handed_takes, made_coroutine_takes}
 use Rattle.hir_one_result.proofs.PreludeRooms.{name_takes}
 use Rattle.hir_one_result.proofs.Rooms.{Takes, takes_begin, takes_binding, takes_define, takes_end, takes_pat, takes_pure, takes_then}
@@ -85,7 +86,7 @@ module _ (kind : CoroutineKind) (skipped : Bool) (self : Option BindingId) (fs :
   unfolding in_function
   in_function_last = last_then (each_formal skipped [] fs) (λ ps. last_then (lower_part e) (λ i. last_then (let_self self)
       (λ begun. last_then (let_params begun.1 ps)
-      (λ l. last_hands (made_coroutine_last kind source.Fn l.lets i) (λ c. hands_pure _ refl)))))
+      (λ l. last_hands in_exprs (made_coroutine_last kind source.Fn l.lets i) (λ c. hands_pure in_exprs _ refl)))))
 
   -- the parameters, once they are stored
   formals_known : Correct (each_formal skipped [] fs) (Now (λ ps. Written ps shapes))

@@ -7,10 +7,10 @@ use Rattle.hir_env.specs.Answered.{Formal, Formals, OptionExpr, SelfFormal}
 use Rattle.hir_lower_form.specs.Lower.{lower_part}
 use Rattle.hir_one_result.specs.Formals.{coroutine_body, each_formal, lower_body, lower_formal, lower_formals, lower_self, plain_body}
 use Rattle.hir_one_result.specs.Bodies.{GradingBodies, grade_body, grade_formal, grade_formals, grade_self}
-use Rattle.hir_one_result.specs.Grading.{Grading}
-use Rattle.hir_one_result.proofs.Graded.{Graded, next, map_is}
-use Rattle.hir_one_result.proofs.GradedPats.{missing_pat_graded}
-use Rattle.hir_one_result.proofs.GradedTree.{expr_part_graded, top_graded}
+use Rattle.hir_steps.specs.Grading.{Grading}
+use Rattle.hir_steps.proofs.Graded.{Graded, next, map_is}
+use Rattle.hir_steps.proofs.GradedPats.{missing_pat_graded}
+use Rattle.hir_steps.proofs.GradedTree.{expr_part_graded, top_graded}
 
 -- A property of functions that are coroutines, too. That made names stay apart is none: there some are of two bindings.
 pub record GradedBodies {ℓ} {S : Grading {ℓ}} (L : Graded S) (B : GradingBodies S) : Type (ℓ ⊔ 1) where
@@ -28,7 +28,7 @@ module _ {ℓ} {S : Grading {ℓ}} (L : Graded S) where
   formal_graded : (skipped : Bool) (f : Formal) → L.Claim (grade_formal S skipped f) (lower_formal skipped f)
   formal_graded false (tree.disabled_formal at by) = map_is L _ (L.fault_is _)
   formal_graded true (tree.disabled_formal at by) = map_is L _ (L.fault_is _)
-  formal_graded true (tree.formal p) = map_is L _ (missing_pat_graded L)
+  formal_graded true (tree.formal p) = map_is L _ (L.pat_made_is (missing_pat_graded L))
   formal_graded false (tree.formal p) = map_is L _ (top_graded L p)
 
   formals_graded : (skipped : Bool) (done : List PatId) (fs : List Formal)

@@ -28,7 +28,7 @@ use Rattle.hir_steps.proofs.Steps as steps
 use Rattle.hir_steps.proofs.Steps.{Mark}
 use Rattle.hir_one_result.specs.Laws.{Settled}
 use Rattle.hir_one_result.specs.Leads.{Way, Ways, No, ◌&◌}
-use Rattle.hir_one_result.specs.PatRoom.{is_known}
+use Rattle.hir_steps.specs.PatNames.{is_known}
 use Rattle.hir_one_result.specs.Stands.{Names, Open, PatIs, StandsName}
 use Rattle.hir_one_result.specs.StandsParts.{NewName}
 use Rattle.hir_one_result.proofs.Defining.{MakesNone}

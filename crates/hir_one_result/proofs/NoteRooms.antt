@@ -1,6 +1,6 @@
 -- What is noted takes no room but for parameters, of which there may be only so many.
 use Rattle.std.proofs.Common.{◌≡◌, refl, arith, ℕ, ◌+◌, ◌≤◌, nat_lt, length, length-append, Bool, true, false, [], ◌∷◌}
-use Rattle.std.proofs.Common.{List, Option, Some, None, inl, inr}
+use Rattle.std.proofs.Common.{List, Option, Some, None, inr}
 use Rattle.std.proofs.lemmas.Bool.{ltb-false}
 use Rattle.hir_store.specs.Pointers.{Pointer}
 use Rattle.hir_store.specs.Stored.{Stored}
@@ -8,17 +8,16 @@ use Rattle.hir_store.specs.declared.generics.TypeOrConstParamData.{TypeOrConstPa
 use Rattle.hir_store.specs.declared.path.GenericArgs.{GenericArgs}
 use Rattle.hir_store.specs.declared.path.Path.{Path as HirPath}
 use Rattle.hir_store.specs.declared.type_ref.LifetimeRef.{LifetimeRef}
-use Rattle.hir_store.specs.declared.type_ref.LifetimeRef.TheVariants as lifetime
 use Rattle.hir_store.specs.declared.type_ref.TypeBound.{TypeBound}
 use Rattle.hir_env.specs.declared.place.ImplTrait.{ImplTrait}
 use Rattle.hir_env.specs.declared.place.ImplTrait.TheVariants as becomes
-use Rattle.hir_env.specs.declared.place.LifetimeScope.{LifetimeScope}
 use Rattle.hir_lower_form.specs.declared.generics.Notes.{Notes}
 use Rattle.hir_lower_form.specs.Builder.{Builder}
-use Rattle.hir_lower_form.specs.Generics.{cut_args, naming}
-use Rattle.hir_lower_form.specs.Lowering.{Lowering, ◌>>=◌, ◌>>◌, pure, add_param, argument_form, becoming, count_out, input_end, note_down}
+use Rattle.hir_lower_form.specs.Generics.{cut_args}
+use Rattle.hir_lower_form.specs.Lowering.{Lowering, ◌>>◌, add_param, argument_form, becoming, count_out, input_end, note_down}
 use Rattle.hir_lower_form.specs.Lowering.{param_numbered, with_notes, with_stored}
 use Rattle.hir_lower_form.specs.Paths.{aliased, cut_back, cut_path, last_args}
+use Rattle.hir_steps.proofs.Noted.{KeepsParams}
 use Rattle.hir_one_result.specs.Size.{Size, nothing, a_param, an_impl}
 use Rattle.hir_one_result.proofs.Owners.{no_owners}
 use Rattle.hir_one_result.proofs.Rooms.{Takes, takes_begin, takes_end, takes_pure, takes_then, takes_type}
@@ -32,16 +31,6 @@ takes_with_notes h = record { takes = λ b d. (h b.notes).takes b d }
 pub takes_with_stored : {A : Type 0} {n : Size} {f : Stored → Lowering A} → ((s : Stored) → Takes n (f s)) → Takes n (with_stored f)
 unfolding with_stored
 takes_with_stored h = record { takes = λ b d. (h b.stored).takes b d }
-
--- there are as many parameters as before
-abbrev pub KeepsParams : (Notes → Notes) → Type 0
-KeepsParams f = (n : Notes) → length (f n).generics.type_or_consts ≡ length n.generics.type_or_consts
-
-pub naming_keeps : (s : LifetimeScope) (l : LifetimeRef) → KeepsParams (naming s l)
-naming_keeps s (lifetime.Named x) n = refl
-naming_keeps s lifetime.Static n = refl
-naming_keeps s lifetime.Placeholder n = refl
-naming_keeps s lifetime.Error n = refl
 
 args_keep : (mark : ℕ) (places : List Bool) (ls : List LifetimeRef) (a : Option GenericArgs) → KeepsParams (cut_args mark places ls a)
 args_keep mark places ls None n = refl

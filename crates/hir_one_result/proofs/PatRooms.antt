@@ -1,33 +1,10 @@
--- What is known of the names, the dots and the alternatives of patterns; that names are settled stores nothing.
-use Rattle.std.proofs.Common.{◌≡◌, refl, sym, ap, ℕ, suc, true, arith, List}
-use Rattle.std.proofs.Common.{[], ◌∷◌, Option, Some, None, true≢false}
+-- That names are settled stores nothing.
+use Rattle.std.proofs.Common.{ℕ, suc, List, [], ◌∷◌}
 use Rattle.hir_store.specs.declared.ids.BindingId.{BindingId}
-use Rattle.hir_env.specs.Answered as tree
-use Rattle.hir_env.specs.Answered.{Pat, Pats}
-use Rattle.hir_data.specs.Patterns.{is_dots}
-use Rattle.hir_data.specs.Uses.{FirstUses}
 use Rattle.hir_lower_form.specs.Pats as forms
-use Rattle.hir_lower_form.specs.Pats.{Key, Notes, key_of, Table, no_names}
-use Rattle.hir_one_result.specs.PatRoom.{names_after}
-use Rattle.hir_one_result.specs.Size.{nothing, dots_behind}
-use Rattle.hir_one_result.proofs.Rooms.{Takes, takes_end, takes_pure}
-use Rattle.hir_one_result.proofs.Rooms.{takes_problem}
-use Rattle.hir_read_back.proofs.PatParts as parts
-
--- ---- names
-
--- the names that have a binding are these, in the same order
-abbrev pub AreKeyed : FirstUses → List (Key × BindingId) → Type 0
-AreKeyed [] [] = Unit {0}
-AreKeyed (u ∷ us) (e ∷ es) = (e.0 ≡ key_of u) × AreKeyed us es
-AreKeyed [] (e ∷ es) = ⊥
-AreKeyed (u ∷ us) [] = ⊥
-
-pub record Keyed (us : FirstUses) (t : Table) : Type 0 where
-  pub each : AreKeyed us t.bindings
-
-pub none_keyed : Keyed [] no_names
-none_keyed = record { each = tt }
+use Rattle.hir_lower_form.specs.Pats.{Key, Notes, Table}
+use Rattle.hir_one_result.specs.Size.{nothing}
+use Rattle.hir_one_result.proofs.Rooms.{Takes, takes_end, takes_pure, takes_problem}
 
 settle_from_takes : (notes : Notes) (number : ℕ) (es : List (Key × BindingId)) → Takes nothing (forms.settle_from notes number es)
 settle_from_takes notes number [] = takes_pure tt
@@ -36,23 +13,3 @@ settle_from_takes notes number (e ∷ es) = takes_end (takes_problem _ _) (λ u.
 pub settle_takes : (t : Table) → Takes nothing (forms.settle t)
 unfolding forms.settle
 settle_takes t = settle_from_takes t.noted 0 t.bindings
-
--- ---- parts of tuples, and alternatives
-
--- two dots use no name
-pub dots_use_none : (p : Pat) → is_dots p ≡ true → (us : FirstUses) → names_after p us ≡ us
-dots_use_none (tree.leaf_pat at form) e us = refl
-dots_use_none p e us = absurd (true≢false (sym e))
-
--- the place of dots among parts behind none
-pub from_none : (d : Option ℕ) → parts.dots_behind 0 None d ≡ d
-from_none None = refl
-from_none (Some n) = ap Some (omega arith)
-
--- of so many alternatives as there are patterns
-abbrev pub AsMany : {A : Type 0} → Pats → List A → Type 0
-AsMany tree.no_pats [] = Unit {0}
-AsMany tree.no_pats (x ∷ xs) = ⊥
-AsMany (tree.more_pats p ps) [] = ⊥
-AsMany (tree.more_pats p ps) (x ∷ xs) = AsMany ps xs
-AsMany (tree.noted_pats called ps) xs = AsMany ps xs

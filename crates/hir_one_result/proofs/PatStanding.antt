@@ -1,6 +1,6 @@
 -- What the forms of patterns answer stands for what is written, of what their parts answer.
 use Rattle.std.proofs.Common.{◌≡◌, refl, sym, ap, subst, ℕ, Bool, true, false}
-use Rattle.std.proofs.Common.{List, [], ◌∷◌, ◌++◌, append_assoc, Option, Some, None, option_map, option_to_list}
+use Rattle.std.proofs.Common.{List, ◌∷◌, ◌++◌, Option, Some, None, option_map}
 use Rattle.std.proofs.Common.{unwrap_or, is_some, true≢false}
 use Rattle.std.proofs.lemmas.Option.{same_Some}
 use Rattle.hir_base.specs.declared.op.RangeOp.{RangeOp}
@@ -25,7 +25,7 @@ use Rattle.hir_data.specs.Rule.{PathRead, data_of}
 use Rattle.hir_data.specs.Uses.{FirstUses}
 use Rattle.hir_data.specs.Written.{path_of, written_path}
 use Rattle.hir_read_back.proofs.Now.{path_now}
-use Rattle.hir_lower_form.specs.Forms.{push_some, root_hygiene}
+use Rattle.hir_lower_form.specs.Forms.{root_hygiene}
 use Rattle.hir_lower_form.specs.Lower.{lower_path}
 use Rattle.hir_lower_form.specs.Lowering.{Lowering, ◌>>=◌, alloc_expr, alloc_pat}
 use Rattle.hir_lower_form.specs.Pats as forms
@@ -82,11 +82,6 @@ second_as z f = record { left = z.left; right = z.right; is = z.is; first = z.fi
 -- what came behind those that were there
 abbrev pub Behind : {A : Type 0} → List A → (List A → Ways) → List A → Ways
 Behind {A = A} done S is = λ ws. (new : List A) × (is ≡ done ++ new) × S new ws
-
-pub push_append : {A : Type 0} (done : List A) (x : Option A) (more : List A)
-    → push_some done x ++ more ≡ done ++ (option_to_list x ++ more)
-push_append done None more = refl
-push_append done (Some x) more = append_assoc done (x ∷ []) more
 
 -- ---- behind a path
 

@@ -2,11 +2,11 @@
 use Rattle.std.proofs.Common.{subst, Bool, true, false, List, Option, Some, None, is_some, option_map, ◌≡◌, refl, [], ◌∷◌, ◌⊎◌, inl, inr}
 use Rattle.hir_lower_form.specs.Walks as walks
 use Rattle.hir_lower_form.specs.Paths as steps
-use Rattle.hir_one_result.specs.PathRoom.{Seen, Read, at_first}
+use Rattle.hir_steps.specs.PathSeen.{Seen, Read, at_first}
 use Rattle.hir_one_result.proofs.Lasting.{Correct, correct_alloc, correct_alloc_lifetime, correct_alloc_pat, correct_alloc_type, correct_as}
 use Rattle.hir_one_result.proofs.Lasting.{correct_bind, correct_both, correct_constant, correct_count_out, correct_inner, correct_pure}
 use Rattle.hir_one_result.proofs.Tellings as known
-use Rattle.hir_one_result.proofs.PathRooms.{seen, seen_of, Gives, Yields}
+use Rattle.hir_steps.proofs.PathAnswers.{seen, seen_of, Gives, Yields}
 use Rattle.hir_one_result.proofs.Given.{with_given}
 use Rattle.hir_lower_form.specs.Lowering.{Lowering, ◌>>=◌, alloc_lifetime, alloc_pat, alloc_type, owning, pure}
 use Rattle.hir_lower_form.specs.Types.{array_type_form, lower_lifetime_option, path_bound_of, path_bound_form, binding_form, TypeSteps}

@@ -24,13 +24,13 @@ use Rattle.hir_meaning.specs.InnerWritten.{constant_body, limit_body}
 use Rattle.hir_meaning.specs.Left.{gives_value, is_kept, is_left}
 use Rattle.hir_one_result.specs.Bodies.{grade_body, grade_formals, grade_self}
 use Rattle.hir_one_result.specs.Formals.{formals_read}
-use Rattle.hir_one_result.specs.Grades as g
-use Rattle.hir_one_result.specs.Grading as p
+use Rattle.hir_steps.specs.Grades as g
+use Rattle.hir_steps.specs.Grading as p
 use Rattle.hir_one_result.specs.PatRoom as now
-use Rattle.hir_one_result.specs.PatRoom.{is_known, names_after, names_after_each, names_after_field, names_after_part}
+use Rattle.hir_steps.specs.PatNames.{is_known, names_after, names_after_each, names_after_field, names_after_part}
 use Rattle.hir_one_result.specs.PathRoom as walk
-use Rattle.hir_one_result.specs.PathRoom.{Read, Seen, at_first, ended, goes_on, nothing_seen, own_read, refused, segments_read, whole_read}
-use Rattle.hir_one_result.specs.PathRoom.{yields}
+use Rattle.hir_steps.specs.PathSeen.{Read, Seen, at_first, ended, goes_on, nothing_seen, own_read, refused, segments_read, whole_read}
+use Rattle.hir_steps.specs.PathSeen.{yields}
 use Rattle.hir_one_result.specs.PreludeRoom.{handed_size, prelude_size, self_let_size}
 use Rattle.hir_one_result.specs.Room as room
 use Rattle.hir_one_result.specs.Size as size

@@ -49,7 +49,7 @@ use Rattle.hir_steps.proofs.Frames.{Frame, loop_at, block_at, ribs}
 use Rattle.hir_steps.proofs.MadeSteps.{AllocatedMade}
 use Rattle.hir_steps.proofs.Steps.{Mark, Rel, Put, Allocated, AllocatedBy, OpenedBy, with_fault, with_target, with_jump, with_block}
 use Rattle.hir_steps.proofs.Steps.{with_await}
-use Rattle.hir_one_result.specs.Forms.{leaf_form, unary_form, binary_form, leaving_form, item_form, range_fields}
+use Rattle.hir_one_result.specs.Forms.{leaf_form, unary_form, binary_form, leaving_form, item_or_missing, range_fields}
 use Rattle.hir_one_result.specs.Leads.{Way, Ways, OneWay, OneUnled, OneLabelWay, OneFieldWay, OwnedBy, Overtaken, ◌&◌}
 use Rattle.hir_one_result.specs.Stands.{ReadsAs, StandsOverThree, StandsRecord, Open, Absent, There, ExprAt, LabelAt, StandsMissing}
 use Rattle.hir_one_result.specs.Stands.{StandsAlone, StandsPath, StandsLiteral, StandsOver, StandsOverTwo, StandsList, InLabel}
@@ -158,7 +158,7 @@ alone_stands e at =
     correct_as (correct_alloc e (Some at)) (λ final ps m m' i g row. record { shown = shown_as (own row) (λ ws x. (expr_at row, x)) })
 
 -- an item that isn't there is missing
-pub item_is : (item : Option LangItemId) → item_expr item ≡ item_form item
+pub item_is : (item : Option LangItemId) → item_expr item ≡ item_or_missing item
 item_is None = refl
 item_is (Some i) = refl
 

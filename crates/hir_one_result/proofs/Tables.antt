@@ -18,7 +18,7 @@ use Rattle.hir_read_back.proofs.Names.{AreFor}
 use Rattle.hir_lower_form.specs.Pats.{Key, same_key, key_of}
 use Rattle.hir_steps.proofs.Logic.{longer}
 use Rattle.hir_one_result.specs.Laws.{Settled}
-use Rattle.hir_one_result.specs.PatRoom.{is_known}
+use Rattle.hir_steps.specs.PatNames.{is_known}
 use Rattle.hir_one_result.proofs.Lasting.{bound, in_prefix, Unchanged}
 
 abbrev pub Entries : Type 0

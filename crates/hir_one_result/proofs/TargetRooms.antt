@@ -10,7 +10,7 @@ use Rattle.hir_lower_form.specs.Lowering.{Checked, go_on, Lowering, ◌>>=◌, p
 use Rattle.hir_steps.proofs.Calls.{pointing_target}
 use Rattle.hir_one_result.specs.Size.{Size, a_target_way, ◌∪◌}
 use Rattle.hir_one_result.proofs.CallRooms.{before_one}
-use Rattle.hir_one_result.proofs.LastStored.{EndsAt, LastPat, pats_in}
+use Rattle.hir_one_result.proofs.LastStored.{EndsAt, LastPat, in_pats}
 use Rattle.hir_one_result.proofs.Owners.{no_owners}
 use Rattle.hir_one_result.proofs.Rooms.{Takes}
 use Rattle.hir_one_result.proofs.Took.{Room, Took, grew_none, no_sources, short_first, still, took_then, unnamed}
@@ -47,7 +47,7 @@ pub takes_pointed : (at : Pointer) {n : Size} {p : Lowering PatId} → LastPat (
 unfolding point_target storing.point_target
 takes_pointed at {n = n} {p = p} l h = record { takes = λ b d. by b (p b).0 (p b).1 (l.last b) (h.takes b d) }
   where
-    by : (b : Builder) (o : Checked PatId) (c : Builder) → EndsAt pats_in (λ i. i.0) o c → Room n b o c
+    by : (b : Builder) (o : Checked PatId) (c : Builder) → EndsAt in_pats (λ i. i) o c → Room n b o c
         → Room (n ∪ a_target_way at) b (go_on o c (λ i. point_target at i >>= (λ v. pure i))).0
         (go_on o c (λ i. point_target at i >>= (λ v. pure i))).1
     by b (Ok i) c e x = took_then b c _ x (targets_pointed c at i e)

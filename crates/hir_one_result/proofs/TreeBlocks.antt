@@ -17,7 +17,7 @@ use Rattle.hir_one_result.proofs.Around.{scopes_around}
 use Rattle.hir_one_result.proofs.AsTelling.{behind, entered, tells_bodies, tells_graded}
 use Rattle.hir_one_result.proofs.BlocksAgree.{both, expr_part_is, part_is, top_is, whole_is}
 use Rattle.hir_one_result.proofs.GradedBodies.{body_graded}
-use Rattle.hir_one_result.proofs.GradedTree.{expr_part_graded, part_graded, path_graded}
+use Rattle.hir_steps.proofs.GradedTree.{expr_part_graded, part_graded, path_graded}
 use Rattle.hir_one_result.proofs.Telling.{Tells, tells_as}
 
 -- in whatever scopes

@@ -14,7 +14,7 @@ use Rattle.hir_one_result.specs.Bodies.{GradingBodies, grade_body, grade_formal,
 use Rattle.hir_one_result.specs.Diagnostics.{Faults, body_faults, each_formal_faults, formal_faults, part_diagnostics, self_faults}
 use Rattle.hir_one_result.specs.Diagnostics.{type_part_faults, whole_faults}
 use Rattle.hir_one_result.specs.Formals.{lower_body}
-use Rattle.hir_one_result.specs.Grades.{grade_expr_part}
+use Rattle.hir_steps.specs.Grades.{grade_expr_part}
 use Rattle.hir_one_result.specs.Laws.{DiagnosticsAre}
 use Rattle.hir_one_result.specs.Lists.{bodies_listed, faults}
 use Rattle.hir_one_result.proofs.AsTelling.{behind, no_fault_in_block, tells_bodies, tells_graded}
@@ -22,7 +22,7 @@ use Rattle.hir_one_result.proofs.AsTelling as in_order
 use Rattle.hir_one_result.proofs.FaultLists.{Like, as_is, both, same}
 use Rattle.hir_one_result.proofs.FaultsAgree.{expr_part_is, part_is, top_is, whole_is}
 use Rattle.hir_one_result.proofs.GradedBodies.{body_graded}
-use Rattle.hir_one_result.proofs.GradedTree.{expr_part_graded, part_graded, path_graded}
+use Rattle.hir_steps.proofs.GradedTree.{expr_part_graded, part_graded, path_graded}
 use Rattle.hir_one_result.proofs.Telling.{Listing, Tells, tells_as}
 
 -- in some order

@@ -22,7 +22,8 @@ use Rattle.hir_lower_form.specs.Lowering.{Lowering, ◌>>=◌, pure}
 use Rattle.hir_lower_form.specs.Pats.{Elements}
 use Rattle.hir_steps.proofs.Frames.{ribs}
 use Rattle.hir_one_result.specs.Leads.{Ways, No, OneWay, ◌&◌}
-use Rattle.hir_one_result.specs.Stands.{StandsFields, Open, ThereIf, statement_of, StandsPart, StandsKept, StandsEach, StandsContents}
+use Rattle.hir_one_result.specs.Stands.{StandsFields, Open, ThereIf, StandsPart, StandsKept, StandsEach, StandsContents}
+use Rattle.hir_steps.specs.Statements.{statement_of}
 use Rattle.hir_one_result.specs.Stands.{StandsArms, StandsTarget, StandsTargets, StandsTargetFields}
 use Rattle.hir_one_result.specs.StandsWhole.{StandsAssigned}
 use Rattle.hir_steps.proofs.Calls.{only_gone}

@@ -8,15 +8,18 @@ use Rattle.hir_lower_form.specs.Lowering.{Lowering, ◌>>=◌}
 use Rattle.hir_lower_form.specs.Paths.{proceed}
 use Rattle.hir_lower_form.specs.Walks as walks
 use Rattle.hir_one_result.specs.Formals.{lower_body}
-use Rattle.hir_one_result.specs.PathRoom.{at_first, before, own_read, segment_read, segments_read, whole_read, yields}
+use Rattle.hir_steps.specs.PathSeen.{at_first, own_read, segment_read, segments_read, whole_read, yields}
+use Rattle.hir_one_result.specs.PathRoom.{before}
 use Rattle.hir_one_result.specs.Room.{args_size, body_size, segment_size, segments_size, size_part, type_part_size, type_size, whole_size}
 use Rattle.hir_one_result.specs.Size.{Size, ◌∪◌}
 use Rattle.hir_one_result.proofs.AsRooms.{given, rooms_bodies, rooms_graded}
-use Rattle.hir_one_result.proofs.Graded.{Told}
+use Rattle.hir_steps.proofs.Graded.{Told}
 use Rattle.hir_one_result.proofs.GradedBodies.{body_graded}
-use Rattle.hir_one_result.proofs.GradedTree.{args_graded, expr_part_graded, part_graded, path_graded, segment_graded, segments_graded}
-use Rattle.hir_one_result.proofs.GradedTree.{type_graded}
-use Rattle.hir_one_result.proofs.PathRooms.{Gives, GivesPath, Yields, proceed_tells, seen}
+use Rattle.hir_steps.proofs.GradedTree.{args_graded, expr_part_graded, part_graded, path_graded, segment_graded, segments_graded}
+use Rattle.hir_steps.proofs.GradedTree.{type_graded}
+use Rattle.hir_steps.proofs.PathAnswers.{Gives, GivesPath, Yields, seen}
+use Rattle.hir_one_result.proofs.Last.{IsLast}
+use Rattle.hir_one_result.proofs.PathRooms.{proceed_tells}
 use Rattle.hir_one_result.proofs.Rooms.{Takes, takes_as}
 use Rattle.hir_one_result.proofs.SizesAgree.{args_are, body_is, expr_part_is, part_is, segment_is, segments_are, type_is, whole_is}
 use Rattle.hir_one_result.proofs.Tellings.{Tells, tells_as, tells_then}
@@ -33,6 +36,10 @@ type_part_takes b t = takes_as (part_is b t) (part_graded rooms_graded b t)
 
 pub part_takes : (e : OptionExpr) → Takes (size_part e) (lower_part e)
 part_takes e = takes_as (expr_part_is e) (expr_part_graded rooms_graded e).0
+
+-- what it answers is the last one
+pub part_last : (e : OptionExpr) → IsLast (lower_part e)
+part_last e = (expr_part_graded rooms_graded e).1
 
 pub body_takes : (kind : Option CoroutineKind) (skipped : Bool) (f : Formals) (e : OptionExpr)
     → Takes (body_size kind skipped f e) (lower_body kind skipped f e)

@@ -9,7 +9,7 @@ use Rattle.hir_env.specs.Answered.{OptionBlock, Stmts, Stmt, Arms, Arm, Guard, P
 use Rattle.hir_env.specs.Answered.{OptionTypePat, TypePats, Limit, Param, Params, Target, Targets, TargetFields, TargetField}
 use Rattle.hir_data.specs.Tops.{Tops}
 use Rattle.hir_data.specs.Written.{written_path}
-use Rattle.hir_one_result.specs.PathRoom.{Seen, nothing_seen, at_first, Read, goes_on, segments_read, own_read, yields}
+use Rattle.hir_steps.specs.PathSeen.{Seen, nothing_seen, at_first, Read, goes_on, segments_read, own_read, yields}
 
 -- what stands beside a path that is absent or refused isn't read
 abbrev pub where_some : {A X : Type 0} → Option A → List X → List X

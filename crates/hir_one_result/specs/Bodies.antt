@@ -4,8 +4,8 @@ use Rattle.hir_store.specs.declared.diagnostics.ExpressionStoreDiagnostics.TheVa
 use Rattle.hir_store.specs.declared.hir.CoroutineKind.{CoroutineKind}
 use Rattle.hir_env.specs.Answered as tree
 use Rattle.hir_env.specs.Answered.{Formal, Formals, OptionExpr, SelfFormal}
-use Rattle.hir_one_result.specs.Grades.{grade_expr_part, grade_top}
-use Rattle.hir_one_result.specs.Grading.{Grading}
+use Rattle.hir_steps.specs.Grades.{grade_expr_part, grade_top}
+use Rattle.hir_steps.specs.Grading.{Grading}
 
 -- of a coroutine: what is told of `self`, of the other parameters and of the body
 pub record GradingBodies {ℓ} (S : Grading {ℓ}) : Type ℓ where

@@ -19,7 +19,7 @@ use Rattle.hir_data.specs.Written.{written_path}
 use Rattle.hir_meaning.specs.Syntax.{behind_def, is_typed}
 use Rattle.hir_steps.specs.Calls.{called_faults, condition_faults}
 use Rattle.hir_one_result.specs.Blocks.{where_some, where_goes_on, unless}
-use Rattle.hir_one_result.specs.PathRoom.{Seen, nothing_seen, at_first, segments_read, own_read, yields}
+use Rattle.hir_steps.specs.PathSeen.{Seen, nothing_seen, at_first, segments_read, own_read, yields}
 use Rattle.hir_scope.specs.Ribs.{Rib, Target as JumpTarget, reachable, unreachable, undeclared, target, map_ribs}
 use Rattle.hir_scope.specs.Scopes.{Scope, loop_scope, try_scope, barrier, ribs, scopes_in_block}
 

@@ -59,9 +59,9 @@ abbrev pub path_of_name : Name → Path
 path_of_name n = BarePath (record { kind = kind.Plain; segments = n ∷ [] })
 
 -- an item that the language lacks is missing
-abbrev pub item_form : Option LangItemId → HirExpr
-item_form None = hir.Missing
-item_form (Some i) = hir.Path (LangItem i) no_macro
+abbrev pub item_or_missing : Option LangItemId → HirExpr
+item_or_missing None = hir.Missing
+item_or_missing (Some i) = hir.Path (LangItem i) no_macro
 
 -- the field of an end that is there
 abbrev pub end_field : Name → Option ExprId → List RecordLitField
@@ -74,18 +74,18 @@ range_fields last low high = end_field (name.Text (codes "start")) low ++ end_fi
 
 -- the name of this number, which lowering makes up, where it is looked up and where it is bound
 
-abbrev pub generated_path : ℕ → HirExpr
-generated_path n = hir.Path (path_of_name (name.Generated n)) no_macro
+abbrev pub made_path : ℕ → HirExpr
+made_path n = hir.Path (path_of_name (name.Generated n)) no_macro
 
 abbrev pub generated_binding : BindingAnnotation → ℕ → Binding
 generated_binding mode n = record { name = name.Generated n; mode = mode; hygiene = no_macro; problems = None }
 
 -- the item that makes of a residual what leaves: for a `try` without a written type there is one of its own
-abbrev pub residual_item : {A : Type 0} → QuestionItems → Option (Try A) → Option LangItemId
-residual_item items None = items.from_residual
-residual_item items (Some t) = if t.typed then items.from_residual else items.into_try_type
+abbrev pub conversion : {A : Type 0} → QuestionItems → Option (Try A) → Option LangItemId
+conversion items None = items.from_residual
+conversion items (Some t) = if t.typed then items.from_residual else items.into_try_type
 
 -- it leaves for the innermost `try`, or returns where there is none
-abbrev pub leaves_with : Option (Try LabelId) → ExprId → HirExpr
-leaves_with None e = hir.Return (Some e)
-leaves_with (Some t) e = hir.Break (Some t.place) (Some e)
+abbrev pub jump_with : Option (Try LabelId) → ExprId → HirExpr
+jump_with None e = hir.Return (Some e)
+jump_with (Some t) e = hir.Break (Some t.place) (Some e)

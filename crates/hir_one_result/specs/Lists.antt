@@ -7,7 +7,7 @@ use Rattle.hir_one_result.specs.Diagnostics.{jump_faults}
 use Rattle.hir_steps.specs.Calls.{Expansions, called_faults, condition_faults, expansions_of_called, expansions_of_entered}
 use Rattle.hir_steps.specs.Calls.{expansions_of_gone}
 use Rattle.hir_one_result.specs.Bodies.{GradingBodies}
-use Rattle.hir_one_result.specs.Grading.{Grading}
+use Rattle.hir_steps.specs.Grading.{Grading}
 
 module _ {X : Type 0} (of_faults : List ExpressionStoreDiagnostics → List X) (of_block : Option BlockId → List X)
     (of_told : Expansions → List ExpressionStoreDiagnostics → List X) where

@@ -21,14 +21,16 @@ use Rattle.hir_lower_form.specs.Builder.{Builder}
 use Rattle.hir_meaning.specs.InnerWritten.{constant_body, limit_body}
 use Rattle.hir_meaning.specs.Left.{is_kept, is_left, gives_value}
 use Rattle.hir_one_result.specs.Formals.{formals_read}
-use Rattle.hir_one_result.specs.PatRoom.{names_after, names_after_part, names_after_each, names_after_field, name_size, front_pat_size}
+use Rattle.hir_steps.specs.PatNames.{names_after, names_after_part, names_after_each, names_after_field}
+use Rattle.hir_one_result.specs.PatRoom.{name_size, front_pat_size}
 use Rattle.hir_one_result.specs.PatRoom.{or_size, name_side_size, rest_size, range_size}
 use Rattle.hir_one_result.specs.PreludeRoom.{handed_size, prelude_size, self_let_size}
 use Rattle.hir_one_result.specs.Size.{Size, nothing, an_expr, a_label, a_binding, a_pat, a_type, a_lifetime, a_super, a_body, dots_behind}
 use Rattle.hir_one_result.specs.Size.{a_def, a_made_pat, a_pat_call, a_target, a_target_way, a_type_call, uncalled_pat_size}
 use Rattle.hir_one_result.specs.Size.{a_made_name, a_made_bind, a_flow_arm, a_for_turn, an_item_call, owned, ◌∪◌, if_so, or_missing}
 use Rattle.hir_one_result.specs.Size.{a_condition, an_impl, or_missing_target, uncalled_type_size}
-use Rattle.hir_one_result.specs.PathRoom.{Seen, nothing_seen, at_first, segments_read, own_read, whole_read, before, yields, lifetime_size}
+use Rattle.hir_steps.specs.PathSeen.{Seen, nothing_seen, at_first, segments_read, own_read, whole_read, yields}
+use Rattle.hir_one_result.specs.PathRoom.{before, lifetime_size}
 use Rattle.hir_one_result.specs.PathRoom.{uses_size}
 
 abbrev pub label_size : Option Label → Size

@@ -13,7 +13,7 @@ use Rattle.hir_one_result.specs.Size.{Size, a_binding, a_body, a_label, a_lifeti
 use Rattle.hir_one_result.specs.Size.{a_def, a_made_pat, a_param, a_pat_call, a_target_way, a_type_call}
 use Rattle.hir_one_result.specs.Size.{an_expr, dots_behind, nothing, ◌∪◌}
 use Rattle.hir_one_result.specs.Bodies.{GradingBodies}
-use Rattle.hir_one_result.specs.Grading.{Grading}
+use Rattle.hir_steps.specs.Grading.{Grading}
 
 -- the node that a type came from, where it came from one
 abbrev pub type_node : TypeData → Option Pointer

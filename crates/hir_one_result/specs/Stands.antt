@@ -57,11 +57,12 @@ use Rattle.hir_data.specs.Lookup.{lookup_hygiene}
 use Rattle.hir_meaning.specs.Data.{literal_data, literal_read}
 use Rattle.hir_meaning.specs.Left.{is_kept, is_left, gives_value}
 use Rattle.hir_meaning.specs.Contents.{BlockContents}
-use Rattle.hir_one_result.specs.Forms.{leaf_form, unary_form, binary_form, lazy_form, leaving_form, item_form, no_macro, path_of_name}
+use Rattle.hir_one_result.specs.Forms.{leaf_form, unary_form, binary_form, lazy_form, leaving_form, item_or_missing, no_macro, path_of_name}
 use Rattle.hir_one_result.specs.Forms.{pat_unary_form, range_fields}
-use Rattle.hir_one_result.specs.PathRoom.{Seen, nothing_seen, at_first, segments_read, own_read, yields}
+use Rattle.hir_steps.specs.PathSeen.{Seen, nothing_seen, at_first, segments_read, own_read, yields}
 use Rattle.hir_one_result.specs.Leads.{Ways, No, OneWay, OneUnled, OneLabelWay, OneFieldWay, OnePatFieldWay, OwnedBy, Overtaken, ◌&◌}
-pub use Rattle.hir_one_result.specs.StandsParts.{ExprAt, LabelAt, Open, opened, Absent, There, ThereIf, ReadsAs, statement_of, SomeExpr}
+pub use Rattle.hir_one_result.specs.StandsParts.{ExprAt, LabelAt, Open, opened, Absent, There, ThereIf, ReadsAs, SomeExpr}
+pub use Rattle.hir_steps.specs.Statements.{statement_of}
 use Rattle.hir_one_result.specs.StandsMade.{StandsFor, StandsForLoop, StandsForTurn, StandsQuestion, StandsTry, StandsTypedTry, StandsWhile}
 use Rattle.hir_one_result.specs.StandsMade.{StandsClosure, StandsCondition, StandsCoroutine, StandsParam, StoredParams}
 use Rattle.hir_one_result.specs.StandsPreludes.{StandsCoroutineClosure}
@@ -121,7 +122,7 @@ module _ (store : Store) (source_map : SourceMap) where
 
   -- an item of the language comes from no node
   abbrev pub StandsItem : Option LangItemId → ExprId → Ways
-  StandsItem item i = λ ws. ExprAt store source_map i (item_form item) None × OneUnled i ws
+  StandsItem item i = λ ws. ExprAt store source_map i (item_or_missing item) None × OneUnled i ws
 
   -- a range is a record of an item, or a call of one
   abbrev pub StandsRange : Pointer → RangeForm → (Option ExprId → Ways) → (Option ExprId → Ways) → ExprId → Ways

@@ -1,11 +1,9 @@
 -- Where something stands in a store; and what stands for parts that may be absent, that are read as far as something is, or that have
 -- names.
-use Rattle.std.specs.Prelude.{◌≡◌, Bool, true, false, List, ◌∷◌, Option, Some, None, option_map, slice_get}
+use Rattle.std.specs.Prelude.{◌≡◌, Bool, true, false, List, ◌∷◌, Option, Some, None, slice_get}
 use Rattle.hir_store.specs.Pointers.{Pointer}
 use Rattle.hir_store.specs.Stored.{Store, SourceMap}
 use Rattle.hir_store.specs.declared.hir.Expr.{Expr as HirExpr}
-use Rattle.hir_store.specs.declared.hir.Statement.{Statement}
-use Rattle.hir_store.specs.declared.hir.Statement.TheVariants as statement
 use Rattle.hir_store.specs.declared.ids.BindingId.{BindingId}
 use Rattle.hir_store.specs.declared.ids.ExprId.{ExprId}
 use Rattle.hir_store.specs.declared.ids.LabelId.{LabelId}
@@ -15,8 +13,8 @@ use Rattle.hir_scope.specs.Ribs.{Rib, label_rib}
 use Rattle.hir_env.specs.Answered.{Label, Use}
 use Rattle.hir_data.specs.Data.{PathData}
 use Rattle.hir_data.specs.Uses.{FirstUses, number_of}
-use Rattle.hir_one_result.specs.PathRoom.{Seen, Read, goes_on}
-use Rattle.hir_one_result.specs.PatRoom.{is_known}
+use Rattle.hir_steps.specs.PathSeen.{Seen, Read, goes_on}
+use Rattle.hir_steps.specs.PatNames.{is_known}
 use Rattle.hir_one_result.specs.Leads.{Ways, No, OneBindingWay, ◌&◌}
 
 -- the numbers of the labels that are open, innermost first
@@ -52,9 +50,6 @@ ThereIf false S o = Absent o
 -- a part that is no expression: it reads back as this
 abbrev pub ReadsAs : {A D : Type 0} → (A → D) → D → A → Ways
 ReadsAs read d a = λ ws. (read a ≡ d) × No ws
-
-abbrev pub statement_of : Bool → Option ExprId → Option Statement
-statement_of semi o = option_map (λ id. statement.Expr id semi) o
 
 -- of some expression, whatever its number
 abbrev pub SomeExpr : (ExprId → Ways) → Ways

@@ -10,12 +10,12 @@ use Rattle.hir_store.specs.declared.path.PathKind.TheVariants as kind
 use Rattle.hir_env.specs.Answered as tree
 use Rattle.hir_env.specs.Answered.{Path, OptionPath, Segments, Segment}
 use Rattle.hir_env.specs.PathNames as asked
-use Rattle.hir_env.specs.PathNames.{Piece, Reading, nothing_read, read_piece, with_piece, own_self, mod_path_of, piece, read_rest}
+use Rattle.hir_env.specs.PathNames.{Piece, Reading, nothing_read, read_piece, with_piece, own_self, piece, read_rest}
 use Rattle.hir_env.specs.PathNames.{read_outward, read_use}
 use Rattle.hir_data.specs.Data.{TypeData}
 use Rattle.hir_data.specs.Rule as rule
-use Rattle.hir_data.specs.Rule.{Named, PathRead, Item, What, ended, read, refused, names, empty_list, read_kind, anchor_of}
-use Rattle.hir_data.specs.Rule.{first_without_self, last_without_self, first_behind_self, last_behind_self}
+use Rattle.hir_data.specs.Rule.{Named, Item, What, ended, read, refused, names, empty_list, read_kind, anchor_of}
+use Rattle.hir_data.specs.Rule.{first_without_self, first_behind_self}
 use Rattle.hir_data.specs.Written.{what, items, segments, outer}
 use Rattle.hir_read_back.specs.Asked.{bare_path, NameLaw}
 

@@ -1,5 +1,5 @@
 -- What a call of a macro becomes reads back as what the call stands for.
-use Rattle.std.proofs.Common.{refl, arith, Bool, false, List, Option, Some, None}
+use Rattle.std.proofs.Common.{refl, arith, List, Option, Some, None}
 use Rattle.hir_store.specs.Pointers.{Pointer}
 use Rattle.hir_store.specs.declared.hir.Expr.TheVariants as hir
 use Rattle.hir_store.specs.declared.ids.PatId.{PatId}
@@ -14,10 +14,8 @@ use Rattle.hir_lower_form.specs.Lowering.{Lowering, ◌>>=◌, ◌>>◌, pure}
 use Rattle.hir_lower_form.specs.Pats.{Table, barred_pat_form, called_pat_form, uncalled_pat}
 use Rattle.hir_lower_form.specs.Targets.{called_target}
 use Rattle.hir_lower_form.specs.Types.{TypeSteps, called_type_form, uncalled_type}
-use Rattle.hir_steps.proofs.Calls.{correct_point_pat, correct_point_target, correct_point_type, correct_told, only_told, raises_only}
-use Rattle.hir_steps.proofs.Calls.{still_point_target}
+use Rattle.hir_steps.proofs.Calls.{correct_point_pat, correct_point_target, correct_point_type, correct_told}
 use Rattle.hir_steps.proofs.Steps.{Correct, Rel, correct_as, correct_bind, correct_pure, correct_report}
-use Rattle.hir_steps.proofs.Yields.{Raises, raises_begin, raises_end, raises_pure, raises_still}
 use Rattle.hir_data.specs.Data as datum
 use Rattle.hir_data.specs.Data.{PatData, TypeData, absent_pattern, typed}
 use Rattle.hir_data.specs.Uses.{FirstUses}
@@ -28,7 +26,6 @@ use Rattle.hir_read_back.proofs.Sites as sites
 use Rattle.hir_read_back.proofs.Sites.{From}
 use Rattle.hir_read_back.proofs.TypePats.{missing_pattern_reads}
 use Rattle.hir_read_back.proofs.Types.{error_type_reads}
-use Rattle.hir_read_back.proofs.YieldForms.{paren_raises, stored_off}
 
 -- behind what is told of a call
 told_reads : {A D : Type 0} {l : Layer A D} {x : D} (c : Called) {p : Lowering A} → Correct p (Reads l x)
@@ -95,23 +92,8 @@ module _ (at : Pointer) where
   unfolding called_form
   called_from c h = told_reads c (sites.paren_from at h)
 
-  -- whether a `yield` stands in it
-
-  pub uncalled_off : (c : Called) → Raises false (uncalled_form at c)
-  unfolding uncalled_form
-  uncalled_off c = raises_begin (raises_only (only_told c)) (λ u. stored_off _ (Some at))
-
-  pub called_raises : (c : Called) {y : Bool} {e : ExprSteps} → Raises y e → Raises y (called_form at c e)
-  unfolding called_form
-  called_raises c h = raises_begin (raises_only (only_told c)) (λ u. paren_raises at h)
-
 -- what is assigned to by a call
 pub called_target_reads : (at : Option Pointer) (c : Called) {x : PatData} {p : Lowering PatId} → Correct p (Reads a_pat x)
     → Correct (called_target at c p) (Reads a_pat x)
 called_target_reads None c h = told_reads c h
 called_target_reads (Some at) c h = told_reads c (reads_before h (λ i. correct_point_target at i))
-
-pub called_target_raises : (at : Option Pointer) (c : Called) {y : Bool} {p : Lowering PatId} → Raises y p → Raises y (called_target at c p)
-called_target_raises None c h = raises_begin (raises_only (only_told c)) (λ u. h)
-called_target_raises (Some at) c h = raises_begin (raises_only (only_told c)) (λ u. raises_end h
-    (λ i. raises_begin (raises_still (correct_point_target at i) (still_point_target at i)) (λ v. raises_pure i)))

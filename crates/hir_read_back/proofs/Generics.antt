@@ -15,7 +15,7 @@ use Rattle.hir_store.specs.declared.path.AssociatedTypeBinding.{AssociatedTypeBi
 use Rattle.hir_store.specs.declared.path.AssociatedTypeBinding.TheFolds as folds
 use Rattle.hir_store.specs.declared.path.AssociatedTypeBinding.TheViews.{out-GenericArgs}
 use Rattle.hir_data.specs.Data as datum
-use Rattle.hir_data.specs.Data.{ArgsData, args_data, BindingData, binding_data, BindingsData, OptionArgsData}
+use Rattle.hir_data.specs.Data.{ArgsData, args_data, BindingData, binding_data, BindingsData}
 use Rattle.hir_data.specs.Reading as reading
 use Rattle.hir_data.specs.Reading.{Readers, args_layer, binding_layer}
 use Rattle.hir_data.specs.Rule as rule

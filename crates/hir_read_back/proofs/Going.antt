@@ -26,9 +26,9 @@ use Rattle.hir_steps.proofs.Frames.{Frame}
 use Rattle.hir_steps.proofs.Steps.{Mark, Rel, Correct, correct_bind, correct_as, correct_pure, correct_count_out}
 use Rattle.hir_steps.proofs.TypeSteps.{correct_alloc_type, AllocatedType}
 use Rattle.hir_data.specs.Data as datum
-use Rattle.hir_data.specs.Data.{TypeData, typed, OptionArgsData, BoundData}
+use Rattle.hir_data.specs.Data.{TypeData, typed, OptionArgsData}
 use Rattle.hir_data.specs.Rule as rule
-use Rattle.hir_data.specs.Rule.{PathRead, What, Item, named, root, self_, super_, anchor, projection, data_of}
+use Rattle.hir_data.specs.Rule.{PathRead, Item, named, super_, anchor, projection}
 use Rattle.hir_data.specs.Written as written
 use Rattle.hir_read_back.proofs.Layers.{a_list, a_type, a_shape, a_bound, within, Reads, type_at}
 use Rattle.hir_read_back.proofs.Walk.{item, Says, says_later, says_named, says_refused, says_super, says_anchor, says_trait, says_answers}

@@ -1,6 +1,6 @@
 -- What is stored for tuples, records, alternatives and ranges reads back.
-use Rattle.std.proofs.Common.{◌≡◌, ◌∙◌, ◌⊎◌, inl, inr, refl, sym, ap, subst, ℕ, suc, ◌+◌, ◌≤◌, Bool, true, false, if◌then◌else◌}
-use Rattle.std.proofs.Common.{List, [], ◌∷◌, ◌++◌, add-one, append-nil, append_assoc, length, length-append, nat_lt, arith}
+use Rattle.std.proofs.Common.{◌≡◌, ◌∙◌, refl, sym, ap, subst, ℕ, suc, ◌+◌, ◌≤◌, Bool, true, false, if◌then◌else◌}
+use Rattle.std.proofs.Common.{List, [], ◌∷◌, ◌++◌, add-one, append-nil, append_assoc, length, nat_lt, arith}
 use Rattle.std.specs.Prelude.{◌^◌, Option, Some, None, option_map, unwrap_or}
 use Rattle.hir_base.specs.declared.op.RangeOp.{RangeOp}
 use Rattle.hir_store.specs.Pointers.{Pointer}
@@ -13,8 +13,7 @@ use Rattle.hir_store.specs.declared.name.Name.TheVariants as name
 use Rattle.hir_store.specs.declared.pat.Pat.TheVariants as pat
 use Rattle.hir_store.specs.declared.pat.RecordFieldPat.{RecordFieldPat}
 use Rattle.hir_store.specs.declared.path.Path.{Path as HirPath}
-use Rattle.hir_env.specs.Answered as tree
-use Rattle.hir_env.specs.Answered.{Pat, Signed}
+use Rattle.hir_env.specs.Answered.{Signed}
 use Rattle.hir_lower_form.specs.Forms.{push_some, root_hygiene}
 use Rattle.hir_lower_form.specs.Lowering.{Lowering, ◌>>=◌, pure}
 use Rattle.hir_lower_form.specs.Pats as forms
@@ -22,6 +21,7 @@ use Rattle.hir_lower_form.specs.Pats.{Table, enter_or, leave_or, next_alternativ
 use Rattle.hir_steps.proofs.Frames.{Frame}
 use Rattle.hir_steps.proofs.Steps.{Mark, Rel, Correct, correct_bind, correct_as, correct_pure, correct_alloc, correct_count_out}
 use Rattle.hir_steps.proofs.PatSteps.{correct_alloc_pat, correct_point_pat_field}
+use Rattle.hir_steps.proofs.TupleDots.{dots_behind, no_dots, dots_here, one_further}
 use Rattle.hir_data.specs.Data as datum
 use Rattle.hir_data.specs.Data.{PatData, pat_at, absent_pattern, PatsData, PatFieldsData, OptionSideData}
 use Rattle.hir_data.specs.Patterns as written
@@ -37,11 +37,6 @@ use Rattle.hir_read_back.proofs.Walk.{Answers, matches_read}
 
 -- ---- parts of a tuple
 
--- where so many parts stand in front, with the place of two dots among them, where some are there
-abbrev pub dots_behind : ℕ → Option ℕ → Option ℕ → Option ℕ
-dots_behind n (Some k) dots = Some k
-dots_behind n None dots = option_map (λ k. k + n) dots
-
 -- parts behind those that are done, with the place of the first two dots
 pub record ElementsAre (done : Elements) (x : FirstUses → PatsData) (dots : Option ℕ) (f : FirstUses → FirstUses) (t : Table)
     (final : Stored) (ps : List Frame) (m m' : Mark) (r : Elements × Table) : Type 0 where
@@ -49,10 +44,6 @@ pub record ElementsAre (done : Elements) (x : FirstUses → PatsData) (dots : Op
   pub ids : r.0.0 ≡ done.0 ++ new
   pub place : r.0.1 ≡ dots_behind (length done.0) done.1 dots
   pub rel : PatIs many_pats x f t final ps m m' (new, r.1)
-
-pub no_dots : (n : ℕ) (k : Option ℕ) → k ≡ dots_behind n k None
-no_dots n None = refl
-no_dots n (Some k) = refl
 
 pub no_elements_are : (done : Elements) (t : Table)
     → Correct (pure (done, t)) (ElementsAre done (λ us. datum.no_patterns) None (λ us. us) t)
@@ -62,11 +53,6 @@ no_elements_are done t = correct_as (correct_pure (done, t)) (λ final ps m m' r
   place = no_dots (length done.0) done.1;
   rel = record { uses = λ us named. named; reads = λ us named d le. refl };
 }))
-
-pub dots_here : (ids : List PatId) (k d : Option ℕ)
-    → dots_behind (length ids) (forms.dots_after ids k) d ≡ dots_behind (length ids) k (Some 0)
-dots_here ids None d = let here : length ids ≡ 0 + length ids = omega arith in ap Some here
-dots_here ids (Some k) d = refl
 
 -- two dots are no part
 pub dots_are : {x : FirstUses → PatsData} {d : Option ℕ} {f : FirstUses → FirstUses} {q : Elements → Table → Lowering (Elements × Table)}
@@ -87,12 +73,6 @@ dots_are {x = x} {d = d} {f = f} part h done t =
           place = k.place ∙ dots_here done.0 done.1 d;
           rel = record { uses = k.rel.uses; reads = k.rel.reads };
         }
-
-pub one_further : (ids : List PatId) (i : PatId) (k d : Option ℕ)
-    → dots_behind (length (ids ++ i ∷ [])) k d ≡ dots_behind (length ids) k (option_map suc d)
-one_further ids i (Some k) d = refl
-one_further ids i None None = refl
-one_further ids i None (Some k) = ap Some (let n = length-append ids (i ∷ []) in omega arith)
 
 -- a part before others
 pub part_is : {x : FirstUses → PatData} {y : FirstUses → PatsData} {d : Option ℕ} {f k : FirstUses → FirstUses}
@@ -122,33 +102,6 @@ part_is {x = x} {y = y} {d = d} {f = f} {k = k} {p = p} h hs done t =
                 (b.rel.reads (f us) (first.uses us named) c ge j);
           };
         }
-
--- whether a pattern is two dots, said on both sides
-abbrev pub IsDots : Pat → Type 0
-IsDots p = (forms.is_dots p ≡ true) × (written.is_dots p ≡ true) × ((us : FirstUses) → written.uses_after p us ≡ us)
-
-abbrev pub IsPart : Pat → Type 0
-IsPart p = (forms.is_dots p ≡ false) × (written.is_dots p ≡ false)
-
-pub dots_or_part : (p : Pat) → IsDots p ⊎ IsPart p
-dots_or_part (tree.leaf_pat at tree.rest_leaf) = inl (refl, refl, λ us. refl)
-dots_or_part (tree.leaf_pat at tree.wild_leaf) = inr (refl, refl)
-dots_or_part (tree.leaf_pat at tree.not_null_leaf) = inr (refl, refl)
-dots_or_part (tree.leaf_pat at tree.broken_leaf) = inr (refl, refl)
-dots_or_part (tree.bind_pat at u _ sub) = inr (refl, refl)
-dots_or_part (tree.name_pat at u _) = inr (refl, refl)
-dots_or_part (tree.path_pat at p) = inr (refl, refl)
-dots_or_part (tree.tuple_struct_pat at p comma ps) = inr (refl, refl)
-dots_or_part (tree.tuple_pat at comma ps) = inr (refl, refl)
-dots_or_part (tree.record_pat at p fs dots) = inr (refl, refl)
-dots_or_part (tree.or_pat at ps) = inr (refl, refl)
-dots_or_part (tree.paren_pat at p) = inr (refl, refl)
-dots_or_part (tree.macro_pat at c p) = inr (refl, refl)
-dots_or_part (tree.barred_pat at) = inr (refl, refl)
-dots_or_part (tree.slice_pat at before middle behind) = inr (refl, refl)
-dots_or_part (tree.over_pat at form p) = inr (refl, refl)
-dots_or_part (tree.literal_pat at own l) = inr (refl, refl)
-dots_or_part (tree.range_pat at op start end) = inr (refl, refl)
 
 -- ---- the list of a tuple
 

@@ -31,7 +31,8 @@ use Rattle.hir_read_back.proofs.Pats as kinds
 use Rattle.hir_read_back.proofs.Pats.{a_pat, maybe_pat, many_pats, many_fields, maybe_side, PatFine, PushedNamed, pat_stored}
 use Rattle.hir_read_back.proofs.Pats.{none_named, all_named}
 use Rattle.hir_read_back.proofs.PatParts as parts
-use Rattle.hir_read_back.proofs.PatParts.{ElementsAre, IsDots, IsPart, dots_or_part, maybe_field}
+use Rattle.hir_read_back.proofs.PatParts.{ElementsAre, maybe_field}
+use Rattle.hir_steps.proofs.TupleDots.{IsDots, IsPart, dots_or_part}
 use Rattle.hir_read_back.proofs.Tree.{path_reads}
 
 side_reads : (s : Side) → Correct (lower.lower_side s) (Reads maybe_side (written.side_data s))

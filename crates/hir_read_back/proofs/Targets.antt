@@ -40,7 +40,8 @@ use Rattle.hir_read_back.proofs.Calls.{called_target_reads}
 use Rattle.hir_read_back.proofs.Going.{PathIs}
 use Rattle.hir_read_back.proofs.Layers.{Reads, Pushed, pushed_all, within, a_path}
 use Rattle.hir_read_back.proofs.Lookup.{looked_up_by}
-use Rattle.hir_read_back.proofs.PatParts.{dots_behind, no_dots, dots_here, one_further, plus_none, list_is, maybe_field}
+use Rattle.hir_steps.proofs.TupleDots.{dots_behind, no_dots, dots_here, one_further}
+use Rattle.hir_read_back.proofs.PatParts.{plus_none, list_is, maybe_field}
 use Rattle.hir_read_back.proofs.PatTree.{PatNow}
 use Rattle.hir_read_back.proofs.Pats.{a_pat, maybe_pat, many_pats, a_pattern, many_fields, pat_stored}
 use Rattle.hir_read_back.proofs.Tree.{path_reads}

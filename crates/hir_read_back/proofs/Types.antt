@@ -37,7 +37,7 @@ use Rattle.hir_steps.proofs.Noted.{correct_becoming, correct_noted}
 use Rattle.hir_steps.proofs.Steps.{Mark, Rel, Correct, correct_bind, correct_as, correct_pure}
 use Rattle.hir_steps.proofs.TypeSteps.{correct_alloc_type, correct_alloc_lifetime}
 use Rattle.hir_data.specs.Data as datum
-use Rattle.hir_data.specs.Data.{LifetimeData, UseData, TypeData, typed, Shape, OptionTypeData, TypesData, OptionArgsData, no_args}
+use Rattle.hir_data.specs.Data.{LifetimeData, TypeData, typed, OptionTypeData, TypesData, OptionArgsData, no_args}
 use Rattle.hir_data.specs.Data.{some_args}
 use Rattle.hir_data.specs.Data.{args_data, ArgumentsData, BindingData, BindingsData, BoundsData}
 use Rattle.hir_data.specs.Written as written

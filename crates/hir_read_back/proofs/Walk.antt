@@ -13,7 +13,7 @@ use Rattle.hir_store.specs.declared.path.GenericArgs.{GenericArgs}
 use Rattle.hir_store.specs.declared.path.Path.{Path as HirPath}
 use Rattle.hir_store.specs.declared.path.Path.TheVariants.{BarePath, Normal, LangItem}
 use Rattle.hir_env.specs.Answered as tree
-use Rattle.hir_env.specs.Answered.{Path, OptionPath, Segments, Segment}
+use Rattle.hir_env.specs.Answered.{Path, OptionPath, Segments}
 use Rattle.hir_lower_form.specs.declared.walk.PathWalk.{PathWalk}
 use Rattle.hir_lower_form.specs.declared.walk.Reading.{Reading}
 use Rattle.hir_lower_form.specs.declared.walk.Reading.TheVariants.{Refused, Ended, Open}
@@ -21,7 +21,7 @@ use Rattle.hir_lower_form.specs.Walks as walks
 use Rattle.hir_lower_form.specs.Walks.{start, at_first, add_name, self_read, anchored, add_trait, projected, mod_path, args_of}
 use Rattle.hir_lower_form.specs.Walks.{with_self, without_last_self, finished, own_path}
 use Rattle.hir_data.specs.Data as datum
-use Rattle.hir_data.specs.Data.{TypeData, OptionArgsData, no_args, some_args, PathData, NamesData}
+use Rattle.hir_data.specs.Data.{TypeData, OptionArgsData, no_args}
 use Rattle.hir_data.specs.Rule as rule
 use Rattle.hir_data.specs.Rule.{Named, PathRead, What, Item, broken, named, root, self_, super_, anchor, projection, empty_list}
 use Rattle.hir_data.specs.Rule.{plain_kind, supers, is_list, anchor_data, names_data, data_of, read_of, path_read}

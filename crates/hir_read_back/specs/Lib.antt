@@ -1,2 +1,3 @@
+pub mod Yields
 pub mod Laws
 pub mod Asked

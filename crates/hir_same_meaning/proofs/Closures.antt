@@ -18,12 +18,11 @@ use Rattle.hir_data.specs.Yields.{yields_in}
 use Rattle.hir_read_back.proofs.ClosureKinds.{captures_as, kind_as}
 use Rattle.hir_read_back.proofs.Now.{option_type_now}
 use Rattle.hir_read_back.proofs.Params.{params_now, pats_in, types_in}
-use Rattle.hir_read_back.proofs.YieldTree.{part_raises}
+use Rattle.hir_read_back.proofs.YieldTree.{params_raise, part_raises, present_type_raises}
 use Rattle.hir_meaning.specs.Run.{Operation, ask, closure}
 use Rattle.hir_meaning.specs.Syntax.{closure_of}
 use Rattle.hir_steps.proofs.Barriers.{correct_closure}
 use Rattle.hir_steps.proofs.Frames.{Frame}
-use Rattle.hir_steps.proofs.StillTree.{params_still, present_type_still}
 use Rattle.hir_steps.proofs.Steps.{Allocated, Correct, Mark, Rel, correct_as}
 use Rattle.hir_same_meaning.proofs.Relation.{same_ask}
 use Rattle.hir_same_meaning.proofs.Senses.{Base, Goes, Runs, goes_at, one}
@@ -57,7 +56,7 @@ module _ (at : Pointer) (moves is_static : Bool) where
   closure_fine ps t e h = correct_as
       (correct_closure at moves is_static (params_now no_closure_params ps) (option_type_now t) h)
       (λ final fs m m' i g row.
-      let yields = row.raised (params_still no_closure_params ps) (present_type_still t) (yields_in e) (part_raises e) in
+      let yields = row.raised (params_raise no_closure_params ps) (present_type_raises t) (yields_in e) (part_raises e) in
       goes_closure row.params row.ret row.body row.yields (closure_of moves is_static ps t e)
       (event_as (kind_as is_static e yields) (captures_as moves)
       row.in_params.pats row.in_params.types row.in_ret.is) row.made)

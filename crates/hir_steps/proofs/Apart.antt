@@ -10,7 +10,6 @@ use Rattle.hir_store.specs.Pointers.{Pointer}
 use Rattle.hir_store.specs.Stored.{Stored, store_of}
 use Rattle.hir_store.specs.declared.hir.Expr.{Expr}
 use Rattle.hir_store.specs.declared.hir.Label.{Label as HirLabel}
-use Rattle.hir_store.specs.declared.diagnostics.AwaitLocation.{AwaitLocation}
 use Rattle.hir_store.specs.declared.diagnostics.ExpressionStoreDiagnostics.{ExpressionStoreDiagnostics}
 use Rattle.hir_store.specs.declared.ids.BindingId.{BindingId}
 use Rattle.hir_store.specs.declared.ids.BlockId.{BlockId}
@@ -29,7 +28,7 @@ use Rattle.hir_scope.specs.Ribs.{Rib, Target, reachable, unreachable, undeclared
 use Rattle.hir_lower_form.specs.Lowering.{Lowering, ◌>>=◌, pure, alloc_binding, alloc_expr, alloc_made, alloc_pat, alloc_type}
 use Rattle.hir_lower_form.specs.Lowering.{alloc_lifetime}
 use Rattle.hir_lower_form.specs.Lowering.{close, define, enter_block, jump_target, made_number, open_label, open_try, point, point_field}
-use Rattle.hir_lower_form.specs.Lowering.{owning, point_pat_field, report, report_await, set_problem, try_target}
+use Rattle.hir_lower_form.specs.Lowering.{owning, point_pat_field, report, set_problem, try_target}
 use Rattle.hir_lower_form.specs.declared.closures.ClosureParams.{ClosureParams}
 use Rattle.hir_lower_form.specs.Forms.{stored_closure}
 use Rattle.hir_lower_form.specs.Lower.{ExprSteps, closure_form, constant_form, coroutine_form}
@@ -47,7 +46,7 @@ use Rattle.hir_steps.proofs.PatSteps.{correct_set_problem}
 use Rattle.hir_steps.proofs.PatSteps.{defining, with_field_pat, with_new_binding, with_pat, with_problem_of}
 use Rattle.hir_steps.proofs.Steps.{Mark, Correct, correct_as, correct_bind, correct_pure, correct_report}
 use Rattle.hir_steps.proofs.Steps.{correct_alloc, correct_alloc_type, correct_alloc_lifetime, correct_enter_block, correct_opened}
-use Rattle.hir_steps.proofs.Steps.{correct_point, correct_point_field, correct_report_await, correct_target, pointing, with_await}
+use Rattle.hir_steps.proofs.Steps.{correct_point, correct_point_field, correct_target, pointing}
 use Rattle.hir_steps.proofs.Steps.{with_block, with_expr, with_fault, with_field, with_jump, with_label, with_lifetime, with_target}
 use Rattle.hir_steps.proofs.Steps.{with_type}
 
@@ -145,14 +144,6 @@ stored_pat_apart p source = correct_as (correct_alloc_pat p source)
 pub report_apart : (fault : ExpressionStoreDiagnostics) → Correct (report fault) Apart
 report_apart fault = correct_as (correct_report fault)
     (λ final ps m m' u g row. apart_stored (with_fault fault) m m' row.names row.stored (λ s k. refl))
-
-await_times : (node : Pointer) (location : Option AwaitLocation) (s : Stored) (k : ℕ) → times k (with_await node location s) ≡ times k s
-await_times node None s k = refl
-await_times node (Some location) s k = refl
-
-pub report_await_apart : (node : Pointer) (location : Option AwaitLocation) → Correct (report_await node location) Apart
-report_await_apart node location = correct_as (correct_report_await node location)
-    (λ final ps m m' u g row. apart_stored (with_await node location) m m' row.names row.stored (await_times node location))
 
 pub point_apart : (node : Pointer) (id : ExprId) → Correct (point node id) Apart
 point_apart node id = correct_as (correct_point node id)

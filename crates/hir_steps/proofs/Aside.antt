@@ -1,19 +1,14 @@
 -- Steps that store beside expressions and labels at most: they report nothing and enter no block. What stores one type or one
 -- lifetime is such; a whole type or path isn't, since the constants in it are expressions.
-use Rattle.std.proofs.Common.{◌≡◌, ◌∙◌, ap, List, [], ◌∷◌, Option, Some, None}
+use Rattle.std.proofs.Common.{◌≡◌, ◌∙◌, ap, List, Option, Some, None}
 use Rattle.hir_store.specs.Pointers.{Pointer}
 use Rattle.hir_store.specs.Stored.{Stored}
 use Rattle.hir_store.specs.declared.type_ref.TypeRef.{TypeRef}
 use Rattle.hir_store.specs.declared.type_ref.LifetimeRef.{LifetimeRef}
-use Rattle.hir_store.specs.declared.type_ref.UseArgRef.{UseArgRef}
-use Rattle.hir_env.specs.Answered as tree
-use Rattle.hir_env.specs.Answered.{Lifetime, UseRead}
 use Rattle.hir_lower_form.specs.declared.walk.Reading.{Reading}
 use Rattle.hir_lower_form.specs.Lowering.{Lowering, ◌>>=◌, pure, alloc_type, alloc_lifetime}
 use Rattle.hir_lower_form.specs.Paths.{counted}
-use Rattle.hir_lower_form.specs.Types.{error_type, unit_type, lower_lifetime, lower_lifetime_option, lower_use, lower_uses}
 use Rattle.hir_steps.proofs.Frames.{Frame}
-use Rattle.hir_steps.proofs.Noted.{correct_noted}
 use Rattle.hir_steps.proofs.Steps.{Mark, Correct, correct_bind, correct_as, correct_pure, correct_count_out, correct_alloc_type}
 use Rattle.hir_steps.proofs.Steps.{correct_alloc_lifetime}
 
@@ -75,32 +70,6 @@ aside_lifetime l source = correct_as (correct_alloc_lifetime l source) (λ final
   expansions = ap (λ s. s.expansions) row.stored;
   field_map_back = ap (λ s. s.field_map_back) row.stored;
 })
-
--- types and lifetimes
-
-pub error_aside : Correct error_type Aside
-unfolding error_type
-error_aside = aside_type _ None
-
-pub unit_aside : Correct unit_type Aside
-unfolding unit_type
-unit_aside = aside_type _ None
-
-pub lifetime_aside : (l : Lifetime) → Correct (lower_lifetime l) Aside
-unfolding lower_lifetime
-lifetime_aside l = correct_noted _ (aside_lifetime _ _)
-
-pub lifetime_option_aside : (l : Option Lifetime) → Correct (lower_lifetime_option l) Aside
-lifetime_option_aside None = aside_pure None
-lifetime_option_aside (Some l) = aside_then (lifetime_aside l) (λ i. aside_pure (Some i))
-
-pub use_aside : (u : UseRead) → Correct (lower_use u) Aside
-use_aside (tree.used_name n) = aside_pure _
-use_aside (tree.used_lifetime l) = aside_then (lifetime_aside l) (λ i. aside_pure _)
-
-pub uses_aside : (done : List UseArgRef) (us : List UseRead) → Correct (lower_uses done us) Aside
-uses_aside done [] = aside_pure done
-uses_aside done (u ∷ us) = aside_then (use_aside u) (λ x. uses_aside _ us)
 
 -- paths
 

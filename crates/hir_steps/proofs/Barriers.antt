@@ -5,17 +5,16 @@ use Rattle.hir_store.specs.Stored.{Stored}
 use Rattle.hir_store.specs.Storing as storing
 use Rattle.hir_store.specs.declared.hir.Expr.TheVariants as hir
 use Rattle.hir_store.specs.declared.ids.ExprId.{ExprId}
-use Rattle.hir_store.specs.declared.ids.PatId.{PatId}
 use Rattle.hir_store.specs.declared.ids.TypeRefId.{TypeRefId}
 use Rattle.hir_store.proofs.Extending.{extends_trans}
 use Rattle.hir_scope.specs.Ribs.{barrier_rib}
 use Rattle.hir_lower_scope.specs.Labels.{rest}
 use Rattle.hir_lower_form.specs.declared.closures.ClosureParams.{ClosureParams}
 use Rattle.hir_lower_form.specs.Builder.{Builder}
-use Rattle.hir_lower_form.specs.Forms.{ExprSteps, stored_closure, add_param}
+use Rattle.hir_lower_form.specs.Forms.{ExprSteps, stored_closure}
 use Rattle.hir_lower_form.specs.Lowering.{Checked, go_on, Lowering, ◌>>=◌, ◌>>◌, pure, alloc_expr, open_barrier, close_barrier}
 use Rattle.hir_lower_form.specs.Lowering.{enter_root, leave_root, outside_root, record_root, note_yield}
-use Rattle.hir_lower_form.specs.Lower.{closure_form, constant_form, coroutine_form, param_form, value_form, yield_form}
+use Rattle.hir_lower_form.specs.Lower.{closure_form, constant_form, coroutine_form, value_form, yield_form}
 use Rattle.hir_lower_form.specs.Ranges.{inner_form}
 use Rattle.hir_steps.specs.Keeps.{Paired}
 use Rattle.hir_steps.proofs.Constants.{entered, leaving}
@@ -24,9 +23,9 @@ use Rattle.hir_steps.proofs.Logic.{Mark, mark, Grows, Rel, Answers, Holds, Corre
 use Rattle.hir_steps.proofs.Logic.{grows_trans}
 use Rattle.hir_steps.proofs.MadeSteps.{behind, correct_like}
 use Rattle.hir_steps.proofs.Steps.{Allocated, correct_alloc}
-use Rattle.hir_steps.proofs.Yields.{LeavesTo, Still, Raises, RaisedTo, raises_begin, raises_end, raises_noted, raises_pure, raises_still}
+use Rattle.hir_steps.proofs.Yields.{LeavesTo, Still, Raises, RaisedTo, raises_begin, raises_end, raises_noted, raises_pure}
 use Rattle.hir_steps.proofs.Yields.{raises_then}
-use Rattle.hir_steps.proofs.Yields.{still_expr, still_pure, still_then, still_trans}
+use Rattle.hir_steps.proofs.Yields.{still_expr, still_trans}
 
 -- ---- constants
 
@@ -170,10 +169,9 @@ module _ (p : Lowering ClosureParams) (t : Lowering (Option TypeRefId)) (e : Exp
       ∙ behind t (λ r d. grouped e (λ i. pure (l, r, i)) f d) c) b
 
 -- none stands in its parameters, nor in its type
-raises_all : {p : Lowering ClosureParams} {t : Lowering (Option TypeRefId)} {e : ExprSteps} {P : Rel ClosureParams}
-    {T : Rel (Option TypeRefId)} {y : Bool} → Correct p P → Still p → Correct t T → Still t → Raises y e → Raises y (all_of p t e)
-raises_all hp sp ht st he =
-    raises_begin (raises_still hp sp) (λ l. raises_begin (raises_still ht st) (λ r. raises_end he (λ i. raises_pure _)))
+raises_all : {p : Lowering ClosureParams} {t : Lowering (Option TypeRefId)} {e : ExprSteps} {y : Bool} → Raises false p → Raises false t
+    → Raises y e → Raises y (all_of p t e)
+raises_all hp ht he = raises_begin hp (λ l. raises_begin ht (λ r. raises_end he (λ i. raises_pure _)))
 
 -- Its parameters, its type and its body behind a barrier, and then the node, which is of a kind by whether its body yields.
 pub record ClosureRow (at : Pointer) (moves is_static : Bool) (p : Lowering ClosureParams) (t : Lowering (Option TypeRefId)) (e : ExprSteps)
@@ -183,7 +181,7 @@ pub record ClosureRow (at : Pointer) (moves is_static : Bool) (p : Lowering Clos
   pub ret : Option TypeRefId
   pub body : ExprId
   pub yields : Bool
-  pub raised : Still p → Still t → (z : Bool) → Raises z e → yields ≡ z
+  pub raised : Raises false p → Raises false t → (z : Bool) → Raises z e → yields ≡ z
   pub after_params : Mark
   pub after_ret : Mark
   pub left : Mark
@@ -217,7 +215,7 @@ module _ (at : Pointer) (moves is_static : Bool) {p : Lowering ClosureParams} {t
         ret = two.one;
         body = three.one;
         yields = row.yields;
-        raised = λ sp st z h. row.raised z (raises_all hp sp ht st h);
+        raised = λ rp rt z h. row.raised z (raises_all rp rt h);
         after_params = one.middle;
         after_ret = two.middle;
         left = row.left;
@@ -264,10 +262,6 @@ module _ (at : Pointer) (moves is_static : Bool) (p : Lowering ClosureParams) (t
           → LeavesTo b (go_on o c (after_list b.yields)).0 (go_on o c (after_list b.yields)).1
       by_params b (Ok l) c = by_type b l (t c).0 (t c).1
       by_params b (Err f) c = tt
-
-pub param_still : (l : ClosureParams) {p : Lowering PatId} {t : Lowering (Option TypeRefId)} → Still p → Still t → Still (param_form l p t)
-unfolding param_form
-param_still l hp ht = still_then hp (λ i. still_then ht (λ r. still_pure (add_param l i r)))
 
 -- ---- `yield`
 

@@ -1,5 +1,5 @@
 -- What is told of calls of macros, and that their nodes lead to what they stand for: steps by what they do.
-use Rattle.std.proofs.Common.{◌≡◌, ◌∙◌, refl, sym, ap, subst, false, List, [], ◌∷◌, ◌++◌, map, Option, Some, None, Ok}
+use Rattle.std.proofs.Common.{◌≡◌, ◌∙◌, refl, sym, ap, subst, List, [], ◌∷◌, ◌++◌, map, Option, Some, None, Ok}
 use Rattle.std.proofs.Common.{append-nil, append_assoc}
 use Rattle.hir_base.specs.declared.node.HirFileId.{HirFileId}
 use Rattle.hir_base.specs.declared.node.TextRange.{TextRange}
@@ -31,7 +31,7 @@ use Rattle.hir_steps.proofs.Logic.{mark, Holds, Correct, correct_as, grows_still
 use Rattle.hir_steps.proofs.Mapping.{leads_way}
 use Rattle.hir_steps.proofs.PatSteps.{PatWrites}
 use Rattle.hir_steps.proofs.Steps.{Writes}
-use Rattle.hir_steps.proofs.Yields.{LeavesTo, Still, Raises, raises_still, still_stored}
+use Rattle.hir_steps.proofs.Yields.{LeavesTo, Still, still_stored}
 
 abbrev Faults : Type 0
 Faults = List ExpressionStoreDiagnostics
@@ -157,12 +157,6 @@ correct_note_gone why = writes_only (only_gone why)
 
 pub still_only : {es : Expansions} {ds : Faults} {p : Lowering (Unit {0})} → Only es ds p → Still p
 still_only h = record { still = λ b. subst (λ r. LeavesTo b r.0 r.1) (sym (h.is b)) refl }
-
-pub told_still : (c : Called) → Still (told c)
-told_still c = still_only (only_told c)
-
-pub raises_only : {es : Expansions} {ds : Faults} {p : Lowering (Unit {0})} → Only es ds p → Raises false p
-raises_only h = raises_still (correct_only h) (still_only h)
 
 pub apart_only : {es : Expansions} {ds : Faults} {p : Lowering (Unit {0})} → Only es ds p → Correct p Apart
 apart_only {es = es} {ds = ds} h = correct_as (correct_only h)

@@ -32,6 +32,8 @@ use Rattle.hir_steps.proofs.Apart.{Apart}
 use Rattle.hir_steps.proofs.ApartForms.{condition_apart, for_turn_apart, made_loop_apart}
 use Rattle.hir_steps.proofs.ApartPreludes.{handed_hand_out, let_params_add, made_coroutine_apart}
 use Rattle.hir_steps.proofs.ApartTree as apart
+use Rattle.hir_steps.proofs.AsApart.{apart_graded}
+use Rattle.hir_steps.proofs.GradedTree as graded
 use Rattle.hir_steps.proofs.Formals.{apart_in, apart_now}
 use Rattle.hir_steps.proofs.Frames.{Frame, frames, ribs_frames}
 use Rattle.hir_steps.proofs.Preludes.{correct_within}
@@ -63,38 +65,38 @@ pub rooted_any : (c : Constant) → Correct (lower_rooted c) Any
 rooted_any c = any (apart.rooted_apart c)
 
 pub params_any : (l : ClosureParams) (xs : Params) → Correct (lower_params l xs) Any
-params_any l xs = any (apart.params_apart l xs)
+params_any l xs = any (graded.params_graded apart_graded l xs)
 
 pub part_any : (e : OptionExpr) → Correct (lower_part e) Any
 part_any e = any (apart.part_apart e)
 
 pub present_any : (e : OptionExpr) → Correct (present e) Any
-present_any e = any (apart.present_apart e)
+present_any e = any (graded.expr_present_graded apart_graded e)
 
 pub each_any : (done : List ExprId) (es : Exprs) → Correct (lower_each done es) Any
-each_any done es = any (apart.each_apart done es)
+each_any done es = any (graded.exprs_graded apart_graded done es)
 
 pub fields_any : (done : List RecordLitField) (fs : Fields) → Correct (lower_fields done fs) Any
-fields_any done fs = any (apart.fields_apart done fs)
+fields_any done fs = any (graded.fields_graded apart_graded done fs)
 
 pub spread_any : (s : Spread) → Correct (lower_spread s) Any
-spread_any s = any (apart.spread_apart s)
+spread_any s = any (graded.spread_graded apart_graded s)
 
 pub block_part_any : (b : OptionBlock) → Correct (lower_block_part b) Any
-block_part_any b = any (apart.block_part_apart b)
+block_part_any b = any (graded.block_part_graded apart_graded b)
 
 -- what stands in a block
 pub contents_part_any : (ss : Stmts) (e : OptionExpr) → Correct (lower_stmts [] ss (kept_part e)) Any
-contents_part_any ss e = any (apart.stmts_apart [] ss (apart.kept_part_apart e))
+contents_part_any ss e = any (graded.stmts_graded apart_graded [] ss e (graded.kept_part_graded apart_graded e))
 
 pub arms_any : (done : List MatchArm) (arms : Arms) → Correct (lower_arms done arms) Any
-arms_any done arms = any (apart.arms_apart done arms)
+arms_any done arms = any (graded.arms_graded apart_graded done arms)
 
 pub top_any : (p : OptionPat) → Correct (lower_top p) Any
 top_any p = any (apart.top_apart p)
 
 pub target_any : (t : Target) → Correct (lower_target t) Any
-target_any t = any (apart.target_apart t)
+target_any t = any (graded.target_graded apart_graded t)
 
 -- the condition of a `while`
 pub condition_any : (at : Pointer) (e : OptionExpr) → Correct (condition_form (holds_let e) at (lower_part e)) Any

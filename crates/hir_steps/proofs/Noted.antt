@@ -5,18 +5,22 @@ use Rattle.hir_store.specs.Stored.{Stored}
 use Rattle.hir_store.specs.declared.generics.TypeOrConstParamData.{TypeOrConstParamData}
 use Rattle.hir_store.specs.declared.ids.TypeRefId.{TypeRefId}
 use Rattle.hir_store.specs.declared.path.Path.{Path as HirPath}
+use Rattle.hir_store.specs.declared.type_ref.LifetimeRef.{LifetimeRef}
+use Rattle.hir_store.specs.declared.type_ref.LifetimeRef.TheVariants as lifetime
 use Rattle.hir_store.specs.declared.type_ref.TypeBound.{TypeBound}
 use Rattle.hir_store.specs.declared.type_ref.TypeRef.{TypeRef}
 use Rattle.hir_store.specs.declared.type_ref.TypeRef.TheVariants as type
 use Rattle.hir_store.proofs.Extending.{extends_refl}
 use Rattle.hir_env.specs.declared.place.ImplTrait.{ImplTrait}
 use Rattle.hir_env.specs.declared.place.ImplTrait.TheVariants as becomes
+use Rattle.hir_env.specs.declared.place.LifetimeScope.{LifetimeScope}
 use Rattle.hir_lower_form.specs.declared.generics.Notes.{Notes}
-use Rattle.hir_lower_form.specs.Lowering.{Lowering, ◌>>=◌, ◌>>◌, pure, add_param, alloc_type, argument_form, becoming, count_out, input_end}
+use Rattle.hir_lower_form.specs.Generics.{naming}
+use Rattle.hir_lower_form.specs.Lowering.{Lowering, ◌>>=◌, ◌>>◌, pure, add_param, alloc_type, argument_form, becoming, input_end}
 use Rattle.hir_lower_form.specs.Lowering.{note_down, param_numbered, param_type, with_notes, with_stored}
 use Rattle.hir_lower_form.specs.Paths.{aliased, cut_back}
 use Rattle.hir_steps.proofs.Frames.{Frame}
-use Rattle.hir_steps.proofs.Logic.{Mark, mark, Rel, Correct, IsPure, Seq, correct_as, correct_bind, correct_pure, grows_refl}
+use Rattle.hir_steps.proofs.Logic.{Mark, mark, Rel, Correct, IsPure, correct_as, correct_bind, correct_pure, grows_refl}
 use Rattle.hir_steps.proofs.Steps.{correct_count_out}
 
 pub correct_with_notes : {A : Type 0} {f : Notes → Lowering A} {R : Rel A} → ((n : Notes) → Correct (f n) R) → Correct (with_notes f) R
@@ -108,3 +112,13 @@ correct_becoming at becomes.Error bounds h = h type.Error refl
 correct_becoming at becomes.Opaque bounds h = h (type.ImplTrait bounds) refl
 correct_becoming at (becomes.Argument def) bounds h = correct_begin (correct_add_param _) (λ k.
     correct_kept (h (param_type def k) (k, refl)) (λ t. idle_of (correct_note_down _)))
+
+-- there are as many parameters as before
+abbrev pub KeepsParams : (Notes → Notes) → Type 0
+KeepsParams f = (n : Notes) → length (f n).generics.type_or_consts ≡ length n.generics.type_or_consts
+
+pub naming_keeps : (s : LifetimeScope) (l : LifetimeRef) → KeepsParams (naming s l)
+naming_keeps s (lifetime.Named x) n = refl
+naming_keeps s lifetime.Static n = refl
+naming_keeps s lifetime.Placeholder n = refl
+naming_keeps s lifetime.Error n = refl

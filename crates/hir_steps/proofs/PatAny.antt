@@ -11,7 +11,8 @@ use Rattle.hir_lower_form.specs.Lowering.{Lowering}
 use Rattle.hir_lower_form.specs.Pats as forms
 use Rattle.hir_lower_form.specs.Pats.{Table}
 use Rattle.hir_lower_form.specs.Ranges as ranges
-use Rattle.hir_steps.proofs.ApartPats.{dots_apart, item_apart, literal_limit_apart, name_limit_apart, settle_apart}
+use Rattle.hir_steps.proofs.AsApart.{apart_graded, dots_apart, settle_apart}
+use Rattle.hir_steps.proofs.GradedPats.{item_graded, literal_limit_graded, name_limit_graded}
 use Rattle.hir_steps.proofs.PatSteps.{correct_alloc_binding}
 use Rattle.hir_steps.proofs.Steps.{Correct, correct_alloc}
 use Rattle.hir_steps.proofs.TypeAny.{Any, any, pure_any, then_any}
@@ -38,17 +39,17 @@ dots_any comma place = any (dots_apart comma place)
 
 module _ (at : Pointer) where
   pub literal_limit_any : (s : Signed) → Correct (ranges.literal_limit_form at s) Any
-  literal_limit_any s = any (literal_limit_apart at s)
+  literal_limit_any s = any (literal_limit_graded apart_graded at s)
 
   pub name_limit_any : (n : Name) → Correct (ranges.name_limit_form at n) Any
-  name_limit_any n = any (name_limit_apart at n)
+  name_limit_any n = any (name_limit_graded apart_graded at n)
 
   pub path_limit_any : {q : Lowering (Option HirPath)} → Correct q Any → Correct (ranges.path_limit_form at q) Any
   unfolding ranges.path_limit_form
   path_limit_any h = then_any h (λ p. any (correct_alloc _ (Some at)))
 
 pub item_any : (item : Option LangItemId) → Correct (ranges.item_form item) Any
-item_any item = any (item_apart item)
+item_any item = any (item_graded apart_graded item)
 
 pub before_any : (item : Option LangItemId) {e : ExprSteps} → Correct e Any → Correct (ranges.before_form item e) Any
 unfolding ranges.before_form

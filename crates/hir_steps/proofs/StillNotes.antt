@@ -8,7 +8,7 @@ use Rattle.hir_store.specs.declared.type_ref.TypeBound.{TypeBound}
 use Rattle.hir_env.specs.declared.place.ImplTrait.{ImplTrait}
 use Rattle.hir_env.specs.declared.place.ImplTrait.TheVariants as becomes
 use Rattle.hir_lower_form.specs.declared.generics.Notes.{Notes}
-use Rattle.hir_lower_form.specs.Lowering.{Lowering, ◌>>=◌, ◌>>◌, pure, add_param, argument_form, becoming, input_end}
+use Rattle.hir_lower_form.specs.Lowering.{Lowering, ◌>>◌, add_param, argument_form, becoming, input_end}
 use Rattle.hir_lower_form.specs.Lowering.{note_down, param_numbered, with_notes, with_stored}
 use Rattle.hir_lower_form.specs.Paths.{aliased, cut_back}
 use Rattle.hir_steps.proofs.Noted.{correct_cut_back, correct_input_end, correct_note_down}
@@ -38,11 +38,6 @@ still_input_end = still_with_notes (λ n. still_pure _)
 pub still_cut_back : (n : ℕ) (places : List Bool) (p : Option HirPath) → Still (cut_back n places p)
 unfolding cut_back
 still_cut_back n places p = still_with_stored (λ s. still_note_down _)
-
-pub still_aliased : (alias : Option (List Bool)) {p : Lowering (Option HirPath)} → Still p → Still (aliased alias p)
-still_aliased None h = h
-still_aliased (Some places) h = still_then still_input_end
-    (λ n. still_then h (λ p. still_then (still_cut_back n places p) (λ u. still_pure p)))
 
 pub still_add_param : (x : TypeOrConstParamData) → Still (add_param x)
 unfolding add_param

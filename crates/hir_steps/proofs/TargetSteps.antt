@@ -1,18 +1,16 @@
 -- What is assigned to: a pattern, which a node leads to by a map of its own.
-use Rattle.std.proofs.Common.{◌∙◌, refl, ap, Option, Some, None}
+use Rattle.std.proofs.Common.{◌∙◌, refl, ap, Option, Some}
 use Rattle.hir_store.specs.Pointers.{Pointer}
 use Rattle.hir_store.specs.declared.ids.PatId.{PatId}
 use Rattle.hir_store.specs.declared.pat.Pat.{Pat}
-use Rattle.hir_env.specs.Answered.{Called, Origin}
+use Rattle.hir_env.specs.Answered.{Origin}
 use Rattle.hir_env.specs.Targets.{source_of}
-use Rattle.hir_lower_form.specs.Lowering.{Lowering, alloc_made_pat}
-use Rattle.hir_lower_form.specs.Targets.{alloc_target, called_target}
-use Rattle.hir_steps.proofs.Apart.{Apart, apart_stored, pure_apart, then_apart}
-use Rattle.hir_steps.proofs.Calls.{apart_only, correct_point_target, only_told, point_target_apart, pointing_target}
-use Rattle.hir_steps.proofs.Calls.{still_point_target}
+use Rattle.hir_lower_form.specs.Lowering.{alloc_made_pat}
+use Rattle.hir_lower_form.specs.Targets.{alloc_target}
+use Rattle.hir_steps.proofs.Apart.{Apart, apart_stored}
+use Rattle.hir_steps.proofs.Calls.{correct_point_target, pointing_target}
 use Rattle.hir_steps.proofs.Logic.{Rel, Correct, correct_as, correct_bind, correct_pure}
 use Rattle.hir_steps.proofs.PatSteps.{AllocatedPatBy, correct_alloc_made_pat, put_made_pat}
-use Rattle.hir_steps.proofs.Yields.{Still, still_made_pat, still_pure, still_then}
 
 -- Its node leads to it, and no other map changes.
 abbrev pub AllocatedTarget : Pat → Origin → Rel PatId
@@ -45,18 +43,3 @@ correct_alloc_target p at = correct_as (correct_bind (correct_alloc_made_pat p (
 pub made_pat_apart : (p : Pat) (source : Option Pointer) → Correct (alloc_made_pat p source) Apart
 made_pat_apart p source = correct_as (correct_alloc_made_pat p source)
     (λ final ps m m' i g row. apart_stored (put_made_pat p source) m m' row.names row.stored (λ s k. refl))
-
-pub alloc_target_apart : (p : Pat) (at : Origin) → Correct (alloc_target p at) Apart
-unfolding alloc_target
-alloc_target_apart p at = then_apart (made_pat_apart p _) (λ i. then_apart (point_target_apart at.node i) (λ u. pure_apart i))
-
-pub called_target_apart : (at : Option Pointer) (c : Called) {p : Lowering PatId} → Correct p Apart → Correct (called_target at c p) Apart
-called_target_apart None c h = then_apart (apart_only (only_told c)) (λ u. h)
-called_target_apart (Some at) c h =
-    then_apart (apart_only (only_told c)) (λ u. then_apart h (λ i. then_apart (point_target_apart at i) (λ v. pure_apart i)))
-
--- no `yield`
-
-pub alloc_target_still : (p : Pat) (at : Origin) → Still (alloc_target p at)
-unfolding alloc_target
-alloc_target_still p at = still_then (still_made_pat p _) (λ i. still_then (still_point_target at.node i) (λ u. still_pure i))

@@ -5,8 +5,9 @@ use Rattle.hir_store.specs.declared.type_ref.UseArgRef.{UseArgRef}
 use Rattle.hir_env.specs.Answered.{Lifetime, UseRead}
 use Rattle.hir_lower_form.specs.Lowering.{Lowering, ◌>>=◌, pure}
 use Rattle.hir_lower_form.specs.Types.{lower_lifetime, lower_lifetime_option, lower_uses}
-use Rattle.hir_steps.proofs.ApartTypes.{lifetime_apart, lifetime_option_apart, uses_apart}
+use Rattle.hir_steps.proofs.AsApart.{apart_graded}
 use Rattle.hir_steps.proofs.Frames.{Frame}
+use Rattle.hir_steps.proofs.GradedTypes.{lifetime_graded, lifetime_option_graded, uses_graded}
 use Rattle.hir_steps.proofs.Steps.{Mark, Rel, Correct, correct_as, correct_bind, correct_pure}
 
 pub record Any {A : Type 0} (final : Stored) (ps : List Frame) (m m' : Mark) (a : A) : Type 0 where
@@ -23,10 +24,10 @@ pub pure_any : {A : Type 0} (a : A) → Correct (pure a) Any
 pure_any a = any (correct_pure a)
 
 pub lifetime_any : (l : Lifetime) → Correct (lower_lifetime l) Any
-lifetime_any l = any (lifetime_apart l)
+lifetime_any l = any (lifetime_graded apart_graded l)
 
 pub lifetime_option_any : (l : Option Lifetime) → Correct (lower_lifetime_option l) Any
-lifetime_option_any l = any (lifetime_option_apart l)
+lifetime_option_any l = any (lifetime_option_graded apart_graded l)
 
 pub uses_any : (done : List UseArgRef) (us : List UseRead) → Correct (lower_uses done us) Any
-uses_any done us = any (uses_apart done us)
+uses_any done us = any (uses_graded apart_graded done us)

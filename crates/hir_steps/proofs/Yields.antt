@@ -6,7 +6,6 @@ use Rattle.hir_store.specs.Pointers.{Pointer}
 use Rattle.hir_store.specs.Stored.{Stored}
 use Rattle.hir_store.specs.Storing as storing
 use Rattle.hir_store.specs.Storing.{Storing}
-use Rattle.hir_store.specs.declared.diagnostics.AwaitLocation.{AwaitLocation}
 use Rattle.hir_store.specs.declared.diagnostics.ExpressionStoreDiagnostics.{ExpressionStoreDiagnostics}
 use Rattle.hir_store.specs.declared.hir.Expr.{Expr}
 use Rattle.hir_store.specs.declared.ids.BindingId.{BindingId}
@@ -24,8 +23,8 @@ use Rattle.hir_lower_form.specs.Builder.{Builder}
 use Rattle.hir_lower_form.specs.Lowering.{Checked, go_on, Lowering, ◌>>=◌, pure, stored, alloc_expr, alloc_made, alloc_type, alloc_lifetime}
 use Rattle.hir_lower_form.specs.Lowering.{alloc_pat, alloc_made_pat, alloc_binding, define, set_problem, point_pat_field, count_out}
 use Rattle.hir_lower_form.specs.Lowering.{made_number}
-use Rattle.hir_lower_form.specs.Lowering.{open_label, open_as, open_try, open_try_as, open_try_named, try_target, close, enter_block}
-use Rattle.hir_lower_form.specs.Lowering.{note_yield, jump_target, found_or_fault, report, report_await, point, point_field}
+use Rattle.hir_lower_form.specs.Lowering.{open_label, open_as, open_try, open_try_as, open_try_named, try_target, enter_block}
+use Rattle.hir_lower_form.specs.Lowering.{note_yield, jump_target, found_or_fault, report, point, point_field}
 use Rattle.hir_steps.specs.Keeps.{Paired}
 use Rattle.hir_steps.proofs.Frames.{frames, ribs_frames, Frame}
 use Rattle.hir_steps.proofs.Logic.{Rel, Holds, Correct}
@@ -73,11 +72,6 @@ still_made e at = still_stored (storing.alloc_made e at)
 pub still_report : (d : ExpressionStoreDiagnostics) → Still (report d)
 unfolding report
 still_report d = still_stored (storing.report d)
-
-pub still_report_await : (at : Pointer) (location : Option AwaitLocation) → Still (report_await at location)
-unfolding report_await
-still_report_await at None = still_pure tt
-still_report_await at (Some l) = still_report _
 
 pub still_point : (at : Pointer) (i : ExprId) → Still (point at i)
 unfolding point
@@ -160,10 +154,6 @@ pub still_open_try : (at : Pointer) (typed : Bool) → Still (open_try at typed)
 unfolding open_try
 still_open_try at typed = still_then still_made_number (λ n. still_try_named at typed n)
 
-pub still_close : Still close
-unfolding close
-still_close = record { still = λ b. refl }
-
 pub still_try_target : Still try_target
 unfolding try_target
 still_try_target = record { still = λ b. refl }
@@ -223,7 +213,7 @@ raises_still {p = p} {R = R} h s = record {
       as_raised b (p b).0 (p b).1 (pairs_of R b.stored ps b (p b).0 (p b).1 (h.holds b.stored ps b (ribs_frames b.scopes))) (s.still b) d;
 }
 
-raised_trans : {A : Type 0} (y z : Bool) (b c : Builder) → c.yields ≡ (b.yields || y) → (o : Checked A) (d : Builder) → RaisedTo z c o d
+pub raised_trans : {A : Type 0} (y z : Bool) (b c : Builder) → c.yields ≡ (b.yields || y) → (o : Checked A) (d : Builder) → RaisedTo z c o d
     → RaisedTo (y || z) b o d
 raised_trans y z b c e (Ok a) d x = (x.0, x.1 ∙ (ap (λ t. t || z) e ∙ or_assoc b.yields y z))
 raised_trans y z b c e (Err f) d x = tt
@@ -249,16 +239,6 @@ raises_as {p = p} e h = subst (λ t. Raises t p) e h
 pub raises_end : {A B : Type 0} {y : Bool} {p : Lowering A} {f : A → Lowering B} → Raises y p → ((a : A) → Raises false (f a))
     → Raises y (p >>= f)
 raises_end {y = y} h k = raises_as (or_false y) (raises_then {y = y} {z = false} h k)
-
--- where what the second is depends on what the first answers
-pub raises_by : {A B : Type 0} {y : Bool} {p : Lowering A} {f : A → Lowering B} → Raises false p
-    → ((b : Builder) (a : A) (c : Builder) → Paired b.stored → p b ≡ (Ok a, c) → Raises y (f a)) → Raises y (p >>= f)
-raises_by {A = A} {y = y} {p = p} {f = f} h k = record { at = λ b d. by b d (p b).0 (p b).1 refl (h.at b d) }
-  where
-    by : (b : Builder) → Paired b.stored → (o : Checked A) (c : Builder) → p b ≡ (o, c) → RaisedTo false b o c
-        → RaisedTo y b (go_on o c f).0 (go_on o c f).1
-    by b d (Ok a) c is x = raised_trans false y b c x.1 (f a c).0 (f a c).1 ((k b a c d is).at c x.0)
-    by b d (Err e) c is x = tt
 
 pub raises_pure : {A : Type 0} (a : A) → Raises false (pure a)
 raises_pure a = record { at = λ b d. (d, sym (or_false b.yields)) }

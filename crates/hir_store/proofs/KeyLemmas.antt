@@ -40,6 +40,14 @@ module _ {K T : Type 0} (cmp : K → K → Ordering) where
 
 -- ---- where an entry stands
 
+module _ {K : Type 0} (cmp : K → K → Ordering) (o : IsTotalOrder cmp) where
+  -- one key leads where another leads that is no other by the order
+  alike : (ps : List (K × ℕ)) (key q : K) → is_eq (cmp key q) ≡ true → lookup (is_at (cmp q)) ps ≡ lookup (is_at (cmp key)) ps
+  alike ps key q alike_to = λ i. lookup (λ x. is_eq (o.congr q key x ((Equal-is (cmp q key)).0 (turned ∙ alike_to)) i)) ps
+    where
+      turned : is_eq (cmp q key) ≡ is_eq (cmp key q)
+      turned = (eq_by_cmp_equiv o).symm q key
+
 -- What is known of an entry that stands at a place: its value is what is found, and one more value of its key is put there.
 record At {K T : Type 0} (eq : K → K → Bool) (es : List (K × T)) (q : K) (n k : ℕ) : Type 0 where
   pub place : ℕ
@@ -116,6 +124,18 @@ module _ {K T : Type 0} (cmp : K → K → Ordering) (o : IsTotalOrder cmp) (eq 
   pub placed_still : (es : List (K × T)) (ps : List (K × ℕ)) → Placed cmp es ps → (k : ℕ) (t : T) → Placed cmp (written es k t) ps
   placed_still es ps placed k t q = placed q ∙ sym (places_stay cmp es k t 0 q)
 
+  -- where a key is led elsewhere and then back, each key leads to its entry
+  pub placed_back : (es : List (K × T)) (ps : List (K × ℕ)) → Placed cmp es ps → (key : K) (k : ℕ)
+      → lookup (is_at (cmp key)) ps ≡ Some k → (mid now : List (K × ℕ)) (n : ℕ)
+      → ((q : K) → lookup (is_at (cmp q)) mid ≡ cond (is_at (cmp key) q) (Some n) (lookup (is_at (cmp q)) ps))
+      → ((q : K) → lookup (is_at (cmp q)) now ≡ cond (is_at (cmp key) q) (Some k) (lookup (is_at (cmp q)) mid))
+      → Placed cmp es now
+  placed_back es ps placed key k is mid now n first second q = second q ∙ (by (is_eq (cmp key q)) refl ∙ placed q)
+    where
+      by : (b : Bool) → is_eq (cmp key q) ≡ b → cond b (Some k) (lookup (is_at (cmp q)) mid) ≡ lookup (is_at (cmp q)) ps
+      by true alike_to = sym (alike cmp o ps key q alike_to ∙ is)
+      by false other = first q ∙ ap (λ c. cond c (Some n) (lookup (is_at (cmp q)) ps)) other
+
   -- where the key of a new entry leads to it, each key leads to its entry
   pub placed_more : (es : List (K × T)) (ps : List (K × ℕ)) → Placed cmp es ps → (key : K) (t : T)
       → lookup (is_at (cmp key)) ps ≡ None → (now : List (K × ℕ))
@@ -131,13 +151,10 @@ module _ {K T : Type 0} (cmp : K → K → Ordering) (o : IsTotalOrder cmp) (eq 
       turned : is_eq (cmp q key) ≡ is_eq (cmp key q)
       turned = (eq_by_cmp_equiv o).symm q key
 
-      alike : is_eq (cmp key q) ≡ true → lookup (is_at (cmp q)) ps ≡ lookup (is_at (cmp key)) ps
-      alike alike_to = λ i. lookup (λ x. is_eq (o.congr q key x ((Equal-is (cmp q key)).0 (turned ∙ alike_to)) i)) ps
-
       by : (b : Bool) → is_eq (cmp key q) ≡ b → (p : Option ℕ) → lookup (is_at (cmp q)) ps ≡ p
           → cond b (Some (length es)) (lookup (is_at (cmp q)) ps) ≡ or_last p (is_eq (cmp q key)) (length es)
       by true alike_to None is = ap (λ c. cond c (Some (length es)) None) (sym (turned ∙ alike_to))
-      by true alike_to (Some j) is = absurd (true≢false (sym (ap is_some (sym new ∙ (sym (alike alike_to) ∙ is)))))
+      by true alike_to (Some j) is = absurd (true≢false (sym (ap is_some (sym new ∙ (sym (alike cmp o ps key q alike_to) ∙ is)))))
       by false other None is = is ∙ ap (λ c. cond c (Some (length es)) None) (sym (turned ∙ other))
       by false other (Some j) is = is
 

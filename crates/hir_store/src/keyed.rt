@@ -93,12 +93,12 @@ impl<K: Ord + Drop, T: Copy> Keyed<K, T> {
         ensures ok { OnOk result (self.new ≡ insert_entry K.eq self.old key value) }
         ensures err { OnErr result (self.new ≡ self.old) }
     {
-        if let Some(place) = self.places.get(&key).copied() {
+        self.entries.reserve(1)?;
+        if let Some(place) = self.places.insert(same, self.entries.len())? {
+            self.places.insert(key, place)?;
             write(&mut self.entries, place, value);
             return Ok(());
         }
-        self.entries.reserve(1)?;
-        self.places.insert(same, self.entries.len())?;
         self.entries.push_reserved((key, value));
         Ok(())
     }

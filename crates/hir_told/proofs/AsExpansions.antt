@@ -8,7 +8,7 @@ use Rattle.hir_store.specs.declared.type_ref.TypeBound.{TypeBound}
 use Rattle.hir_env.specs.declared.place.ImplTrait.{ImplTrait}
 use Rattle.hir_env.specs.declared.place.ImplTrait.TheVariants as becomes
 use Rattle.hir_lower_form.specs.Lowering.{becoming}
-use Rattle.hir_one_result.specs.Grading.{grade_impl}
+use Rattle.hir_steps.specs.Grading.{grade_impl}
 use Rattle.hir_lower_form.specs.Builder.{Builder}
 use Rattle.hir_lower_form.specs.Lowering.{Lowering}
 use Rattle.hir_data.specs.Data as datum
@@ -23,8 +23,9 @@ use Rattle.hir_told.specs.Expanded.{bodies_expanded, expansions}
 use Rattle.hir_told.specs.Laws.{BodiesExpand, ExprsExpand, PathsExpand, TypesExpand}
 use Rattle.hir_one_result.proofs.AsTelling.{behind, tells_graded}
 use Rattle.hir_one_result.proofs.GradedBodies.{GradedBodies, body_graded}
-use Rattle.hir_one_result.proofs.Graded.{Graded}
-use Rattle.hir_one_result.proofs.GradedTree.{expr_part_graded, part_graded, path_graded}
+use Rattle.hir_steps.proofs.Graded.{Graded}
+use Rattle.hir_steps.proofs.ReadBack.{Unknown, unread}
+use Rattle.hir_steps.proofs.GradedTree.{expr_part_graded, part_graded, path_graded}
 
 pub none_in_block : (n : Option BlockId) (s : Stored) → (with_block n s).expansions ≡ s.expansions ++ []
 none_in_block None s = sym (append-nil s.expansions)
@@ -63,10 +64,17 @@ expansions_graded = let all = tells_graded expanded in record {
   Claim = λ es p. Correct p (Tells expanded (λ ss. es));
   Made = λ es p. Correct p (Tells expanded (λ ss. es));
   Hands = λ t es p. Correct p (Tells expanded (λ ss. es));
+  MadePat = λ es p. Correct p (Tells expanded (λ ss. es));
+  MadeType = λ t es p. Correct p (Tells expanded (λ ss. es));
+  HandsPat = λ t es p. Correct p (Tells expanded (λ ss. es));
   made_is = λ h. h;
+  pat_made_is = λ h. h;
+  type_made_is = λ is h. h;
   pure_is = λ a. all.pure_is a;
   bind_is = λ h t k. all.bind_is h t k;
   makes_is = λ h t k. all.makes_is h t k;
+  makes_pat_is = λ h t k. all.makes_pat_is h t k;
+  makes_type_is = λ h k. tells_bind expanded h k;
   end_is = λ h k. all.end_is h k;
   hands_pure_is = λ a t u e. all.hands_pure_is a t u e;
   hands_as_is = λ t u e h. h;
@@ -74,13 +82,20 @@ expansions_graded = let all = tells_graded expanded in record {
   beside_is = λ table h t k. all.beside_is table h t k;
   hands_end_is = λ table h k. all.hands_end_is table h k;
   beside_end_is = λ table h k. all.beside_end_is table h k;
+  hands_pat_is = λ t h. h;
+  hands_makes_is = λ table h t k. all.hands_makes_is table h t k;
+  beside_makes_is = λ table h t k. all.beside_makes_is table h t k;
+  alone_is = λ t u e h. all.alone_is t u e h;
+  named_alone_is = λ b t u e h. all.named_alone_is b t u e h;
+  or_is = λ at ps t p first known later more whole. whole;
   new_name_is = λ u is t with_it e. all.new_name_is u is t with_it e;
   top_is = λ h. all.top_is h;
   Where = λ C es p. Correct p (Tells expanded (λ ss. es));
-  where_is = λ is h. h;
+  Known = Unknown;
+  reads = unread;
+  where_type = λ h. h;
   where_any = λ h. h;
   where_less = λ is h. h;
-  where_next = λ h k. tells_bind expanded h k;
   where_known = λ h t is k. all.bind_is h t k;
   where_first = λ h k. tells_bind expanded h k;
   where_end = λ h k. all.end_is h k;
@@ -102,10 +117,10 @@ expansions_graded = let all = tells_graded expanded in record {
   noted_is = λ c. all.noted_is c;
   told_is = λ c. all.told_is c;
   gone_is = λ why. all.gone_is why;
-  type_call_is = λ at l h. all.type_call_is at l h;
-  pat_call_is = λ at l h. all.pat_call_is at l h;
-  target_way_is = λ at l h. all.target_way_is at l h;
-  hands_call_is = λ at t l h. all.hands_call_is at t l h;
+  type_call_is = λ at t h. all.type_call_is at t h;
+  pat_call_is = λ at h. all.pat_call_is at h;
+  target_way_is = λ at h. all.target_way_is at h;
+  hands_call_is = λ at t h. all.hands_call_is at t h;
   super_is = λ w. all.super_is w;
   dots_is = λ comma place. all.dots_is comma place;
   def_is = λ k d. all.def_is k d;

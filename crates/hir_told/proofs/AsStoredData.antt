@@ -1,18 +1,19 @@
 -- What is stored of types and lifetimes reads back as is told, in each later store: an instance.
-use Rattle.std.proofs.Common.{◌≡◌, refl, ap, Bool, Option, Some, None, Ok, List}
+use Rattle.std.proofs.Common.{◌≡◌, ◌∙◌, refl, ap, subst, Some, None, Ok, List}
 use Rattle.hir_store.specs.Pointers.{Pointer}
-use Rattle.hir_store.specs.Stored.{Stored, store_of}
-use Rattle.hir_store.specs.Storing.{Extends, record_root, root_at}
+use Rattle.hir_store.specs.Stored.{store_of}
+use Rattle.hir_store.specs.Storing.{record_root, root_at}
 use Rattle.hir_store.proofs.Extending.{extends_refl, extends_root}
 use Rattle.hir_store.specs.declared.type_ref.TypeBound.{TypeBound}
 use Rattle.hir_env.specs.declared.place.ImplTrait.{ImplTrait}
 use Rattle.hir_env.specs.declared.place.ImplTrait.TheVariants as becomes
 use Rattle.hir_lower_form.specs.Builder.{Builder, fresh}
-use Rattle.hir_lower_form.specs.Lowering.{Lowering, becoming}
+use Rattle.hir_lower_form.specs.Lowering.{Lowering, ◌>>=◌, becoming, point_type, pure}
 use Rattle.hir_lower_form.specs.Pats.{new_binding}
+use Rattle.hir_lower_form.specs.Types.{TypeSteps}
 use Rattle.hir_lower_form.specs.Walks.{super_read}
 use Rattle.hir_data.specs.Data as datum
-use Rattle.hir_data.specs.Data.{Shape}
+use Rattle.hir_data.specs.Data.{Shape, TypeData}
 use Rattle.hir_steps.specs.Keeps.{Paired}
 use Rattle.hir_steps.proofs.Barriers.{correct_yield}
 use Rattle.hir_steps.proofs.Calls.{correct_only, correct_point_pat, correct_point_target, correct_point_type}
@@ -22,22 +23,26 @@ use Rattle.hir_steps.proofs.Frames.{block_at, loop_at}
 use Rattle.hir_steps.proofs.MadeSteps.{correct_alloc_made, correct_try_target}
 use Rattle.hir_steps.proofs.Noted.{correct_aliased, correct_becoming, correct_noted}
 use Rattle.hir_steps.proofs.PatSteps.{correct_alloc_made_pat, correct_point_pat_field}
-use Rattle.hir_steps.proofs.Steps.{Correct, correct_as, correct_bind, correct_both, correct_point, correct_point_field, correct_report}
+use Rattle.hir_steps.proofs.Steps.{Correct, correct_as, correct_bind, correct_both, correct_point, correct_point_field}
+use Rattle.hir_steps.proofs.Steps.{correct_pure, correct_report}
 use Rattle.hir_one_result.specs.OneResult.{fresh_owing, in_root_of, with_root}
 use Rattle.hir_one_result.proofs.AfterLowering.{after_lowering}
-use Rattle.hir_one_result.specs.Grading.{grade_impl}
-use Rattle.hir_told.specs.StoredData.{DataAdded, StoredData, bodies_stored, no_data, stored_data}
+use Rattle.hir_steps.specs.Grading.{grade_impl}
+use Rattle.hir_told.specs.StoredData.{DataAdded, StoredData, and_then, bodies_stored, no_data, stored_data}
 use Rattle.hir_told.specs.StoredLaws.{BodiesStore, ExprsStore, PathsStore, PatsStore, TypesStore, WholeBodiesStore, WholeTypesStore}
 use Rattle.hir_one_result.proofs.GradedBodies.{GradedBodies, body_graded}
-use Rattle.hir_one_result.proofs.CorrectWhere.{correct_where}
-use Rattle.hir_one_result.proofs.Graded.{Graded, TypeIs}
+use Rattle.hir_steps.proofs.CorrectWhere.{correct_where}
+use Rattle.hir_steps.proofs.Graded.{Graded}
+use Rattle.hir_steps.proofs.ReadBack.{TypeIs}
+use Rattle.hir_told.proofs.ReadingBack.{Surely, read_back}
 use Rattle.hir_told.proofs.Storing.{More, Stores, binding_stores, block_stores, closure_stores, coroutine_stores, data_of, define_stores}
 use Rattle.hir_told.proofs.Storing.{dots_stored, expr_stores, inner_stores, jump_stores, lifetime_stores, made_bind_stores, more_last}
-use Rattle.hir_told.proofs.Storing.{more_then, opened_stores, owning_stores, pat_stores, pure_stores, rooted_stores, settle_stores, still}
-use Rattle.hir_told.proofs.Storing.{stores_begin, stores_end, stores_opened, stores_then, stores_where, super_stored, try_stores}
+use Rattle.hir_told.proofs.Storing.{more_none, more_then, opened_stores, owning_stores, pat_stores, pure_stores}
+use Rattle.hir_told.proofs.Storing.{rooted_stores, settle_stores}
+use Rattle.hir_told.proofs.Storing.{still, stores_begin, stores_end, stores_opened, stores_then, stores_where, super_stored, try_stores}
 use Rattle.hir_told.proofs.Storing.{type_stores}
 use Rattle.hir_told.proofs.StoringPreludes.{coroutine_body_stores, coroutine_closure_stores, number_stores}
-use Rattle.hir_one_result.proofs.GradedTree.{expr_part_graded, part_graded, path_graded, top_graded}
+use Rattle.hir_steps.proofs.GradedTree.{expr_part_graded, part_graded, path_graded, top_graded}
 
 pub impls : (at : Pointer) (mode : ImplTrait) (bounds : List TypeBound) (shape : Shape) → let t = datum.typed (Some at) shape in
     Correct (becoming at mode bounds) (λ final ps m m' i.
@@ -47,21 +52,40 @@ impls at becomes.Opaque bounds shape = type_stores _ (Some at) shape
 impls at (becomes.Argument def) bounds shape =
     correct_becoming at (becomes.Argument def) bounds (λ t e. type_stores t (Some at) shape)
 
+-- the node of a call leads to a type, which reads back as before
+pub pointed_type : (at : Pointer) {t : TypeData} {d : StoredData} {p : TypeSteps}
+    → Correct p (λ final ps m m' i. TypeIs t final m i → More d final m.stored m'.stored)
+    → Correct (p >>= (λ i. point_type at i >>= (λ u. pure i)))
+    (λ final ps m m' i. TypeIs t final m i → More (and_then d no_data) final m.stored m'.stored)
+pointed_type at {t = t} h = correct_as
+    (correct_bind h (λ i. correct_bind (correct_point_type at i) (λ u. correct_pure i)))
+    (λ final ps m m' i g row. λ is. let same = row.second.second.is in
+    more_then (row.first (subst (λ j. TypeIs t final m j) same is))
+    (more_none (ap (λ k. data_of k.stored) row.second.second.still ∙ ap data_of row.second.first.stored)))
+
 abbrev pub data_graded : Graded stored_data
 data_graded = record {
   Claim = λ d p. Correct p (Stores d);
   Made = λ d p. Correct p (Stores d);
   Hands = λ t d p. Correct p (Stores d);
+  MadePat = λ d p. Correct p (Stores d);
+  MadeType = λ t d p. Correct p (λ final ps m m' i. TypeIs t final m i → More d final m.stored m'.stored);
+  HandsPat = λ t d p. Correct p (Stores d);
   Where = λ C d p. Correct p (λ final ps m m' a. C final m a → More d final m.stored m'.stored);
   made_is = λ h. h;
+  pat_made_is = λ h. h;
+  type_made_is = λ is h. correct_as (correct_both is h) (λ final ps m m' a g row. row.other row.one);
   pure_is = λ a. pure_stores a;
   bind_is = λ h t k. stores_where h t k;
   makes_is = λ h t k. stores_where h t k;
+  makes_pat_is = λ h t k. stores_where h t k;
+  makes_type_is = λ h k. correct_as (correct_bind h k) (λ final ps m m' b g row. λ c. more_then row.first (row.second c));
   end_is = λ h k. stores_end h k;
-  where_is = λ is h. correct_as (correct_both is h) (λ final ps m m' a g row. row.other row.one);
+  Known = Surely;
+  reads = read_back;
+  where_type = λ h. h;
   where_any = λ h. correct_as h (λ final ps m m' a g row. λ c. row);
   where_less = λ is h. correct_as (correct_both is h) (λ final ps m m' a g row. λ d. row.other (row.one d));
-  where_next = λ h k. correct_as (correct_bind h k) (λ final ps m m' b g row. λ c. more_then row.first (row.second c));
   where_known = λ h t is k. correct_as (correct_where (correct_both is h) t k)
       (λ final ps m m' b g row. more_then row.first.other (row.second row.first.one));
   where_first = λ h k. correct_as (correct_bind h k) (λ final ps m m' b g row. λ c. more_then (row.first c) row.second);
@@ -72,6 +96,12 @@ data_graded = record {
   beside_is = λ table h t k. stores_where h t k;
   hands_end_is = λ table h k. stores_end h k;
   beside_end_is = λ table h k. stores_end h k;
+  hands_pat_is = λ t h. h;
+  hands_makes_is = λ table h t k. stores_where h t k;
+  beside_makes_is = λ table h t k. stores_where h t k;
+  alone_is = λ t u e h. stores_end h (λ i. pure_stores (i, u));
+  named_alone_is = λ b t u e h. stores_end h (λ i. stores_end (define_stores b i) (λ v. pure_stores (i, u)));
+  or_is = λ at ps t p first known later more whole. whole;
   new_name_is = λ u is t with_it e. stores_end (binding_stores (new_binding u)) (λ b. pure_stores (b, with_it b));
   top_is = λ h. stores_end h (λ r. stores_end (settle_stores r.1) (λ u. pure_stores r.0));
   type_is = λ t at shape. type_stores t at shape;
@@ -93,13 +123,12 @@ data_graded = record {
   noted_is = λ c. still (correct_only (only_note c)) (λ final ps m m' u row. ap data_of row.stored);
   told_is = λ c. still (correct_only (only_told c)) (λ final ps m m' u row. ap data_of row.stored);
   gone_is = λ why. still (correct_only (only_gone why)) (λ final ps m m' u row. ap data_of row.stored);
-  type_call_is = λ at l h. stores_then h (λ i.
-      stores_end (still (correct_point_type at i) (λ final ps m m' u row. ap data_of row.stored)) (λ u. pure_stores i));
-  pat_call_is = λ at l h. stores_then h (λ i.
+  type_call_is = λ at t h. pointed_type at h;
+  pat_call_is = λ at h. stores_then h (λ i.
       stores_end (still (correct_point_pat at i) (λ final ps m m' u row. ap data_of row.stored)) (λ u. pure_stores i));
-  target_way_is = λ at l h. stores_then h (λ i.
+  target_way_is = λ at h. stores_then h (λ i.
       stores_end (still (correct_point_target at i) (λ final ps m m' u row. ap data_of row.stored)) (λ u. pure_stores i));
-  hands_call_is = λ at t l h. stores_then h (λ r.
+  hands_call_is = λ at t h. stores_then h (λ r.
       stores_end (still (correct_point_pat at r.0) (λ final ps m m' u row. ap data_of row.stored)) (λ u. pure_stores r));
   super_is = λ w. super_stored (super_read w);
   dots_is = λ comma place. dots_stored comma place;

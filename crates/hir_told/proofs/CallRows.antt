@@ -5,7 +5,7 @@ use Rattle.hir_store.specs.Pointers.{Pointer}
 use Rattle.hir_store.specs.declared.ids.MacroDefId.{MacroDefId}
 use Rattle.hir_env.specs.Answered as tree
 use Rattle.hir_told.specs.Expanded.{expansions}
-use Rattle.hir_one_result.specs.Grades.{grade_stmts}
+use Rattle.hir_steps.specs.Grades.{grade_stmts}
 use Rattle.hir_told.specs.Worked.{SmallCalls}
 use Rattle.hir_told.specs.WorkedData.{AllSmallData}
 use Rattle.hir_told.specs.WorkedOrders.{AllSmallOrders, call_alone, expr_call, recorded}

@@ -1,15 +1,9 @@
 -- As much is stored as is told, or there is no room for it.
-use Rattle.std.proofs.Common.{Ok, Err}
-use Rattle.hir_lower_form.specs.Builder.{Builder}
-use Rattle.hir_lower_form.specs.Lowering.{Checked, Lowering}
-use Rattle.hir_steps.specs.Keeps.{Paired}
-use Rattle.hir_one_result.specs.Laws.{GrownUnless}
-use Rattle.hir_one_result.specs.Size.{Size}
 use Rattle.hir_told.specs.Laws.{BodiesFit, ExprsFit}
 use Rattle.hir_one_result.proofs.AsRooms.{rooms_bodies, rooms_graded}
 use Rattle.hir_one_result.proofs.Fits.{fits}
 use Rattle.hir_one_result.proofs.GradedBodies.{body_graded}
-use Rattle.hir_one_result.proofs.GradedTree.{expr_part_graded}
+use Rattle.hir_steps.proofs.GradedTree.{expr_part_graded}
 
 pub exprs_fit : ExprsFit
 exprs_fit e old d = fits (expr_part_graded rooms_graded e).0 old d

@@ -1,9 +1,15 @@
-pub mod AsApart
-pub mod AsYields
 pub mod Listed
 pub mod AsExpansions
 pub mod CallRows
 pub mod Fitting
 pub mod Storing
 pub mod StoringPreludes
+pub mod ReadingBack
 pub mod AsStoredData
+pub mod Onward
+pub mod Ways
+pub mod NameWays
+pub mod OwnedWays
+pub mod PreludeWays
+pub mod AsWays
+pub mod Noted

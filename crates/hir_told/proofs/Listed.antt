@@ -2,7 +2,7 @@
 use Rattle.hir_told.specs.Laws.{BodiesEnter, BodiesReport, ExprsEnter, ExprsReport}
 use Rattle.hir_one_result.proofs.AsTelling.{behind, entered, reported, tells_bodies, tells_graded}
 use Rattle.hir_one_result.proofs.GradedBodies.{body_graded}
-use Rattle.hir_one_result.proofs.GradedTree.{expr_part_graded}
+use Rattle.hir_steps.proofs.GradedTree.{expr_part_graded}
 
 pub exprs_report : ExprsReport
 exprs_report e old id new paired is =

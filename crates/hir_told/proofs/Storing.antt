@@ -42,9 +42,9 @@ use Rattle.hir_steps.proofs.Steps.{Correct, Mark, Rel, correct_alloc, correct_al
 use Rattle.hir_steps.proofs.Steps.{correct_count_out, correct_enter_block, correct_opened, correct_pure, correct_target}
 use Rattle.hir_steps.proofs.Steps.{with_block, with_jump, with_target}
 use Rattle.hir_told.specs.StoredData.{StoredData, and_then, each_below, lifetimes_in, no_data, types_in}
-use Rattle.hir_one_result.proofs.Answering.{Answering}
-use Rattle.hir_one_result.proofs.CorrectWhere.{correct_where, correct_with}
-use Rattle.hir_one_result.proofs.Graded.{TypeIs}
+use Rattle.hir_steps.proofs.Answering.{Answering}
+use Rattle.hir_steps.proofs.CorrectWhere.{correct_where, correct_with}
+use Rattle.hir_steps.proofs.ReadBack.{TypeIs}
 
 -- between two stores, read in a final one
 pub record More (d : StoredData) (final a b : Stored) : Type 0 where

@@ -1,6 +1,5 @@
 -- What hands arguments in stores neither types nor lifetimes, so a closure or a function that is a coroutine stores what its parts do.
 use Rattle.std.proofs.Common.{ap, refl, Bool, true, false, List, [], ◌∷◌, ◌++◌, Option, Some, None}
-use Rattle.hir_store.specs.Bindings.{binding_id}
 use Rattle.hir_store.specs.Pointers.{Pointer}
 use Rattle.hir_store.specs.declared.hir.CoroutineKind.{CoroutineKind}
 use Rattle.hir_store.specs.declared.hir.CoroutineSource.{CoroutineSource}

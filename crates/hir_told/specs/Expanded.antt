@@ -2,7 +2,7 @@
 use Rattle.std.specs.Prelude.{[], ◌++◌}
 use Rattle.hir_steps.specs.Calls.{Expansions, expansions_of_called, expansions_of_entered, expansions_of_gone}
 use Rattle.hir_one_result.specs.Bodies.{GradingBodies}
-use Rattle.hir_one_result.specs.Grading.{Grading}
+use Rattle.hir_steps.specs.Grading.{Grading}
 
 abbrev pub expansions : Grading {0}
 expansions = record {

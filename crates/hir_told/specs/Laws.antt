@@ -15,10 +15,10 @@ use Rattle.hir_one_result.specs.Formals.{Given, lower_body}
 use Rattle.hir_one_result.specs.Laws.{GrownUnless, WhereLowered}
 use Rattle.hir_one_result.specs.Bodies.{grade_body}
 use Rattle.hir_told.specs.Expanded.{bodies_expanded, expansions}
-use Rattle.hir_one_result.specs.Grades.{grade_expr_part, grade_part, grade_part_in, grade_target, grade_top, grade_whole}
+use Rattle.hir_steps.specs.Grades.{grade_expr_part, grade_part, grade_part_in, grade_target, grade_top, grade_whole}
 use Rattle.hir_one_result.specs.Lists.{blocks, bodies_listed, faults}
 use Rattle.hir_one_result.specs.Sizes.{bodies_sized, sizes}
-use Rattle.hir_told.specs.Yields.{yields}
+use Rattle.hir_read_back.specs.Yields.{yields}
 
 -- ---- a `yield` is noted where one is told of, and nowhere else
 

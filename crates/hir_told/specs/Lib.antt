@@ -1,5 +1,3 @@
-pub mod Silent
-pub mod Yields
 pub mod Expanded
 pub mod StoredData
 pub mod Laws
@@ -8,3 +6,4 @@ pub mod Worked
 pub mod WorkedOrders
 pub mod WorkedTargets
 pub mod WorkedData
+pub mod LeadsOn

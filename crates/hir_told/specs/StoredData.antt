@@ -5,7 +5,7 @@ use Rattle.hir_store.specs.Storing.{Extends, lifetime_id, type_id}
 use Rattle.hir_data.specs.Data.{LifetimeData, TypeData}
 use Rattle.hir_data.specs.Reading.{stored_lifetime, stored_type}
 use Rattle.hir_one_result.specs.Bodies.{GradingBodies}
-use Rattle.hir_one_result.specs.Grading.{Grading}
+use Rattle.hir_steps.specs.Grading.{Grading}
 
 pub record StoredData : Type 0 where
   pub types : List TypeData

@@ -15,7 +15,7 @@ use Rattle.hir_one_result.specs.Formals.{Given, lower_body}
 use Rattle.hir_one_result.specs.Laws.{WhereLowered}
 use Rattle.hir_one_result.specs.OneResult.{fresh_owing, in_root_of, with_root}
 use Rattle.hir_one_result.specs.Bodies.{grade_body}
-use Rattle.hir_one_result.specs.Grades.{grade_expr_part, grade_part, grade_part_in, grade_top, grade_whole}
+use Rattle.hir_steps.specs.Grades.{grade_expr_part, grade_part, grade_part_in, grade_top, grade_whole}
 use Rattle.hir_told.specs.Laws.{WhereBodyLowered}
 use Rattle.hir_told.specs.StoredData.{DataAdded, ReadsAs, bodies_stored, stored_data}
 

@@ -10,7 +10,7 @@ use Rattle.hir_env.specs.NodeMap.{Site}
 use Rattle.hir_env.specs.Spot.{site_of}
 use Rattle.hir_steps.specs.Calls.{Expansions, expansions_of_entered}
 use Rattle.hir_told.specs.Expanded.{expansions}
-use Rattle.hir_one_result.specs.Grades.{grade_expr}
+use Rattle.hir_steps.specs.Grades.{grade_expr}
 
 abbrev pub expansions_of : Expr → Expansions
 expansions_of e = grade_expr expansions e

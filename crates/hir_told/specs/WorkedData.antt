@@ -8,7 +8,7 @@ use Rattle.hir_env.specs.Answered as tree
 use Rattle.hir_env.specs.Answered.{Lifetime, Segment, Segments, Type_}
 use Rattle.hir_data.specs.Data.{TypeData, bare_path, error_shape, infer_shape, path_shape, typed}
 use Rattle.hir_data.specs.Written.{lifetime_data}
-use Rattle.hir_one_result.specs.Grades.{grade_type}
+use Rattle.hir_steps.specs.Grades.{grade_type}
 use Rattle.hir_told.specs.StoredData.{StoredData, stored_data}
 
 abbrev pub data_in : Type_ → StoredData

@@ -13,7 +13,7 @@ use Rattle.hir_env.specs.Spot.{site_of}
 use Rattle.hir_steps.specs.Calls.{Expansions}
 use Rattle.hir_one_result.specs.Bodies.{grade_body}
 use Rattle.hir_told.specs.Expanded.{bodies_expanded, expansions}
-use Rattle.hir_one_result.specs.Grades.{grade_pat, grade_stmts, grade_type, grade_whole}
+use Rattle.hir_steps.specs.Grades.{grade_pat, grade_stmts, grade_type, grade_whole}
 
 -- a call at this node that is entered, for which nothing else was expanded, and what is recorded of it
 abbrev pub call_alone : Pointer → HirFileId → Entered

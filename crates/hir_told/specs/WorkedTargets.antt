@@ -7,13 +7,13 @@ use Rattle.hir_store.specs.declared.diagnostics.ExpressionStoreDiagnostics.TheVa
 use Rattle.hir_store.specs.declared.ids.HygieneId.{HygieneId}
 use Rattle.hir_store.specs.declared.path.ModPath.{ModPath}
 use Rattle.hir_env.specs.Answered as tree
-use Rattle.hir_env.specs.Answered.{Expr, OptionPath, Path, RangeForm, Target, Targets}
+use Rattle.hir_env.specs.Answered.{Expr, OptionPath, Path, RangeForm, Target}
 use Rattle.hir_env.specs.Targets.{target_or}
 use Rattle.hir_scope.specs.Scopes.{Scope}
 use Rattle.hir_steps.specs.Calls.{Expansions}
 use Rattle.hir_one_result.specs.Size.{assigned_at, stored_from}
 use Rattle.hir_told.specs.Expanded.{expansions}
-use Rattle.hir_one_result.specs.Grades.{grade_target}
+use Rattle.hir_steps.specs.Grades.{grade_target}
 use Rattle.hir_one_result.specs.Lists.{faults}
 use Rattle.hir_one_result.specs.Sizes.{sizes}
 use Rattle.hir_told.specs.WorkedOrders.{call_alone, expr_call, recorded}

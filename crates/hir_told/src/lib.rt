@@ -4,6 +4,7 @@
 ghost use Rattle.hir_told.specs.Laws.{BodiesEnter, BodiesExpand, BodiesFit, BodiesReport};
 ghost use Rattle.hir_told.specs.Laws.{ExprsEnter, ExprsExpand, ExprsFit, ExprsNote, ExprsReport};
 ghost use Rattle.hir_told.specs.Laws.{PathsExpand, PatsNote, TargetsNote, TypesExpand, TypesNote};
+ghost use Rattle.hir_told.specs.LeadsOn.{ExprsLead, PathsLead, PatsLead, TargetsLead, TypesLead};
 ghost use Rattle.hir_told.specs.StoredLaws.{BodiesStore, ExprsStore, PathsStore, PatsStore, TypesStore, WholeBodiesStore, WholeTypesStore};
 ghost use Rattle.hir_told.specs.Worked.{SmallCalls};
 ghost use Rattle.hir_told.specs.WorkedData.{AllSmallData};
@@ -28,6 +29,20 @@ pub fn pats_note()
 /// Of what is assigned to likewise.
 pub fn targets_note()
     ensures { TargetsNote }
+{}
+
+/// Whether or not there is room for an expression, nothing that was stored is lost, bindings and what owns them stay, and a node that led
+/// somewhere leads there still, or to what came since. What is answered came since.
+pub fn exprs_lead()
+    ensures { ExprsLead }
+{}
+
+/// Of a type likewise, of what is assigned to, and, but for what is answered, of a whole pattern and of a path.
+pub fn parts_lead()
+    ensures types { TypesLead }
+    ensures targets { TargetsLead }
+    ensures pats { PatsLead }
+    ensures paths { PathsLead }
 {}
 
 /// The faults of an expression come behind those that were met before, in the order in which they are told.

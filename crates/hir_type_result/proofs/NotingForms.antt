@@ -31,8 +31,9 @@ use Rattle.hir_meaning.specs.Inner.{Bodies}
 use Rattle.hir_steps.proofs.Calls.{only_told}
 use Rattle.hir_one_result.specs.Size.{Size, a_pat, a_pat_call, a_type, a_type_call, an_impl, if_so, uncalled_pat_size}
 use Rattle.hir_one_result.specs.Size.{uncalled_type_size, ◌∪◌}
-use Rattle.hir_one_result.specs.PathRoom.{Seen, Read, at_first, before, lifetime_size, use_size, uses_size}
-use Rattle.hir_one_result.proofs.PathRooms.{seen, seen_of, Gives, Yields}
+use Rattle.hir_steps.specs.PathSeen.{Seen, Read, at_first}
+use Rattle.hir_one_result.specs.PathRoom.{before, lifetime_size, use_size, uses_size}
+use Rattle.hir_steps.proofs.PathAnswers.{seen, seen_of, Gives, Yields}
 use Rattle.hir_one_result.proofs.Tellings.{Tells}
 use Rattle.hir_type_result.proofs.Noting.{Notes, notes_then, notes_given, notes_end, notes_pure, notes_type, notes_lifetime}
 use Rattle.hir_type_result.proofs.Noting.{notes_becoming, notes_count_out, notes_noted, notes_only, notes_pat, notes_point_pat}

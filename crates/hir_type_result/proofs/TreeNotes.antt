@@ -16,11 +16,11 @@ use Rattle.hir_lower_form.specs.Lower.{read_option, lower_path, lower_segment_ar
 use Rattle.hir_lower_form.specs.Lower.{lower_arg, lower_bounds, lower_bound, lower_constant, lower_limit, lower_type_pat}
 use Rattle.hir_lower_form.specs.Lower.{lower_type_pat_part, lower_type_pats}
 use Rattle.hir_lower_form.specs.Paths.{alias_of}
-use Rattle.hir_one_result.specs.PathRoom.{at_first, whole_read}
+use Rattle.hir_steps.specs.PathSeen.{at_first, whole_read}
 use Rattle.hir_one_result.specs.Room.{constant_size, type_size, type_part_size, present_size, parts_size, segment_size, segments_size}
 use Rattle.hir_one_result.specs.Room.{path_size, outer_size, whole_size, beside_size, parens_size, output_size, args_size, each_arg_size}
 use Rattle.hir_one_result.specs.Room.{arg_size, bounds_size, bound_size, limit_size, type_pat_part_size, type_pat_size, type_pats_size}
-use Rattle.hir_one_result.proofs.PathRooms.{seen}
+use Rattle.hir_steps.proofs.PathAnswers.{seen}
 use Rattle.hir_one_result.proofs.TreeRooms.{each_tells, own_tells, args_tell}
 use Rattle.hir_type_result.proofs.Noting.{notes_then, notes_end, notes_pure, notes_type, notes_constant, notes_limit, notes_pat}
 use Rattle.hir_type_result.proofs.Noting.{notes_aliased, notes_owning}

@@ -1,4 +1,4 @@
-use Rattle.hir_told.proofs.AsYields.{types_note as proved}
+use Rattle.hir_told.proofs.Noted.{types_note as proved}
 use Rattle.hir_told.proofs.types_note.Goals as goal
 
 pub returns : goal.returns

@@ -6,7 +6,7 @@ use Rattle.hir_one_result.specs.Room.{size_part}
 use Rattle.hir_item_result.specs.Exceeding.{FitsBehind}
 use Rattle.hir_lower_handlers.specs.Spots.{spot_at}
 use Rattle.hir_lower.specs.Means.{Rooted}
-use Rattle.hir_lower.proofs.Onward.{stays_refl}
+use Rattle.hir_lower.proofs.StaysOn.{stays_refl}
 use Rattle.hir_lower.proofs.collector.ExprCollector.lower_const_arg.Goals as goal
 
 pub returns-clause-rooted : goal.returns-clause-rooted

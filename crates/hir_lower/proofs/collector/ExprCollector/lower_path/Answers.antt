@@ -1,6 +1,6 @@
 use Rattle.std.proofs.Common.{ap, Err}
 use Rattle.hir_lower.proofs.PathMeanings.{full_before}
-use Rattle.hir_lower.proofs.Onward.{stays_refl}
+use Rattle.hir_lower.proofs.StaysOn.{stays_refl}
 use Rattle.hir_lower.proofs.collector.ExprCollector.lower_path.Goals as goal
 
 pub returns-clause-data : goal.returns-clause-data

@@ -17,10 +17,10 @@ loop-number-preserved c =
     let settled : Settled b (suc n) first c.match-get_index.state
     = elim c.match-get_index.branch [
       | in-Some w ↦ subst (λ s. Settled b (suc n) first s) (sym w.state-is)
-            (settled_on b n first c.loop-number.state _ _ w.problem.result (sym w.in-Some.ensures) w.problem.ensures.noted
-            w.set_problem.ensures before)
+          (settled_on b n first c.loop-number.state _ _ w.problem.result (sym w.in-Some.ensures) w.problem.ensures.noted
+          w.set_problem.ensures before)
       | in_default w ↦ subst (λ s. Settled b (suc n) first s) (sym w.state-is)
-            (settled_past b n first c.loop-number.state (sym w.in_default.ensures) before)
+          (settled_past b n first c.loop-number.state (sym w.in_default.ensures) before)
     ] in
     let next : suc n ≡ n + 1 = omega arith in
     let all = subst (λ m. Settled b m first c.match-get_index.state) next settled in

@@ -1,0 +1,75 @@
+-- What is told of calls of macros, whatever is told of what they stand for.
+use Rattle.std.proofs.Common.{Some}
+use Rattle.hir_store.specs.Pointers.{Pointer}
+use Rattle.hir_store.specs.declared.ids.PatId.{PatId}
+use Rattle.hir_env.specs.Answered as tree
+use Rattle.hir_env.specs.Answered.{Called}
+use Rattle.hir_data.specs.Data.{TypeData, error_shape, typed}
+use Rattle.hir_data.specs.Uses.{FirstUses}
+use Rattle.hir_data.specs.Written.{call_source}
+use Rattle.hir_lower_form.specs.Calls.{told}
+use Rattle.hir_lower_form.specs.Forms.{ExprSteps, called_form, paren_form, uncalled_form}
+use Rattle.hir_lower_form.specs.Lowering.{Lowering, ◌>>=◌, ◌>>◌, pure, point_pat}
+use Rattle.hir_lower_form.specs.Pats.{Table, called_pat_form, uncalled_pat}
+use Rattle.hir_lower_form.specs.Types.{TypeSteps, called_type_form, uncalled_type}
+use Rattle.hir_steps.proofs.PatAnswers.{Keyed}
+use Rattle.hir_steps.specs.Grading.{Grading, grade_uncalled_pat, grade_uncalled_type}
+use Rattle.hir_steps.proofs.Answering.{answering_any, answering_pure, answering_then}
+use Rattle.hir_steps.proofs.Graded.{Graded, HandsTold, MadeTold, hand_beside, made_next, pat_beside, pat_next, told_any}
+use Rattle.hir_steps.proofs.GradedPats.{PatMade, missing_pat_graded}
+use Rattle.hir_steps.proofs.GradedTypes.{error_made}
+
+module _ {ℓ} {S : Grading {ℓ}} (L : Graded S) where
+  pub told_target_graded : (c : Called) {g : S.G} {p : Lowering PatId} → L.MadePat g p → L.MadePat (S.then' (S.told c) g) (told c >> p)
+  told_target_graded c h = pat_next L (L.told_is c) (λ u. h)
+
+  -- before steps that hand names on, and before those that hand a pattern on
+  pub told_hands : (c : Called) {A : Type 0} {t : Table} {g : S.G} {P : A × Table → Type 0} {p : Lowering (A × Table)}
+      → HandsTold L t g P p → HandsTold L t (S.then' (S.told c) g) P (told c >> p)
+  told_hands c h = hand_beside L (told_any L (L.told_is c)) (λ u x. h)
+
+  pub told_pat : (c : Called) {t : Table} {g : S.G} {P : PatId × Table → Type 0} {p : Lowering (PatId × Table)} → MadeTold L t g P p
+      → MadeTold L t (S.then' (S.told c) g) P (told c >> p)
+  told_pat c h = pat_beside L (told_any L (L.told_is c)) (λ u x. h)
+
+  module _ (at : Pointer) where
+    pub uncalled_graded : (c : Called) → L.Made (S.then' (S.told c) S.expr) (uncalled_form at c)
+    unfolding uncalled_form
+    uncalled_graded c = made_next L (L.told_is c) (λ u. L.expr_is _ (Some at))
+
+    pub called_graded : (c : Called) {g : S.G} {e : ExprSteps} → L.Made g e → L.Made (S.then' (S.told c) g) (called_form at c e)
+    unfolding called_form paren_form
+    called_graded c h = made_next L (L.told_is c) (λ u. L.point_is at h)
+
+    pub called_type_graded : (c : Called) {d : TypeData} {g : S.G} {t : TypeSteps} → L.MadeType d g t
+        → L.MadeType d (S.then' (S.told c) (S.then' g (S.type_call at))) (called_type_form at c t)
+    unfolding called_type_form
+    called_type_graded c h = L.makes_type_is (L.told_is c) (λ u. L.type_call_is at _ h)
+
+    pub uncalled_type_graded : (c : Called)
+        → L.MadeType (typed (call_source at c) error_shape) (grade_uncalled_type S at c) (uncalled_type at c)
+    uncalled_type_graded tree.callless = L.type_is _ _ _
+    uncalled_type_graded tree.unentered = called_type_graded _ (error_made L)
+    uncalled_type_graded (tree.unresolved s path) = called_type_graded _ (error_made L)
+    uncalled_type_graded (tree.entered c) = called_type_graded _ (error_made L)
+    uncalled_type_graded tree.spliced = called_type_graded _ (error_made L)
+
+    pub called_type_pat_graded : (c : Called) {g : S.G} {p : Lowering PatId} → L.MadePat g p
+        → L.MadePat (S.then' (S.told c) (S.then' g (S.pat_call at))) (called_pat_form at c (λ i. i) p)
+    unfolding called_pat_form
+    called_type_pat_graded c h = pat_next L (L.told_is c) (λ u. L.pat_call_is at h)
+
+    pub uncalled_pat_graded : (c : Called) → L.MadePat (grade_uncalled_pat S at c) (uncalled_pat at c)
+    uncalled_pat_graded tree.callless = missing_pat_graded L
+    uncalled_pat_graded c = called_type_pat_graded c (missing_pat_graded L)
+
+    -- one that hands names on
+    pub called_pat_graded : (c : Called) {g : S.G} {us vs : FirstUses} {p : Table → Lowering (PatId × Table)} → PatMade L g us vs p
+        → PatMade L (S.then' (S.told c) (S.then' g (S.pat_call at))) us vs (λ t. called_pat_form at c (λ r. r.0) (p t))
+    unfolding called_pat_form
+    called_pat_graded c {g = g} {vs = vs} {p = p} h t k = told_pat c (
+        let own : MadeTold L t (S.then' g (S.pat_call at)) (λ r. Keyed vs r.1) (p t >>= (λ r. point_pat at r.0 >>= (λ v. pure r))) =
+        record {
+          claim = L.hands_call_is at t (h t k).claim;
+          known = answering_then (h t k).known (λ r y. answering_then (answering_any (point_pat at r.0)) (λ v z. answering_pure r y));
+        } in own)

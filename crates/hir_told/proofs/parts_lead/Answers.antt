@@ -1,0 +1,14 @@
+use Rattle.hir_told.proofs.AsWays.{paths_lead, pats_lead, targets_lead, types_lead}
+use Rattle.hir_told.proofs.parts_lead.Goals as goal
+
+pub returns-clause-types : goal.returns-clause-types
+returns-clause-types c = types_lead
+
+pub returns-clause-targets : goal.returns-clause-targets
+returns-clause-targets c = targets_lead
+
+pub returns-clause-pats : goal.returns-clause-pats
+returns-clause-pats c = pats_lead
+
+pub returns-clause-paths : goal.returns-clause-paths
+returns-clause-paths c = paths_lead
