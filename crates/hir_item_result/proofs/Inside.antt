@@ -218,7 +218,8 @@ module _ (w : ExprId → ℕ) (r : Inners) where
       let e = each_held (of_bound r) (λ b. a_bound b (meter_of w r)) (bound_held w r) bs in
       let s = present_held r.type t in omega (arith, a, e, s)
 
-  function_held : (args : List TypeRefId) (ret : Option TypeRefId) → sum w (held_by_function args ret r) ≡ by_function args ret (meter_of w r)
+  function_held : (args : List TypeRefId) (ret : Option TypeRefId)
+      → sum w (held_by_function args ret r) ≡ by_function args ret (meter_of w r)
   function_held args ret =
       let a = sum_append w (all_of r.type args) (of_present r.type ret) in
       let e = each_held r.type (λ t. sum w (r.type t)) (λ t. refl) args in

@@ -26,3 +26,4 @@ pub mod Once
 pub mod Inside
 pub mod HeldApart
 pub mod Apart
+pub mod Worked

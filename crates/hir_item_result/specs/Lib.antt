@@ -13,3 +13,4 @@ pub mod Apart
 pub mod Numbers
 pub mod Once
 pub mod Inside
+pub mod Worked

@@ -13,6 +13,7 @@ ghost use Rattle.hir_item_result.specs.Once.{AliasesOnce, FunctionsOnce, Generic
 ghost use Rattle.hir_item_result.specs.Roots.{FirstItemRoots, ItemRoots};
 ghost use Rattle.hir_item_result.specs.Stored.{FirstItemsStore, ItemsStore};
 ghost use Rattle.hir_item_result.specs.Words.{SameWords};
+ghost use Rattle.hir_item_result.specs.Worked.{CountsArguments};
 
 /// Where no root is being lowered, each constant in an item is recorded as one, in the order in which its parts are read, and does what
 /// the written one does: also what stands in a path that is refused, in arguments that are dropped, or in the bounds of an `impl` that
@@ -63,7 +64,8 @@ pub fn items_store()
 
 /// What an item is answered with names types, its parameters and predicates do, and they reach through them others, each in one way only,
 /// and none that an expression or a pattern names: the default of a parameter, the type of a constant one, what a predicate is of, once
-/// for all that are of it, and its bound. Of what is asked of a parameter that an `impl` became nothing is said.
+/// for all that are of it, and its bound. A parameter that an `impl` became is named where the `impl` stood, and its bounds are by the
+/// predicates.
 pub fn answers_reach_once()
     ensures generics { GenericsOnce }
     ensures traits { TraitsOnce }
@@ -74,14 +76,19 @@ pub fn answers_reach_once()
 
 /// The constants and the ends of ranges that are held by what an item is answered with, and by its parameters and predicates, reach
 /// expressions, and so does what one of those holds and doesn't run: each in one way only. So each is an expression of its own, as the
-/// defaults of two constant parameters are, and none stands in another one. Of what is asked of a parameter that an `impl` became nothing
-/// is said.
+/// defaults of two constant parameters are, and none stands in another one, also in the bounds of an `impl` that became a parameter.
 pub fn answers_hold_once()
     ensures generics { GenericsHoldOnce }
     ensures traits { TraitsHoldOnce }
     ensures impls { ImplsHoldOnce }
     ensures aliases { AliasesHoldOnce }
     ensures functions { FunctionsHoldOnce }
+{}
+
+/// Of a function with an argument `impl A<[!; 1]>` the path, the array, its element and its length are reached, each once, through what is
+/// asked of the parameter that the `impl` became.
+pub fn counts_arguments()
+    ensures { CountsArguments }
 {}
 
 /// Where each expression is reached in one way only by what is held, no two that are held are one. So the defaults of two constant

@@ -51,11 +51,11 @@ use std::alloc::Global;
 /// their numbers: types and defaults read back, and the bodies inside them run so. The type that an `impl` becomes names the parameter of
 /// its number. Of each bound that becomes one there is a predicate, in their order: it reads back with what it is of, and the bodies inside
 /// them run so (clause `params`). Each type that defaults, types of constants, what is bound, and bounds reach is reached in one way only;
-/// what several predicates are of is counted once, and of what is asked of a parameter that an `impl` became nothing is said
-/// (`reached_once`). Of constants the same is so: each default of a constant parameter, and each constant that these types and bounds hold,
-/// is an expression of its own, which no other one reaches, by running or by what it holds (`inside_reached_once`). All stored types and
-/// all lifetimes, in their order, read back as what is written or made, also those that nothing reaches: so the type that a parameter is,
-/// and the lifetime of a lifetime parameter, which bears its name (`stored`).
+/// what several predicates are of is counted once, and a parameter that an `impl` became where the `impl` stood (`reached_once`). Of
+/// constants the same is so: each default of a constant parameter, and each constant that these types and bounds hold, is an expression of
+/// its own, which no other one reaches, by running or by what it holds (`inside_reached_once`). All stored types and all lifetimes, in
+/// their order, read back as what is written or made, also those that nothing reaches: so the type that a parameter is, and the lifetime
+/// of a lifetime parameter, which bears its name (`stored`).
 ///
 /// `Memory` where a growth was refused; `Full` only where the item becomes more types, lifetimes, expressions, labels, patterns, bindings
 /// or parameters than there is room for, or something in it counts further than 32 bits do; never `Failed`. What was stored until then

@@ -38,7 +38,8 @@ use Rattle.hir_type_result.specs.Named.{Look, of_bindings_alone, of_expr, of_exp
 use Rattle.hir_type_result.specs.Pats.{of_type, of_types}
 use Rattle.hir_type_result.proofs.Counted.{times, less, ◌⊑◌, times_append}
 use Rattle.hir_type_result.proofs.Adding as plain
-use Rattle.hir_type_result.proofs.Adding.{Bound, Numbers, Sort, chosen, the_types, the_pats, both, fewer, known, look, made_then, named, none, none_made, wider}
+use Rattle.hir_type_result.proofs.Adding.{Bound, Numbers, Sort, chosen, the_types, the_pats, both, fewer, known, look, made_then, named}
+use Rattle.hir_type_result.proofs.Adding.{none, none_made, wider}
 
 -- ---- what is asked
 

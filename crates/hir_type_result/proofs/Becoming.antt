@@ -1,5 +1,6 @@
 -- What an `impl` in an argument becomes: it is a parameter, which names nothing, and what is asked of it names what its bounds do.
-use Rattle.std.proofs.Common.{◌≡◌, refl, ap, arith, ℕ, ◌+◌, nat_lt, length, Bool, true, false, List, [], ◌∷◌, ◌++◌, Option, Some, None, Ok, Err}
+use Rattle.std.proofs.Common.{◌≡◌, refl, ap, arith, ℕ, ◌+◌, nat_lt, length, Bool, true, false, List, [], ◌∷◌, ◌++◌, Option, Some, None}
+use Rattle.std.proofs.Common.{Ok, Err}
 use Rattle.hir_store.specs.Pointers.{Pointer}
 use Rattle.hir_store.specs.Stored.{Stored}
 use Rattle.hir_store.specs.declared.generics.TypeOrConstParamData.{TypeOrConstParamData}
@@ -21,7 +22,8 @@ use Rattle.hir_lower_form.specs.Paths.{aliased, cut_back, cut_path, last_args}
 use Rattle.hir_type_result.specs.Named.{Look}
 use Rattle.hir_type_result.specs.Reached.{of_bound, of_each}
 use Rattle.hir_type_result.proofs.Adding.{Numbers, look, none}
-use Rattle.hir_type_result.proofs.Asked.{Adds, AnswersTo, Correct, Quiet, adds_pure, adds_quiet, adds_refused, adds_then, adds_type, asked_by}
+use Rattle.hir_type_result.proofs.Asked.{Adds, AnswersTo, Correct, Quiet, adds_pure, adds_quiet, adds_refused, adds_then, adds_type}
+use Rattle.hir_type_result.proofs.Asked.{asked_by}
 use Rattle.hir_type_result.proofs.Asked.{Longer, longer, longer_of, quiet_noted}
 use Rattle.hir_type_result.proofs.Counted.{times}
 use Rattle.hir_type_result.proofs.Naming.{quiet_pure, quiet_then}

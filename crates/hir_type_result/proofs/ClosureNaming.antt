@@ -74,7 +74,8 @@ module _ (at : Pointer) where
       → Correct p (Adds none params_named) → Correct t (Adds none maybe_type) → Correct e Quiet
       → Correct (closure_form at moves is_static p t e) Quiet
   unfolding closure_form
-  closure_quiet moves is_static hp ht he = adds_then quiet_open_barrier (λ outside. adds_then hp (λ c. adds_then (adds_beside (params_named c) ht)
+  closure_quiet moves is_static hp ht he = adds_then quiet_open_barrier (λ outside. adds_then hp
+      (λ c. adds_then (adds_beside (params_named c) ht)
       (λ r. adds_then (adds_quiet he) (λ e. adds_then (adds_quiet (quiet_close_barrier outside))
       (λ y. adds_expr (stored_closure moves is_static c r e y) (Some at) (node_named moves is_static c r e y))))))
 

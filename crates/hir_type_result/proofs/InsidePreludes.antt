@@ -26,7 +26,8 @@ use Rattle.hir_type_result.proofs.InsideForms.{a_statement, block_less, contents
 use Rattle.hir_type_result.proofs.InsidePats.{let_less, pats, pushed}
 use Rattle.hir_type_result.proofs.Asked.{Correct}
 use Rattle.hir_type_result.proofs.Weighed.{Cost, View, a_limit, a_pat, an_expr, beside, free, in_expr, sum_append, view}
-use Rattle.hir_type_result.proofs.Weighing.{body_aside, Adds, adds_any, adds_aside, adds_beside, adds_expr, adds_from, adds_pat, adds_pat_beside}
+use Rattle.hir_type_result.proofs.Weighing.{body_aside, Adds, adds_any, adds_aside, adds_beside, adds_expr, adds_from, adds_pat}
+use Rattle.hir_type_result.proofs.Weighing.{adds_pat_beside}
 use Rattle.hir_type_result.proofs.Weighing.{adds_pure, adds_then}
 use Rattle.hir_noted.proofs.Steps.{notes_binding, notes_define, notes_made_number}
 use Rattle.hir_noted.proofs.Preludes.{notes_bound, notes_own_name}

@@ -19,7 +19,8 @@ use Rattle.hir_lower_form.specs.Builder.{Builder}
 use Rattle.hir_lower_form.specs.Lowering.{Checked, Lowering, ◌>>=◌, pure, alloc_binding, alloc_expr, define, point, point_field, point_pat}
 use Rattle.hir_lower_form.specs.Lowering.{point_pat_field, point_target, point_type, bindings_end, note_yield, open_macro, own, owning}
 use Rattle.hir_lower_form.specs.Lowering.{report, report_await, enter_block, open_label, close, jump_target, alloc_made, made_number}
-use Rattle.hir_lower_form.specs.Lowering.{open_try, try_target, open_barrier, close_barrier, enter_root, leave_root, outside_root, record_root}
+use Rattle.hir_lower_form.specs.Lowering.{open_try, try_target, open_barrier, close_barrier, enter_root, leave_root, outside_root}
+use Rattle.hir_lower_form.specs.Lowering.{record_root}
 use Rattle.hir_lower_form.specs.Calls.{inside_macro}
 use Rattle.hir_lower_form.specs.Lower.{ExprSteps, constant_form, some}
 use Rattle.hir_lower_form.specs.Pats.{Key, Notes as Notices, Table, binding_of, key_of, settle}
@@ -199,7 +200,8 @@ quiet_open_label l = quiet_kept (noted.notes_open_label l)
 
 quiet_open_try : (at : Pointer) (typed : Bool) → Correct (open_try at typed) Quiet
 quiet_open_try at typed = quiet_kept (noted.notes_open_try at typed)
-    (λ b. opened_to 1 (λ n. try_rib n typed) (made_label at b.names) b (open_try at typed b).0 (open_try at typed b).1 (opens_try at typed b))
+    (λ b. opened_to 1 (λ n. try_rib n typed) (made_label at b.names) b (open_try at typed b).0 (open_try at typed b).1
+    (opens_try at typed b))
 
 -- what is in it may name things, which are named behind it
 
@@ -221,13 +223,6 @@ pub opened_try_names : {A B C : Type 0} (at : Pointer) (typed : Bool) {one : A �
     → Correct (open_try at typed >>= (λ n. s >>= (λ u. p >>= (λ a. close >>= (λ _. f n a))))) Quiet
 opened_try_names at typed hs hp hf = adds_then (quiet_open_try at typed) (λ n. adds_then hs (λ u. adds_then hp
     (λ a. adds_then (adds_quiet quiet_close) (λ v. hf n a))))
-
--- behind a barrier
-pub barred_names : {A B : Type 0} {was : Numbers} {now : B → Numbers} {p : Bool → Lowering A} {f : A → Bool → Lowering B} {one : A → Numbers}
-    → ((outside : Bool) → Correct (p outside) (Adds was one)) → ((a : A) (y : Bool) → Correct (f a y) (Adds (one a) now))
-    → Correct (open_barrier >>= (λ outside. p outside >>= (λ a. close_barrier outside >>= (λ y. f a y)))) (Adds was now)
-barred_names hp hf = adds_then (adds_quiet quiet_open_barrier) (λ outside. adds_then (hp outside)
-    (λ a. adds_then (adds_quiet (quiet_close_barrier outside)) (λ y. hf a y)))
 
 -- what is made up
 

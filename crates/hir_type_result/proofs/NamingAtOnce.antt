@@ -16,7 +16,8 @@ use Rattle.hir_type_result.specs.Named.{Look, of_bindings_alone, of_expr}
 use Rattle.hir_type_result.proofs.Counted.{less, times, times_append, ◌⊑◌}
 use Rattle.hir_type_result.proofs.Adding as plain
 use Rattle.hir_type_result.proofs.Adding.{Bound, Numbers, Sort, both, fewer, known, look, made_then, named, none, none_made, parted, wider}
-use Rattle.hir_type_result.proofs.Asked.{Adds, Correct, Quiet, Seq, asked, asked_by, correct_as, correct_bind, longer, owed, stands_as, still_of}
+use Rattle.hir_type_result.proofs.Asked.{Adds, Correct, Quiet, Seq, asked, asked_by, correct_as, correct_bind, longer, owed, stands_as}
+use Rattle.hir_type_result.proofs.Asked.{still_of}
 use Rattle.hir_type_result.proofs.Naming.{quiet_bindings_end, quiet_own}
 use Rattle.hir_type_result.proofs.Owned.{beside}
 use Rattle.hir_type_result.specs.Reached.{of_each}

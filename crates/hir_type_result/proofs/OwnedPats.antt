@@ -34,7 +34,8 @@ use Rattle.hir_type_result.specs.Named.{Look, of_arm, of_expr, of_pat, of_pat_fi
 use Rattle.hir_type_result.proofs.Counted.{◌⊑◌, times_append}
 use Rattle.hir_type_result.proofs.Numbers.{each_push}
 use Rattle.hir_type_result.proofs.Adding.{Numbers, none}
-use Rattle.hir_type_result.proofs.Asked.{adds_refused, Correct, Adds, Quiet, adds_pure, adds_then, adds_beside, adds_quiet, adds_from, adds_expr}
+use Rattle.hir_type_result.proofs.Asked.{adds_refused, Correct, Adds, Quiet, adds_pure, adds_then, adds_beside, adds_quiet, adds_from}
+use Rattle.hir_type_result.proofs.Asked.{adds_expr}
 use Rattle.hir_type_result.proofs.Asked.{adds_made_pat, adds_pat, adds_done, framed, Steps}
 use Rattle.hir_type_result.proofs.Naming.{quiet_pure, quiet_then, quiet_alloc, quiet_report, quiet_point_pat_field, quiet_define}
 use Rattle.hir_type_result.proofs.Naming.{called_names, ids, name_adds, quiet_only, quiet_point_pat, quiet_point_target}

@@ -1,6 +1,7 @@
 -- Steps by what their answers reach and hold, beside what is given out and what is asked: the bound of a predicate that is noted holds
 -- expressions too.
-use Rattle.std.proofs.Common.{◌≡◌, ◌∙◌, refl, sym, ap, arith, ℕ, ◌+◌, ◌≤◌, append-nil, length, Bool, true, false, List, [], ◌∷◌, ◌++◌, Option, Ok, Err}
+use Rattle.std.proofs.Common.{◌≡◌, ◌∙◌, refl, sym, ap, arith, ℕ, ◌+◌, ◌≤◌, append-nil, length, Bool, true, false, List, [], ◌∷◌, ◌++◌}
+use Rattle.std.proofs.Common.{Option, Ok, Err}
 use Rattle.hir_store.specs.Pointers.{Pointer}
 use Rattle.hir_store.specs.Stored.{Stored}
 use Rattle.hir_store.specs.Storing.{Extends}
@@ -20,7 +21,8 @@ use Rattle.hir_lower_form.specs.declared.generics.Notes.{Notes as Noted}
 use Rattle.hir_lower_form.specs.Builder.{Builder}
 use Rattle.hir_lower_form.specs.Calls.{inside_macro}
 use Rattle.hir_lower_form.specs.Lower.{ExprSteps, constant_form}
-use Rattle.hir_lower_form.specs.Lowering.{Checked, Lowering, ◌>>=◌, pure, owning, alloc_expr, alloc_made, alloc_made_pat, alloc_pat, alloc_type}
+use Rattle.hir_lower_form.specs.Lowering.{Checked, Lowering, ◌>>=◌, pure, owning, alloc_expr, alloc_made, alloc_made_pat, alloc_pat}
+use Rattle.hir_lower_form.specs.Lowering.{alloc_type}
 use Rattle.hir_lower_form.specs.Lowering.{close, count_out, open_label}
 use Rattle.hir_lower_form.specs.Preludes.{alloc_beside}
 use Rattle.hir_lower_form.specs.Ranges.{inner_form}
