@@ -1,11 +1,9 @@
 -- What the parts of an item store names types and patterns in one way, whatever of it is named by what they answer, and by what is asked.
-use Rattle.std.proofs.Common.{◌≡◌, refl, ap, arith, ℕ, ◌+◌, ◌≤◌, nat_lt, length, Bool, true, false, List, [], ◌++◌, Option, Some, None, Ok}
+use Rattle.std.proofs.Common.{◌≡◌, refl, ap, arith, ℕ, ◌+◌, ◌≤◌, nat_lt, length, Bool, true, false, List, [], Option, Some, None, Ok}
 use Rattle.hir_store.specs.Stored.{Stored}
 use Rattle.hir_store.specs.Storing.{Extends}
 use Rattle.hir_store.specs.declared.generics.LifetimeParamData.{LifetimeParamData}
 use Rattle.hir_store.specs.declared.generics.TypeOrConstParamData.{TypeOrConstParamData}
-use Rattle.hir_store.specs.declared.hir.Expr.{Expr as HirExpr}
-use Rattle.hir_store.specs.declared.pat.Pat.{Pat as HirPat}
 use Rattle.hir_store.specs.declared.type_ref.TypeRef.{TypeRef}
 use Rattle.hir_store.proofs.Extending.{extends_refl}
 use Rattle.hir_store.specs.Pointers.{Pointer}
@@ -22,7 +20,7 @@ use Rattle.hir_steps.proofs.Logic.{longer as no_shorter}
 use Rattle.hir_steps.proofs.Steps.{mark}
 use Rattle.hir_type_result.specs.Named.{Look, TypesSpread, of_expr, of_exprs, of_pat, of_pats, of_types_alone, of_pats_alone}
 use Rattle.hir_type_result.specs.Pats.{PatsSpread, of_type, of_types, pats_reached}
-use Rattle.hir_type_result.specs.Reached.{of_each, types_reached}
+use Rattle.hir_type_result.specs.Reached.{types_reached}
 use Rattle.hir_type_result.proofs.Adding.{Numbers, Sort, known, look, named, none, the_pats, the_types}
 use Rattle.hir_type_result.proofs.Asked.{Adds, Correct, adds_lifetime, adds_unnamed, after_lowering}
 use Rattle.hir_type_result.proofs.Asked.{adds_pure, adds_then, adds_type, correct_as, correct_bind, longer}

@@ -1,6 +1,6 @@
 -- `fn(_: impl A<[!; 1]>)` as it is stored, and what is counted of it: the path, the array, its element and its length are reached through
 -- what is asked of the parameter that the `impl` became, each once.
-use Rattle.std.specs.Prelude.{◌≡◌, codes, false, List, [], ◌∷◌, ◌++◌, Option, Some, None}
+use Rattle.std.specs.Prelude.{◌≡◌, codes, false, List, [], ◌∷◌, ◌++◌, Some, None}
 use Rattle.hir_store.specs.Generics.{of_args}
 use Rattle.hir_store.specs.Pointers.{Pointer}
 use Rattle.hir_store.specs.Stored.{SourceMap, Store, map_of}

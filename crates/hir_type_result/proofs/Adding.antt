@@ -1,14 +1,13 @@
 -- Steps whose answer names types and patterns that were named before, or that they stored, each once. What they stored besides names
 -- others: the expressions of a constant name types, and are stored where its type is.
 use Rattle.std.proofs.Common.{◌≡◌, ◌∙◌, ◌⊎◌, inl, inr, ⊎_elim, ap, sym, subst, ℕ, zero, suc, ◌+◌, ◌<◌, ◌≤◌, List, [], ◌∷◌, ◌++◌}
-use Rattle.std.proofs.Common.{length, length-append, slice_get, Option, Some, Ok, Err, refl, arith}
+use Rattle.std.proofs.Common.{length, length-append, slice_get, Option, Some, refl, arith}
 use Rattle.std.proofs.lemmas.Option.{same_Some}
 use Rattle.hir_scope.specs.Each.{Each}
 use Rattle.hir_same_meaning.specs.Reached.{Between}
 use Rattle.hir_store.specs.Pointers.{Pointer}
 use Rattle.hir_store.specs.Stored.{Stored}
 use Rattle.hir_store.specs.declared.hir.Expr.{Expr as HirExpr}
-use Rattle.hir_store.specs.declared.ids.BindingId.{BindingId}
 use Rattle.hir_store.specs.declared.ids.ExprId.{ExprId}
 use Rattle.hir_store.specs.declared.ids.PatId.{PatId}
 use Rattle.hir_store.specs.declared.ids.TypeRefId.{TypeRefId}
@@ -16,21 +15,18 @@ use Rattle.hir_store.specs.declared.pat.Pat.{Pat as HirPat}
 use Rattle.hir_store.specs.declared.type_ref.TypeRef.{TypeRef}
 use Rattle.hir_store.specs.declared.type_ref.TypeRef.TheVariants as ty
 use Rattle.hir_store.specs.declared.type_ref.LifetimeRef.{LifetimeRef}
-use Rattle.hir_lower_form.specs.Builder.{Builder}
-use Rattle.hir_lower_form.specs.Lowering.{Checked, Lowering, ◌>>=◌, pure, alloc_expr, alloc_made, alloc_made_pat, alloc_pat, alloc_type}
+use Rattle.hir_lower_form.specs.Lowering.{pure, alloc_expr, alloc_made, alloc_made_pat, alloc_pat, alloc_type}
 use Rattle.hir_lower_form.specs.Lowering.{alloc_lifetime}
-use Rattle.hir_lower_form.specs.Lowering.{owning}
 use Rattle.hir_lower_form.specs.Preludes.{alloc_beside}
 use Rattle.hir_steps.proofs.Frames.{Frame}
 use Rattle.hir_steps.proofs.MadeSteps.{correct_alloc_made}
-use Rattle.hir_steps.proofs.Owning.{owned_by, owning_keeps}
 use Rattle.hir_steps.proofs.PatSteps.{AllocatedPatBy, PutPat, correct_alloc_beside, correct_alloc_made_pat, correct_alloc_pat}
-use Rattle.hir_steps.proofs.Steps.{Mark, Grows, Rel, Seq, Holds, Correct, correct_bind, correct_as, correct_pure, correct_alloc}
+use Rattle.hir_steps.proofs.Steps.{Mark, Grows, Rel, Correct, correct_as, correct_pure, correct_alloc}
 use Rattle.hir_steps.proofs.Steps.{correct_alloc_type, correct_alloc_lifetime}
 use Rattle.hir_type_result.specs.Reached.{below, types_reached}
 use Rattle.hir_type_result.specs.Named.{Look, of_types_alone, of_pats_alone, of_bindings_alone, of_expr, of_exprs, of_pat, of_pats}
 use Rattle.hir_type_result.specs.Pats.{of_type, of_types, pats_reached}
-use Rattle.hir_type_result.proofs.Counted.{times, less, same, same_self, ◌⊑◌, times_append, one_past, less_grows}
+use Rattle.hir_type_result.proofs.Counted.{times, less, same, same_self, ◌⊑◌, one_past, less_grows}
 use Rattle.hir_type_result.proofs.Numbers.{each_push}
 
 -- ---- what is counted: types, or patterns
@@ -177,136 +173,9 @@ adds_done {was = was} {now = now} a h e = correct_as (correct_pure a) (λ final 
   earlier = λ s d all le le'. record { depth = d; deep = le; counted = λ k. let e = h (look s final d) k in omega arith };
 }))
 
-pub adds_pure : {A : Type 0} {was : Numbers} {now : A → Numbers} (a : A)
-    → ((l : Look) → now a l ⊑ was l) → Correct (pure a) (Adds was now)
-adds_pure a h = adds_done a h (λ P x. x)
-
--- one after another
-pub adds_seq : {A B : Type 0} {bs : List ℕ} {was : Numbers} {cs : A → List ℕ} {one : A → Numbers} {ds : B → List ℕ} {now : B → Numbers}
-    {final : Stored} {ps : List Frame} {m m' : Mark} {b : B}
-    → Seq (Steps bs was cs one) (λ a. Steps (cs a) (one a) ds now) final ps m m' b → Steps bs was ds now final ps m m' b
-adds_seq {final = final} {m = m} {m' = m'} row = record {
-  bound = λ lo le t w.
-      let x = row.first.bound lo le t w in
-      let y = row.second.bound lo (omega (arith, le, row.before.bindings)) x.known x.named in record {
-        known = y.known;
-        named = y.named;
-        made = made_then lo final m row.middle m' row.after.bindings x.made y.made;
-      };
-  grown = λ s d n. let x = row.first.grown s d n in let y = row.second.grown s d n in omega arith;
-  earlier = λ s d all le le'.
-      let y = row.second.earlier s d all le le' in
-      let x = row.first.earlier s y.depth all y.deep (omega (arith, le', grows s row.after)) in record {
-        depth = x.depth;
-        deep = x.deep;
-        counted = λ n. let a = x.counted n in let b = y.counted n in omega arith;
-      };
-}
-
-pub adds_then : {A B : Type 0} {bs : List ℕ} {was : Numbers} {cs : A → List ℕ} {one : A → Numbers} {ds : B → List ℕ} {now : B → Numbers}
-    {p : Lowering A} {q : A → Lowering B} → Correct p (Steps bs was cs one) → ((a : A) → Correct (q a) (Steps (cs a) (one a) ds now))
-    → Correct (p >>= q) (Steps bs was ds now)
-adds_then h k = correct_as (correct_bind h k) (λ final ps m m' b g row. adds_seq row)
-
--- beside what was named
-pub added_beside : {A : Type 0} {bs : List ℕ} {cs : A → List ℕ} {now : A → Numbers} {final : Stored} {ps : List Frame} {m m' : Mark}
-    {a : A} (more : Numbers) → Grows m m' → Steps bs none cs now final ps m m' a
-    → Steps bs more cs (λ a l. more l ++ now a l) final ps m m' a
-added_beside {now = now} {final = final} {m = m} {m' = m'} {a = a} more g row = record {
-  bound = λ lo le t w.
-      let x = row.bound lo le t tt in record {
-        known = x.known;
-        named = both (Between lo m'.bindings) (more of_bindings_alone) (now a of_bindings_alone)
-            (wider lo m.bindings m'.bindings (more of_bindings_alone) g.bindings w) x.named;
-        made = x.made;
-      };
-  grown = row.grown;
-  earlier = λ s d all le le'.
-      let l = look s final d in
-      let x = row.earlier s d all le le' in record {
-        depth = d;
-        deep = omega (arith, le, grows s g);
-        counted = λ k. let e = x.counted k in let s = times_append k (more l) (now a l) in omega arith;
-      };
-}
-
-pub adds_beside : {A : Type 0} {bs : List ℕ} {cs : A → List ℕ} {now : A → Numbers} {p : Lowering A} (more : Numbers)
-    → Correct p (Steps bs none cs now) → Correct p (Steps bs more cs (λ a l. more l ++ now a l))
-adds_beside more h = correct_as h (λ final ps m m' a g row. added_beside more g row)
-
 -- what was named is still named where the answer names nothing
 
-pub added_quiet : {A : Type 0} {was : Numbers} {final : Stored} {ps : List Frame} {m m' : Mark} {a : A} → Grows m m'
-    → Quiet final ps m m' a → Adds was (λ a. was) final ps m m' a
-added_quiet {was = was} {m = m} {m' = m'} g row = record {
-  bound = λ lo le t w.
-      let x = row.bound lo le t tt in record {
-        known = tt;
-        named = wider lo m.bindings m'.bindings (was of_bindings_alone) g.bindings w;
-        made = x.made;
-      };
-  grown = row.grown;
-  earlier = λ s d all le le'.
-      let x = row.earlier s d all le le' in record {
-        depth = d;
-        deep = omega (arith, le, grows s g);
-        counted = λ k. let e = x.counted k in omega arith;
-      };
-}
-
-pub adds_quiet : {A : Type 0} {was : Numbers} {p : Lowering A} → Correct p Quiet → Correct p (Adds was (λ a. was))
-adds_quiet h = correct_as h (λ final ps m m' a g row. added_quiet g row)
-
--- beside a table, which stays as it is
-pub framed : {A : Type 0} {bs : List ℕ} {was : Numbers} {now : A → Numbers} {p : Lowering A} → Correct p (Adds was now)
-    → Correct p (Steps bs was (λ a. bs) now)
-framed {bs = bs} h = correct_as h (λ final ps m m' a g row. record {
-  bound = λ lo le t w.
-      let x = row.bound lo le tt w in record { known = wider lo m.bindings m'.bindings bs g.bindings t; named = x.named; made = x.made };
-  grown = row.grown;
-  earlier = row.earlier;
-})
-
--- whatever is in the table then
-pub tabled : {A : Type 0} {bs : List ℕ} {was : Numbers} {cs : A → List ℕ} {now : A → Numbers} {p : Lowering A}
-    → Correct p (Steps bs was cs now) → Correct p (Steps bs was (λ a. []) now)
-tabled h = correct_as h (λ final ps m m' a g row. record {
-  bound = λ lo le t w. let x = row.bound lo le t w in record { known = tt; named = x.named; made = x.made };
-  grown = row.grown;
-  earlier = row.earlier;
-})
-
 -- whatever owns bindings
-
-earlier_owned : {was : Numbers} (now : Numbers) {final : Stored} {m left : Mark} (start : BindingId) (id : ExprId) (s : Sort)
-    → ((d all : ℕ) → known s left ≤ d → known s left ≤ all → Earlier s was final m left all (now (look s final d)))
-    → (d all : ℕ) → known s (owned_by start id left) ≤ d → known s (owned_by start id left) ≤ all
-    → Earlier s was final m (owned_by start id left) all (now (look s final d))
-earlier_owned now start id the_types h d all le le' =
-    let x = h d all le le' in record { depth = x.depth; deep = x.deep; counted = x.counted }
-earlier_owned now start id the_pats h d all le le' =
-    let x = h d all le le' in record { depth = x.depth; deep = x.deep; counted = x.counted }
-
-pub adds_owning : {A : Type 0} {bs : List ℕ} {was : Numbers} {cs : A → List ℕ} {now : A → Numbers} (owner : A → ExprId) {p : Lowering A}
-    → Correct p (Steps bs was cs now) → Correct (owning owner p) (Steps bs was cs now)
-adds_owning {was = was} {now = now} owner h = owning_keeps owner (λ final ps m left start id a row. record {
-  bound = λ lo le t w. let x = row.bound lo le t w in record { known = x.known; named = x.named; made = x.made };
-  grown = row.grown;
-  earlier = λ s. earlier_owned {was = was} (now a) start id s (row.earlier s);
-}) h
-
--- of more
-pub adds_from : {A : Type 0} {bs : List ℕ} {was was' : Numbers} {cs : A → List ℕ} {now : A → Numbers} {p : Lowering A}
-    → ((l : Look) → was l ⊑ was' l) → Correct p (Steps bs was cs now) → Correct p (Steps bs was' cs now)
-adds_from {was = was} {was' = was'} h c = correct_as c (λ final ps m m' a g row. record {
-  bound = λ lo le t w. row.bound lo le t (fewer lo m.bindings (was of_bindings_alone) (was' of_bindings_alone) (h of_bindings_alone) w);
-  grown = row.grown;
-  earlier = λ s d all le le'. let x = row.earlier s d all le le' in record {
-    depth = x.depth;
-    deep = x.deep;
-    counted = λ k. let e = x.counted k in let l = h (look s final x.depth) k in omega arith;
-  };
-})
 
 -- what was stored names as much as before, and no pattern is stored
 pub adds_still : {A : Type 0} {was : Numbers} {now : A → Numbers} {final : Stored} {ps : List Frame} {m m' : Mark} {a : A} → Grows m m'
@@ -330,24 +199,6 @@ adds_still {was = was} {now = now} {final = final} {m = m} {m' = m'} {a = a} g n
         let x = h (look s final d) k in omega arith;
   };
 }
-
--- how far it has come is how much is stored
-pub record Linked {A : Type 0} (R : Rel A) (final : Stored) (ps : List Frame) (m m' : Mark) (a : A) : Type 0 where
-  pub rel : R final ps m m' a
-  pub pats : m.pats ≡ length m.stored.pats.entries
-  pub bindings : m.bindings ≡ length m.stored.bindings.entries
-
-pub linked : {A : Type 0} {R : Rel A} {p : Lowering A} → Correct p R → Correct p (Linked R)
-linked {A = A} {R = R} {p = p} h = record { holds = λ final ps b r. go final ps b (p b).0 (p b).1 (h.holds final ps b r) }
-  where
-    go : (final : Stored) (ps : List Frame) (b : Builder) (o : Checked A) (c : Builder) → Holds R final ps b o c
-        → Holds (Linked R) final ps b o c
-    go final ps b (Ok a) c y = record {
-      kept = y.kept;
-      grows = y.grows;
-      in_final = λ d pre. record { rel = y.in_final d pre; pats = refl; bindings = refl };
-    }
-    go final ps b (Err e) c y = y
 
 -- ---- what is stored
 
@@ -570,30 +421,3 @@ pub expr_is_at_once : {was : Numbers} (e : HirExpr) (at : Option Pointer) → ((
     → Correct (alloc_expr e at) (AtOnce was (λ i. none))
 expr_is_at_once e at h = correct_as (correct_alloc e at) (λ final ps m m' i g row.
     expr_at_once e g (ap (λ x. x.pats.entries) row.stored) (λ s d k. ap (λ x. named s final d x k) row.stored) h)
-
--- whatever owns bindings
-
-pub grows_owned : {m left m' : Mark} → Grows m left → Grows left m' → (start : BindingId) (id : ExprId)
-    → Grows m (owned_by start id left) × Grows (owned_by start id left) m'
-grows_owned g h start id = (
-  record {
-    nodes = g.nodes;
-    labels = g.labels;
-    pats = g.pats;
-    bindings = g.bindings;
-    types = g.types;
-    lifetimes = g.lifetimes;
-    entries = g.entries;
-    names = g.names;
-  },
-  record {
-    nodes = h.nodes;
-    labels = h.labels;
-    pats = h.pats;
-    bindings = h.bindings;
-    types = h.types;
-    lifetimes = h.lifetimes;
-    entries = h.entries;
-    names = h.names;
-  },
-)

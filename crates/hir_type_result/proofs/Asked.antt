@@ -1,6 +1,6 @@
 -- Steps by what their answers name, beside what is stored and what is asked: a predicate that is noted names the types of its bound, as
 -- one does that an `impl` became.
-use Rattle.std.proofs.Common.{◌≡◌, ◌∙◌, refl, sym, ap, subst, arith, ℕ, ◌+◌, ◌≤◌, List, [], ◌∷◌, ◌++◌, append-nil, length, Option}
+use Rattle.std.proofs.Common.{◌≡◌, ◌∙◌, refl, ap, subst, arith, ℕ, ◌+◌, ◌≤◌, List, [], ◌∷◌, ◌++◌, append-nil, length, Option}
 use Rattle.std.proofs.Common.{Ok, Err}
 use Rattle.std.proofs.lemmas.List.{length-map}
 use Rattle.hir_scope.specs.Each.{Each}
@@ -12,7 +12,6 @@ use Rattle.hir_store.specs.Storing.{Extends}
 use Rattle.hir_store.specs.declared.generics.WherePredicate.{WherePredicate}
 use Rattle.hir_store.specs.declared.generics.WherePredicate.TheVariants as predicate
 use Rattle.hir_store.specs.declared.hir.Expr.{Expr as HirExpr}
-use Rattle.hir_store.specs.declared.ids.ExprId.{ExprId}
 use Rattle.hir_store.specs.declared.ids.PatId.{PatId}
 use Rattle.hir_store.specs.declared.pat.Pat.{Pat as HirPat}
 use Rattle.hir_store.specs.declared.type_ref.LifetimeRef.{LifetimeRef}

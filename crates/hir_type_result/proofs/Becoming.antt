@@ -16,7 +16,7 @@ use Rattle.hir_env.specs.declared.place.ImplTrait.TheVariants as becomes
 use Rattle.hir_lower_form.specs.declared.generics.Notes.{Notes}
 use Rattle.hir_lower_form.specs.Builder.{Builder}
 use Rattle.hir_lower_form.specs.Generics.{cut_args, predicates_of, unnamed_param, with_bounds}
-use Rattle.hir_lower_form.specs.Lowering.{Checked, go_on, Lowering, ◌>>=◌, ◌>>◌, add_param, alloc_type, argument_form, becoming, input_end}
+use Rattle.hir_lower_form.specs.Lowering.{Checked, go_on, Lowering, ◌>>=◌, ◌>>◌, add_param, argument_form, becoming, input_end}
 use Rattle.hir_lower_form.specs.Lowering.{note_down, param_numbered, param_type, pure, with_notes, with_stored}
 use Rattle.hir_lower_form.specs.Paths.{aliased, cut_back, cut_path, last_args}
 use Rattle.hir_type_result.specs.Named.{Look}

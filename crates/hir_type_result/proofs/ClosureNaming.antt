@@ -1,12 +1,9 @@
 -- A closure names the types and the patterns of its parameters and what it returns; a coroutine names by what is in it, also by the `let`s
 -- in front of its body.
-use Rattle.std.proofs.Common.{arith, ap, ℕ, List, [], ◌∷◌, ◌++◌, Bool, Option, Some, None}
+use Rattle.std.proofs.Common.{arith, List, [], ◌∷◌, ◌++◌, Bool, Option, Some, None}
 use Rattle.hir_store.specs.Pointers.{Pointer}
-use Rattle.hir_store.specs.Stored.{Stored}
-use Rattle.hir_store.specs.Bindings.{binding_id}
 use Rattle.hir_store.specs.declared.hir.CoroutineKind.{CoroutineKind}
 use Rattle.hir_store.specs.declared.hir.CoroutineSource.TheVariants as source
-use Rattle.hir_store.specs.declared.hir.Expr.TheVariants as hir
 use Rattle.hir_store.specs.declared.ids.BlockId.{BlockId}
 use Rattle.hir_store.specs.declared.ids.ExprId.{ExprId}
 use Rattle.hir_store.specs.declared.ids.PatId.{PatId}
@@ -24,10 +21,10 @@ use Rattle.hir_type_result.specs.Reached.{of_each, of_present}
 use Rattle.hir_type_result.proofs.Counted.{◌⊑◌, times_append}
 use Rattle.hir_type_result.proofs.Numbers.{each_push}
 use Rattle.hir_type_result.proofs.Adding.{Numbers, none}
-use Rattle.hir_type_result.proofs.Asked.{Correct, Adds, Quiet, Steps, adds_beside, adds_expr, adds_pure, adds_then, adds_quiet}
+use Rattle.hir_type_result.proofs.Asked.{Correct, Adds, Quiet, adds_beside, adds_expr, adds_pure, adds_then, adds_quiet}
 use Rattle.hir_type_result.proofs.Naming.{quiet_alloc, quiet_close_barrier, quiet_enter_block, quiet_note_yield, quiet_open_barrier}
 use Rattle.hir_type_result.proofs.Naming.{quiet_pure, quiet_then}
-use Rattle.hir_type_result.proofs.NamingForms.{contents, settled_less, value_quiet}
+use Rattle.hir_type_result.proofs.NamingForms.{contents, settled_less}
 use Rattle.hir_type_result.proofs.NamingAtOnce.{AtOnce, at_once, at_once_beside, at_once_expr, at_once_from, at_once_more}
 use Rattle.hir_type_result.proofs.NamingAtOnce.{at_once_owning, at_once_pure, at_once_still, at_once_then, quiet_at_once}
 use Rattle.hir_type_result.proofs.NamingPreludes.{handed_add, let_params_name, made_coroutine_names, prelude}

@@ -24,7 +24,7 @@ use Rattle.hir_env.specs.declared.place.LifetimeScope.TheVariants as scope
 use Rattle.hir_lower_form.specs.declared.generics.Notes.{Notes}
 use Rattle.hir_lower_form.specs.Builder.{Builder}
 use Rattle.hir_lower_form.specs.Generics.{predicates_of, unnamed_param, with_bounds}
-use Rattle.hir_lower_form.specs.Lowering.{Checked, go_on, Lowering, ◌>>=◌, ◌>>◌, add_param, alloc_type, argument_form, becoming, input_end}
+use Rattle.hir_lower_form.specs.Lowering.{Checked, go_on, Lowering, ◌>>=◌, ◌>>◌, add_param, argument_form, becoming, input_end}
 use Rattle.hir_lower_form.specs.Lowering.{note_down, param_numbered, param_type, pure, with_notes, with_stored}
 use Rattle.hir_lower_form.specs.Paths.{aliased, cut_back}
 use Rattle.hir_lower_form.specs.Types.{lower_lifetime, lower_lifetime_option, lower_uses}
@@ -37,7 +37,7 @@ use Rattle.hir_steps.proofs.Steps.{mark}
 use Rattle.hir_type_result.proofs.Asked.{AnswersTo, Correct, Longer, Rel, longer_of, refused}
 use Rattle.hir_type_result.proofs.Becoming.{path_still}
 use Rattle.hir_type_result.proofs.Meaning.{held_deep}
-use Rattle.hir_type_result.proofs.Weighed.{Cost, View, a_type, free, sum, sum_append, view}
+use Rattle.hir_type_result.proofs.Weighed.{Cost, View, a_type, free, sum}
 use Rattle.hir_type_result.proofs.Weighing.{Adds, adds_noting, adds_pure, adds_then, adds_type, any_row, asked, by_predicate, whole}
 use Rattle.hir_type_result.proofs.Weights as weights
 

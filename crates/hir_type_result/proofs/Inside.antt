@@ -43,7 +43,6 @@ use Rattle.hir_lower_form.specs.Lower.{lower_type_pats, lower_limit, limit_side,
 use Rattle.hir_lower_form.specs.Lower.{lower_target_field, push_some, lower_param, lower_params, no_closure_params}
 use Rattle.hir_meaning.specs.Inner.{Inside, by_itself, of_bound, of_path, of_present}
 use Rattle.hir_steps.specs.Keeps.{Paired}
-use Rattle.hir_steps.proofs.Steps.{correct_in_store}
 use Rattle.hir_same_meaning.specs.Reached.{of_each, reached_to, Spread}
 use Rattle.hir_type_result.specs.Inside.{InsideReachedOnce, TypeInsideReachedOnce, PathInsideReachedOnce}
 use Rattle.hir_type_result.specs.Unrun.{all_unruns, exprs_of, unrun_in, unrun_in_path, unrun_in_type}

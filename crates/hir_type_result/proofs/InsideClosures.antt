@@ -1,7 +1,6 @@
 -- A closure holds what its parameters, its type and its body hold, and its body, which is reached by itself; so does a coroutine, also one
 -- that a closure makes.
-use Rattle.std.proofs.Common.{◌≡◌, arith, ℕ, ◌+◌, ◌≤◌, List, [], ◌∷◌, ◌++◌, Bool, true, false, Option, Some, None, length}
-use Rattle.hir_store.specs.Bindings.{binding_id}
+use Rattle.std.proofs.Common.{◌≡◌, arith, ℕ, ◌+◌, ◌≤◌, List, [], ◌∷◌, ◌++◌, Bool, true, false, Option, Some, None}
 use Rattle.hir_store.specs.Pointers.{Pointer}
 use Rattle.hir_store.specs.Stored.{Stored}
 use Rattle.hir_store.specs.declared.hir.CoroutineKind.{CoroutineKind}
@@ -19,8 +18,8 @@ use Rattle.hir_lower_form.specs.Lowering.{Lowering, ◌>>=◌, pure}
 use Rattle.hir_lower_form.specs.Preludes.{coroutine_closure_form, no_prelude, stored_coroutine_closure, within_form}
 use Rattle.hir_lower_form.specs.Forms.{coroutine_around_form}
 use Rattle.hir_meaning.specs.Inner.{Inners, all_of, by_itself, handed_to, of_params, of_present}
-use Rattle.hir_type_result.proofs.Counted.{less, less_grows}
-use Rattle.hir_type_result.proofs.InsideForms.{contents, maybe, settled_block_less, value_adds, value_less}
+use Rattle.hir_type_result.proofs.Counted.{less}
+use Rattle.hir_type_result.proofs.InsideForms.{contents, maybe, settled_block_less, value_less}
 use Rattle.hir_type_result.proofs.InsidePats.{pats}
 use Rattle.hir_type_result.proofs.InsidePreludes.{each_handed_adds, let_params_add, made_coroutine_adds}
 use Rattle.hir_type_result.proofs.InsideTypes.{maybe_type}
@@ -33,7 +32,7 @@ use Rattle.hir_steps.proofs.Preludes.{within_of}
 use Rattle.hir_steps.proofs.Steps.{mark}
 use Rattle.hir_type_result.proofs.Asked.{Correct, correct_as, correct_bind, correct_pure}
 use Rattle.hir_type_result.proofs.Weighed.{Cost, DeepView, View, a_limit, a_pat, an_expr, at_depth, beside, free, in_expr, sum}
-use Rattle.hir_type_result.proofs.Weighed.{sum_append, sum_handed, view}
+use Rattle.hir_type_result.proofs.Weighed.{sum_append, sum_handed}
 use Rattle.hir_type_result.proofs.Weighing.{Adds, adds_any, adds_aside, adds_beside, adds_expr, adds_owning, adds_pure, adds_then, asked}
 use Rattle.hir_type_result.proofs.Weighing.{body_aside, came_of, deep_before, still_deep}
 use Rattle.hir_noted.proofs.Steps.{notes_enter_block}

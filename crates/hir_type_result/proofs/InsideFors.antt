@@ -1,6 +1,6 @@
 -- What a `for` becomes reaches and holds what its parts do, and what is made up, each once. Its pattern lies deeper than what stands around
 -- the loop.
-use Rattle.std.proofs.Common.{refl, ap, ℕ, ◌+◌, ◌≤◌, false, [], ◌∷◌, Option, Some, None, arith}
+use Rattle.std.proofs.Common.{ℕ, ◌+◌, ◌≤◌, false, [], ◌∷◌, Option, Some, None, arith}
 use Rattle.hir_binding.specs.declared.binding.BindingAnnotation.TheVariants.{Mutable}
 use Rattle.hir_store.specs.Pointers.{Pointer}
 use Rattle.hir_store.specs.declared.hir.Expr.TheVariants as hir
@@ -19,7 +19,6 @@ use Rattle.hir_lower_form.specs.Made.{for_turn_form, made_loop_form, for_form}
 use Rattle.hir_meaning.specs.Inner as inner
 use Rattle.hir_meaning.specs.Inner.{all_of}
 use Rattle.hir_same_meaning.specs.Reached.{of_arms}
-use Rattle.hir_type_result.proofs.Counted.{less}
 use Rattle.hir_noted.proofs.Steps.{notes_made_number}
 use Rattle.hir_steps.proofs.Steps.{mark}
 use Rattle.hir_type_result.proofs.Asked.{Correct, correct_as, correct_bind}

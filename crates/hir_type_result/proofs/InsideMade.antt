@@ -25,13 +25,13 @@ use Rattle.hir_lower_form.specs.Made.{condition_form, held, held_block, held_for
 use Rattle.hir_meaning.specs.Inner as inner
 use Rattle.hir_meaning.specs.Inner.{all_of}
 use Rattle.hir_same_meaning.specs.Reached.{of_arms}
-use Rattle.hir_type_result.proofs.Counted.{less, less_grows}
+use Rattle.hir_type_result.proofs.Counted.{less}
 use Rattle.hir_store.specs.declared.ids.MacroDefId.{MacroDefId}
 use Rattle.hir_lower_form.specs.Builder.{Builder}
 use Rattle.hir_lower_form.specs.Calls.{inside_macro}
 use Rattle.hir_steps.proofs.Steps.{mark}
 use Rattle.hir_type_result.proofs.Asked.{Correct, Longer, correct_as, correct_bind, correct_pure}
-use Rattle.hir_type_result.proofs.Weighed.{View, Cost, free, beside, an_expr, a_type, a_pat, in_expr, in_pat, sum_append, Deep, DeepView}
+use Rattle.hir_type_result.proofs.Weighed.{View, Cost, free, beside, an_expr, a_type, a_pat, in_expr, in_pat, sum_append, DeepView}
 use Rattle.hir_type_result.proofs.Weighed.{at_depth}
 use Rattle.hir_type_result.proofs.Weighing.{Adds, adds_any, adds_beside, adds_expr, adds_made, adds_pat, adds_pure, adds_then, asked}
 use Rattle.hir_type_result.proofs.Weighing.{came_of, deep_before, still_deep}

@@ -1,6 +1,5 @@
 -- What stands in front of the body of a coroutine holds what the patterns of its parameters do, and reads names, each once.
-use Rattle.std.proofs.Common.{ℕ, ◌+◌, ◌≤◌, Bool, true, false, List, [], ◌∷◌, ◌++◌, Option, Some, None, arith}
-use Rattle.hir_store.specs.Stored.{Stored}
+use Rattle.std.proofs.Common.{◌+◌, ◌≤◌, Bool, true, false, List, [], ◌∷◌, ◌++◌, Option, Some, None, arith}
 use Rattle.hir_store.specs.declared.hir.CoroutineKind.{CoroutineKind}
 use Rattle.hir_store.specs.declared.hir.CoroutineSource.{CoroutineSource}
 use Rattle.hir_store.specs.declared.hir.Statement.{Statement}
@@ -25,7 +24,7 @@ use Rattle.hir_type_result.proofs.InsideAtOnce.{at_once_then}
 use Rattle.hir_type_result.proofs.InsideForms.{a_statement, block_less, contents, each, each_append}
 use Rattle.hir_type_result.proofs.InsidePats.{let_less, pats, pushed}
 use Rattle.hir_type_result.proofs.Asked.{Correct}
-use Rattle.hir_type_result.proofs.Weighed.{Cost, View, a_limit, a_pat, an_expr, beside, free, in_expr, sum_append, view}
+use Rattle.hir_type_result.proofs.Weighed.{Cost, View, a_limit, a_pat, an_expr, beside, free, in_expr, sum_append}
 use Rattle.hir_type_result.proofs.Weighing.{body_aside, Adds, adds_any, adds_aside, adds_beside, adds_expr, adds_from, adds_pat}
 use Rattle.hir_type_result.proofs.Weighing.{adds_pat_beside}
 use Rattle.hir_type_result.proofs.Weighing.{adds_pure, adds_then}

@@ -1,5 +1,5 @@
 -- What is answered for types, paths, arguments and bounds holds what their parts hold, and constants that were stored, each once.
-use Rattle.std.proofs.Common.{sym, subst, ◌≤◌, Bool, List, [], ◌∷◌, ◌++◌, Option, Some, None, arith}
+use Rattle.std.proofs.Common.{◌≤◌, Bool, List, [], ◌∷◌, ◌++◌, Option, Some, None, arith}
 use Rattle.std.specs.Prelude.{option_map}
 use Rattle.hir_store.specs.Pointers.{Pointer}
 use Rattle.hir_store.specs.declared.hir.Mutability.{Mutability}
@@ -15,14 +15,13 @@ use Rattle.hir_store.specs.declared.type_ref.TypeRef.{TypeRef}
 use Rattle.hir_store.specs.declared.type_ref.TypeRef.TheVariants as ty
 use Rattle.hir_store.specs.declared.type_ref.TypeBound.{TypeBound}
 use Rattle.hir_env.specs.declared.place.ImplTrait.{ImplTrait}
-use Rattle.hir_env.specs.declared.place.ImplTrait.TheVariants as becomes
 use Rattle.hir_env.specs.Answered as tree
 use Rattle.hir_env.specs.Answered.{Binder, Called, FnHead, Lifetime, TypeLeaf, TypeUnary}
 use Rattle.hir_lower_form.specs.declared.args.ArgLists.{ArgLists}
 use Rattle.hir_lower_form.specs.declared.walk.PathWalk.{PathWalk}
 use Rattle.hir_lower_form.specs.declared.walk.Reading.{Reading}
 use Rattle.hir_lower_form.specs.declared.walk.Reading.TheVariants.{Refused, Ended, Open}
-use Rattle.hir_lower_form.specs.Lowering.{Lowering, ◌>>=◌, pure, alloc_type, param_type}
+use Rattle.hir_lower_form.specs.Lowering.{Lowering, ◌>>=◌, pure, alloc_type}
 use Rattle.hir_lower_form.specs.Walks.{at_first, no_names, self_read, super_read, one_more_super, named}
 use Rattle.hir_lower_form.specs.Paths.{proceed, whole, counted, read_trait, with_trait, parens_form, or_else, segment_args_form}
 use Rattle.hir_lower_form.specs.Types.{TypeSteps, error_type, unit_type, lower_lifetime_option, over_form, array_type_form}

@@ -1,5 +1,5 @@
 -- Steps that name no type and no pattern, and ask for nothing.
-use Rattle.std.proofs.Common.{◌≡◌, refl, ap, ℕ, suc, ◌+◌, arith, length, Bool, true, false, List, [], ◌∷◌, Option, Some, None, Ok, Err}
+use Rattle.std.proofs.Common.{◌≡◌, refl, ap, ℕ, suc, arith, length, Bool, true, false, List, [], ◌∷◌, Option, Some, None, Ok, Err}
 use Rattle.hir_scope.specs.Ribs.{Rib, try_rib}
 use Rattle.hir_store.specs.Pointers.{Pointer}
 use Rattle.hir_store.specs.Storing as storing
@@ -36,7 +36,7 @@ use Rattle.hir_noted.proofs.Steps as noted
 use Rattle.hir_type_result.specs.Named.{Look, of_expr}
 use Rattle.hir_type_result.proofs.Counted.{◌⊑◌}
 use Rattle.hir_type_result.proofs.Adding.{Numbers, none}
-use Rattle.hir_type_result.proofs.Asked.{Adds, Correct, Kept, KeptTo, Quiet, Steps, adds_done, adds_expr, adds_made, adds_pure, adds_quiet}
+use Rattle.hir_type_result.proofs.Asked.{Adds, Correct, KeptTo, Quiet, Steps, adds_done, adds_expr, adds_made, adds_pure, adds_quiet}
 use Rattle.hir_type_result.proofs.Asked.{adds_then, framed, quiet_kept, stands}
 use Rattle.hir_type_result.proofs.PlainNaming as plain
 pub use Rattle.hir_type_result.proofs.PlainNaming.{a_binding, ids}

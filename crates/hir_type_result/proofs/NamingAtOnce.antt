@@ -1,5 +1,5 @@
 -- Steps by what they name where all is looked at so deep: what one of them leaves beside goes on to the next.
-use Rattle.std.proofs.Common.{◌≡◌, refl, ap, arith, ℕ, ◌+◌, ◌≤◌, List, [], ◌∷◌, ◌++◌, Option}
+use Rattle.std.proofs.Common.{◌≡◌, refl, ap, arith, ℕ, ◌+◌, ◌≤◌, [], Option}
 use Rattle.hir_scope.specs.Each.{Each}
 use Rattle.hir_same_meaning.specs.Reached.{Between}
 use Rattle.hir_store.specs.Pointers.{Pointer}

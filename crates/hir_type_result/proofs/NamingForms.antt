@@ -1,5 +1,5 @@
 -- What is done with the parts of expressions names no type and no pattern in the end: the expressions that are stored do.
-use Rattle.std.proofs.Common.{refl, arith, Bool, true, false, List, [], ◌∷◌, Option, Some, None}
+use Rattle.std.proofs.Common.{arith, Bool, true, false, List, [], ◌∷◌, Option, Some, None}
 use Rattle.hir_store.specs.Pointers.{Pointer}
 use Rattle.hir_store.specs.declared.diagnostics.AwaitLocation.{AwaitLocation}
 use Rattle.hir_store.specs.declared.hir.Expr.{Expr as HirExpr}
@@ -27,7 +27,6 @@ use Rattle.hir_lower_form.specs.Lower.{cast_form}
 use Rattle.hir_lower_form.specs.Lower.{offset_of_form, record_contents, record_of, record_form, field_form, block_form, labelled}
 use Rattle.hir_lower_form.specs.Lower.{stored_leaf, stored_unary, stored_binary, stored_leaving, settled, kept, repeat_form, const_form}
 use Rattle.hir_steps.proofs.Calls.{only_gone, only_told}
-use Rattle.hir_steps.proofs.Frames.{loop_at, block_at}
 use Rattle.hir_type_result.specs.Reached.{of_path}
 use Rattle.hir_type_result.specs.Named.{Look, of_expr, of_statement}
 use Rattle.hir_type_result.proofs.Counted.{◌⊑◌, times_append}

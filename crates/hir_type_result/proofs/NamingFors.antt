@@ -1,6 +1,6 @@
 -- A `for` names the patterns and types that are made up for it or are written there, each once. Its pattern is named inside of what stands
 -- around the loop.
-use Rattle.std.proofs.Common.{arith, refl, ℕ, [], ◌∷◌, ◌++◌, Option, Some, None}
+use Rattle.std.proofs.Common.{arith, ℕ, [], ◌∷◌, ◌++◌, Option, Some, None}
 use Rattle.hir_binding.specs.declared.binding.BindingAnnotation.TheVariants.{Mutable}
 use Rattle.hir_store.specs.Pointers.{Pointer}
 use Rattle.hir_store.specs.declared.hir.Expr.TheVariants as hir

@@ -1,6 +1,5 @@
 -- What stands in front of the body of a coroutine names the patterns of its parameters, and those that are made up for them, each once.
 use Rattle.std.proofs.Common.{refl, Bool, true, false, List, [], ◌∷◌, ◌++◌, Option, Some, None, arith}
-use Rattle.hir_store.specs.Stored.{Stored}
 use Rattle.hir_store.specs.declared.hir.CoroutineKind.{CoroutineKind}
 use Rattle.hir_store.specs.declared.hir.CoroutineSource.{CoroutineSource}
 use Rattle.hir_store.specs.declared.hir.Expr.TheVariants as hir
@@ -24,7 +23,7 @@ use Rattle.hir_noted.proofs.Preludes.{notes_bound, notes_own_name}
 use Rattle.hir_type_result.specs.Named.{Look, of_statement}
 use Rattle.hir_type_result.proofs.Counted.{times_append, ◌⊑◌}
 use Rattle.hir_type_result.proofs.Numbers.{each_append}
-use Rattle.hir_type_result.proofs.Adding.{Numbers, named, none}
+use Rattle.hir_type_result.proofs.Adding.{Numbers, none}
 use Rattle.hir_type_result.proofs.Asked.{Correct, Adds, Quiet, adds_beside, adds_from, adds_pat, adds_pat_beside, adds_pure, adds_quiet}
 use Rattle.hir_type_result.proofs.Asked.{adds_then, quiet_kept}
 use Rattle.hir_type_result.proofs.Naming.{new_made_binding, quiet_alloc, quiet_define, quiet_number}

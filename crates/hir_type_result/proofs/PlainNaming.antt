@@ -32,7 +32,6 @@ use Rattle.hir_steps.proofs.PatSteps.{PatWrites, correct_alloc_binding, correct_
 use Rattle.hir_steps.proofs.Steps.{Correct, correct_as, correct_pure, correct_point, correct_point_field, correct_report}
 use Rattle.hir_steps.proofs.Steps.{correct_report_await, correct_enter_block, correct_target}
 use Rattle.hir_steps.proofs.Steps.{with_await, with_block, with_jump, with_target}
-use Rattle.hir_type_result.specs.Named.{of_bindings_alone}
 use Rattle.hir_type_result.proofs.Counted.{times}
 use Rattle.hir_type_result.proofs.Adding.{Sort, the_types, the_pats, named, Quiet}
 use Rattle.hir_type_result.proofs.Adding.{Adds, adds_still, Numbers, none, Steps, look}

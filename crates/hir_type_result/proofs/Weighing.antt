@@ -1,10 +1,9 @@
 -- Steps by what their answers reach and hold, beside what is given out and what is asked: the bound of a predicate that is noted holds
 -- expressions too.
-use Rattle.std.proofs.Common.{◌≡◌, ◌∙◌, refl, sym, ap, arith, ℕ, ◌+◌, ◌≤◌, append-nil, length, Bool, true, false, List, [], ◌∷◌, ◌++◌}
+use Rattle.std.proofs.Common.{◌≡◌, refl, ap, arith, ℕ, ◌+◌, ◌≤◌, length, List, []}
 use Rattle.std.proofs.Common.{Option, Ok, Err}
 use Rattle.hir_store.specs.Pointers.{Pointer}
 use Rattle.hir_store.specs.Stored.{Stored}
-use Rattle.hir_store.specs.Storing.{Extends}
 use Rattle.hir_store.specs.declared.generics.WherePredicate.{WherePredicate}
 use Rattle.hir_store.specs.declared.generics.WherePredicate.TheVariants as predicate
 use Rattle.hir_store.specs.declared.hir.Expr.{Expr as HirExpr}
@@ -13,11 +12,9 @@ use Rattle.hir_store.specs.declared.ids.LabelId.{LabelId}
 use Rattle.hir_store.specs.declared.ids.MacroDefId.{MacroDefId}
 use Rattle.hir_store.specs.declared.ids.PatId.{PatId}
 use Rattle.hir_store.specs.declared.pat.Pat.{Pat}
-use Rattle.hir_store.specs.declared.type_ref.LifetimeRef.{LifetimeRef}
 use Rattle.hir_store.specs.declared.type_ref.TypeRef.{TypeRef}
 use Rattle.hir_store.proofs.Extending.{extends_refl}
 use Rattle.hir_env.specs.Answered.{Label}
-use Rattle.hir_lower_form.specs.declared.generics.Notes.{Notes as Noted}
 use Rattle.hir_lower_form.specs.Builder.{Builder}
 use Rattle.hir_lower_form.specs.Calls.{inside_macro}
 use Rattle.hir_lower_form.specs.Lower.{ExprSteps, constant_form}
@@ -28,19 +25,17 @@ use Rattle.hir_lower_form.specs.Preludes.{alloc_beside}
 use Rattle.hir_lower_form.specs.Ranges.{inner_form}
 use Rattle.hir_meaning.specs.Inner.{Inside, all_of, of_bound, of_type}
 use Rattle.hir_sets.specs.Noting.{Noting, none as nothing}
-use Rattle.hir_noted.proofs.Logic.{Notes, NotesTo, notes_pure}
+use Rattle.hir_noted.proofs.Logic.{Notes, NotesTo}
 use Rattle.hir_noted.proofs.Preludes.{notes_beside}
 use Rattle.hir_noted.proofs.Steps as noted
-use Rattle.hir_steps.proofs.Frames.{frames}
-use Rattle.hir_steps.proofs.Logic.{longer as no_shorter}
-use Rattle.hir_steps.proofs.Steps.{Mark, mark, Correct as CorrectOf}
-use Rattle.hir_type_result.proofs.Asked.{AnswersTo, Correct, Longer, Rel, Seq, StillTo, after_lowering, correct_as, correct_bind, longer_of}
+use Rattle.hir_steps.proofs.Steps.{mark, Correct as CorrectOf}
+use Rattle.hir_type_result.proofs.Asked.{AnswersTo, Correct, Longer, correct_as, correct_bind, longer_of}
 use Rattle.hir_type_result.proofs.Asked.{notes_to, refused, stands_as, still_of}
-use Rattle.hir_type_result.proofs.Counted.{less, less_grows, times}
+use Rattle.hir_type_result.proofs.Counted.{less, less_grows}
 use Rattle.hir_type_result.proofs.Meaning.{held_deep}
 use Rattle.hir_type_result.proofs.Weighed as plain
 use Rattle.hir_type_result.proofs.Weighed.{Cost, Deep, DeepView, View, a_constant, a_limit, a_pat, a_target, a_type, a_type_pat, an_expr}
-use Rattle.hir_type_result.proofs.Weighed.{at_depth, beside, free, in_expr, in_pat, in_target, in_type_pat, sum, sum_append, view}
+use Rattle.hir_type_result.proofs.Weighed.{at_depth, beside, free, in_expr, in_pat, in_target, in_type_pat, sum, view}
 
 -- ---- what is asked
 
