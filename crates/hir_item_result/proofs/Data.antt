@@ -33,7 +33,6 @@ use Rattle.hir_steps.specs.Grades.{grade_part}
 use Rattle.hir_steps.specs.Grading.{grade_lifetime}
 use Rattle.hir_told.specs.StoredData.{StoredData, and_then, no_data, stored_data}
 use Rattle.hir_told.proofs.AsStoredData.{added, data_graded}
-use Rattle.hir_steps.proofs.Graded.{type_next}
 use Rattle.hir_told.proofs.ReadingBack.{type_in_store}
 use Rattle.hir_told.proofs.Storing.{Stores, pure_stores, stores_then}
 use Rattle.hir_steps.proofs.GradedTree.{bound_graded, part_graded, type_graded}
@@ -102,7 +101,7 @@ of_type x = record { types = x ∷ []; lifetimes = [] }
 -- what reads back so by itself
 made : (t : TypeRef) (shape : Shape) → ((final : Stored) (r : Readers) → a_shape final r t ≡ shape)
     → Correct (alloc_type t None) (Stores (of_type (typed None shape)))
-made t shape e = data_graded.where_is (type_in_store (type0 t None e)) (data_graded.type_is t None shape)
+made t shape e = data_graded.type_made_is (type_in_store (type0 t None e)) (data_graded.type_is t None shape)
 
 -- ---- `self`
 
@@ -123,9 +122,9 @@ self_stores None l = record {
       stores_then (forms.lifetime_option_graded data_graded l) (λ id. pure_stores self)));
 }
 self_stores (Some m) l = record {
-  claim = stores_as (borrowed_self m l) (data_graded.where_is (type_in_store (self_reads (Some m) l))
-      (type_next data_graded (made steps.self_path _ (λ final r. refl)) (λ self.
-      type_next data_graded (forms.lifetime_option_graded data_graded l) (λ id. data_graded.type_is _ None _))));
+  claim = stores_as (borrowed_self m l) (data_graded.type_made_is (type_in_store (self_reads (Some m) l))
+      (data_graded.makes_type_is (made steps.self_path _ (λ final r. refl)) (λ self.
+      data_graded.makes_type_is (forms.lifetime_option_graded data_graded l) (λ id. data_graded.type_is _ None _))));
 }
 
 -- ---- coroutines
@@ -143,11 +142,12 @@ module _ (k : CoroutineKind) where
       let path : TypeRefId → Lowering TypeRefId = λ given. alloc_type (type.Path (steps.coroutine_path k given)) None in
       let made_of : TypeRefId → Lowering TypeRefId = λ i. alloc_type (type.ImplTrait (bound.Path i modifier.None ∷ [])) None in
       let first : Correct (p >>= path) (Stores (and_then d (the_path x))) =
-      data_graded.where_is (type_in_store (given_path_reads k h)) (type_next data_graded is (λ given. data_graded.type_is _ None _)) in
+      data_graded.type_made_is (type_in_store (given_path_reads k h))
+      (data_graded.makes_type_is is (λ given. data_graded.type_is _ None _)) in
       let reads = subst (λ q. Correct q (Reads a_type (typed None (coroutine_shape k x)))) (sym (bind_assoc p path made_of))
       (coroutine_reads k h) in
       let all : Correct ((p >>= path) >>= made_of) (Stores (and_then (and_then d (the_path x)) (the_impl x))) =
-      data_graded.where_is (type_in_store reads) (type_next data_graded first (λ i. data_graded.type_is _ None _)) in
+      data_graded.type_made_is (type_in_store reads) (data_graded.makes_type_is first (λ i. data_graded.type_is _ None _)) in
       stores_as (then_all d (the_path x) (the_impl x))
       (subst (λ q. Correct q (Stores (and_then (and_then d (the_path x)) (the_impl x)))) (bind_assoc p path made_of) all)
 

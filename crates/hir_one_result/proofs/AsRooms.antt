@@ -17,7 +17,7 @@ use Rattle.hir_data.specs.Data.{Shape}
 use Rattle.hir_data.specs.Patterns.{moved_by}
 use Rattle.hir_lower_form.specs.Lower.{lower_part}
 use Rattle.hir_lower_form.specs.Builder.{Builder}
-use Rattle.hir_lower_form.specs.Forms.{ExprSteps, StoredContents, paren_form, value_form, yield_form}
+use Rattle.hir_lower_form.specs.Forms.{ExprSteps, StoredContents, value_form, yield_form}
 use Rattle.hir_lower_form.specs.Lowering.{Checked, Lowering, ◌>>=◌, pure, close, count_out, made_number, note_yield}
 use Rattle.hir_store.specs.declared.type_ref.TypeBound.{TypeBound}
 use Rattle.hir_env.specs.declared.place.ImplTrait.{ImplTrait}
@@ -25,7 +25,7 @@ use Rattle.hir_env.specs.declared.place.ImplTrait.TheVariants as becomes
 use Rattle.hir_lower_form.specs.Lowering.{becoming}
 use Rattle.hir_steps.specs.Grading.{grade_impl}
 use Rattle.hir_one_result.proofs.NoteRooms.{aliased_takes, becoming_takes, takes_noted}
-use Rattle.hir_lower_form.specs.Lowering.{open_label, open_try, point}
+use Rattle.hir_lower_form.specs.Lowering.{open_label, open_try}
 use Rattle.hir_lower_form.specs.Made.{made_bind_form}
 use Rattle.hir_lower_form.specs.Pats.{counted_dots, counted_place, moved_dots, new_binding, small_place}
 use Rattle.hir_meaning.specs.InnerWritten.{constant_body, limit_body}
@@ -39,7 +39,7 @@ use Rattle.hir_one_result.proofs.FunctionRooms.{coroutine_body_takes}
 use Rattle.hir_one_result.proofs.ClosureRooms.{closure_takes, coroutine_takes, takes_owned, takes_owning}
 use Rattle.hir_one_result.proofs.CoroutineRooms.{coroutine_closure_takes}
 use Rattle.hir_one_result.proofs.Last.{IsLast, coroutine_last, in_exprs, last_alloc}
-use Rattle.hir_one_result.proofs.Last.{last_made, last_then, owning_last, paren_last, quiet_close}
+use Rattle.hir_one_result.proofs.Last.{last_made, last_then, owning_last, pointed_last, quiet_close}
 use Rattle.hir_one_result.proofs.LastStored.{LastPat, LastType, becoming_last, last_before, last_given, lastly, lastly_where}
 use Rattle.hir_one_result.proofs.LastStored.{made_pat_last, or_last, pat_last, in_pats, stays_define, stays_point_pat, stays_point_target}
 use Rattle.hir_one_result.proofs.LastStored.{stays_point_type, stored_last, in_types}
@@ -130,10 +130,6 @@ dots_take false (Some n) = place_takes false n n refl
 dots_take true (Some n) = place_takes true n (suc n) (add-one n)
 
 -- ---- the last expression
-
-pub pointed_last : (at : Pointer) {p : ExprSteps} → IsLast p → IsLast (p >>= (λ i. point at i >>= (λ _. pure i)))
-unfolding paren_form
-pointed_last at h = paren_last at h
 
 pub loop_last : (l : Label) (p : ExprSteps) {f : LabelId → ExprId → ExprSteps} → ((n : LabelId) (i : ExprId) → IsLast (f n i))
     → IsLast (open_label l >>= (λ n. p >>= (λ i. close >>= (λ _. f n i))))

@@ -15,11 +15,11 @@ use Rattle.hir_store.specs.declared.ids.TypeRefId.{TypeRefId}
 use Rattle.hir_lower_form.specs.Builder.{Builder}
 use Rattle.hir_lower_form.specs.declared.closures.ClosureParams.{ClosureParams}
 use Rattle.hir_lower_form.specs.Forms.{ExprSteps, StoredContents, closure_form, constant_form, coroutine_around_form, coroutine_block_form}
-use Rattle.hir_lower_form.specs.Forms.{coroutine_form, paren_form}
-use Rattle.hir_lower_form.specs.Lowering.{Checked, Lowering, ◌>>=◌, alloc_expr, alloc_made, bindings_end, close, close_barrier}
+use Rattle.hir_lower_form.specs.Forms.{coroutine_form}
+use Rattle.hir_lower_form.specs.Lowering.{Checked, Lowering, ◌>>=◌, pure, alloc_expr, alloc_made, bindings_end, close, close_barrier}
 use Rattle.hir_lower_form.specs.Lowering.{enter_block, enter_root, leave_root, open_barrier, outside_root, own, owning, point, record_root}
 use Rattle.hir_lower_form.specs.Preludes.{coroutine_closure_form, let_params, lower_handed, made_coroutine_form, no_prelude, within_form}
-use Rattle.hir_one_result.proofs.LastStored.{Counted, EndsAt, LastOf, Stays, hands_pure, hands_then, last_hands, lastly}
+use Rattle.hir_one_result.proofs.LastStored.{Counted, EndsAt, LastOf, Stays, hands_pure, hands_then, last_before, last_hands, lastly}
 use Rattle.hir_one_result.proofs.MadeRooms.{hidden_expr}
 use Rattle.hir_one_result.proofs.Rooms.{made_expr}
 
@@ -86,9 +86,8 @@ last_made e source = record { last = λ b. by b (nat_lt (length b.stored.exprs.e
 
 -- ---- what hands on an expression
 
-pub paren_last : (at : Pointer) {p : ExprSteps} → IsLast p → IsLast (paren_form at p)
-unfolding paren_form
-paren_last at h = last_hands in_exprs h (λ i. hands_then in_exprs (quiet_point at i) (λ u. hands_pure in_exprs i refl))
+pub pointed_last : (at : Pointer) {p : ExprSteps} → IsLast p → IsLast (p >>= (λ i. point at i >>= (λ _. pure i)))
+pointed_last at h = last_before in_exprs (λ i. i) (λ i. refl) h (λ i. quiet_point at i)
 
 pub owning_last : {A : Type 0} {owner : A → ExprId} {p : Lowering A} → Last owner p → Last owner (owning owner p)
 unfolding owning
