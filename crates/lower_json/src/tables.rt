@@ -19,10 +19,10 @@ use hir_store::ids::{
     BlockId, CfgId, CrateId, CtxId, HygieneId, ItemContainerId, MacroDefId, ModuleId,
 };
 use hir_tables::table::{Context, TableEnv};
-use json_faults::document::nodes;
+use json_faults::members::NodeList;
 use json_faults::value::small;
 use json_kinds::kind::Kind;
-use json_nodes::field::{flag, number_or};
+use json_nodes::field::{flag_in, number_in};
 use serde_json::Value;
 use std::alloc::{AllocError, Global};
 
@@ -261,10 +261,10 @@ fn fill(
     alloc: Global,
     tables: &mut TableEnv,
     kinds: &[Option<Kind>],
-    nodes: &[Value],
+    nodes: &NodeList<'_>,
     env: &Value,
 ) -> Result<(), AllocError>
-    ensures { OnOk result (tables.new ≡ with_tables kinds.now (items_view nodes.now) (view env.now) tables.old) }
+    ensures { OnOk result (tables.new ≡ with_tables kinds.now (items_view nodes.now.nodes.now) (view env.now) tables.old) }
 {
     disable_all(tables, entries_of(env, "disabled"))?;
     decide_all(tables, entries_of(env, "preds"))?;
@@ -276,8 +276,8 @@ fn fill(
     define_all(alloc, tables, entries_of(env, "macro_defs"))?;
     define_legacy(alloc, tables, entries_of(env, "legacy"))?;
     tables.set_lang_items(lang_items(env.get("lang")));
-    tables.set_new_range(flag(env, "new_range"));
-    tables.set_limit(number_or(env, "limit", 16));
+    tables.set_new_range(flag_in(env.get("new_range")));
+    tables.set_limit(number_in(env.get("limit"), 16));
     Ok(())
 }
 
@@ -285,6 +285,7 @@ fn fill(
 pub fn tables(
     alloc: Global,
     kinds: &[Option<Kind>],
+    nodes: &NodeList<'_>,
     document: &Value,
     container: ItemContainerId,
 ) -> Result<TableEnv, AllocError>
@@ -293,7 +294,7 @@ pub fn tables(
 {
     let mut tables = TableEnv::new(alloc, container);
     if let Some(env) = document.get("env") {
-        fill(alloc, &mut tables, kinds, nodes(document), env)?;
+        fill(alloc, &mut tables, kinds, nodes, env)?;
     }
     Ok(tables)
 }

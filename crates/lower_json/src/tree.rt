@@ -1,6 +1,7 @@
 //! The trees of a list of nodes.
 
-ghost use Rattle.std.specs.Prelude.{◌≡◌, IfOk, option_and_then, option_map};
+ghost use Rattle.std.specs.Prelude.{◌≡◌, ⊥, IfOk, option_and_then, option_map};
+ghost use Rattle.json_nodes.specs.declared.part.AnyOf.TheVariants as part;
 ghost use Rattle.serde_json.specs.View.{view, items_view};
 ghost use Rattle.hir_syntax.specs.declared.macros.Fragment.TheVariants as fragment;
 ghost use Rattle.json_nodes.specs.Groups.{as_expr, as_macro_stmts, as_pat, as_type};
@@ -17,10 +18,10 @@ use hir_base::node::{NodeId, TextRange};
 use hir_items::ast::TypeAlias;
 use hir_syntax::ast::{Fragment, Param, ParamList, Pat};
 use json_faults::kinds::kind_at;
-use json_faults::value::item_at;
+use json_faults::members::{NodeList, Own};
 use json_items::items::{function, type_alias};
 use json_items::listed::ListedNodes;
-use json_kinds::kind::{ExprNode, ItemNode, Kind, PartNode, PathNode};
+use json_kinds::kind::{ExprNode, ItemNode, Kind, PartNode, PatNode, PathNode, StmtNode, TypeNode};
 use json_nodes::args::of_args;
 use json_nodes::bounds::of_bound;
 use json_nodes::branches::{branching, of_branch};
@@ -63,18 +64,18 @@ const LAST_RANGE: TextRange = TextRange {
 #[derive_where(Clone, Copy; F)]
 pub struct Level<'k, 'n, F> {
     kinds: &'k [Option<Kind>],
-    nodes: &'n [Value],
+    nodes: &'n NodeList<'n>,
     levels: u32,
     read: F,
 }
 
 impl<F> ReadParts for Level<'_, '_, F>
 where
-    F: Fn(Global, &[Option<Kind>], &[Value], u32, u32) -> Result<Option<AnyPart>, AllocError>,
+    F: Fn(Global, &[Option<Kind>], &NodeList<'_>, u32, u32) -> Result<Option<AnyPart>, AllocError>,
 {
     ghost can = { λ it. Reads (F.pre it.read) (F.post it.read) it.kinds.now it.nodes.now it.levels };
 
-    ghost parts = { λ it. spec.part_at it.levels it.kinds.now (items_view it.nodes.now) };
+    ghost parts = { λ it. spec.part_at it.levels it.kinds.now (items_view it.nodes.now.nodes.now) };
 
     fn part_at(&self, alloc: Global, at: u32) -> Result<Option<AnyPart>, AllocError> {
         (self.read)(alloc, self.kinds, self.nodes, self.levels, at)
@@ -86,28 +87,40 @@ fn of_expr<F: Fields>(node: &F, refused: &mut bool, kind: ExprNode) -> Option<Ex
     requires { F.can node.now }
     ensures { Kept refused.old refused.new (result ≡ spec.of_expr (F.here node.now) kind) }
 {
-    if let Some(expr) = flow(node, refused, kind) {
-        return Some(expr);
+    match kind {
+        ExprNode::LoopExpr
+        | ExprNode::WhileExpr
+        | ExprNode::ForExpr
+        | ExprNode::TryExpr
+        | ExprNode::ContinueExpr
+        | ExprNode::BreakExpr => flow(node, refused, kind),
+        ExprNode::CallExpr
+        | ExprNode::MacroExpr
+        | ExprNode::PathExpr
+        | ExprNode::ParenExpr
+        | ExprNode::RangeExpr => plain(node, refused, kind),
+        ExprNode::LetExpr | ExprNode::MatchExpr => branching(node, refused, kind),
+        ExprNode::PrefixExpr | ExprNode::BinExpr | ExprNode::IndexExpr | ExprNode::RefExpr =>
+            operation(node, refused, kind),
+        ExprNode::MethodCallExpr
+        | ExprNode::FieldExpr
+        | ExprNode::TupleExpr
+        | ExprNode::ArrayExpr => member(node, refused, kind),
+        ExprNode::ReturnExpr
+        | ExprNode::BecomeExpr
+        | ExprNode::YieldExpr
+        | ExprNode::YeetExpr
+        | ExprNode::AwaitExpr => leaving(node, refused, kind),
+        ExprNode::CastExpr
+        | ExprNode::RecordExpr
+        | ExprNode::OffsetOfExpr
+        | ExprNode::ClosureExpr => typed(node, refused, kind),
+        ExprNode::CfgPredExpr
+        | ExprNode::UnderscoreExpr
+        | ExprNode::IncludeBytesExpr
+        | ExprNode::AsmExpr
+        | ExprNode::FormatArgsExpr => partless(node, refused, kind),
     }
-    if let Some(expr) = plain(node, refused, kind) {
-        return Some(expr);
-    }
-    if let Some(expr) = branching(node, refused, kind) {
-        return Some(expr);
-    }
-    if let Some(expr) = operation(node, refused, kind) {
-        return Some(expr);
-    }
-    if let Some(expr) = member(node, refused, kind) {
-        return Some(expr);
-    }
-    if let Some(expr) = leaving(node, refused, kind) {
-        return Some(expr);
-    }
-    if let Some(expr) = typed(node, refused, kind) {
-        return Some(expr);
-    }
-    partless(node, refused, kind)
 }
 
 /// A path, or what stands beside a name.
@@ -115,94 +128,180 @@ fn of_path_part<F: Fields>(node: &F, refused: &mut bool, kind: PathNode) -> Opti
     requires { F.can node.now }
     ensures { Kept refused.old refused.new (result ≡ spec.of_path_part (F.here node.now) kind) }
 {
-    if let Some(part) = of_path(node, refused, kind) {
-        return Some(part);
+    match kind {
+        PathNode::Path | PathNode::PathSegment => of_path(node, refused, kind),
+        _ => of_args(node, refused, kind),
     }
-    of_args(node, refused, kind)
 }
 
 /// A part of anything else.
+#[inline(never)]
 fn of_part<F: Fields>(node: &F, refused: &mut bool, kind: PartNode) -> Option<AnyPart>
     requires { F.can node.now }
     ensures { Kept refused.old refused.new (result ≡ spec.of_part (F.here node.now) kind) }
 {
-    if let Some(part) = of_bound(node, refused, kind) {
-        return Some(AnyPart::Type_(part));
+    match kind {
+        PartNode::TypeBound | PartNode::ForBinder | PartNode::RetType => Some(AnyPart::Type_(
+            of_bound(node, refused, kind)?,
+        )),
+        PartNode::MatchArm | PartNode::Guard | PartNode::LetElse => Some(AnyPart::Code(of_branch(
+            node, refused, kind,
+        )?)),
+        PartNode::RecordExprFieldList | PartNode::RecordExprField => Some(AnyPart::Code(of_record(
+            node, refused, kind,
+        )?)),
+        PartNode::MacroCall | PartNode::MacroStmts => Some(AnyPart::Code(of_macro(
+            node, refused, kind,
+        )?)),
+        PartNode::RecordPatField => Some(AnyPart::Pat(of_pat_field(node, refused, kind)?)),
+        PartNode::Param | PartNode::SelfParam | PartNode::ParamList => Some(AnyPart::Param(of_param(
+            node, refused, kind,
+        )?)),
+        PartNode::Label | PartNode::Lifetime | PartNode::Name => Some(AnyPart::Name(other(
+            node, refused, kind,
+        )?)),
     }
-    if let Some(part) = of_branch(node, refused, kind) {
-        return Some(AnyPart::Code(part));
-    }
-    if let Some(part) = of_record(node, refused, kind) {
-        return Some(AnyPart::Code(part));
-    }
-    if let Some(part) = of_macro(node, refused, kind) {
-        return Some(AnyPart::Code(part));
-    }
-    if let Some(part) = of_pat_field(node, refused, kind) {
-        return Some(AnyPart::Pat(part));
-    }
-    if let Some(part) = of_param(node, refused, kind) {
-        return Some(AnyPart::Param(part));
-    }
-    Some(AnyPart::Name(other(node, refused, kind)?))
 }
 
-/// What stands at a node of a kind.
+/// An `if`, as a part.
+#[inline(never)]
+fn if_part<F: Fields>(node: &F, refused: &mut bool) -> Option<AnyPart>
+    requires { F.can node.now }
+    ensures { Kept refused.old refused.new (result ≡ option_map part.Expr (spec.of_if (F.here node.now))) }
+{
+    Some(AnyPart::Expr(of_if(node, refused)?))
+}
+
+/// A block, as a part.
+#[inline(never)]
+fn block_part<F: Fields>(node: &F, refused: &mut bool) -> Option<AnyPart>
+    requires { F.can node.now }
+    ensures { Kept refused.old refused.new (result ≡ option_map part.Expr (spec.of_block (F.here node.now))) }
+{
+    Some(AnyPart::Expr(of_block(node, refused)?))
+}
+
+/// A path as a type, as a part.
+#[inline(never)]
+fn path_type_part<F: Fields>(node: &F, refused: &mut bool) -> Option<AnyPart>
+    requires { F.can node.now }
+    ensures { Kept refused.old refused.new (result ≡ option_map part.Type_ (spec.of_path_type (F.here node.now))) }
+{
+    Some(AnyPart::Type_(of_path_type(node, refused)?))
+}
+
+/// An expression, as a part.
+#[inline(never)]
+fn expr_part<F: Fields>(node: &F, refused: &mut bool, kind: ExprNode) -> Option<AnyPart>
+    requires { F.can node.now }
+    ensures { Kept refused.old refused.new (result ≡ option_map part.Expr (spec.of_expr (F.here node.now) kind)) }
+{
+    Some(AnyPart::Expr(of_expr(node, refused, kind)?))
+}
+
+/// A statement, as a part.
+#[inline(never)]
+fn stmt_part<F: Fields>(node: &F, refused: &mut bool, kind: StmtNode) -> Option<AnyPart>
+    requires { F.can node.now }
+    ensures { Kept refused.old refused.new (result ≡ option_map part.Code (spec.of_stmt (F.here node.now) kind)) }
+{
+    Some(AnyPart::Code(of_stmt(node, refused, kind)?))
+}
+
+/// A pattern, as a part.
+#[inline(never)]
+fn pat_part<F: Fields>(node: &F, refused: &mut bool, kind: PatNode) -> Option<AnyPart>
+    requires { F.can node.now }
+    ensures { Kept refused.old refused.new (result ≡ option_map part.Pat (spec.of_pat (F.here node.now) kind)) }
+{
+    Some(AnyPart::Pat(of_pat(node, refused, kind)?))
+}
+
+/// A type, as a part.
+#[inline(never)]
+fn type_part<F: Fields>(node: &F, refused: &mut bool, kind: TypeNode) -> Option<AnyPart>
+    requires { F.can node.now }
+    ensures { Kept refused.old refused.new (result ≡ option_map part.Type_ (spec.of_type (F.here node.now) kind)) }
+{
+    Some(AnyPart::Type_(of_type(node, refused, kind)?))
+}
+
+/// What stands in a path, as a part.
+#[inline(never)]
+fn path_part<F: Fields>(node: &F, refused: &mut bool, kind: PathNode) -> Option<AnyPart>
+    requires { F.can node.now }
+    ensures { Kept refused.old refused.new (result ≡ option_map part.Path (spec.of_path_part (F.here node.now) kind)) }
+{
+    Some(AnyPart::Path(of_path_part(node, refused, kind)?))
+}
+
+/// What stands at a node of a kind. Each sort has a frame of its own, so that a level takes no more than its own sort needs.
 #[tactic(auto, unfolding(crate::specs::Reading::of_kind))]
 fn of_kind<F: Fields>(node: &F, refused: &mut bool, kind: Kind) -> Option<AnyPart>
     requires { F.can node.now }
     ensures { Kept refused.old refused.new (result ≡ of_kind (F.here node.now) kind) }
 {
     match kind {
-        Kind::IfExpr => Some(AnyPart::Expr(of_if(node, refused)?)),
-        Kind::BlockExpr => Some(AnyPart::Expr(of_block(node, refused)?)),
+        Kind::IfExpr => if_part(node, refused),
+        Kind::BlockExpr => block_part(node, refused),
         Kind::Literal => Some(AnyPart::Expr(of_literal(node, refused)?)),
-        Kind::PathType => Some(AnyPart::Type_(of_path_type(node, refused)?)),
-        Kind::Expr(kind) => Some(AnyPart::Expr(of_expr(node, refused, kind)?)),
-        Kind::Stmt(kind) => Some(AnyPart::Code(of_stmt(node, refused, kind)?)),
-        Kind::Pat(kind) => Some(AnyPart::Pat(of_pat(node, refused, kind)?)),
-        Kind::Type_(kind) => Some(AnyPart::Type_(of_type(node, refused, kind)?)),
-        Kind::Path(kind) => Some(AnyPart::Path(of_path_part(node, refused, kind)?)),
+        Kind::PathType => path_type_part(node, refused),
+        Kind::Expr(kind) => expr_part(node, refused, kind),
+        Kind::Stmt(kind) => stmt_part(node, refused, kind),
+        Kind::Pat(kind) => pat_part(node, refused, kind),
+        Kind::Type_(kind) => type_part(node, refused, kind),
+        Kind::Path(kind) => path_part(node, refused, kind),
         Kind::Item(_) => None,
         Kind::Part(kind) => of_part(node, refused, kind),
     }
 }
 
-/// What stands at a node of a kind, by its index and value.
-pub fn part_at<P: ReadParts>(
-    alloc: Global,
+/// Lets go of what was read where memory was refused.
+#[inline(never)]
+fn refused_part<P: ReadParts>(
     parts: &P,
-    value: &Value,
-    at: u32,
-    kind: Kind,
+    part: Option<AnyPart>,
 ) -> Result<Option<AnyPart>, AllocError>
-    requires { P.can parts.now }
-    ensures { IfOk result (λ part. part ≡ of_kind (node_at (P.parts parts.now) at (view value.now)) kind) }
+    ensures { IfOk result (λ _. ⊥) }
 {
-    let mut refused = false;
-    let part = of_kind(&node_at(alloc, parts, value, at), &mut refused, kind);
-    if !refused {
-        return Ok(part);
-    }
     if let Some(part) = part {
         parts.let_go(part);
     }
     Err(AllocError)
 }
 
+/// What stands at a node of a kind, by its index and value.
+pub fn part_at<P: ReadParts>(
+    alloc: Global,
+    parts: &P,
+    value: Own<'_>,
+    at: u32,
+    kind: Kind,
+) -> Result<Option<AnyPart>, AllocError>
+    requires { P.can parts.now }
+    ensures { IfOk result (λ part. part ≡ of_kind (node_at (P.parts parts.now) at (view value.node.now)) kind) }
+{
+    let mut refused = false;
+    let part = of_kind(&node_at(alloc, parts, value, at), &mut refused, kind);
+    if refused {
+        return refused_part(parts, part);
+    }
+    Ok(part)
+}
+
 fn read_part(
     alloc: Global,
     kinds: &[Option<Kind>],
-    nodes: &[Value],
+    nodes: &NodeList<'_>,
     levels: u32,
     at: u32,
 ) -> Result<Option<AnyPart>, AllocError>
-    ensures { IfOk result (λ part. part ≡ spec.part_at levels kinds.now (items_view nodes.now) at) }
+    ensures { IfOk result (λ part. part ≡ spec.part_at levels kinds.now (items_view nodes.now.nodes.now) at) }
 {
     if levels == 0 {
         return Ok(None);
     }
-    let Some(value) = item_at(nodes, at as usize) else {
+    let Some(value) = nodes.at(at as usize) else {
         return Ok(None);
     };
     let Some(kind) = kind_at(kinds, at as usize) else {
@@ -292,13 +391,13 @@ fn whole_tree<P: ReadParts>(
     items: &ListedNodes<'_, '_, '_, P>,
     want: Root,
     kind: Option<Kind>,
-    value: &Value,
+    value: Own<'_>,
     at: u32,
 ) -> Result<Tree, AllocError>
     requires parts { P.can parts.now }
     requires items { P.can items.now.parts.now }
     ensures { IfOk result (λ tree.
-        tree ≡ tree_of want kind (node_at (P.parts parts.now) at (view value.now)) (listed P.parts items.now)) }
+        tree ≡ tree_of want kind (node_at (P.parts parts.now) at (view value.node.now)) (listed P.parts items.now)) }
 {
     let mut refused = false;
     let node = node_at(items.alloc, parts, value, at);
@@ -316,10 +415,10 @@ pub fn read_tree_at(
     alloc: Global,
     want: Root,
     kinds: &[Option<Kind>],
-    nodes: &[Value],
+    nodes: &NodeList<'_>,
     root: u32,
 ) -> Result<Tree, AllocError>
-    ensures { IfOk result (λ tree. tree ≡ tree_at want kinds.now (items_view nodes.now) root) }
+    ensures { IfOk result (λ tree. tree ≡ tree_at want kinds.now (items_view nodes.now.nodes.now) root) }
 {
     let inside = Level {
         kinds,
@@ -340,9 +439,19 @@ pub fn read_tree_at(
         parts: &in_lists,
     };
     let kind = kind_at(kinds, root as usize);
-    match item_at(nodes, root as usize) {
+    match nodes.at(root as usize) {
         Some(value) => whole_tree(&inside, &items, want, kind, value, root),
-        None => whole_tree(&inside, &items, want, kind, &Value::Null, root),
+        None => whole_tree(
+            &inside,
+            &items,
+            want,
+            kind,
+            Own {
+                node: &Value::Null,
+                members: &[],
+            },
+            root,
+        ),
     }
 }
 
@@ -361,13 +470,13 @@ fn is_alias(kinds: &[Option<Kind>], at: u32) -> bool
 pub fn alias_at(
     alloc: Global,
     kinds: &[Option<Kind>],
-    nodes: &[Value],
+    nodes: &NodeList<'_>,
     refused: &mut bool,
     root: u32,
 ) -> Option<TypeAlias>
-    ensures { Kept refused.old refused.new (result ≡ spec.alias_at kinds.now (items_view nodes.now) root) }
+    ensures { Kept refused.old refused.new (result ≡ spec.alias_at kinds.now (items_view nodes.now.nodes.now) root) }
 {
-    let Some(value) = item_at(nodes, root as usize) else {
+    let Some(value) = nodes.at(root as usize) else {
         return None;
     };
     if !is_alias(kinds, root) {
@@ -478,11 +587,11 @@ fn whole_fragment<P: ReadParts>(
     alloc: Global,
     parts: &P,
     kind: Kind,
-    value: &Value,
+    value: Own<'_>,
     at: u32,
 ) -> Result<Option<Fragment>, AllocError>
     requires { P.can parts.now }
-    ensures { IfOk result (λ tree. tree ≡ fragment_of (node_at (P.parts parts.now) at (view value.now)) kind) }
+    ensures { IfOk result (λ tree. tree ≡ fragment_of (node_at (P.parts parts.now) at (view value.node.now)) kind) }
 {
     let mut refused = false;
     let fragment = fragment_of(&node_at(alloc, parts, value, at), &mut refused, kind);
@@ -499,12 +608,12 @@ fn whole_fragment<P: ReadParts>(
 pub fn fragment_at(
     alloc: Global,
     kinds: &[Option<Kind>],
-    nodes: &[Value],
+    nodes: &NodeList<'_>,
     root: u32,
 ) -> Result<Option<Fragment>, AllocError>
-    ensures { IfOk result (λ tree. tree ≡ spec.fragment_at kinds.now (items_view nodes.now) root) }
+    ensures { IfOk result (λ tree. tree ≡ spec.fragment_at kinds.now (items_view nodes.now.nodes.now) root) }
 {
-    let Some(value) = item_at(nodes, root as usize) else {
+    let Some(value) = nodes.at(root as usize) else {
         return Ok(None);
     };
     let Some(kind) = kind_at(kinds, root as usize) else {
