@@ -2,10 +2,12 @@
 use Rattle.std.proofs.Common.{◌≡◌, ℕ, suc, zero, ◌+◌, ◌<◌, ◌≤◌, List, [], ◌∷◌, ◌++◌, true, false, Option, Some, None, Ok}
 use Rattle.std.proofs.Common.{length, take, drop, get_or, refl, sym, ap, ◌∙◌, arith, is_eq, bytes_eq, nat_cmp}
 use Rattle.std.proofs.Common.{Ordering, Less, Equal, Greater}
+use Rattle.std.proofs.Math.Logic.{∥∥₁_elim}
 use Rattle.std.proofs.Math.Seq.{take-append_seam, drop-append_seam}
 use Rattle.std.proofs.lemmas.Bool.{false≢true, true≢false}
 use Rattle.std.proofs.lemmas.List.{length-map, take-map, drop-map, drop-drop, drop_all, drop_more, length-append, length-drop}
 use Rattle.std.proofs.lemmas.Map.Text.{is_eq-slice_cmp}
+use Rattle.std.proofs.Props.{props}
 use Rattle.std.specs.Cmp.Lexicographic.{slice_cmp}
 use Rattle.std.specs.Ordering.{match_ordering}
 use Rattle.std.specs.Prelude.{String}
@@ -18,6 +20,7 @@ use Rattle.json_faults.specs.Kinds.{kind_in}
 use Rattle.json_faults.specs.Members.{Named, all_pairs, members_with, pair_of, pairs, pairs_in, pairs_of, said, starts_from}
 use Rattle.json_faults.specs.Nodes.{◌>>=◌, node, node_in, nodes_from}
 use Rattle.json_faults.specs.declared.members.Member.{Member}
+use Rattle.json_faults.proofs.DataSet.{data_set}
 use Rattle.json_kinds.specs.declared.kind.Kind.{Kind}
 
 same_members : (ms : Members) → members_with (pairs_in ms) ≡ ms
@@ -79,15 +82,21 @@ kind_said ms (object os) e = ap with_kind e ∙ ap (λ os. kind_in (object os)) 
 abbrev with_field : List ℕ → List Named → Option Data
 with_field name ps = get name (object (members_with ps))
 
--- a field of a node, where its members are these
-pub own_get : (name : List ℕ) (ms : List Member) (d : Data) → pairs ms ≡ pairs_of d → get name (said ms) ≡ get name d
+optional_set : IsSet (Option Data)
+optional_set = hlevel (data_set, props)
+
+field_of : (name : List ℕ) (ms : List Member) (d : Data) → pairs ms ≡ pairs_of d → get name (said ms) ≡ get name d
 unfolding said
-own_get name ms null e = ap (with_field name) e
-own_get name ms (boolean b) e = ap (with_field name) e
-own_get name ms (number n) e = ap (with_field name) e
-own_get name ms (string s) e = ap (with_field name) e
-own_get name ms (array ds) e = ap (with_field name) e
-own_get name ms (object os) e = ap (with_field name) e ∙ ap (λ os. get name (object os)) (same_members os)
+field_of name ms null e = ap (with_field name) e
+field_of name ms (boolean b) e = ap (with_field name) e
+field_of name ms (number n) e = ap (with_field name) e
+field_of name ms (string s) e = ap (with_field name) e
+field_of name ms (array ds) e = ap (with_field name) e
+field_of name ms (object os) e = ap (with_field name) e ∙ ap (λ os. get name (object os)) (same_members os)
+
+-- a field of a node, where its members are these
+pub own_get : (name : List ℕ) (ms : List Member) (d : Data) → ∥ pairs ms ≡ pairs_of d ∥₁ → get name (said ms) ≡ get name d
+own_get name ms d e = ∥∥₁_elim e (optional_set (get name (said ms)) (get name d)) (field_of name ms d)
 
 drop_pairs : (old new : List Member) (ps : List Named) → pairs new ≡ pairs old ++ ps → pairs (drop (length old) new) ≡ ps
 drop_pairs old new ps h = sym (drop-map pair_of (length old) new) ∙ ap (drop (length old)) h

@@ -1,6 +1,6 @@
 //! The members of nodes, side by side.
 
-ghost use Rattle.std.specs.Prelude.{◌≡◌, ◌++◌, IfOk, IfSome, List, length, not, true, option_map};
+ghost use Rattle.std.specs.Prelude.{◌≡◌, ◌++◌, IfOk, List, length, not, true, option_map};
 ghost use Rattle.serde_json.specs.View.{view, items_view, members_view};
 ghost use Rattle.serde_json.specs.Find.{get, get_item};
 ghost use Rattle.serde_json.specs.Written.{has_float, members_have_float};
@@ -70,13 +70,13 @@ pub fn add_members<'n>(all: &mut Vec<Member<'n>>, node: &'n Value) -> Result<boo
 pub struct Own<'n> {
     pub node: &'n Value,
     pub members: &'n [Member<'n>],
+    pub ghost own: { ∥ pairs members.now ≡ pairs_of (view node.now) ∥₁ },
 }
 
 impl<'n> Own<'n> {
     /// What the field of that name holds.
     #[tactic(auto, using(crate::proofs::Sides::own_get))]
     pub fn get(&self, name: &str) -> Option<&'n Value>
-        requires { pairs self.now.members.now ≡ pairs_of (view self.now.node.now) }
         ensures { option_map (λ v. view v.now) result ≡ get name.now (view self.now.node.now) }
     {
         found(self.members, name)
@@ -96,9 +96,8 @@ pub fn count(node: &Value) -> usize
 
 /// A node whose members are the first of these.
 fn own_of<'n>(node: &'n Value, rest: &'n [Member<'n>]) -> Own<'n>
-    requires { (more : List Named) × (pairs rest.now ≡ pairs_of (view node.now) ++ more) }
-    ensures node { view result.node.now ≡ view node.entry.now }
-    ensures members { pairs result.members.now ≡ pairs_of (view node.entry.now) }
+    requires { ∥ ((more : List Named) × (pairs rest.now ≡ pairs_of (view node.now) ++ more)) ∥₁ }
+    ensures { view result.node.now ≡ view node.entry.now }
 {
     let (members, _) = rest.split_at(count(node));
     Own { node, members }
@@ -110,16 +109,15 @@ pub struct NodeList<'n> {
     pub nodes: &'n [Value],
     pub members: &'n [Member<'n>],
     pub starts: &'n [usize],
+    pub ghost beside: { ∥ pairs members.now ≡ all_pairs (items_view nodes.now) ∥₁ },
+    pub ghost begun: { starts.now ≡ starts_from 0 (items_view nodes.now) },
 }
 
 impl<'n> NodeList<'n> {
     /// The node at an index, none past the end.
     #[tactic(auto, using(crate::proofs::Items::found_at, crate::proofs::Items::past_items))]
     pub fn at(&self, at: usize) -> Option<Own<'n>>
-        requires members { pairs self.now.members.now ≡ all_pairs (items_view self.now.nodes.now) }
-        requires starts { self.now.starts.now ≡ starts_from 0 (items_view self.now.nodes.now) }
-        ensures node { option_map (λ n. view n.node.now) result ≡ get_item at (items_view self.now.nodes.now) }
-        ensures own { IfSome result (λ n. pairs n.members.now ≡ pairs_of (view n.node.now)) }
+        ensures { option_map (λ n. view n.node.now) result ≡ get_item at (items_view self.now.nodes.now) }
     {
         if at >= self.nodes.len() {
             return None;
