@@ -21,7 +21,7 @@ pub fn number_or(node: &Own<'_>, name: &str, other: u32) -> u32
 
 /// The number of 32 bits that is held, another where there is none.
 pub fn number_in(value: Option<&Value>, other: u32) -> u32
-    ensures { result ≡ number_or other (option_map (λ v. view v.now) value) }
+    ensures { result ≡ number_or other (option_map (λ v. view v.now) value.entry) }
 {
     match value {
         Some(value) => small(value).unwrap_or(other),
@@ -38,7 +38,7 @@ pub fn flag(node: &Own<'_>, name: &str) -> bool
 
 /// The flag that is held, false where there is none.
 pub fn flag_in(value: Option<&Value>) -> bool
-    ensures { result ≡ flag_of (option_map (λ v. view v.now) value) }
+    ensures { result ≡ flag_of (option_map (λ v. view v.now) value.entry) }
 {
     match value {
         Some(value) => value.as_bool().unwrap_or(false),

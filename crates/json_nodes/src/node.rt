@@ -38,7 +38,7 @@ pub fn node_at<'a, P: ReadParts>(
     value: Own<'a>,
     at: u32,
 ) -> Node<'a, P>
-    ensures here { here P.parts result ≡ node_at (P.parts parts.entry.now) at (view value.node.entry.now) }
+    ensures here { here P.parts result ≡ node_at (P.parts parts.entry.now) at (view value.entry.node.now) }
     ensures parts { result.parts.now ≡ parts.entry.now }
 {
     let id = number_or(&value, "id", at);
