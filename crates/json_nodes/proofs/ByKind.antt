@@ -22,8 +22,14 @@ pub is_around : (h : Here) (k : PatNode)
     → of_pat h k ≡ around h k
 unfolding named around pieces values partless_pat
 is_around h k s =
-    elim s [ inl e ↦ rw e | inr s ↦ elim s [ inl e ↦ rw e | inr s ↦
-    elim s [ inl e ↦ rw e | inr s ↦ elim s [ inl e ↦ rw e | inr e ↦ rw e ] ] ] ]
+    elim s [
+      | inl e ↦ rw e
+      | inr s ↦ elim s [
+        | inl e ↦ rw e
+        | inr s ↦
+            elim s [ inl e ↦ rw e | inr s ↦ elim s [ inl e ↦ rw e | inr e ↦ rw e ] ]
+      ]
+    ]
 
 pub is_pieces : (h : Here) (k : PatNode) → (k ≡ pat_kind.RecordPat) ⊎ (k ≡ pat_kind.SlicePat) → of_pat h k ≡ pieces h k
 unfolding named around pieces values partless_pat
@@ -41,8 +47,14 @@ pub is_partless : (h : Here) (k : PatNode)
     → of_pat h k ≡ partless_pat h k
 unfolding named around pieces values partless_pat
 is_partless h k s =
-    elim s [ inl e ↦ rw e | inr s ↦ elim s [ inl e ↦ rw e | inr s ↦
-    elim s [ inl e ↦ rw e | inr s ↦ elim s [ inl e ↦ rw e | inr e ↦ rw e ] ] ] ]
+    elim s [
+      | inl e ↦ rw e
+      | inr s ↦ elim s [
+        | inl e ↦ rw e
+        | inr s ↦
+            elim s [ inl e ↦ rw e | inr s ↦ elim s [ inl e ↦ rw e | inr e ↦ rw e ] ]
+      ]
+    ]
 
 pub is_over_types : (h : Here) (k : TypeNode)
     → (k ≡ type_kind.ParenType) ⊎ (k ≡ type_kind.SliceType) ⊎ (k ≡ type_kind.TupleType) ⊎ (k ≡ type_kind.PtrType)
@@ -56,8 +68,14 @@ pub is_beside_types : (h : Here) (k : TypeNode)
     → of_type h k ≡ beside_types h k
 unfolding over_types beside_types bounded
 is_beside_types h k s =
-    elim s [ inl e ↦ rw e | inr s ↦ elim s [ inl e ↦ rw e | inr s ↦
-    elim s [ inl e ↦ rw e | inr s ↦ elim s [ inl e ↦ rw e | inr s ↦ elim s [ inl e ↦ rw e | inr e ↦ rw e ] ] ] ] ]
+    elim s [
+      | inl e ↦ rw e
+      | inr s ↦ elim s [
+        | inl e ↦ rw e
+        | inr s ↦
+            elim s [ inl e ↦ rw e | inr s ↦ elim s [ inl e ↦ rw e | inr s ↦ elim s [ inl e ↦ rw e | inr e ↦ rw e ] ] ]
+      ]
+    ]
 
 pub is_bounded : (h : Here) (k : TypeNode)
     → (k ≡ type_kind.ImplTraitType) ⊎ (k ≡ type_kind.DynTraitType) ⊎ (k ≡ type_kind.NeverType) ⊎ (k ≡ type_kind.InferType)

@@ -12,7 +12,7 @@ use Rattle.json_nodes.specs.Bounds.{of_bound}
 use Rattle.json_nodes.specs.Branches.{branching, of_branch}
 use Rattle.json_nodes.specs.Exprs.{flow, plain, operation, member, leaving, partless}
 use Rattle.json_nodes.specs.Macros.{of_macro}
-use Rattle.json_nodes.specs.Others.{label, other}
+use Rattle.json_nodes.specs.Others.{other}
 use Rattle.json_nodes.specs.Params.{of_param}
 use Rattle.json_nodes.specs.Parts.{Here}
 use Rattle.json_nodes.specs.Paths.{of_path}
@@ -26,8 +26,14 @@ pub is_flow : (h : Here) (k : ExprNode)
     → of_expr h k ≡ flow h k
 unfolding flow plain branching operation member leaving typed partless
 is_flow h k s =
-    elim s [ inl e ↦ rw e | inr s ↦ elim s [ inl e ↦ rw e | inr s ↦
-    elim s [ inl e ↦ rw e | inr s ↦ elim s [ inl e ↦ rw e | inr s ↦ elim s [ inl e ↦ rw e | inr e ↦ rw e ] ] ] ] ]
+    elim s [
+      | inl e ↦ rw e
+      | inr s ↦ elim s [
+        | inl e ↦ rw e
+        | inr s ↦
+            elim s [ inl e ↦ rw e | inr s ↦ elim s [ inl e ↦ rw e | inr s ↦ elim s [ inl e ↦ rw e | inr e ↦ rw e ] ] ]
+      ]
+    ]
 
 pub is_plain : (h : Here) (k : ExprNode)
     → (k ≡ expr_kind.CallExpr) ⊎ (k ≡ expr_kind.MacroExpr)
@@ -35,8 +41,14 @@ pub is_plain : (h : Here) (k : ExprNode)
     → of_expr h k ≡ plain h k
 unfolding flow plain branching operation member leaving typed partless
 is_plain h k s =
-    elim s [ inl e ↦ rw e | inr s ↦ elim s [ inl e ↦ rw e | inr s ↦
-    elim s [ inl e ↦ rw e | inr s ↦ elim s [ inl e ↦ rw e | inr e ↦ rw e ] ] ] ]
+    elim s [
+      | inl e ↦ rw e
+      | inr s ↦ elim s [
+        | inl e ↦ rw e
+        | inr s ↦
+            elim s [ inl e ↦ rw e | inr s ↦ elim s [ inl e ↦ rw e | inr e ↦ rw e ] ]
+      ]
+    ]
 
 pub is_branching : (h : Here) (k : ExprNode) → (k ≡ expr_kind.LetExpr) ⊎ (k ≡ expr_kind.MatchExpr) → of_expr h k ≡ branching h k
 unfolding flow plain branching operation member leaving typed partless
@@ -60,8 +72,14 @@ pub is_leaving : (h : Here) (k : ExprNode)
     → of_expr h k ≡ leaving h k
 unfolding flow plain branching operation member leaving typed partless
 is_leaving h k s =
-    elim s [ inl e ↦ rw e | inr s ↦ elim s [ inl e ↦ rw e | inr s ↦
-    elim s [ inl e ↦ rw e | inr s ↦ elim s [ inl e ↦ rw e | inr e ↦ rw e ] ] ] ]
+    elim s [
+      | inl e ↦ rw e
+      | inr s ↦ elim s [
+        | inl e ↦ rw e
+        | inr s ↦
+            elim s [ inl e ↦ rw e | inr s ↦ elim s [ inl e ↦ rw e | inr e ↦ rw e ] ]
+      ]
+    ]
 
 pub is_typed : (h : Here) (k : ExprNode)
     → (k ≡ expr_kind.CastExpr) ⊎ (k ≡ expr_kind.RecordExpr) ⊎ (k ≡ expr_kind.OffsetOfExpr) ⊎ (k ≡ expr_kind.ClosureExpr)
@@ -75,8 +93,14 @@ pub is_partless : (h : Here) (k : ExprNode)
     → of_expr h k ≡ partless h k
 unfolding flow plain branching operation member leaving typed partless
 is_partless h k s =
-    elim s [ inl e ↦ rw e | inr s ↦ elim s [ inl e ↦ rw e | inr s ↦
-    elim s [ inl e ↦ rw e | inr s ↦ elim s [ inl e ↦ rw e | inr e ↦ rw e ] ] ] ]
+    elim s [
+      | inl e ↦ rw e
+      | inr s ↦ elim s [
+        | inl e ↦ rw e
+        | inr s ↦
+            elim s [ inl e ↦ rw e | inr s ↦ elim s [ inl e ↦ rw e | inr e ↦ rw e ] ]
+      ]
+    ]
 
 pub is_bound : (h : Here) (k : PartNode)
     → (k ≡ part_kind.TypeBound) ⊎ (k ≡ part_kind.ForBinder) ⊎ (k ≡ part_kind.RetType)

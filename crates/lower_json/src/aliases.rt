@@ -3,7 +3,6 @@
 ghost use Rattle.std.specs.Prelude.{◌≡◌, IfOk, Some, codes, option_and_then};
 ghost use Rattle.serde_json.specs.Find.{as_array, get};
 ghost use Rattle.serde_json.specs.View.{view, items_view};
-ghost use Rattle.json_faults.specs.Documents.{nodes};
 ghost use Rattle.json_faults.specs.Values.{small_of};
 ghost use Rattle.json_nodes.specs.Kept.{Kept};
 ghost use Rattle.json_nodes.specs.Parts.{all_read};
@@ -119,7 +118,7 @@ pub fn aliases(
     document: &Value,
 ) -> Result<Seq<Alias>, AllocError>
     ensures { let d = view document.now in
-        IfOk result (λ aliases. aliases ≡ spec.aliases_of kinds.now (nodes d) (get (codes "env") d)) }
+        IfOk result (λ aliases. aliases ≡ spec.aliases_of kinds.now (items_view nodes.now.nodes.now) (get (codes "env") d)) }
 {
     let mut refused = false;
     let aliases = all(alloc, kinds, nodes, &mut refused, entries(document));

@@ -2,7 +2,11 @@
 
 ghost use Rattle.std.specs.Prelude.{◌≡◌, option_map};
 ghost use Rattle.json_nodes.specs.declared.part.AnyOf.TheVariants as part;
+ghost use Rattle.json_nodes.specs.Exprs as exprs;
 ghost use Rattle.json_nodes.specs.Kept.{Kept};
+ghost use Rattle.json_nodes.specs.Others as others;
+ghost use Rattle.json_nodes.specs.Pats as pats;
+ghost use Rattle.json_nodes.specs.Types as types;
 ghost use Rattle.lower_json.specs.Reading as spec;
 ghost use Rattle.lower_json.specs.Reading.{of_kind};
 
@@ -112,7 +116,7 @@ fn of_part<F: Fields>(node: &F, refused: &mut bool, kind: PartNode) -> Option<An
 #[inline(never)]
 fn if_part<F: Fields>(node: &F, refused: &mut bool) -> Option<AnyPart>
     requires { F.can node.now }
-    ensures { Kept refused.old refused.new (result ≡ option_map part.Expr (spec.of_if (F.here node.now))) }
+    ensures { Kept refused.old refused.new (result ≡ option_map part.Expr (exprs.of_if (F.here node.now))) }
 {
     Some(AnyPart::Expr(of_if(node, refused)?))
 }
@@ -121,7 +125,7 @@ fn if_part<F: Fields>(node: &F, refused: &mut bool) -> Option<AnyPart>
 #[inline(never)]
 fn block_part<F: Fields>(node: &F, refused: &mut bool) -> Option<AnyPart>
     requires { F.can node.now }
-    ensures { Kept refused.old refused.new (result ≡ option_map part.Expr (spec.of_block (F.here node.now))) }
+    ensures { Kept refused.old refused.new (result ≡ option_map part.Expr (others.of_block (F.here node.now))) }
 {
     Some(AnyPart::Expr(of_block(node, refused)?))
 }
@@ -130,7 +134,7 @@ fn block_part<F: Fields>(node: &F, refused: &mut bool) -> Option<AnyPart>
 #[inline(never)]
 fn path_type_part<F: Fields>(node: &F, refused: &mut bool) -> Option<AnyPart>
     requires { F.can node.now }
-    ensures { Kept refused.old refused.new (result ≡ option_map part.Type_ (spec.of_path_type (F.here node.now))) }
+    ensures { Kept refused.old refused.new (result ≡ option_map part.Type_ (types.of_path_type (F.here node.now))) }
 {
     Some(AnyPart::Type_(of_path_type(node, refused)?))
 }
@@ -148,7 +152,7 @@ fn expr_part<F: Fields>(node: &F, refused: &mut bool, kind: ExprNode) -> Option<
 #[inline(never)]
 fn stmt_part<F: Fields>(node: &F, refused: &mut bool, kind: StmtNode) -> Option<AnyPart>
     requires { F.can node.now }
-    ensures { Kept refused.old refused.new (result ≡ option_map part.Code (spec.of_stmt (F.here node.now) kind)) }
+    ensures { Kept refused.old refused.new (result ≡ option_map part.Code (others.of_stmt (F.here node.now) kind)) }
 {
     Some(AnyPart::Code(of_stmt(node, refused, kind)?))
 }
@@ -157,7 +161,7 @@ fn stmt_part<F: Fields>(node: &F, refused: &mut bool, kind: StmtNode) -> Option<
 #[inline(never)]
 fn pat_part<F: Fields>(node: &F, refused: &mut bool, kind: PatNode) -> Option<AnyPart>
     requires { F.can node.now }
-    ensures { Kept refused.old refused.new (result ≡ option_map part.Pat (spec.of_pat (F.here node.now) kind)) }
+    ensures { Kept refused.old refused.new (result ≡ option_map part.Pat (pats.of_pat (F.here node.now) kind)) }
 {
     Some(AnyPart::Pat(of_pat(node, refused, kind)?))
 }
@@ -166,7 +170,7 @@ fn pat_part<F: Fields>(node: &F, refused: &mut bool, kind: PatNode) -> Option<An
 #[inline(never)]
 fn type_part<F: Fields>(node: &F, refused: &mut bool, kind: TypeNode) -> Option<AnyPart>
     requires { F.can node.now }
-    ensures { Kept refused.old refused.new (result ≡ option_map part.Type_ (spec.of_type (F.here node.now) kind)) }
+    ensures { Kept refused.old refused.new (result ≡ option_map part.Type_ (types.of_type (F.here node.now) kind)) }
 {
     Some(AnyPart::Type_(of_type(node, refused, kind)?))
 }

@@ -3,7 +3,6 @@
 ghost use Rattle.std.specs.Prelude.{◌≡◌, Some, IfOk, OnOk, codes};
 ghost use Rattle.serde_json.specs.View.{view, items_view};
 ghost use Rattle.serde_json.specs.Find.{as_array, as_bool, get};
-ghost use Rattle.json_faults.specs.Documents.{nodes};
 ghost use Rattle.json_faults.specs.Values.{small_of};
 ghost use Rattle.hir_tables.specs.Tables.{with_context, with_first, with_pred};
 ghost use Rattle.lower_json.specs.Tables.{site_of, triple_of, quadruple_of, both, disabled_of, named_of, numbered_of};
@@ -290,7 +289,7 @@ pub fn tables(
     container: ItemContainerId,
 ) -> Result<TableEnv, AllocError>
     ensures { let d = view document.now in
-        IfOk result (λ tables. tables ≡ tables_of container kinds.now (nodes d) (get (codes "env") d)) }
+        IfOk result (λ tables. tables ≡ tables_of container kinds.now (items_view nodes.now.nodes.now) (get (codes "env") d)) }
 {
     let mut tables = TableEnv::new(alloc, container);
     if let Some(env) = document.get("env") {

@@ -107,7 +107,7 @@ fn read_part(
     if levels == 0 {
         return Ok(None);
     }
-    let Some(value) = nodes.at(at as usize) else {
+    let Some(value) = (&*nodes).at(at as usize) else {
         return Ok(None);
     };
     let Some(kind) = kind_at(kinds, at as usize) else {
@@ -115,7 +115,7 @@ fn read_part(
     };
     let inside = Level {
         kinds,
-        nodes,
+        nodes: &*nodes,
         levels: levels - 1,
         read: read_part,
     };

@@ -15,13 +15,13 @@ pub split_at-requires : goal.split_at-requires
 split_at-requires c =
     let list = c.args.self.now in
     ∥∥₁_elim list.beside le_prop (λ all.
-      start_among list.nodes.now list.members.now list.starts.now c.args.at c.if-at-self.false all list.begun)
+    start_among list.nodes.now list.members.now list.starts.now c.args.at c.if-at-self.false all list.begun)
 
 pub own_of-requires : goal.own_of-requires
 own_of-requires c =
     let list = c.args.self.now in
     ∥∥₁_map list.beside (λ all.
-      let found = from_start list.nodes.now list.members.now list.starts.now c.args.at c.index-self-at.result c.if-at-self.false
-      c.index-self-at.is all list.begun in
-      let same = ap (λ v. pairs_of (view v) ++ found.0) c.index-self-at.is in
-      (found.0, ap pairs c.split_at.ensures.back ∙ found.1 ∙ same))
+    let found = from_start list.nodes.now list.members.now list.starts.now c.args.at c.index-self-at.result c.if-at-self.false
+    c.index-self-at.is all list.begun in
+    let same = ap (λ v. pairs_of (view v) ++ found.0) c.index-self-at.is in
+    (found.0, ap pairs c.split_at.ensures.back ∙ found.1 ∙ same))
