@@ -1,6 +1,7 @@
 pub mod Digits
 pub mod Pairs
 pub mod Items
+pub mod DataSet
 pub mod Sides
 pub mod Using
 pub mod Cells

@@ -2,10 +2,12 @@
 use Rattle.std.proofs.Common.{◌≡◌, ℕ, suc, zero, ◌+◌, ◌<◌, ◌≤◌, List, [], ◌∷◌, ◌++◌, true, false, Option, Some, None, Ok}
 use Rattle.std.proofs.Common.{length, take, drop, get_or, refl, sym, ap, ◌∙◌, arith, is_eq, bytes_eq, nat_cmp}
 use Rattle.std.proofs.Common.{Ordering, Less, Equal, Greater}
+use Rattle.std.proofs.Math.Logic.{∥∥₁_elim}
 use Rattle.std.proofs.Math.Seq.{take-append_seam, drop-append_seam}
 use Rattle.std.proofs.lemmas.Bool.{false≢true, true≢false}
 use Rattle.std.proofs.lemmas.List.{length-map, take-map, drop-map, drop-drop, drop_all, drop_more, length-append, length-drop}
 use Rattle.std.proofs.lemmas.Map.Text.{is_eq-slice_cmp}
+use Rattle.std.proofs.Props.{props}
 use Rattle.std.specs.Cmp.Lexicographic.{slice_cmp}
 use Rattle.std.specs.Ordering.{match_ordering}
 use Rattle.std.specs.Prelude.{String}
@@ -15,9 +17,10 @@ use Rattle.serde_json.specs.Find.{as_object, get, get_member}
 use Rattle.serde_json.specs.View.{view, items_view, members_view}
 use Rattle.serde_json.specs.declared.value.Value.{Value}
 use Rattle.json_faults.specs.Kinds.{kind_in}
-use Rattle.json_faults.specs.Members.{Named, all_pairs, members_with, pair_of, pairs, pairs_in, pairs_of, said}
+use Rattle.json_faults.specs.Members.{Named, all_pairs, members_with, pair_of, pairs, pairs_in, pairs_of, said, starts_from}
 use Rattle.json_faults.specs.Nodes.{◌>>=◌, node, node_in, nodes_from}
 use Rattle.json_faults.specs.declared.members.Member.{Member}
+use Rattle.json_faults.proofs.DataSet.{data_set}
 use Rattle.json_kinds.specs.declared.kind.Kind.{Kind}
 
 same_members : (ms : Members) → members_with (pairs_in ms) ≡ ms
@@ -76,6 +79,25 @@ kind_said ms (string s) e = ap with_kind e
 kind_said ms (array ds) e = ap with_kind e
 kind_said ms (object os) e = ap with_kind e ∙ ap (λ os. kind_in (object os)) (same_members os)
 
+abbrev with_field : List ℕ → List Named → Option Data
+with_field name ps = get name (object (members_with ps))
+
+optional_set : IsSet (Option Data)
+optional_set = hlevel (data_set, props)
+
+field_of : (name : List ℕ) (ms : List Member) (d : Data) → pairs ms ≡ pairs_of d → get name (said ms) ≡ get name d
+unfolding said
+field_of name ms null e = ap (with_field name) e
+field_of name ms (boolean b) e = ap (with_field name) e
+field_of name ms (number n) e = ap (with_field name) e
+field_of name ms (string s) e = ap (with_field name) e
+field_of name ms (array ds) e = ap (with_field name) e
+field_of name ms (object os) e = ap (with_field name) e ∙ ap (λ os. get name (object os)) (same_members os)
+
+-- a field of a node, where its members are these
+pub own_get : (name : List ℕ) (ms : List Member) (d : Data) → ∥ pairs ms ≡ pairs_of d ∥₁ → get name (said ms) ≡ get name d
+own_get name ms d e = ∥∥₁_elim e (optional_set (get name (said ms)) (get name d)) (field_of name ms d)
+
 drop_pairs : (old new : List Member) (ps : List Named) → pairs new ≡ pairs old ++ ps → pairs (drop (length old) new) ≡ ps
 drop_pairs old new ps h = sym (drop-map pair_of (length old) new) ∙ ap (drop (length old)) h
     ∙ ap (λ n. drop n (pairs old ++ ps)) (sym (length-map old pair_of)) ∙ drop-append_seam (pairs old) ps
@@ -85,7 +107,7 @@ pub kind_behind : (old new : List Member) (d : Data) → pairs new ≡ pairs old
     → kind_in (said (drop (length old) new)) ≡ kind_in d
 kind_behind old new d h = kind_said (drop (length old) new) d (drop_pairs old new (pairs_of d) h)
 
-front : (ps more : List Named) (rest : List Member) → pairs rest ≡ ps ++ more → pairs (take (length ps) rest) ≡ ps
+pub front : (ps more : List Named) (rest : List Member) → pairs rest ≡ ps ++ more → pairs (take (length ps) rest) ≡ ps
 front ps more rest h = sym (take-map pair_of (length ps) rest) ∙ ap (take (length ps)) h ∙ take-append_seam ps more
 
 -- so many members has a node
@@ -100,7 +122,7 @@ unfolding said
 in_front es rest more h = ap (λ n. object (members_with (pairs (take n rest)))) (sym (count es))
     ∙ ap (λ ps. object (members_with ps)) (front (pairs_in (members_view es)) more rest h) ∙ ap object (same_members (members_view es))
 
-enough_left : (ps more : List Named) (rest : List Member) → pairs rest ≡ ps ++ more → length ps ≤ length rest
+pub enough_left : (ps more : List Named) (rest : List Member) → pairs rest ≡ ps ++ more → length ps ≤ length rest
 enough_left ps more rest h = omega (arith, sym (length-map rest pair_of) ∙ ap length h ∙ length-append ps more)
 
 pub enough_own : (es : List (String Global × Value)) (rest : List Member) (more : List Named)
@@ -133,3 +155,71 @@ node_next kinds at vs i v levels new within is ok =
     ∙ ap (λ x. nodes_from kinds at (item (view x) rest) levels) (sym is)
     ∙ ap (λ r. r >>= (λ levels. nodes_from kinds (suc at) rest levels)) ok
     ∙ ap (λ k. nodes_from kinds k rest new) next
+
+-- ---- where the members of each node begin
+
+pub grown : (old new : List Member) (ps : List Named) → pairs new ≡ pairs old ++ ps → length new ≡ length old + length ps
+grown old new ps h = sym (length-map new pair_of) ∙ ap length h ∙ length-append (pairs old) ps
+    ∙ ap (λ n. n + length ps) (length-map old pair_of)
+
+pub starts_next : (vs : List Value) (i : ℕ) (v : Value) (n : ℕ) → i < length vs → v ≡ get_or vs i v
+    → starts_from n (items_view (drop i vs)) ≡ n ∷ starts_from (n + length (pairs_of (view v))) (items_view (drop (i + 1) vs))
+starts_next vs i v n within is = ap (λ rest. starts_from n (items_view rest)) (drop_more vs i v within)
+    ∙ ap (λ x. n ∷ starts_from (n + length (pairs_of (view x))) (items_view (drop (i + 1) vs))) (sym is)
+
+pub many_starts : (vs : List Value) (n : ℕ) → length (starts_from n (items_view vs)) ≡ length vs
+many_starts [] n = refl
+many_starts (v ∷ vs) n = ap suc (many_starts vs (n + length (pairs_of (view v))))
+
+-- Where the members of a node begin, counted from a number, and what stands behind them.
+pub record Begins (vs : List Value) (n i : ℕ) (v : Value) (d : ℕ) : Type 0 where
+  pub past : ℕ
+  pub is : get_or (starts_from n (items_view vs)) i d ≡ n + past
+  pub more : List Named
+  pub beside : drop past (all_pairs (items_view vs)) ≡ pairs_of (view v) ++ more
+
+pub begins : (vs : List Value) (n i : ℕ) (v : Value) (d : ℕ) → i < length vs → v ≡ get_or vs i v → Begins vs n i v d
+begins [] n i v d within is = absurd (omega arith)
+begins (w ∷ vs) n zero v d within is = record {
+  past = 0;
+  is = omega arith;
+  more = all_pairs (items_view vs);
+  beside = ap (λ x. pairs_of (view x) ++ all_pairs (items_view vs)) (sym is);
+}
+begins (w ∷ vs) n (suc i) v d within is =
+    let own = pairs_of (view w) in
+    let rest = all_pairs (items_view vs) in
+    let b = begins vs (n + length own) i v d (omega arith) is in
+    record {
+      past = length own + b.past;
+      is = omega (arith, b.is);
+      more = b.more;
+      beside = sym (drop-drop b.past (length own) (own ++ rest)) ∙ ap (drop b.past) (drop-append_seam own rest) ∙ b.beside;
+    }
+
+start_within : (vs : List Value) (n i d : ℕ) → i < length vs
+    → get_or (starts_from n (items_view vs)) i d ≤ n + length (all_pairs (items_view vs))
+start_within [] n i d within = absurd (omega arith)
+start_within (w ∷ vs) n zero d within = omega arith
+start_within (w ∷ vs) n (suc i) d within =
+    let own = pairs_of (view w) in
+    omega (arith, start_within vs (n + length own) i d (omega arith), length-append own (all_pairs (items_view vs)))
+
+-- such a place is among the members
+pub start_among : (vs : List Value) (ms : List Member) (starts : List ℕ) (i : ℕ) → i < length vs → pairs ms ≡ all_pairs (items_view vs)
+    → starts ≡ starts_from 0 (items_view vs) → get_or starts i 0 ≤ length ms
+start_among vs ms starts i within all begin =
+    let many : length (pairs ms) ≡ length ms = length-map ms pair_of in
+    omega (arith, ap (λ xs. get_or xs i 0) begin, start_within vs 0 i 0 within, many, ap length all)
+
+-- the members from such a place on
+pub from_start : (vs : List Value) (ms : List Member) (starts : List ℕ) (i : ℕ) (v : Value) → i < length vs → v ≡ get_or vs i v
+    → pairs ms ≡ all_pairs (items_view vs) → starts ≡ starts_from 0 (items_view vs)
+    → (more : List Named) × (pairs (drop (get_or starts i 0) ms) ≡ pairs_of (view v) ++ more)
+from_start vs ms starts i v within is all begin =
+    let b = begins vs 0 i v 0 within is in
+    let start = get_or starts i 0 in
+    let same : start ≡ b.past = omega (arith, ap (λ xs. get_or xs i 0) begin, b.is) in
+    let beside : drop start (pairs ms) ≡ pairs_of (view v) ++ b.more
+    = ap (λ k. drop k (pairs ms)) same ∙ ap (drop b.past) all ∙ b.beside in
+    (b.more, sym (drop-map pair_of start ms) ∙ beside)

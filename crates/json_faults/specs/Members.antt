@@ -1,5 +1,5 @@
 -- The members of nodes, side by side.
-use Rattle.std.specs.Prelude.{ℕ, List, [], ◌∷◌, ◌++◌, map}
+use Rattle.std.specs.Prelude.{ℕ, ◌+◌, List, [], ◌∷◌, ◌++◌, length, map}
 use Rattle.serde_json.specs.Data.{Data, null, boolean, number, string, array, object, Items, no_items, item}
 use Rattle.serde_json.specs.Data.{Members, no_members, member}
 use Rattle.serde_json.specs.View.{view}
@@ -40,3 +40,8 @@ pairs_of (object ms) = pairs_in ms
 abbrev pub all_pairs : Items → List Named
 all_pairs no_items = []
 all_pairs (item d ds) = pairs_of d ++ all_pairs ds
+
+-- where those of each begin, counted from a number
+abbrev pub starts_from : ℕ → Items → List ℕ
+starts_from n no_items = []
+starts_from n (item d ds) = n ∷ starts_from (n + length (pairs_of d)) ds

@@ -8,7 +8,7 @@ ghost use Rattle.json_faults.specs.Documents as spec;
 ghost use Rattle.json_faults.specs.Documents.{IsRefusalFor};
 ghost use Rattle.json_faults.specs.Kinds.{kinds_of};
 ghost use Rattle.json_faults.specs.Levels.{Uses};
-ghost use Rattle.json_faults.specs.Members.{all_pairs, pairs};
+ghost use Rattle.json_faults.specs.Members.{all_pairs, pairs, starts_from};
 ghost use Rattle.json_faults.specs.Nodes.{Walks};
 
 use crate::env::check_env;
@@ -163,6 +163,7 @@ fn nodes_found(alloc: Global, document: &Value) -> Result<Option<Found<'_>>, All
     requires { is_some (spec.nodes_in (view document.now)) ≡ true }
     ensures kinds { IfOk result (λ found. IfSome found (λ f. f.kinds.items ≡ kinds_of (spec.nodes (view document.now)))) }
     ensures members { IfOk result (λ found. IfSome found (λ f. pairs f.members.items ≡ all_pairs (spec.nodes (view document.now)))) }
+    ensures starts { IfOk result (λ found. IfSome found (λ f. f.starts.items ≡ starts_from 0 (spec.nodes (view document.now)))) }
     ensures whole { IfOk result (λ found. is_some found ≡ not (has_float (view document.now))) }
 {
     if has_float_beside("nodes", document) {
@@ -171,7 +172,7 @@ fn nodes_found(alloc: Global, document: &Value) -> Result<Option<Found<'_>>, All
     found_in(alloc, nodes(document))
 }
 
-/// The kinds of the nodes of a document that has no fault: it has at most so many nodes, and a root of the group, or no
+/// The kinds and the members of the nodes of a document that has no fault: it has at most so many nodes, and a root of the group, or no
 /// node where the root is optional. Where it has one, the first; `Memory` where memory is refused.
 #[tactic(auto, using(crate::proofs::Items::count_items, crate::proofs::Beside::frame_nodes))]
 pub fn checked_kinds(
@@ -180,9 +181,11 @@ pub fn checked_kinds(
     wanted: Group,
     optional: bool,
     document: &Value,
-) -> Result<Vec<Option<Kind>>, Refusal>
+) -> Result<Found<'_>, Refusal>
     ensures sound { OnOk result (spec.document_fault most wanted optional (view document.now) ≡ None) }
-    ensures kinds { IfOk result (λ kinds. kinds.items ≡ kinds_of (spec.nodes (view document.now))) }
+    ensures kinds { IfOk result (λ found. found.kinds.items ≡ kinds_of (spec.nodes (view document.now))) }
+    ensures members { IfOk result (λ found. pairs found.members.items ≡ all_pairs (spec.nodes (view document.now))) }
+    ensures starts { IfOk result (λ found. found.starts.items ≡ starts_from 0 (spec.nodes (view document.now))) }
     ensures fault { IfErr result (λ e. IsRefusalFor (spec.document_fault most wanted optional (view document.now)) e) }
 {
     if !has_frame(document) {
@@ -198,16 +201,15 @@ pub fn checked_kinds(
     let Some(found) = nodes_found(alloc, document)? else {
         return Err(Refusal::Fault(Fault::NotADocument));
     };
-    let Found { kinds, members } = found;
     let mut levels = vec![in alloc; 0; nodes.len()]?;
     check_tree(
-        kinds.as_slice(),
-        members.as_slice(),
+        found.kinds.as_slice(),
+        found.members.as_slice(),
         nodes,
         wanted,
         optional,
         document,
         levels.as_mut_slice(),
     )?;
-    Ok(kinds)
+    Ok(found)
 }

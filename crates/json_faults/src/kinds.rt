@@ -1,10 +1,10 @@
 //! The kinds of the nodes of a list.
 
-ghost use Rattle.std.specs.Prelude.{◌≡◌, [], ◌∷◌, ◌++◌, drop, not, true, IfOk, IfSome, is_some};
+ghost use Rattle.std.specs.Prelude.{◌≡◌, [], ◌∷◌, ◌++◌, drop, length, not, true, IfOk, IfSome, is_some};
 ghost use Rattle.serde_json.specs.View.{view, items_view};
 ghost use Rattle.serde_json.specs.Written.{has_float, items_have_float};
 ghost use Rattle.json_faults.specs.Kinds as spec;
-ghost use Rattle.json_faults.specs.Members.{all_pairs, pairs, pairs_of, said};
+ghost use Rattle.json_faults.specs.Members.{all_pairs, pairs, pairs_of, said, starts_from};
 
 use crate::members::{Member, add_members, found};
 use json_kinds::group::Group;
@@ -19,6 +19,8 @@ pub struct Found<'n> {
     pub kinds: Vec<Option<Kind>>,
     /// The members of the first, then those of the next.
     pub members: Vec<Member<'n>>,
+    /// Where those of each begin.
+    pub starts: Vec<usize>,
 }
 
 /// The kind of the node whose members begin at a place, by its field "k"; none where that is not the word of a kind.
@@ -40,6 +42,8 @@ fn add<'n>(nodes: &mut Found<'n>, node: &'n Value) -> Result<bool, AllocError>
         → nodes.new.kinds.items ≡ nodes.old.kinds.items ++ spec.kind_in (view node.now) ∷ []) }
     ensures members { IfOk result (λ whole. whole ≡ true
         → pairs nodes.new.members.items ≡ pairs nodes.old.members.items ++ pairs_of (view node.now)) }
+    ensures starts { IfOk result (λ whole. whole ≡ true
+        → nodes.new.starts.items ≡ nodes.old.starts.items ++ length nodes.old.members.items ∷ []) }
 {
     let start = nodes.members.len();
     if !add_members(&mut nodes.members, node)? {
@@ -47,19 +51,22 @@ fn add<'n>(nodes: &mut Found<'n>, node: &'n Value) -> Result<bool, AllocError>
     }
     let kind = kind_from(nodes.members.as_slice(), start);
     nodes.kinds.push(kind)?;
+    nodes.starts.push(start)?;
     Ok(true)
 }
 
-/// The kinds and the members of nodes; none where a number in them is no whole one of 64 bits.
+/// The kinds and the members of nodes, and where those of each begin; none where a number in them is no whole one of 64 bits.
 /// All is seen in one walk, since it takes most of the time that a node comes from memory.
 pub fn found_in(alloc: Global, nodes: &[Value]) -> Result<Option<Found<'_>>, AllocError>
     ensures kinds { IfOk result (λ found. IfSome found (λ f. f.kinds.items ≡ spec.kinds_of (items_view nodes.now))) }
     ensures members { IfOk result (λ found. IfSome found (λ f. pairs f.members.items ≡ all_pairs (items_view nodes.now))) }
+    ensures starts { IfOk result (λ found. IfSome found (λ f. f.starts.items ≡ starts_from 0 (items_view nodes.now))) }
     ensures whole { IfOk result (λ found. is_some found ≡ not (items_have_float (items_view nodes.now))) }
 {
     let mut found = Found {
         kinds: Vec::with_capacity(alloc, nodes.len())?,
         members: Vec::new(alloc),
+        starts: Vec::with_capacity(alloc, nodes.len())?,
     };
     for node in nodes {
         if !add(&mut found, node)? {

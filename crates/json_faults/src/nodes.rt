@@ -9,20 +9,9 @@ ghost use Rattle.json_faults.specs.Nodes.{Walks, node_in};
 use crate::fault::Fault;
 use crate::levels::{first_deep, first_unused};
 use crate::listed::ListedNode;
-use crate::members::Member;
+use crate::members::{Member, count};
 use json_kinds::kind::Kind;
 use serde_json::Value;
-
-/// How many members a node has.
-#[tactic(auto, using(crate::proofs::Sides::count))]
-fn count(node: &Value) -> usize
-    ensures { result ≡ length (pairs_of (view node.now)) }
-{
-    match node {
-        Value::Object(members) => members.len(),
-        _ => 0,
-    }
-}
 
 /// Sees that a node has no fault, whose members are the first of these, and uses its parts.
 #[tactic(auto, using(crate::proofs::Sides::in_front, crate::proofs::Sides::enough_own))]

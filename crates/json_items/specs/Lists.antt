@@ -7,4 +7,4 @@ use Rattle.json_items.specs.declared.listed.ListedNodes.{ListedNodes}
 
 -- the nodes, where `parts` says what their reader reads
 abbrev pub listed : {P : Type 0} → (P → ℕ → Option AnyPart) → ListedNodes P → Listed
-listed parts l = record { kinds = l.kinds.now; nodes = items_view l.nodes.now; part = parts l.parts.now }
+listed parts l = record { kinds = l.kinds.now; nodes = items_view l.nodes.now.nodes.now; part = parts l.parts.now }

@@ -10,14 +10,14 @@ use crate::listed::{ItemPart, ListedNodes};
 use hir_items::ast::{GenericParam, GenericParamList, WhereClause, WherePred};
 use hir_syntax::ast::ForBinder;
 use json_faults::kinds::kind_at;
-use json_faults::value::{item_at, small};
+use json_faults::members::{NodeList, Own};
+use json_faults::value::small;
 use json_kinds::kind::{ItemNode, Kind};
 use json_nodes::fields::{All, Fields, InBox, One};
 use json_nodes::name_parts::{Lifetimes, Names};
 use json_nodes::part::ReadParts;
 use json_nodes::path_parts::ConstArgs;
 use json_nodes::type_parts::{Binders, Bounds, Types};
-use serde_json::Value;
 
 /// A generic parameter.
 #[tactic(auto, unfolding(crate::specs::Generics::generic_param))]
@@ -65,25 +65,25 @@ fn generic_param<F: Fields>(node: &F, refused: &mut bool, kind: ItemNode) -> Opt
 }
 
 /// The index in a field.
-fn index_in(node: &Value, field: &str) -> Option<u32>
-    ensures { result ≡ spec.index_in field.now (view node.now) }
+fn index_in(node: &Own<'_>, field: &str) -> Option<u32>
+    ensures { result ≡ spec.index_in field.now (view node.now.node.now) }
 {
     small(node.get(field)?)
 }
 
 /// Whether the binder at an index has a list.
-fn has_list(nodes: &[Value], at: u32) -> bool
-    ensures { result ≡ spec.has_list (items_view nodes.now) at }
+fn has_list(nodes: &NodeList<'_>, at: u32) -> bool
+    ensures { result ≡ spec.has_list (items_view nodes.now.nodes.now) at }
 {
-    match item_at(nodes, at as usize) {
+    match nodes.at(at as usize) {
         Some(binder) => binder.get("params").is_some(),
         None => false,
     }
 }
 
 /// Whether a condition names a binder that has a list.
-fn has_binder(nodes: &[Value], node: &Value) -> bool
-    ensures { result ≡ spec.has_binder (items_view nodes.now) (view node.now) }
+fn has_binder(nodes: &NodeList<'_>, node: &Own<'_>) -> bool
+    ensures { result ≡ spec.has_binder (items_view nodes.now.nodes.now) (view node.now.node.now) }
 {
     match index_in(node, "binder") {
         Some(at) => has_list(nodes, at),
@@ -92,9 +92,9 @@ fn has_binder(nodes: &[Value], node: &Value) -> bool
 }
 
 /// The binder of a condition. One whose list is absent is none.
-fn binder<F: Fields>(nodes: &[Value], node: &F, refused: &mut bool) -> Option<ForBinder>
+fn binder<F: Fields>(nodes: &NodeList<'_>, node: &F, refused: &mut bool) -> Option<ForBinder>
     requires { F.can node.now }
-    ensures { Kept refused.old refused.new (result ≡ spec.binder (items_view nodes.now) (F.here node.now)) }
+    ensures { Kept refused.old refused.new (result ≡ spec.binder (items_view nodes.now.nodes.now) (F.here node.now)) }
 {
     if has_binder(nodes, node.value()) {
         node.field::<One<Binders>>(refused, "binder")
@@ -106,13 +106,13 @@ fn binder<F: Fields>(nodes: &[Value], node: &F, refused: &mut bool) -> Option<Fo
 /// A condition.
 #[tactic(auto, unfolding(crate::specs::Generics::where_pred))]
 fn where_pred<F: Fields>(
-    nodes: &[Value],
+    nodes: &NodeList<'_>,
     node: &F,
     refused: &mut bool,
     kind: ItemNode,
 ) -> Option<WherePred>
     requires { F.can node.now }
-    ensures { Kept refused.old refused.new (result ≡ spec.where_pred (items_view nodes.now) (F.here node.now) kind) }
+    ensures { Kept refused.old refused.new (result ≡ spec.where_pred (items_view nodes.now.nodes.now) (F.here node.now) kind) }
 {
     match kind {
         ItemNode::WherePred => {
@@ -145,7 +145,7 @@ impl ItemPart for GenericParams {
     ghost said = { λ _ h kind. spec.generic_param h kind };
 
     fn read<F: Fields>(
-        _nodes: &[Value],
+        _nodes: &NodeList<'_>,
         node: &F,
         refused: &mut bool,
         kind: ItemNode,
@@ -160,7 +160,7 @@ impl ItemPart for WherePreds {
     ghost said = { spec.where_pred };
 
     fn read<F: Fields>(
-        nodes: &[Value],
+        nodes: &NodeList<'_>,
         node: &F,
         refused: &mut bool,
         kind: ItemNode,
@@ -207,10 +207,10 @@ fn where_at<P: ReadParts>(
 pub fn generics<P: ReadParts>(
     nodes: &ListedNodes<'_, '_, '_, P>,
     refused: &mut bool,
-    item: &Value,
+    item: &Own<'_>,
 ) -> Option<GenericParamList>
     requires { P.can nodes.now.parts.now }
-    ensures { Kept refused.old refused.new (result ≡ spec.generics (listed P.parts nodes.now) (view item.now)) }
+    ensures { Kept refused.old refused.new (result ≡ spec.generics (listed P.parts nodes.now) (view item.now.node.now)) }
 {
     match index_in(item, "generics") {
         Some(at) => generics_at(nodes, refused, at),
@@ -222,10 +222,10 @@ pub fn generics<P: ReadParts>(
 pub fn where_clause<P: ReadParts>(
     nodes: &ListedNodes<'_, '_, '_, P>,
     refused: &mut bool,
-    item: &Value,
+    item: &Own<'_>,
 ) -> Option<WhereClause>
     requires { P.can nodes.now.parts.now }
-    ensures { Kept refused.old refused.new (result ≡ spec.where_clause (listed P.parts nodes.now) (view item.now)) }
+    ensures { Kept refused.old refused.new (result ≡ spec.where_clause (listed P.parts nodes.now) (view item.now.node.now)) }
 {
     match index_in(item, "where") {
         Some(at) => where_at(nodes, refused, at),

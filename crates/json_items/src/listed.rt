@@ -10,7 +10,8 @@ ghost use Rattle.json_items.specs.Lists.{listed};
 
 use hir_base::Seq;
 use json_faults::kinds::kind_at;
-use json_faults::value::{item_at, small};
+use json_faults::members::NodeList;
+use json_faults::value::small;
 use json_kinds::kind::{ItemNode, Kind};
 use json_nodes::fields::Fields;
 use json_nodes::node::node_at;
@@ -31,13 +32,13 @@ pub trait ItemPart {
     ghost said: { Items → Here → NodeKind → Option Self.Held };
 
     fn read<F: Fields>(
-        nodes: &[Value],
+        nodes: &NodeList<'_>,
         node: &F,
         refused: &mut bool,
         kind: ItemNode,
     ) -> Option<Self::Held>
         requires { F.can node.now }
-        ensures { Kept refused.old refused.new (result ≡ said (items_view nodes.now) (F.here node.now) kind) };
+        ensures { Kept refused.old refused.new (result ≡ said (items_view nodes.now.nodes.now) (F.here node.now) kind) };
 }
 
 /// The nodes of a list with their kinds, and what reads the parts of those that stand in the lists of items.
@@ -47,7 +48,7 @@ pub trait ItemPart {
 pub struct ListedNodes<'k, 'n, 'p, P> {
     pub alloc: Global,
     pub kinds: &'k [Option<Kind>],
-    pub nodes: &'n [Value],
+    pub nodes: &'n NodeList<'n>,
     pub parts: &'p P,
 }
 
@@ -67,7 +68,7 @@ impl<P: ReadParts> ListedNodes<'_, '_, '_, P> {
         requires { P.can self.now.parts.now }
         ensures { Kept refused.old refused.new (result ≡ spec.part_at (listed P.parts self.now) I.said at) }
     {
-        let Some(value) = item_at(self.nodes, at as usize) else {
+        let Some(value) = self.nodes.at(at as usize) else {
             return None;
         };
         let Some(kind) = self.item_kind(at) else {
@@ -113,7 +114,8 @@ impl<P: ReadParts> ListedNodes<'_, '_, '_, P> {
         ensures { option_map (λ items. items_view items.now) result ≡ spec.values (listed P.parts self.entry.now) field.now at }
     {
         Some(
-            item_at(self.nodes, at as usize)?
+            self.nodes
+                .at(at as usize)?
                 .get(field)?
                 .as_array()?
                 .as_slice(),

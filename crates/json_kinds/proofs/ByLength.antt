@@ -35,6 +35,12 @@ of_length n t e = rw (kept n exprs t e) (rw (kept n operations t e) (rw (kept n 
 other : (m n : ℕ) → n ≢ m → (m == n) ≡ false
 other m n h = grind (arith, h)
 
-pub unknown : (t : List ℕ) → length t ≢ 2 → length t ≢ 4 → length t ≢ 5 → length t ≢ 6 → length t ≢ 7 → length t ≢ 8 → length t ≢ 9 → length t ≢ 10 → length t ≢ 11 → length t ≢ 12 → length t ≢ 13 → length t ≢ 14 → length t ≢ 15 → length t ≢ 16 → length t ≢ 19 → kind_of t ≡ None
+pub unknown : (t : List ℕ) → length t ≢ 2 → length t ≢ 4 → length t ≢ 5 → length t ≢ 6 → length t ≢ 7 → length t ≢ 8 → length t ≢ 9
+    → length t ≢ 10 → length t ≢ 11 → length t ≢ 12 → length t ≢ 13 → length t ≢ 14 → length t ≢ 15 → length t ≢ 16 → length t ≢ 19
+    → kind_of t ≡ None
 unknown t h2 h4 h5 h6 h7 h8 h9 h10 h11 h12 h13 h14 h15 h16 h19 = of_length (length t) t refl
-    ∙ rw (other 2 (length t) h2) (rw (other 4 (length t) h4) (rw (other 5 (length t) h5) (rw (other 6 (length t) h6) (rw (other 7 (length t) h7) (rw (other 8 (length t) h8) (rw (other 9 (length t) h9) (rw (other 10 (length t) h10) (rw (other 11 (length t) h11) (rw (other 12 (length t) h12) (rw (other 13 (length t) h13) (rw (other 14 (length t) h14) (rw (other 15 (length t) h15) (rw (other 16 (length t) h16) (rw (other 19 (length t) h19) (refl)))))))))))))))
+    ∙ rw (other 2 (length t) h2) (rw (other 4 (length t) h4) (rw (other 5 (length t) h5)
+    (rw (other 6 (length t) h6) (rw (other 7 (length t) h7) (rw (other 8 (length t) h8)
+    (rw (other 9 (length t) h9) (rw (other 10 (length t) h10) (rw (other 11 (length t) h11)
+    (rw (other 12 (length t) h12) (rw (other 13 (length t) h13) (rw (other 14 (length t) h14)
+    (rw (other 15 (length t) h15) (rw (other 16 (length t) h16) (rw (other 19 (length t) h19) (refl)))))))))))))))

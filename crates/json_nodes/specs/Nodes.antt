@@ -10,7 +10,7 @@ use Rattle.json_nodes.specs.Any.{AnyPart}
 
 -- the node, where `parts` says what its reader reads
 abbrev pub here : {P : Type 0} → (P → ℕ → Option AnyPart) → Node P → Here
-here parts n = record { part = parts n.parts.now; value = view n.value.now; id = n.id; range = n.range }
+here parts n = record { part = parts n.parts.now; value = view n.value.node.now; id = n.id; range = n.range }
 
 -- a node at an index, by its data, of the parts that stand at others
 abbrev pub node_with : (ℕ → Option AnyPart) → ℕ → Data → ℕ → Here

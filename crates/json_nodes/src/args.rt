@@ -34,6 +34,7 @@ fn assoc_arg<F: Fields>(node: &F, refused: &mut bool) -> AssocTypeArg
     }
 }
 
+#[inline(never)]
 #[tactic(auto, unfolding(crate::specs::Args::arg))]
 fn arg<F: Fields>(node: &F, refused: &mut bool, kind: PathNode) -> Option<PathPart>
     requires { F.can node.now }
@@ -65,6 +66,7 @@ fn arg<F: Fields>(node: &F, refused: &mut bool, kind: PathNode) -> Option<PathPa
     }
 }
 
+#[inline(never)]
 #[tactic(auto, unfolding(crate::specs::Args::arg_list))]
 fn arg_list<F: Fields>(node: &F, refused: &mut bool, kind: PathNode) -> Option<PathPart>
     requires { F.can node.now }
@@ -88,8 +90,8 @@ pub fn of_args<F: Fields>(node: &F, refused: &mut bool, kind: PathNode) -> Optio
     requires { F.can node.now }
     ensures { Kept refused.old refused.new (result ≡ spec.of_args (F.here node.now) kind) }
 {
-    if let Some(part) = arg(node, refused, kind) {
-        return Some(part);
+    match kind {
+        PathNode::GenericArgList | PathNode::ParenArgs => arg_list(node, refused, kind),
+        _ => arg(node, refused, kind),
     }
-    arg_list(node, refused, kind)
 }

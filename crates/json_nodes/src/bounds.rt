@@ -11,8 +11,8 @@ use crate::fields::{All, AllOrNulls, Fields, InBox, One};
 use crate::name_parts::{Lifetimes, UseArgs};
 use crate::type_parts::{Binders, PathTypes, TypePart, Types};
 use hir_syntax::ast::{BoundKind, ForBinder, TypeBound};
+use json_faults::members::Own;
 use json_kinds::kind::PartNode;
-use serde_json::Value;
 
 /// The kind with that word.
 fn bound_kind_of(word: &str) -> Option<BoundKind>
@@ -26,8 +26,8 @@ fn bound_kind_of(word: &str) -> Option<BoundKind>
     }
 }
 
-fn bound_kind(node: &Value) -> Option<BoundKind>
-    ensures { result ≡ option_and_then spec.bound_kind_of (text_in (codes "b") (view node.now)) }
+fn bound_kind(node: &Own<'_>) -> Option<BoundKind>
+    ensures { result ≡ option_and_then spec.bound_kind_of (text_in (codes "b") (view node.now.node.now)) }
 {
     bound_kind_of(text(node, "b")?)
 }
@@ -54,6 +54,7 @@ fn bound<F: Fields>(node: &F, refused: &mut bool) -> TypeBound
 }
 
 /// A bound, or what else stands beside types.
+#[inline(never)]
 #[tactic(auto, unfolding(crate::specs::Bounds::of_bound))]
 pub fn of_bound<F: Fields>(node: &F, refused: &mut bool, kind: PartNode) -> Option<TypePart>
     requires { F.can node.now }

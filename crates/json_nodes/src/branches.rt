@@ -12,6 +12,7 @@ use hir_syntax::ast::{ExprKind, MatchArm};
 use json_kinds::kind::{ExprNode, PartNode};
 
 /// `let` as a condition, and `match`.
+#[inline(never)]
 #[tactic(auto, unfolding(crate::specs::Branches::branching))]
 pub fn branching<F: Fields>(node: &F, refused: &mut bool, kind: ExprNode) -> Option<ExprPart>
     requires { F.can node.now }
@@ -33,6 +34,7 @@ pub fn branching<F: Fields>(node: &F, refused: &mut bool, kind: ExprNode) -> Opt
 }
 
 /// An arm, its guard, and what follows the `else` of a `let`.
+#[inline(never)]
 #[tactic(auto, unfolding(crate::specs::Branches::of_branch))]
 pub fn of_branch<F: Fields>(node: &F, refused: &mut bool, kind: PartNode) -> Option<CodePart>
     requires { F.can node.now }

@@ -59,6 +59,7 @@ pub fn of_literal<F: Fields>(node: &F, refused: &mut bool) -> Option<ExprPart>
 }
 
 /// What steers the order of running.
+#[inline(never)]
 #[tactic(auto, unfolding(crate::specs::Exprs::flow))]
 pub fn flow<F: Fields>(node: &F, refused: &mut bool, kind: ExprNode) -> Option<ExprPart>
     requires { F.can node.now }
@@ -118,6 +119,7 @@ pub fn flow<F: Fields>(node: &F, refused: &mut bool, kind: ExprNode) -> Option<E
 }
 
 /// Calls, also of macros, paths, parentheses and ranges.
+#[inline(never)]
 #[tactic(auto, unfolding(crate::specs::Exprs::plain))]
 pub fn plain<F: Fields>(node: &F, refused: &mut bool, kind: ExprNode) -> Option<ExprPart>
     requires { F.can node.now }

@@ -12,7 +12,7 @@ use crate::part::{AnyPart, BoxedGroup, Group, ReadParts};
 use hir_base::node::{NodeId, TextRange};
 use hir_base::{Boxed, Seq, Text};
 use hir_syntax::ast::Param;
-use serde_json::Value;
+use json_faults::members::Own;
 use std::alloc::Global;
 use std::marker::PhantomData;
 
@@ -148,8 +148,8 @@ pub trait Fields {
     fn range(&self) -> TextRange
         ensures { result ≡ (here self.now).range };
 
-    fn value(&self) -> &Value
-        ensures { view result.now ≡ (here self.now).value };
+    fn value(&self) -> &Own<'_>
+        ensures { view result.now.node.now ≡ (here self.now).value };
 
     fn field<A: Field>(&self, refused: &mut bool, name: &str) -> A::Held
         requires { can self.now }
@@ -177,8 +177,8 @@ impl<P: ReadParts> Fields for Node<'_, P> {
         self.range
     }
 
-    fn value(&self) -> &Value {
-        self.value
+    fn value(&self) -> &Own<'_> {
+        &self.value
     }
 
     fn field<A: Field>(&self, refused: &mut bool, name: &str) -> A::Held {

@@ -11,6 +11,7 @@ use hir_syntax::ast::ExprKind;
 use json_kinds::kind::ExprNode;
 
 /// `return`, `become`, `yield`, `do yeet` and `.await`.
+#[inline(never)]
 #[tactic(auto, unfolding(crate::specs::Exprs::leaving))]
 pub fn leaving<F: Fields>(node: &F, refused: &mut bool, kind: ExprNode) -> Option<ExprPart>
     requires { F.can node.now }

@@ -8,7 +8,7 @@ ghost use Rattle.json_nodes.specs.Literals.{literal_kind_of, kind_in, literal_of
 use crate::field;
 use hir_base::Text;
 use hir_syntax::ast::{Literal, LiteralKind};
-use serde_json::Value;
+use json_faults::members::Own;
 use std::alloc::{AllocError, Global};
 
 /// The kind with that word.
@@ -27,14 +27,14 @@ fn kind_of(word: &str) -> Option<LiteralKind>
     }
 }
 
-fn kind_in(node: &Value) -> Option<LiteralKind>
-    ensures { result ≡ kind_in (view node.now) }
+fn kind_in(node: &Own<'_>) -> Option<LiteralKind>
+    ensures { result ≡ kind_in (view node.now.node.now) }
 {
     kind_of(field::text(node, "lit")?)
 }
 
-fn suffix(alloc: Global, node: &Value) -> Result<Option<Text>, AllocError>
-    ensures { IfOk result (λ suffix. suffix ≡ text_in (codes "suffix") (view node.now)) }
+fn suffix(alloc: Global, node: &Own<'_>) -> Result<Option<Text>, AllocError>
+    ensures { IfOk result (λ suffix. suffix ≡ text_in (codes "suffix") (view node.now.node.now)) }
 {
     match field::text(node, "suffix") {
         Some(text) => Ok(Some(Text::new(alloc, text)?)),
@@ -43,8 +43,8 @@ fn suffix(alloc: Global, node: &Value) -> Result<Option<Text>, AllocError>
 }
 
 /// The literal that a node writes, where it says its kind and its text.
-pub fn literal(alloc: Global, node: &Value) -> Result<Option<Literal>, AllocError>
-    ensures { IfOk result (λ literal. literal ≡ literal_of (view node.now)) }
+pub fn literal(alloc: Global, node: &Own<'_>) -> Result<Option<Literal>, AllocError>
+    ensures { IfOk result (λ literal. literal ≡ literal_of (view node.now.node.now)) }
 {
     let Some(lit) = kind_in(node) else {
         return Ok(None);

@@ -11,6 +11,7 @@ use hir_syntax::ast::{MacroCall, MacroStmts};
 use json_kinds::kind::PartNode;
 
 /// A call of a macro, or statements with an expression behind them.
+#[inline(never)]
 #[tactic(auto, unfolding(crate::specs::Macros::of_macro))]
 pub fn of_macro<F: Fields>(node: &F, refused: &mut bool, kind: PartNode) -> Option<CodePart>
     requires { F.can node.now }

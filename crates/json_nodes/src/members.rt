@@ -30,6 +30,7 @@ fn array<F: Fields>(node: &F, refused: &mut bool) -> ExprKind
 }
 
 /// Methods and fields, tuples and arrays.
+#[inline(never)]
 #[tactic(auto, unfolding(crate::specs::Exprs::member))]
 pub fn member<F: Fields>(node: &F, refused: &mut bool, kind: ExprNode) -> Option<ExprPart>
     requires { F.can node.now }

@@ -12,6 +12,7 @@ use crate::name_parts::NamePart;
 use crate::part::{AnyPart, BoxedGroup, Group, ReadParts, in_box, served};
 use hir_base::node::{NodeId, TextRange};
 use hir_base::{Boxed, Seq, Text};
+use json_faults::members::Own;
 use json_faults::value::small;
 use serde_json::Value;
 use std::alloc::Global;
@@ -25,7 +26,7 @@ use std::marker::PhantomData;
 pub struct Node<'a, P> {
     pub alloc: Global,
     pub parts: &'a P,
-    pub value: &'a Value,
+    pub value: Own<'a>,
     pub id: NodeId,
     pub range: TextRange,
 }
@@ -34,19 +35,20 @@ pub struct Node<'a, P> {
 pub fn node_at<'a, P: ReadParts>(
     alloc: Global,
     parts: &'a P,
-    value: &'a Value,
+    value: Own<'a>,
     at: u32,
 ) -> Node<'a, P>
-    ensures here { here P.parts result ≡ node_at (P.parts parts.entry.now) at (view value.entry.now) }
+    ensures here { here P.parts result ≡ node_at (P.parts parts.entry.now) at (view value.entry.node.now) }
     ensures parts { result.parts.now ≡ parts.entry.now }
 {
-    let id = number_or(value, "id", at);
+    let id = number_or(&value, "id", at);
+    let range = range(&value, id);
     Node {
         alloc,
         parts,
         value,
         id: NodeId(id),
-        range: range(value, id),
+        range,
     }
 }
 
@@ -238,7 +240,7 @@ impl<P: ReadParts> Node<'_, P> {
     pub fn text(&self, refused: &mut bool, field: &str) -> Option<Text>
         ensures { Kept refused.old refused.new (result ≡ spec.text_at (here P.parts self.now) field.now) }
     {
-        match own_text(self.alloc, self.value, field) {
+        match own_text(self.alloc, &self.value, field) {
             Ok(text) => text,
             Err(_) => {
                 *refused = true;

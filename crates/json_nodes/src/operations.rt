@@ -13,6 +13,7 @@ use hir_syntax::ast::ExprKind;
 use json_kinds::kind::ExprNode;
 
 /// Operators, references and indexes.
+#[inline(never)]
 #[tactic(auto, unfolding(crate::specs::Exprs::operation))]
 pub fn operation<F: Fields>(node: &F, refused: &mut bool, kind: ExprNode) -> Option<ExprPart>
     requires { F.can node.now }

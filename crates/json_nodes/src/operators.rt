@@ -8,7 +8,7 @@ ghost use Rattle.json_kinds.specs.ByWord.{with_word};
 
 use crate::field::text;
 use hir_syntax::ast::{ArithOp, BinaryOp, CmpOp, LogicOp, Ordering, RangeOp, UnaryOp};
-use serde_json::Value;
+use json_faults::members::Own;
 
 fn unary_op_with(word: &str) -> Option<UnaryOp>
     ensures { result ≡ spec.unary_op_of word.now }
@@ -121,22 +121,22 @@ fn range_op_with(word: &str) -> Option<RangeOp>
 }
 
 /// The operator of a prefix expression.
-pub fn unary_op(node: &Value) -> Option<UnaryOp>
-    ensures { result ≡ spec.unary_op_in (view node.now) }
+pub fn unary_op(node: &Own<'_>) -> Option<UnaryOp>
+    ensures { result ≡ spec.unary_op_in (view node.now.node.now) }
 {
     unary_op_with(text(node, "op")?)
 }
 
 /// The operator of a binary expression.
-pub fn binary_op(node: &Value) -> Option<BinaryOp>
-    ensures { result ≡ spec.binary_op_in (view node.now) }
+pub fn binary_op(node: &Own<'_>) -> Option<BinaryOp>
+    ensures { result ≡ spec.binary_op_in (view node.now.node.now) }
 {
     binary_op_with(text(node, "op")?)
 }
 
 /// The operator of a range.
-pub fn range_op(node: &Value) -> Option<RangeOp>
-    ensures { result ≡ spec.range_op_in (view node.now) }
+pub fn range_op(node: &Own<'_>) -> Option<RangeOp>
+    ensures { result ≡ spec.range_op_in (view node.now.node.now) }
 {
     range_op_with(text(node, "op")?)
 }

@@ -13,8 +13,8 @@ use crate::name_parts::{Labels, Lifetimes, NamePart, Names};
 use crate::param_parts::Pats;
 use crate::type_parts::Types;
 use hir_syntax::ast::{BlockExpr, BlockModifier, Label, Lifetime, Name, Stmt, StmtKind};
+use json_faults::members::Own;
 use json_kinds::kind::{PartNode, StmtNode};
-use serde_json::Value;
 
 #[tactic(auto, unfolding(crate::specs::Others::statement))]
 fn statement<F: Fields>(node: &F, refused: &mut bool, kind: StmtNode) -> StmtKind
@@ -78,8 +78,8 @@ fn modifier_with(word: &str) -> Option<BlockModifier>
     }
 }
 
-fn modifier(node: &Value) -> Option<BlockModifier>
-    ensures { result ≡ option_and_then spec.modifier_of (text_in (codes "mod") (view node.now)) }
+fn modifier(node: &Own<'_>) -> Option<BlockModifier>
+    ensures { result ≡ option_and_then spec.modifier_of (text_in (codes "mod") (view node.now.node.now)) }
 {
     modifier_with(text(node, "mod")?)
 }

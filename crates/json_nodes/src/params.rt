@@ -32,6 +32,7 @@ fn self_param<F: Fields>(node: &F, refused: &mut bool) -> SelfParam
 }
 
 /// A parameter, a `self`, or all of a function.
+#[inline(never)]
 #[tactic(auto, unfolding(crate::specs::Params::of_param))]
 pub fn of_param<F: Fields>(node: &F, refused: &mut bool, kind: PartNode) -> Option<ParamPart>
     requires { F.can node.now }

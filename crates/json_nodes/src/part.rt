@@ -115,6 +115,7 @@ where
 }
 
 /// The part as one of a group, if it serves there.
+#[inline(never)]
 pub fn served<A, G: Group<A>, P: LetsGo<A>>(parts: &P, part: A) -> Option<G::Part>
     ensures { result ≡ G.as_group part }
 {

@@ -11,13 +11,13 @@ use crate::fields::Fields;
 use crate::part::whole;
 use hir_base::node::PredId;
 use hir_syntax::ast::ExprKind;
+use json_faults::members::Own;
 use json_faults::value::small;
 use json_kinds::kind::ExprNode;
-use serde_json::Value;
 
 /// The predicate that a node names.
-pub fn pred(node: &Value) -> Option<PredId>
-    ensures { result ≡ spec.pred_in (get (codes "pred") (view node.now)) }
+pub fn pred(node: &Own<'_>) -> Option<PredId>
+    ensures { result ≡ spec.pred_in (get (codes "pred") (view node.now.node.now)) }
 {
     Some(PredId(small(node.get("pred")?)?))
 }

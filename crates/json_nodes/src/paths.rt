@@ -12,8 +12,8 @@ use crate::name_parts::Names;
 use crate::path_parts::{GenericArgLists, ParenArgLists, PathPart, Paths, Segments};
 use crate::type_parts::{PathTypes, Rets, Types};
 use hir_syntax::ast::{Path, PathSegment, SegmentKind};
+use json_faults::members::Own;
 use json_kinds::kind::PathNode;
-use serde_json::Value;
 
 /// The kind with that word.
 fn segment_kind_of(word: &str) -> Option<SegmentKind>
@@ -30,12 +30,13 @@ fn segment_kind_of(word: &str) -> Option<SegmentKind>
     }
 }
 
-fn segment_kind(node: &Value) -> Option<SegmentKind>
-    ensures { result ≡ option_and_then spec.segment_kind_of (text_in (codes "seg") (view node.now)) }
+fn segment_kind(node: &Own<'_>) -> Option<SegmentKind>
+    ensures { result ≡ option_and_then spec.segment_kind_of (text_in (codes "seg") (view node.now.node.now)) }
 {
     segment_kind_of(text(node, "seg")?)
 }
 
+#[inline(never)]
 #[tactic(auto, unfolding(crate::specs::Paths::segment))]
 fn segment<F: Fields>(node: &F, refused: &mut bool) -> PathSegment
     requires { F.can node.now }
@@ -62,6 +63,7 @@ fn segment<F: Fields>(node: &F, refused: &mut bool) -> PathSegment
 }
 
 /// A path.
+#[inline(never)]
 #[tactic(auto, unfolding(crate::specs::Paths::path))]
 pub fn path<F: Fields>(node: &F, refused: &mut bool) -> Path
     requires { F.can node.now }

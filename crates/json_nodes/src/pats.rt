@@ -17,6 +17,7 @@ use hir_syntax::ast::PatKind;
 use json_kinds::kind::PatNode;
 
 /// Names and paths, and tuples behind a path or without one.
+#[inline(never)]
 #[tactic(auto, unfolding(crate::specs::Pats::named))]
 fn named<F: Fields>(node: &F, refused: &mut bool, kind: PatNode) -> Option<PatPart>
     requires { F.can node.now }
@@ -61,6 +62,7 @@ fn named<F: Fields>(node: &F, refused: &mut bool, kind: PatNode) -> Option<PatPa
 }
 
 /// What stands around one pattern, or between some.
+#[inline(never)]
 #[tactic(auto, unfolding(crate::specs::Pats::around))]
 fn around<F: Fields>(node: &F, refused: &mut bool, kind: PatNode) -> Option<PatPart>
     requires { F.can node.now }
@@ -93,6 +95,7 @@ fn around<F: Fields>(node: &F, refused: &mut bool, kind: PatNode) -> Option<PatP
 }
 
 /// Records and slices.
+#[inline(never)]
 #[tactic(auto, unfolding(crate::specs::Pats::pieces))]
 fn pieces<F: Fields>(node: &F, refused: &mut bool, kind: PatNode) -> Option<PatPart>
     requires { F.can node.now }
@@ -124,6 +127,7 @@ fn pieces<F: Fields>(node: &F, refused: &mut bool, kind: PatNode) -> Option<PatP
 }
 
 /// Values, ranges between two, and calls of macros.
+#[inline(never)]
 #[tactic(auto, unfolding(crate::specs::Pats::values))]
 fn values<F: Fields>(node: &F, refused: &mut bool, kind: PatNode) -> Option<PatPart>
     requires { F.can node.now }
@@ -175,17 +179,21 @@ pub fn of_pat<F: Fields>(node: &F, refused: &mut bool, kind: PatNode) -> Option<
     requires { F.can node.now }
     ensures { Kept refused.old refused.new (result ≡ spec.of_pat (F.here node.now) kind) }
 {
-    if let Some(pat) = named(node, refused, kind) {
-        return Some(pat);
+    match kind {
+        PatNode::IdentPat | PatNode::TupleStructPat | PatNode::TuplePat | PatNode::PathPat => named(
+            node, refused, kind,
+        ),
+        PatNode::RefPat
+        | PatNode::OrPat
+        | PatNode::ParenPat
+        | PatNode::BoxPat
+        | PatNode::DerefPat => around(node, refused, kind),
+        PatNode::RecordPat | PatNode::SlicePat => pieces(node, refused, kind),
+        PatNode::LiteralPat | PatNode::RangePat | PatNode::MacroPat => values(node, refused, kind),
+        PatNode::CfgPredPat
+        | PatNode::WildcardPat
+        | PatNode::RestPat
+        | PatNode::NotNullPat
+        | PatNode::ConstBlockPat => partless_pat(node, refused, kind),
     }
-    if let Some(pat) = around(node, refused, kind) {
-        return Some(pat);
-    }
-    if let Some(pat) = pieces(node, refused, kind) {
-        return Some(pat);
-    }
-    if let Some(pat) = values(node, refused, kind) {
-        return Some(pat);
-    }
-    partless_pat(node, refused, kind)
 }

@@ -35,6 +35,7 @@ fn closure<F: Fields>(node: &F, refused: &mut bool) -> ExprKind
 }
 
 /// Casts, records, offsets of fields and closures.
+#[inline(never)]
 #[tactic(auto, unfolding(crate::specs::Typed::typed))]
 pub fn typed<F: Fields>(node: &F, refused: &mut bool, kind: ExprNode) -> Option<ExprPart>
     requires { F.can node.now }
@@ -65,6 +66,7 @@ pub fn typed<F: Fields>(node: &F, refused: &mut bool, kind: ExprNode) -> Option<
 }
 
 /// The fields of a record, and one of them.
+#[inline(never)]
 #[tactic(auto, unfolding(crate::specs::Typed::of_record))]
 pub fn of_record<F: Fields>(node: &F, refused: &mut bool, kind: PartNode) -> Option<CodePart>
     requires { F.can node.now }
@@ -97,6 +99,7 @@ pub fn of_record<F: Fields>(node: &F, refused: &mut bool, kind: PartNode) -> Opt
 }
 
 /// A field of a pattern.
+#[inline(never)]
 #[tactic(auto, unfolding(crate::specs::Typed::of_pat_field))]
 pub fn of_pat_field<F: Fields>(node: &F, refused: &mut bool, kind: PartNode) -> Option<PatPart>
     requires { F.can node.now }

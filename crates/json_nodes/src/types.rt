@@ -15,6 +15,7 @@ use crate::type_parts::{Binders, Bounds, Rets, TypePart, Types};
 use hir_syntax::ast::{PathType, TypeKind};
 use json_kinds::kind::TypeNode;
 
+#[inline(never)]
 #[tactic(auto, unfolding(crate::specs::Types::over_types))]
 fn over_types<F: Fields>(node: &F, refused: &mut bool, kind: TypeNode) -> Option<TypePart>
     requires { F.can node.now }
@@ -59,6 +60,7 @@ fn function_pointer<F: Fields>(node: &F, refused: &mut bool) -> TypeKind
 }
 
 /// A type with a part of another group beside its type, or in its place.
+#[inline(never)]
 #[tactic(auto, unfolding(crate::specs::Types::beside_types))]
 fn beside_types<F: Fields>(node: &F, refused: &mut bool, kind: TypeNode) -> Option<TypePart>
     requires { F.can node.now }
@@ -98,6 +100,7 @@ fn beside_types<F: Fields>(node: &F, refused: &mut bool, kind: TypeNode) -> Opti
     }
 }
 
+#[inline(never)]
 #[tactic(auto, unfolding(crate::specs::Types::bounded))]
 fn bounded<F: Fields>(node: &F, refused: &mut bool, kind: TypeNode) -> Option<TypePart>
     requires { F.can node.now }
@@ -123,13 +126,20 @@ pub fn of_type<F: Fields>(node: &F, refused: &mut bool, kind: TypeNode) -> Optio
     requires { F.can node.now }
     ensures { Kept refused.old refused.new (result ≡ spec.of_type (F.here node.now) kind) }
 {
-    if let Some(ty) = over_types(node, refused, kind) {
-        return Some(ty);
+    match kind {
+        TypeNode::ParenType | TypeNode::SliceType | TypeNode::TupleType | TypeNode::PtrType =>
+            over_types(node, refused, kind),
+        TypeNode::RefType
+        | TypeNode::ArrayType
+        | TypeNode::FnPtrType
+        | TypeNode::ForType
+        | TypeNode::PatternType
+        | TypeNode::MacroType => beside_types(node, refused, kind),
+        TypeNode::ImplTraitType
+        | TypeNode::DynTraitType
+        | TypeNode::NeverType
+        | TypeNode::InferType => bounded(node, refused, kind),
     }
-    if let Some(ty) = beside_types(node, refused, kind) {
-        return Some(ty);
-    }
-    bounded(node, refused, kind)
 }
 
 /// A path as a type, which is told from other types, since it may also name a trait.

@@ -3,7 +3,6 @@
 ghost use Rattle.std.specs.Prelude.{◌≡◌, IfOk, Some, codes, option_and_then};
 ghost use Rattle.serde_json.specs.Find.{as_array, get};
 ghost use Rattle.serde_json.specs.View.{view, items_view};
-ghost use Rattle.json_faults.specs.Documents.{nodes};
 ghost use Rattle.json_faults.specs.Values.{small_of};
 ghost use Rattle.json_nodes.specs.Kept.{Kept};
 ghost use Rattle.json_nodes.specs.Parts.{all_read};
@@ -16,7 +15,7 @@ use crate::tree::alias_at;
 use hir_base::Seq;
 use hir_items::ast::TypeAlias;
 use hir_store::ids::TypeAliasId;
-use json_faults::document::nodes;
+use json_faults::members::NodeList;
 use json_faults::value::small;
 use json_kinds::kind::Kind;
 use serde_json::Value;
@@ -26,12 +25,12 @@ use std::alloc::{AllocError, Global};
 fn item(
     alloc: Global,
     kinds: &[Option<Kind>],
-    nodes: &[Value],
+    nodes: &NodeList<'_>,
     refused: &mut bool,
     root: &Value,
 ) -> Option<TypeAlias>
     ensures { Kept refused.old refused.new
-        (result ≡ option_and_then (reading.alias_at kinds.now (items_view nodes.now)) (small_of (view root.now))) }
+        (result ≡ option_and_then (reading.alias_at kinds.now (items_view nodes.now.nodes.now)) (small_of (view root.now))) }
 {
     match small(root) {
         Some(root) => alias_at(alloc, kinds, nodes, refused, root),
@@ -44,12 +43,12 @@ fn item(
 fn pair(
     alloc: Global,
     kinds: &[Option<Kind>],
-    nodes: &[Value],
+    nodes: &NodeList<'_>,
     refused: &mut bool,
     entry: &[Value],
 ) -> Option<Alias>
     ensures { Kept refused.old refused.new
-        (result ≡ spec.pair_in kinds.now (items_view nodes.now) (Some (items_view entry.now))) }
+        (result ≡ spec.pair_in kinds.now (items_view nodes.now.nodes.now) (Some (items_view entry.now))) }
 {
     match entry {
         [number, root] => {
@@ -64,11 +63,11 @@ fn pair(
 fn alias(
     alloc: Global,
     kinds: &[Option<Kind>],
-    nodes: &[Value],
+    nodes: &NodeList<'_>,
     refused: &mut bool,
     entry: &Value,
 ) -> Option<Alias>
-    ensures { Kept refused.old refused.new (result ≡ spec.alias_in kinds.now (items_view nodes.now) (view entry.now)) }
+    ensures { Kept refused.old refused.new (result ≡ spec.alias_in kinds.now (items_view nodes.now.nodes.now) (view entry.now)) }
 {
     match entry.as_array() {
         Some(entry) => pair(alloc, kinds, nodes, refused, entry.as_slice()),
@@ -80,12 +79,12 @@ fn alias(
 fn all(
     alloc: Global,
     kinds: &[Option<Kind>],
-    nodes: &[Value],
+    nodes: &NodeList<'_>,
     refused: &mut bool,
     entries: &[Value],
 ) -> Seq<Alias>
     ensures { Kept refused.old refused.new
-        (result ≡ all_read (spec.alias_in kinds.now (items_view nodes.now)) (items_view entries.now)) }
+        (result ≡ all_read (spec.alias_in kinds.now (items_view nodes.now.nodes.now)) (items_view entries.now)) }
 {
     let mut aliases = Vec::new(alloc);
     for entry in entries {
@@ -115,19 +114,14 @@ fn entries(document: &Value) -> &[Value]
 pub fn aliases(
     alloc: Global,
     kinds: &[Option<Kind>],
+    nodes: &NodeList<'_>,
     document: &Value,
 ) -> Result<Seq<Alias>, AllocError>
     ensures { let d = view document.now in
-        IfOk result (λ aliases. aliases ≡ spec.aliases_of kinds.now (nodes d) (get (codes "env") d)) }
+        IfOk result (λ aliases. aliases ≡ spec.aliases_of kinds.now (items_view nodes.now.nodes.now) (get (codes "env") d)) }
 {
     let mut refused = false;
-    let aliases = all(
-        alloc,
-        kinds,
-        nodes(document),
-        &mut refused,
-        entries(document),
-    );
+    let aliases = all(alloc, kinds, nodes, &mut refused, entries(document));
     if !refused {
         return Ok(aliases);
     }

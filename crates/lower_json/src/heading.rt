@@ -1,8 +1,9 @@
 //! What a document says of itself.
 
-ghost use Rattle.std.specs.Prelude.{◌≡◌};
+ghost use Rattle.std.specs.Prelude.{◌≡◌, option_map};
 ghost use Rattle.serde_json.specs.View.{view};
 ghost use Rattle.lower_json.specs.Documents.{owner_word, owners, owner_of, container_word, containers, container_of, skip_of, mode_of};
+ghost use Rattle.json_nodes.specs.Fields.{text_in};
 ghost use Rattle.json_kinds.specs.ByWord.{with_word};
 
 use hir_env::place::LoweringMode;
@@ -10,7 +11,7 @@ use hir_store::ids::{
     ConstId, DefWithBodyId, ExternBlockId, FunctionId, ImplId, ItemContainerId, ModuleId, StaticId,
     TraitId, VariantId,
 };
-use json_nodes::field::{flag, text};
+use json_nodes::field::flag_in;
 use serde_json::Value;
 
 fn owner_with(word: &str) -> Option<DefWithBodyId>
@@ -37,11 +38,18 @@ fn container_with(word: &str) -> Option<ItemContainerId>
     }
 }
 
+/// The word in a field, none where the field is absent or of another type.
+fn word<'a>(document: &'a Value, name: &str) -> Option<&'a str>
+    ensures { option_map (λ word. word.now) result ≡ text_in name.now (view document.entry.now) }
+{
+    document.get(name)?.as_str()
+}
+
 /// What the body belongs to, a function where the document doesn't say.
 pub fn owner(document: &Value) -> DefWithBodyId
     ensures { result ≡ owner_of (view document.now) }
 {
-    let written = match text(document, "owner") {
+    let written = match word(document, "owner") {
         Some(word) => owner_with(word),
         None => None,
     };
@@ -52,7 +60,7 @@ pub fn owner(document: &Value) -> DefWithBodyId
 pub fn container(document: &Value) -> ItemContainerId
     ensures { result ≡ container_of (view document.now) }
 {
-    let written = match text(document, "container") {
+    let written = match word(document, "container") {
         Some(word) => container_with(word),
         None => None,
     };
@@ -63,7 +71,7 @@ pub fn container(document: &Value) -> ItemContainerId
 pub fn skip(document: &Value) -> bool
     ensures { result ≡ skip_of (view document.now) }
 {
-    flag(document, "skip")
+    flag_in(document.get("skip"))
 }
 
 /// The mode that a path is lowered in: it is analysed, unless the document says otherwise.

@@ -11,5 +11,6 @@ mod macros;
 mod path_text;
 pub mod read;
 mod resolve;
+mod sorts;
 mod tables;
 mod tree;

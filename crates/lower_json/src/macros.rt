@@ -18,6 +18,7 @@ use hir_store::ids::{MacroDefId, ModuleId};
 use hir_store::name::Name;
 use hir_syntax::ast::Fragment;
 use hir_tables::table::{MacroAnswer, TableEnv};
+use json_faults::members::NodeList;
 use json_faults::value::small;
 use json_kinds::kind::Kind;
 use serde_json::Value;
@@ -38,10 +39,10 @@ fn call_in(entry: &[Value]) -> Option<InFile<NodeId>>
 fn tree(
     alloc: Global,
     kinds: &[Option<Kind>],
-    nodes: &[Value],
+    nodes: &NodeList<'_>,
     root: &Value,
 ) -> Result<Option<Fragment>, AllocError>
-    ensures { IfOk result (λ tree. tree ≡ spec.tree_in kinds.now (items_view nodes.now) (view root.now)) }
+    ensures { IfOk result (λ tree. tree ≡ spec.tree_in kinds.now (items_view nodes.now.nodes.now) (view root.now)) }
 {
     match small(root) {
         Some(root) => fragment_at(alloc, kinds, nodes, root),
@@ -61,12 +62,12 @@ fn unresolved(alloc: Global, text: &Value) -> Result<Option<MacroAnswer>, AllocE
 fn expanded(
     alloc: Global,
     kinds: &[Option<Kind>],
-    nodes: &[Value],
+    nodes: &NodeList<'_>,
     file: &Value,
     root: &Value,
 ) -> Result<Option<MacroAnswer>, AllocError>
     ensures { IfOk result (λ a. a ≡ spec.expanded_in (small_of (view file.now))
-        (spec.tree_in kinds.now (items_view nodes.now) (view root.now))) }
+        (spec.tree_in kinds.now (items_view nodes.now.nodes.now) (view root.now))) }
 {
     let Some(file) = small(file) else {
         return Ok(None);
@@ -82,10 +83,10 @@ fn expanded(
 fn answer_in(
     alloc: Global,
     kinds: &[Option<Kind>],
-    nodes: &[Value],
+    nodes: &NodeList<'_>,
     entry: &[Value],
 ) -> Result<Option<MacroAnswer>, AllocError>
-    ensures { IfOk result (λ a. a ≡ answer_in kinds.now (items_view nodes.now) (Some (items_view entry.now))) }
+    ensures { IfOk result (λ a. a ≡ answer_in kinds.now (items_view nodes.now.nodes.now) (Some (items_view entry.now))) }
 {
     match entry {
         [_file, _node, _word] => Ok(Some(MacroAnswer::NoExpansion)),
@@ -101,11 +102,11 @@ fn expand(
     alloc: Global,
     tables: &mut TableEnv,
     kinds: &[Option<Kind>],
-    nodes: &[Value],
+    nodes: &NodeList<'_>,
     entry: &[Value],
 ) -> Result<(), AllocError>
     ensures entry { OnOk result (tables.new.macros
-        ≡ spec.with_expansion kinds.now (items_view nodes.now) (Some (items_view entry.now)) tables.old.macros) }
+        ≡ spec.with_expansion kinds.now (items_view nodes.now.nodes.now) (Some (items_view entry.now)) tables.old.macros) }
     ensures others { OnOk result (tables.new ≡ record tables.old { macros = tables.new.macros }) }
 {
     let Some(call) = call_in(entry) else {
@@ -125,11 +126,11 @@ pub fn expand_all(
     alloc: Global,
     tables: &mut TableEnv,
     kinds: &[Option<Kind>],
-    nodes: &[Value],
+    nodes: &NodeList<'_>,
     entries: &[Value],
 ) -> Result<(), AllocError>
     ensures entries { OnOk result (tables.new.macros
-        ≡ with_expansions kinds.now (items_view nodes.now) (items_view entries.now) tables.old.macros) }
+        ≡ with_expansions kinds.now (items_view nodes.now.nodes.now) (items_view entries.now) tables.old.macros) }
     ensures others { OnOk result (tables.new ≡ record tables.old { macros = tables.new.macros }) }
 {
     for entry in entries {

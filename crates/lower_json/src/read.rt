@@ -2,7 +2,7 @@
 
 ghost use Rattle.std.specs.Prelude.{◌≡◌, IfOk, IfErr, OnOk, Some, None, IsUtf8};
 ghost use Rattle.serde_json.specs.Read.{read};
-ghost use Rattle.serde_json.specs.View.{view};
+ghost use Rattle.serde_json.specs.View.{view, items_view};
 ghost use Rattle.json_faults.specs.Documents.{nodes};
 ghost use Rattle.json_faults.specs.Kinds.{kinds_of};
 ghost use Rattle.lower_json.specs.Documents.{group_of, is_optional, document_of, first_fault, tree_of, IsDocument};
@@ -15,9 +15,10 @@ use crate::heading::{container, mode, owner, skip};
 use crate::tables::tables;
 use crate::tree::read_tree_at;
 use json_faults::document::{checked_kinds, nodes};
+use json_faults::members::NodeList;
 use json_kinds::group::Group;
 use json_kinds::kind::Kind;
-use json_nodes::field::{flag, number_or};
+use json_nodes::field::{flag_in, number_in};
 use serde_json::Value;
 use std::alloc::{AllocError, Global};
 
@@ -64,17 +65,19 @@ fn tree(
     alloc: Global,
     want: Root,
     kinds: &[Option<Kind>],
+    listed: &NodeList<'_>,
     document: &Value,
 ) -> Result<Tree, AllocError>
-    requires { kinds.now ≡ kinds_of (nodes (view document.now)) }
+    requires kinds { kinds.now ≡ kinds_of (nodes (view document.now)) }
+    requires nodes { items_view listed.now.nodes.now ≡ nodes (view document.now) }
     ensures { IfOk result (λ tree. tree ≡ tree_of want (view document.now)) }
 {
     read_tree_at(
         alloc,
         want,
         kinds,
-        nodes(document),
-        number_or(document, "root", 0),
+        listed,
+        number_in(document.get("root"), 0),
     )
 }
 
@@ -83,19 +86,21 @@ fn read_document(
     alloc: Global,
     want: Root,
     kinds: &[Option<Kind>],
+    listed: &NodeList<'_>,
     document: &Value,
 ) -> Result<Document, AllocError>
-    requires { kinds.now ≡ kinds_of (nodes (view document.now)) }
+    requires kinds { kinds.now ≡ kinds_of (nodes (view document.now)) }
+    requires nodes { items_view listed.now.nodes.now ≡ nodes (view document.now) }
     ensures { IfOk result (λ d. d ≡ document_of want (view document.now)) }
 {
     // The tree comes last, and the aliases next to it, since each `?` behind them would have to let go of them.
-    let mut env = tables(alloc, kinds, document, container(document))?;
+    let mut env = tables(alloc, kinds, listed, document, container(document))?;
     env.set_skip(skip(document));
-    let aliases = aliases(alloc, kinds, document)?;
+    let aliases = aliases(alloc, kinds, listed, document)?;
     Ok(Document {
-        tree: tree(alloc, want, kinds, document)?,
+        tree: tree(alloc, want, kinds, listed, document)?,
         owner: owner(document),
-        sources: flag(document, "sources"),
+        sources: flag_in(document.get("sources")),
         mode: mode(document),
         env,
         aliases,
@@ -107,8 +112,13 @@ fn read_value(alloc: Global, want: Root, document: &Value) -> Result<Document, R
     ensures document { IfOk result (λ d. d ≡ document_of want (view document.now)) }
     ensures fault { IfErr result (λ e. IsErrorOf want (view document.now) e) }
 {
-    let kinds = checked_kinds(alloc, MOST_NODES, group(want), is_optional(want), document)?;
-    Ok(read_document(alloc, want, kinds.as_slice(), document)?)
+    let found = checked_kinds(alloc, MOST_NODES, group(want), is_optional(want), document)?;
+    let listed = NodeList {
+        nodes: nodes(document),
+        members: found.members.as_slice(),
+        starts: found.starts.as_slice(),
+    };
+    Ok(read_document(alloc, want, found.kinds.as_slice(), &listed, document)?)
 }
 
 /// Reads a document whose root is what is wanted. The fault of a text is the first one that it has, and a text that has

@@ -3,7 +3,6 @@
 ghost use Rattle.std.specs.Prelude.{◌≡◌, Some, IfOk, OnOk, codes};
 ghost use Rattle.serde_json.specs.View.{view, items_view};
 ghost use Rattle.serde_json.specs.Find.{as_array, as_bool, get};
-ghost use Rattle.json_faults.specs.Documents.{nodes};
 ghost use Rattle.json_faults.specs.Values.{small_of};
 ghost use Rattle.hir_tables.specs.Tables.{with_context, with_first, with_pred};
 ghost use Rattle.lower_json.specs.Tables.{site_of, triple_of, quadruple_of, both, disabled_of, named_of, numbered_of};
@@ -19,10 +18,10 @@ use hir_store::ids::{
     BlockId, CfgId, CrateId, CtxId, HygieneId, ItemContainerId, MacroDefId, ModuleId,
 };
 use hir_tables::table::{Context, TableEnv};
-use json_faults::document::nodes;
+use json_faults::members::NodeList;
 use json_faults::value::small;
 use json_kinds::kind::Kind;
-use json_nodes::field::{flag, number_or};
+use json_nodes::field::{flag_in, number_in};
 use serde_json::Value;
 use std::alloc::{AllocError, Global};
 
@@ -261,10 +260,10 @@ fn fill(
     alloc: Global,
     tables: &mut TableEnv,
     kinds: &[Option<Kind>],
-    nodes: &[Value],
+    nodes: &NodeList<'_>,
     env: &Value,
 ) -> Result<(), AllocError>
-    ensures { OnOk result (tables.new ≡ with_tables kinds.now (items_view nodes.now) (view env.now) tables.old) }
+    ensures { OnOk result (tables.new ≡ with_tables kinds.now (items_view nodes.now.nodes.now) (view env.now) tables.old) }
 {
     disable_all(tables, entries_of(env, "disabled"))?;
     decide_all(tables, entries_of(env, "preds"))?;
@@ -276,8 +275,8 @@ fn fill(
     define_all(alloc, tables, entries_of(env, "macro_defs"))?;
     define_legacy(alloc, tables, entries_of(env, "legacy"))?;
     tables.set_lang_items(lang_items(env.get("lang")));
-    tables.set_new_range(flag(env, "new_range"));
-    tables.set_limit(number_or(env, "limit", 16));
+    tables.set_new_range(flag_in(env.get("new_range")));
+    tables.set_limit(number_in(env.get("limit"), 16));
     Ok(())
 }
 
@@ -285,15 +284,16 @@ fn fill(
 pub fn tables(
     alloc: Global,
     kinds: &[Option<Kind>],
+    nodes: &NodeList<'_>,
     document: &Value,
     container: ItemContainerId,
 ) -> Result<TableEnv, AllocError>
     ensures { let d = view document.now in
-        IfOk result (λ tables. tables ≡ tables_of container kinds.now (nodes d) (get (codes "env") d)) }
+        IfOk result (λ tables. tables ≡ tables_of container kinds.now (items_view nodes.now.nodes.now) (get (codes "env") d)) }
 {
     let mut tables = TableEnv::new(alloc, container);
     if let Some(env) = document.get("env") {
-        fill(alloc, &mut tables, kinds, nodes(document), env)?;
+        fill(alloc, &mut tables, kinds, nodes, env)?;
     }
     Ok(tables)
 }

@@ -12,37 +12,23 @@ ghost use Rattle.lower_json.specs.Reading as spec;
 ghost use Rattle.lower_json.specs.Reading.{fragment_of, of_kind, tree_of, tree_at};
 
 use crate::document::{Root, Tree};
+use crate::sorts::of_kind;
 use hir_base::Boxed;
 use hir_base::node::{NodeId, TextRange};
 use hir_items::ast::TypeAlias;
 use hir_syntax::ast::{Fragment, Param, ParamList, Pat};
 use json_faults::kinds::kind_at;
-use json_faults::value::item_at;
+use json_faults::members::{NodeList, Own};
 use json_items::items::{function, type_alias};
 use json_items::listed::ListedNodes;
-use json_kinds::kind::{ExprNode, ItemNode, Kind, PartNode, PathNode};
-use json_nodes::args::of_args;
-use json_nodes::bounds::of_bound;
-use json_nodes::branches::{branching, of_branch};
-use json_nodes::code_parts::{ExprPart, Exprs, MacroStmtLists};
-use json_nodes::exprs::{flow, of_if, of_literal, plain};
+use json_kinds::kind::{ItemNode, Kind};
+use json_nodes::code_parts::{Exprs, MacroStmtLists};
 use json_nodes::fields::Fields;
-use json_nodes::leaving::leaving;
-use json_nodes::macros::of_macro;
-use json_nodes::members::member;
 use json_nodes::node::{Node, node_at};
-use json_nodes::operations::operation;
-use json_nodes::others::{of_block, of_stmt, other};
 use json_nodes::param_parts::Pats;
-use json_nodes::params::of_param;
 use json_nodes::part::{AnyPart, BoxedGroup, Group, ReadParts, in_box, served};
-use json_nodes::partless::partless;
-use json_nodes::path_parts::PathPart;
-use json_nodes::paths::{of_path, path};
-use json_nodes::pats::of_pat;
+use json_nodes::paths::path;
 use json_nodes::type_parts::Types;
-use json_nodes::typed::{of_pat_field, of_record, typed};
-use json_nodes::types::{of_path_type, of_type};
 use serde_json::Value;
 use std::alloc::{AllocError, Global};
 
@@ -63,108 +49,29 @@ const LAST_RANGE: TextRange = TextRange {
 #[derive_where(Clone, Copy; F)]
 pub struct Level<'k, 'n, F> {
     kinds: &'k [Option<Kind>],
-    nodes: &'n [Value],
+    nodes: &'n NodeList<'n>,
     levels: u32,
     read: F,
 }
 
 impl<F> ReadParts for Level<'_, '_, F>
 where
-    F: Fn(Global, &[Option<Kind>], &[Value], u32, u32) -> Result<Option<AnyPart>, AllocError>,
+    F: Fn(Global, &[Option<Kind>], &NodeList<'_>, u32, u32) -> Result<Option<AnyPart>, AllocError>,
 {
     ghost can = { λ it. Reads (F.pre it.read) (F.post it.read) it.kinds.now it.nodes.now it.levels };
 
-    ghost parts = { λ it. spec.part_at it.levels it.kinds.now (items_view it.nodes.now) };
+    ghost parts = { λ it. spec.part_at it.levels it.kinds.now (items_view it.nodes.now.nodes.now) };
 
     fn part_at(&self, alloc: Global, at: u32) -> Result<Option<AnyPart>, AllocError> {
         (self.read)(alloc, self.kinds, self.nodes, self.levels, at)
     }
 }
 
-/// An expression.
-fn of_expr<F: Fields>(node: &F, refused: &mut bool, kind: ExprNode) -> Option<ExprPart>
-    requires { F.can node.now }
-    ensures { Kept refused.old refused.new (result ≡ spec.of_expr (F.here node.now) kind) }
-{
-    if let Some(expr) = flow(node, refused, kind) {
-        return Some(expr);
-    }
-    if let Some(expr) = plain(node, refused, kind) {
-        return Some(expr);
-    }
-    if let Some(expr) = branching(node, refused, kind) {
-        return Some(expr);
-    }
-    if let Some(expr) = operation(node, refused, kind) {
-        return Some(expr);
-    }
-    if let Some(expr) = member(node, refused, kind) {
-        return Some(expr);
-    }
-    if let Some(expr) = leaving(node, refused, kind) {
-        return Some(expr);
-    }
-    if let Some(expr) = typed(node, refused, kind) {
-        return Some(expr);
-    }
-    partless(node, refused, kind)
-}
-
-/// A path, or what stands beside a name.
-fn of_path_part<F: Fields>(node: &F, refused: &mut bool, kind: PathNode) -> Option<PathPart>
-    requires { F.can node.now }
-    ensures { Kept refused.old refused.new (result ≡ spec.of_path_part (F.here node.now) kind) }
-{
-    if let Some(part) = of_path(node, refused, kind) {
-        return Some(part);
-    }
-    of_args(node, refused, kind)
-}
-
-/// A part of anything else.
-fn of_part<F: Fields>(node: &F, refused: &mut bool, kind: PartNode) -> Option<AnyPart>
-    requires { F.can node.now }
-    ensures { Kept refused.old refused.new (result ≡ spec.of_part (F.here node.now) kind) }
-{
-    if let Some(part) = of_bound(node, refused, kind) {
-        return Some(AnyPart::Type_(part));
-    }
-    if let Some(part) = of_branch(node, refused, kind) {
-        return Some(AnyPart::Code(part));
-    }
-    if let Some(part) = of_record(node, refused, kind) {
-        return Some(AnyPart::Code(part));
-    }
-    if let Some(part) = of_macro(node, refused, kind) {
-        return Some(AnyPart::Code(part));
-    }
-    if let Some(part) = of_pat_field(node, refused, kind) {
-        return Some(AnyPart::Pat(part));
-    }
-    if let Some(part) = of_param(node, refused, kind) {
-        return Some(AnyPart::Param(part));
-    }
-    Some(AnyPart::Name(other(node, refused, kind)?))
-}
-
-/// What stands at a node of a kind.
-#[tactic(auto, unfolding(crate::specs::Reading::of_kind))]
-fn of_kind<F: Fields>(node: &F, refused: &mut bool, kind: Kind) -> Option<AnyPart>
-    requires { F.can node.now }
-    ensures { Kept refused.old refused.new (result ≡ of_kind (F.here node.now) kind) }
-{
-    match kind {
-        Kind::IfExpr => Some(AnyPart::Expr(of_if(node, refused)?)),
-        Kind::BlockExpr => Some(AnyPart::Expr(of_block(node, refused)?)),
-        Kind::Literal => Some(AnyPart::Expr(of_literal(node, refused)?)),
-        Kind::PathType => Some(AnyPart::Type_(of_path_type(node, refused)?)),
-        Kind::Expr(kind) => Some(AnyPart::Expr(of_expr(node, refused, kind)?)),
-        Kind::Stmt(kind) => Some(AnyPart::Code(of_stmt(node, refused, kind)?)),
-        Kind::Pat(kind) => Some(AnyPart::Pat(of_pat(node, refused, kind)?)),
-        Kind::Type_(kind) => Some(AnyPart::Type_(of_type(node, refused, kind)?)),
-        Kind::Path(kind) => Some(AnyPart::Path(of_path_part(node, refused, kind)?)),
-        Kind::Item(_) => None,
-        Kind::Part(kind) => of_part(node, refused, kind),
+/// Lets go of what was read where memory was refused. It has a frame of its own, since few levels come here.
+#[inline(never)]
+fn let_go_if_there<P: ReadParts>(parts: &P, part: Option<AnyPart>) {
+    if let Some(part) = part {
+        parts.let_go(part);
     }
 }
 
@@ -172,37 +79,35 @@ fn of_kind<F: Fields>(node: &F, refused: &mut bool, kind: Kind) -> Option<AnyPar
 pub fn part_at<P: ReadParts>(
     alloc: Global,
     parts: &P,
-    value: &Value,
+    value: Own<'_>,
     at: u32,
     kind: Kind,
 ) -> Result<Option<AnyPart>, AllocError>
     requires { P.can parts.now }
-    ensures { IfOk result (λ part. part ≡ of_kind (node_at (P.parts parts.now) at (view value.now)) kind) }
+    ensures { IfOk result (λ part. part ≡ of_kind (node_at (P.parts parts.now) at (view value.entry.node.now)) kind) }
 {
     let mut refused = false;
     let part = of_kind(&node_at(alloc, parts, value, at), &mut refused, kind);
-    if !refused {
-        return Ok(part);
+    if refused {
+        let_go_if_there(parts, part);
+        return Err(AllocError);
     }
-    if let Some(part) = part {
-        parts.let_go(part);
-    }
-    Err(AllocError)
+    Ok(part)
 }
 
 fn read_part(
     alloc: Global,
     kinds: &[Option<Kind>],
-    nodes: &[Value],
+    nodes: &NodeList<'_>,
     levels: u32,
     at: u32,
 ) -> Result<Option<AnyPart>, AllocError>
-    ensures { IfOk result (λ part. part ≡ spec.part_at levels kinds.now (items_view nodes.now) at) }
+    ensures { IfOk result (λ part. part ≡ spec.part_at levels kinds.now (items_view nodes.now.nodes.now) at) }
 {
     if levels == 0 {
         return Ok(None);
     }
-    let Some(value) = item_at(nodes, at as usize) else {
+    let Some(value) = (&*nodes).at(at as usize) else {
         return Ok(None);
     };
     let Some(kind) = kind_at(kinds, at as usize) else {
@@ -210,7 +115,7 @@ fn read_part(
     };
     let inside = Level {
         kinds,
-        nodes,
+        nodes: &*nodes,
         levels: levels - 1,
         read: read_part,
     };
@@ -292,13 +197,13 @@ fn whole_tree<P: ReadParts>(
     items: &ListedNodes<'_, '_, '_, P>,
     want: Root,
     kind: Option<Kind>,
-    value: &Value,
+    value: Own<'_>,
     at: u32,
 ) -> Result<Tree, AllocError>
     requires parts { P.can parts.now }
     requires items { P.can items.now.parts.now }
     ensures { IfOk result (λ tree.
-        tree ≡ tree_of want kind (node_at (P.parts parts.now) at (view value.now)) (listed P.parts items.now)) }
+        tree ≡ tree_of want kind (node_at (P.parts parts.now) at (view value.entry.node.now)) (listed P.parts items.now)) }
 {
     let mut refused = false;
     let node = node_at(items.alloc, parts, value, at);
@@ -316,10 +221,10 @@ pub fn read_tree_at(
     alloc: Global,
     want: Root,
     kinds: &[Option<Kind>],
-    nodes: &[Value],
+    nodes: &NodeList<'_>,
     root: u32,
 ) -> Result<Tree, AllocError>
-    ensures { IfOk result (λ tree. tree ≡ tree_at want kinds.now (items_view nodes.now) root) }
+    ensures { IfOk result (λ tree. tree ≡ tree_at want kinds.now (items_view nodes.now.nodes.now) root) }
 {
     let inside = Level {
         kinds,
@@ -340,9 +245,19 @@ pub fn read_tree_at(
         parts: &in_lists,
     };
     let kind = kind_at(kinds, root as usize);
-    match item_at(nodes, root as usize) {
+    match nodes.at(root as usize) {
         Some(value) => whole_tree(&inside, &items, want, kind, value, root),
-        None => whole_tree(&inside, &items, want, kind, &Value::Null, root),
+        None => whole_tree(
+            &inside,
+            &items,
+            want,
+            kind,
+            Own {
+                node: &Value::Null,
+                members: &[],
+            },
+            root,
+        ),
     }
 }
 
@@ -361,13 +276,13 @@ fn is_alias(kinds: &[Option<Kind>], at: u32) -> bool
 pub fn alias_at(
     alloc: Global,
     kinds: &[Option<Kind>],
-    nodes: &[Value],
+    nodes: &NodeList<'_>,
     refused: &mut bool,
     root: u32,
 ) -> Option<TypeAlias>
-    ensures { Kept refused.old refused.new (result ≡ spec.alias_at kinds.now (items_view nodes.now) root) }
+    ensures { Kept refused.old refused.new (result ≡ spec.alias_at kinds.now (items_view nodes.now.nodes.now) root) }
 {
-    let Some(value) = item_at(nodes, root as usize) else {
+    let Some(value) = nodes.at(root as usize) else {
         return None;
     };
     if !is_alias(kinds, root) {
@@ -478,11 +393,11 @@ fn whole_fragment<P: ReadParts>(
     alloc: Global,
     parts: &P,
     kind: Kind,
-    value: &Value,
+    value: Own<'_>,
     at: u32,
 ) -> Result<Option<Fragment>, AllocError>
     requires { P.can parts.now }
-    ensures { IfOk result (λ tree. tree ≡ fragment_of (node_at (P.parts parts.now) at (view value.now)) kind) }
+    ensures { IfOk result (λ tree. tree ≡ fragment_of (node_at (P.parts parts.now) at (view value.entry.node.now)) kind) }
 {
     let mut refused = false;
     let fragment = fragment_of(&node_at(alloc, parts, value, at), &mut refused, kind);
@@ -499,12 +414,12 @@ fn whole_fragment<P: ReadParts>(
 pub fn fragment_at(
     alloc: Global,
     kinds: &[Option<Kind>],
-    nodes: &[Value],
+    nodes: &NodeList<'_>,
     root: u32,
 ) -> Result<Option<Fragment>, AllocError>
-    ensures { IfOk result (λ tree. tree ≡ spec.fragment_at kinds.now (items_view nodes.now) root) }
+    ensures { IfOk result (λ tree. tree ≡ spec.fragment_at kinds.now (items_view nodes.now.nodes.now) root) }
 {
-    let Some(value) = item_at(nodes, root as usize) else {
+    let Some(value) = nodes.at(root as usize) else {
         return Ok(None);
     };
     let Some(kind) = kind_at(kinds, root as usize) else {

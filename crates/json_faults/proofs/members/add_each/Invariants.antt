@@ -7,5 +7,6 @@ use Rattle.json_faults.proofs.members.add_each.Given as goal
 abbrev pub invariant-loop-name : goal.invariant-loop-name
 invariant-loop-name l = record {
   whole : members_have_float (members_view l.members.entries) ≡ members_have_float (members_view l.name-iterator);
-  so_far : pairs l.initial.all.items ++ pairs_in (members_view l.members.entries) ≡ pairs l.all.items ++ pairs_in (members_view l.name-iterator);
+  so_far : pairs l.initial.all.items ++ pairs_in (members_view l.members.entries)
+      ≡ pairs l.all.items ++ pairs_in (members_view l.name-iterator);
 }

@@ -7,7 +7,7 @@ use Rattle.lower_json.proofs.aliases.all.Given as goal
 
 abbrev pub invariant-loop-entry : goal.invariant-loop-entry
 invariant-loop-entry l =
-    let read = alias_in l.fn.kinds (items_view l.fn.nodes) in
+    let read = alias_in l.fn.kinds (items_view l.fn.nodes.nodes.now) in
     record {
       kinds : l.kinds ≡ l.fn.kinds;
       nodes : l.nodes ≡ l.fn.nodes;

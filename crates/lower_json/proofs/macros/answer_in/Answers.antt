@@ -5,7 +5,7 @@ use Rattle.lower_json.proofs.macros.answer_in.Goals as goal
 
 pub returns-in-len3 : goal.returns-in-len3
 returns-in-len3 c =
-    answer_three c.args.kinds.now (items_view c.args.nodes.now) c.args.entry.now c.in-len3.len_at_least c.in-len3.len_below
+    answer_three c.args.kinds.now (items_view c.args.nodes.now.nodes.now) c.args.entry.now c.in-len3.len_at_least c.in-len3.len_below
 
 pub returns-in_default : goal.returns-in_default
 returns-in_default c = search (rules, answer_under_three, answer_over_five)

@@ -7,7 +7,7 @@ abbrev pub invariant-loop-entry : goal.invariant-loop-entry
 invariant-loop-entry l = record {
   kinds : l.kinds ≡ l.fn.kinds;
   nodes : l.nodes ≡ l.fn.nodes;
-  so_far : with_expansions l.kinds (items_view l.nodes) (items_view l.entries) l.initial.tables.macros
-      ≡ with_expansions l.kinds (items_view l.nodes) (items_view (drop l.entry-index l.entries)) l.tables.macros;
+  so_far : with_expansions l.kinds (items_view l.nodes.nodes.now) (items_view l.entries) l.initial.tables.macros
+      ≡ with_expansions l.kinds (items_view l.nodes.nodes.now) (items_view (drop l.entry-index l.entries)) l.tables.macros;
   others : l.tables ≡ record l.initial.tables { macros = l.tables.macros };
 }

@@ -21,7 +21,8 @@ part_at-requires t c = record {
 pub returns : goal.returns
 returns t c =
     let a = c.args in
-    let value = view c.in-Some.value.now in
+    let value = view c.in-Some.value.node.now in
     let kind = c.in-Some-kind_at.kind in
-    rw (one_level a.levels (a.levels - 1) a.kinds.now (items_view a.nodes.now) a.at value kind (omega arith) (search rules) (search rules))
+    let nodes = items_view a.nodes.now.nodes.now in
+    rw (one_level a.levels (a.levels - 1) a.kinds.now nodes a.at value kind (omega arith) (search rules) (search rules))
     c.part_at.ensures

@@ -48,4 +48,7 @@ pub returns-then-word-eq19 : goal.returns-then-word-eq19
 returns-then-word-eq19 c = c.of_19.ensures ∙ sym (of_length 19 c.args.word.now c.if-word-eq19.true)
 
 pub returns : goal.returns
-returns c = sym (unknown c.args.word.now c.if-word-eq2.false c.if-word-eq4.false c.if-word-eq5.false c.if-word-eq6.false c.if-word-eq7.false c.if-word-eq8.false c.if-word-eq9.false c.if-word-eq10.false c.if-word-eq11.false c.if-word-eq12.false c.if-word-eq13.false c.if-word-eq14.false c.if-word-eq15.false c.if-word-eq16.false c.if-word-eq19.false)
+returns c = sym (unknown c.args.word.now c.if-word-eq2.false c.if-word-eq4.false c.if-word-eq5.false
+    c.if-word-eq6.false c.if-word-eq7.false c.if-word-eq8.false c.if-word-eq9.false
+    c.if-word-eq10.false c.if-word-eq11.false c.if-word-eq12.false c.if-word-eq13.false
+    c.if-word-eq14.false c.if-word-eq15.false c.if-word-eq16.false c.if-word-eq19.false)

@@ -3,7 +3,7 @@ use Rattle.serde_json.proofs.Views.{view-Object}
 use Rattle.serde_json.specs.View.{view}
 use Rattle.json_faults.specs.Members.{pairs_of}
 use Rattle.json_faults.proofs.Sides.{count}
-use Rattle.json_faults.proofs.nodes.count.Goals as goal
+use Rattle.json_faults.proofs.members.count.Goals as goal
 
 pub returns-in-Object : goal.returns-in-Object
 returns-in-Object c = c.len.ensures.len ∙ sym (count c.in-Object.members.entries)

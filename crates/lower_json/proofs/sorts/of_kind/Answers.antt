@@ -1,0 +1,49 @@
+use Rattle.json_nodes.specs.declared.part.AnyOf.TheVariants as part
+use Rattle.lower_json.specs.Reading.{of_kind}
+use Rattle.lower_json.proofs.Firsts.{made}
+use Rattle.lower_json.proofs.sorts.of_kind.Goals as goal
+
+pub returns-in_ok-of_literal-in-Literal : goal.returns-in_ok-of_literal-in-Literal
+unfolding of_kind
+returns-in_ok-of_literal-in-Literal g c = rw c.in-Literal.is (made part.Expr c.in_ok-of_literal-in-Literal.ensures)
+
+pub returns-in_err-of_literal-in-Literal : goal.returns-in_err-of_literal-in-Literal
+unfolding of_kind
+returns-in_err-of_literal-in-Literal g c =
+    rw (c.in-Literal.is, c.from_residual.ensures) (made part.Expr c.in_err-of_literal-in-Literal.ensures)
+
+pub returns-in-IfExpr : goal.returns-in-IfExpr
+unfolding of_kind
+returns-in-IfExpr g c = rw c.in-IfExpr.is c.if_part.ensures
+
+pub returns-in-BlockExpr : goal.returns-in-BlockExpr
+unfolding of_kind
+returns-in-BlockExpr g c = rw c.in-BlockExpr.is c.block_part.ensures
+
+pub returns-in-PathType : goal.returns-in-PathType
+unfolding of_kind
+returns-in-PathType g c = rw c.in-PathType.is c.path_type_part.ensures
+
+pub returns-in-Expr : goal.returns-in-Expr
+unfolding of_kind
+returns-in-Expr g c = rw c.in-Expr.is c.expr_part.ensures
+
+pub returns-in-Stmt : goal.returns-in-Stmt
+unfolding of_kind
+returns-in-Stmt g c = rw c.in-Stmt.is c.stmt_part.ensures
+
+pub returns-in-Pat : goal.returns-in-Pat
+unfolding of_kind
+returns-in-Pat g c = rw c.in-Pat.is c.pat_part.ensures
+
+pub returns-in-Type_ : goal.returns-in-Type_
+unfolding of_kind
+returns-in-Type_ g c = rw c.in-Type_.is c.type_part.ensures
+
+pub returns-in-Path : goal.returns-in-Path
+unfolding of_kind
+returns-in-Path g c = rw c.in-Path.is c.path_part.ensures
+
+pub returns-in-Part : goal.returns-in-Part
+unfolding of_kind
+returns-in-Part g c = rw c.in-Part.is c.of_part.ensures

@@ -1,0 +1,9 @@
+use Rattle.json_nodes.specs.declared.part.AnyOf.TheVariants as part
+use Rattle.lower_json.proofs.Firsts.{made}
+use Rattle.lower_json.proofs.sorts.stmt_part.Goals as goal
+
+pub returns : goal.returns
+returns g c = made part.Code c.in_ok-of_stmt.ensures
+
+pub returns-in_err-of_stmt : goal.returns-in_err-of_stmt
+returns-in_err-of_stmt g c = rw c.from_residual.ensures (made part.Code c.in_err-of_stmt.ensures)
