@@ -89,7 +89,8 @@ module _ (store : Store) (source_map : SourceMap) where
   bounds_are bs = bounds_layer store source_map (readers store source_map (entries store source_map)) bs
 
   -- what an `impl` became, of each of its bounds
-  each_stands : (t : TypeRefId) (x : Asked) (ys : List TypeBound) (bs : Bounds) → TypeIs store source_map t x → bounds_are ys ≡ bounds_data bs
+  each_stands : (t : TypeRefId) (x : Asked) (ys : List TypeBound) (bs : Bounds) → TypeIs store source_map t x
+      → bounds_are ys ≡ bounds_data bs
       → BoundsHold store source_map (all_inners store) ys bs → Stand store source_map (predicates_of t ys) (each_of x bs)
   each_stands t x [] tree.no_bounds h e g = tt
   each_stands t x [] (tree.more_bounds b bs) h e g = absurd g

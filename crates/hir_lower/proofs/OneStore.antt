@@ -48,7 +48,8 @@ BindingEnd ws b = (o : Option ExprId) × Contains ws (binding_way b o)
 module _ (us vs : List Way) (n m k : ℕ) where
   covers_then : Covers us n m → Covers vs m k → Covers (us ++ vs) n k
   covers_then = ends_then (λ i. i.0) ExprEnd us vs
-      (λ i. ⊎_elim (λ x. inl (x.0, Contains-append_left us vs (expr_way x.0 i) x.1)) (λ x. inr (Contains-append_left us vs (unled_way i) x)))
+      (λ i. ⊎_elim (λ x. inl (x.0, Contains-append_left us vs (expr_way x.0 i) x.1))
+      (λ x. inr (Contains-append_left us vs (unled_way i) x)))
       (λ i. ⊎_elim (λ x. inl (x.0, Contains-append_right us vs (expr_way x.0 i) x.1))
       (λ x. inr (Contains-append_right us vs (unled_way i) x))) n m k
 

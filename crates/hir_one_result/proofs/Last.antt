@@ -97,7 +97,8 @@ owning_last {owner = owner} h = last_then bindings_end (λ start. last_hands in_
 pub constant_last : {p : ExprSteps} → IsLast p → Last (λ c. c.expr) (constant_form p)
 unfolding constant_form
 constant_last h = last_then open_barrier (λ outside. last_then enter_root (λ outer. last_hands in_exprs h
-    (λ id. hands_then in_exprs (quiet_close_barrier outside) (λ y. hands_then in_exprs (quiet_leave outer id) (λ u. hands_pure in_exprs _ refl)))))
+    (λ id. hands_then in_exprs (quiet_close_barrier outside) (λ y.
+    hands_then in_exprs (quiet_leave outer id) (λ u. hands_pure in_exprs _ refl)))))
 
 pub made_coroutine_last : (kind : CoroutineKind) (from : CoroutineSource) (lets : List Statement) (body : ExprId)
     → IsLast (made_coroutine_form kind from lets body)

@@ -1,12 +1,11 @@
--- What stands in a store for a written tree: for each kept expression one stored expression of its form, which came from its own node
--- and whose parts stand for its parts. An absent or disabled part is a missing expression that came from no node, or none where the
--- form knows none. What is made up for a form came from the form's node, but what makes the iterator of a `for` from that of its head;
--- from none came a pattern, the block in a coroutine, and of a closure that is a coroutine its coroutine and what stands in front of the
--- body, where what is made up for a pattern came from the pattern's node. With it stand the ways of the tree: from the node of each
--- written expression and label to what it became, and to each missing one and each made up from no node; and to each binding, with what
--- owns it: the innermost closure, coroutine, `const` block, length or argument around it. What its constants became stands for them, also
--- where nothing names it. A top pattern reads back as it is written, and so does one in a field without a name, which is part of nothing;
--- the names of a top pattern have one binding each, and what is in it stands for what is written there.
+-- What stands in a store for a written tree: for each kept expression a stored one of its form, from its own node, whose parts stand for
+-- its parts. An absent or disabled part is a missing expression from no node, or none where the form knows none. What is made up for a form
+-- came from the form's node, but what makes the iterator of a `for` from that of its head; from none came a pattern, the block in a
+-- coroutine, and of a closure that is a coroutine its coroutine and what stands in front of the body, where what is made up for a pattern
+-- came from the pattern's node. With it come its ways: from the node of each written expression and label to what it became, and to each
+-- missing one and each made up from none; and to each binding with its owner: the innermost closure, coroutine, `const` block, length or
+-- argument around it. What its constants became stands for them, named or not. A top pattern reads back as written, and so does one in a
+-- field without a name, part of nothing; the names of a top pattern have one binding each, and what is in it stands for what is written.
 use Rattle.std.specs.Prelude.{◌≡◌, ℕ, Bool, true, false, List, [], ◌∷◌, ◌++◌, map, Option, Some, None, option_to_list, slice_get, unwrap_or}
 use Rattle.hir_base.specs.declared.op.RangeOp.{RangeOp}
 use Rattle.hir_syntax.specs.declared.ast.Literal.{Literal as AstLiteral}
