@@ -209,8 +209,14 @@ pub names_grow : (s t : Stored) (b : Bindings) → Grows s t → HasNames s b �
 names_grow s t b more names = (names.0, omega (arith, names.1, more.5))
 
 grows_on : (a b c : Stored) → Grows a b → Grows b c → Grows a c
-grows_on a b c g h =
-    (omega (arith, g.0, h.0), omega (arith, g.1, h.1), omega (arith, g.2, h.2), omega (arith, g.3, h.3), omega (arith, g.4, h.4), omega (arith, g.5, h.5))
+grows_on a b c g h = (
+  omega (arith, g.0, h.0),
+  omega (arith, g.1, h.1),
+  omega (arith, g.2, h.2),
+  omega (arith, g.3, h.3),
+  omega (arith, g.4, h.4),
+  omega (arith, g.5, h.5),
+)
 
 -- the problems of the first n names are written
 abbrev pub Settled : Bindings → ℕ → Builder → Builder → Type 0
