@@ -258,8 +258,8 @@ element-returns-in_err-land-in_default g t c =
     c.from_residual-in_err-land-in_default.result c.land.new.state c.from_residual-in_err-land-in_default.ensures.1
     (λ other.
     let h = c.in_err-land-in_default.ensures other in (
-      part_unlanded at c.args.call node alone c.in_ok-found-in_default.found c.source.result c.args.state.now c.aim.new.state c.land.new.state
-          parts c.source.ensures _ c.in_ok-found-in_default.ensures h.0,
+      part_unlanded at c.args.call node alone c.in_ok-found-in_default.found c.source.result c.args.state.now c.aim.new.state
+          c.land.new.state parts c.source.ensures _ c.in_ok-found-in_default.ensures h.0,
       h.1,
     ))
 
