@@ -1,8 +1,7 @@
 -- What is known of the answers of small steps: of a trait's path, of a `super`, of the names of a pattern, of two dots.
-use Rattle.std.proofs.Common.{◌≡◌, ◌∙◌, ◌⊎◌, inl, inr, refl, sym, ap, ℕ, ◌+◌, ◌^◌, nat_lt, Bool, true, false, not}
+use Rattle.std.proofs.Common.{◌≡◌, ◌∙◌, ◌⊎◌, inl, inr, refl, sym, ap, ◌+◌, ◌^◌, nat_lt, Bool, true, false, not}
 use Rattle.std.proofs.Common.{if◌then◌else◌, cond}
 use Rattle.std.proofs.Common.{List, [], ◌∷◌, ◌++◌, reverse, Option, Some, None, option_map}
-use Rattle.std.proofs.lemmas.List.{reverse-append}
 use Rattle.std.specs.Map.{lookup}
 use Rattle.hir_store.specs.declared.ids.BindingId.{BindingId}
 use Rattle.hir_store.specs.declared.ids.TypeRefId.{TypeRefId}
@@ -22,27 +21,16 @@ use Rattle.hir_lower_form.specs.Walks as walks
 use Rattle.hir_lower_form.specs.Walks.{supers, no_names, super_read, mod_path, add_trait}
 use Rattle.hir_steps.proofs.TupleDots.{IsDots, IsPart, dots_or_part}
 use Rattle.hir_steps.specs.PatNames.{is_known}
-use Rattle.hir_steps.specs.PathSeen.{Seen, refused, goes_on, one_more, projected}
-use Rattle.hir_steps.proofs.PathAnswers.{seen, seen_of, path_seen, Gives as GivesRead}
+use Rattle.hir_steps.specs.PathSeen.{refused, goes_on, one_more, projected}
+use Rattle.hir_steps.proofs.PathAnswers.{seen, seen_of, seen_with, path_seen, reversed, Gives as GivesRead}
 use Rattle.hir_steps.proofs.PatAnswers.{AreKeyed}
 use Rattle.hir_steps.proofs.Answering.{Answering}
 
 -- ---- what a trait's path says
 
-reversed : (xs : List Name) → no_names (reverse xs) ≡ no_names xs
-reversed [] = refl
-reversed (x ∷ xs) = ap no_names (reverse-append (x ∷ []) xs) ∙ by (reverse xs) x
-  where
-    by : (ys : List Name) (y : Name) → no_names (ys ++ y ∷ []) ≡ false
-    by [] y = refl
-    by (z ∷ ys) y = refl
-
 appended : (xs ys : List Name) → no_names ys ≡ false → not (no_names (xs ++ ys)) ≡ true
 appended [] ys e = ap not e
 appended (x ∷ xs) ys e = refl
-
-abbrev seen_with : ℕ → Bool → Seen
-seen_with n b = record { named = b; supers = n }
 
 pub projected_is : (t : TypeRefId) (p : HirPath) (w : PathWalk) → seen_of (walks.projected t p w) ≡ projected (Some (path_seen p))
 projected_is t p w = by (no_names (mod_path p).segments) refl

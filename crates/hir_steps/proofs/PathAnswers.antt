@@ -39,14 +39,14 @@ path_seen p = record { named = not (no_names (mod_path p).segments); supers = su
 abbrev pub option_seen : Option HirPath → Option Seen
 option_seen p = option_map path_seen p
 
-abbrev seen_with : ℕ → Bool → Seen
+abbrev pub seen_with : ℕ → Bool → Seen
 seen_with n b = record { named = b; supers = n }
 
 pushed : (xs : List Name) (x : Name) → not (no_names (xs ++ x ∷ [])) ≡ true
 pushed [] x = refl
 pushed (y ∷ xs) x = refl
 
-reversed : (xs : List Name) → no_names (reverse xs) ≡ no_names xs
+pub reversed : (xs : List Name) → no_names (reverse xs) ≡ no_names xs
 reversed [] = refl
 reversed (x ∷ xs) = ap no_names (reverse-append (x ∷ []) xs) ∙ by (reverse xs) x
   where
