@@ -34,10 +34,6 @@ Lasts f s = (later : Stored) → Extends s later → f later ≡ f s
 lasts_on : {A : Type 0} (f : Stored → A) (s t : Stored) → Extends s t → Lasts f s → Lasts f t
 lasts_on f s t e h = λ later x. h later (extends_trans e x) ∙ sym (h t e)
 
--- so is what is made of it
-pub lasts_as : {A B : Type 0} (f : Stored → A) (g : A → B) (s : Stored) → Lasts f s → Lasts (λ z. g (f z)) s
-lasts_as f g s h = λ later x. ap g (h later x)
-
 -- what is said of each later one
 pub lasts_if : {A : Type 0} (f : Stored → A) (s : Stored) (a : A) → ((later : Stored) → Extends s later → f later ≡ a) → f s ≡ a
     → Lasts f s
@@ -260,11 +256,6 @@ bound_within s (bound.Lifetime l) h =
 bound_within s (bound.Use us) h = each_within (λ z u. use_layer (store_of z) (map_of z) u) past_use_arg (datum.name_used name.Missing) s
     (use_within s) us (λ later e. ap bound_uses (h later e))
 bound_within s bound.Error h = within_nothing (store_of s)
-
--- of what is asked of a type by what it is
-pub type_within : (s : Stored) (t : TypeRefId) → Lasts (λ z. (whole z).type t) s → Within (store_of s) (past_type_id t)
-unfolding stored_type
-type_within s t h = within_type (store_of s) t (type_is_stored s t h)
 
 pub lifetime_within : (s : Stored) (l : LifetimeRefId) → Lasts (read_lifetime l) s → Within (store_of s) (past_lifetime_id l)
 lifetime_within s l h = within_lifetime (store_of s) l (lifetime_is_stored s l h)
