@@ -13,7 +13,7 @@ ghost use Rattle.hir_item_result.specs.Once.{AliasesOnce, FunctionsOnce, Generic
 ghost use Rattle.hir_item_result.specs.Roots.{FirstItemRoots, ItemRoots};
 ghost use Rattle.hir_item_result.specs.Stored.{FirstItemsStore, ItemsStore};
 ghost use Rattle.hir_item_result.specs.Words.{SameWords};
-ghost use Rattle.hir_item_result.specs.Worked.{CountsArguments};
+ghost use Rattle.hir_item_result.specs.Worked.{CountsArguments, CountsParts};
 
 /// Where no root is being lowered, each constant in an item is recorded as one, in the order in which its parts are read, and does what
 /// the written one does: also what stands in a path that is refused, in arguments that are dropped, or in the bounds of an `impl` that
@@ -89,6 +89,13 @@ pub fn answers_hold_once()
 /// asked of the parameter that the `impl` became.
 pub fn counts_arguments()
     ensures { CountsArguments }
+{}
+
+/// Of small items everything is reached, each once: of `<T = [!; 1], const N: [!; 2] = 3>` with `where [!; 4]: A<5> + A<6>` the defaults,
+/// the type of the constant, what the predicates are of, and their bounds; of an alias its bound and its type, of an `impl` its type and
+/// its trait, of a function the type that it returns.
+pub fn counts_parts()
+    ensures { CountsParts }
 {}
 
 /// Where each expression is reached in one way only by what is held, no two that are held are one. So the defaults of two constant
