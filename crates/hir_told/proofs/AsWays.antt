@@ -1,4 +1,4 @@
--- Nodes lead to what came since, and nothing that was stored is lost: an instance.
+-- Nodes lead to what came since, and no arena gets shorter: an instance.
 use Rattle.std.proofs.Common.{◌≡◌, subst, ℕ, Bool, Option, Some, None, Ok, Err}
 use Rattle.hir_binding.specs.declared.binding.BindingAnnotation.{BindingAnnotation}
 use Rattle.hir_store.specs.Pointers.{Pointer}

@@ -1,4 +1,4 @@
--- Where nodes lead, behind where they led; and that nothing is lost of what was stored.
+-- Where nodes lead, behind where they led; and that no arena gets shorter.
 use Rattle.std.specs.Prelude.{◌≡◌, ◌≤◌, ◌⊎◌, ℕ, List, length, Ok, Option, Some}
 use Rattle.hir_store.specs.Arenas.{Prefix, Sourced}
 use Rattle.hir_store.specs.Pointers.{Pointer, found}
@@ -19,7 +19,7 @@ abbrev pub LeadsOn : {I : Type 0} → (I → ℕ) → ℕ → List (Pointer × I
 LeadsOn {I = I} place n old new =
     (p : Pointer) (t : I) → found old p ≡ Some t → (u : I) × ((found new p ≡ Some u) × ((u ≡ t) ⊎ (n ≤ place u)))
 
--- an arena with no entry lost, whose nodes lead on
+-- an arena that gets no shorter, whose nodes lead on
 pub record Onward {E I : Type 0} (place : I → ℕ) (a b : Sourced E I) : Type 0 where
   pub grown : length a.entries ≤ length b.entries
   pub ways : LeadsOn place (length a.entries) a.map b.map

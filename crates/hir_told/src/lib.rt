@@ -31,8 +31,8 @@ pub fn targets_note()
     ensures { TargetsNote }
 {}
 
-/// Whether or not there is room for an expression, nothing that was stored is lost, bindings and what owns them stay, and a node that led
-/// somewhere leads there still, or to what came since. What is answered came since.
+/// Whether or not there is room for an expression, no arena gets shorter, bindings and what owns them stay, and a node that led somewhere
+/// leads there still, or to what came since. What is answered came since.
 pub fn exprs_lead()
     ensures { ExprsLead }
 {}
