@@ -57,7 +57,7 @@ made_item_stands None at = made_stands _ at
 made_item_stands (Some item) at = made_stands _ at
 
 pub made_path_stands : (at : Pointer) (n : ℕ)
-    → Correct (made_path_form at n) (Shows (λ final rs i. StandsMade (store_of final) (map_of final) (results.made_path n) at i))
+    → Correct (made_path_form at n) (Shows (λ final rs i. StandsMade (store_of final) (map_of final) (results.generated_name n) at i))
 unfolding made_path_form
 made_path_stands at n = made_stands _ at
 
@@ -137,7 +137,7 @@ module _ (final : Stored) (at : Pointer) (r e i : ExprId) (A : Ways) (ws : List 
   Left item x = (A & StandsItemCall (store_of final) (map_of final) at item r e & StandsMade (store_of final) (map_of final) x at i) ws
 
   left_as : (items : QuestionItems) (t : Option (Try LabelId)) → Left (conversion items t) (leaving_node t e)
-      → Left (results.conversion items t) (results.jump_with t e)
+      → Left (results.conversion items t) (results.leaving_node t e)
   left_as items None h = h
   left_as items (Some t) h = h
 
@@ -150,13 +150,13 @@ residual_stands at items n = correct_as
     (λ final ps m m' i g row.
     let q = row.second in
     let s = q.second in
-    let A = StandsMade (store_of final) (map_of final) (results.made_path n) at row.one in
+    let A = StandsMade (store_of final) (map_of final) (results.generated_name n) at row.one in
     let parts = shown_both row.first.shown (shown_after (moved_pure q.first.still) (shown_both s.first.shown s.second.shown)) in
     record {
       shown = shown_as parts (λ ws y. (
         row.one,
         s.one,
-        subst (λ t. Left final at row.one s.one i A ws (results.conversion items t) (results.jump_with t s.one)) q.first.is
+        subst (λ t. Left final at row.one s.one i A ws (results.conversion items t) (results.leaving_node t s.one)) q.first.is
             (left_as final at row.one s.one i A ws items q.one y),
       ));
     })

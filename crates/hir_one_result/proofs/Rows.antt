@@ -29,7 +29,7 @@ use Rattle.hir_meaning.specs.Data.{LiteralData, literal_data}
 use Rattle.hir_meaning.specs.Contents.{BlockContents}
 use Rattle.hir_store.specs.declared.ids.CfgId.{CfgId}
 use Rattle.hir_meaning.specs.Small.{at, label_a, root, stored_one}
-use Rattle.hir_one_result.specs.Forms.{jump_with}
+use Rattle.hir_one_result.specs.Forms.{leaving_node}
 use Rattle.hir_one_result.specs.Leads.{Way, Ways, expr_way, unled_way, overtaken, owned_way}
 use Rattle.hir_one_result.specs.Stands.{Absent, Stands, opened, StandsLiteral, StandsEach, StandsContents}
 use Rattle.hir_steps.specs.Statements.{statement_of}
@@ -215,7 +215,7 @@ plain_forms = record {
 module _ (store : Store) (source_map : SourceMap) (items : QuestionItems) where
   leaves_stored : (t : Option (Try LabelId)) (S : ExprId → Ways) (i : ExprId) (ws : List Way)
       → StandsQuestion store source_map (at 0) items t S i ws
-      → LeavesWith store i (jump_with t)
+      → LeavesWith store i (leaving_node t)
   leaves_stored t S i ws h =
       let arm = h.5.second.second.second.first in record {
         choice = h.1;

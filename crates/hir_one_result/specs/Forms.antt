@@ -74,8 +74,8 @@ range_fields last low high = end_field (name.Text (codes "start")) low ++ end_fi
 
 -- the name of this number, which lowering makes up, where it is looked up and where it is bound
 
-abbrev pub made_path : ℕ → HirExpr
-made_path n = hir.Path (path_of_name (name.Generated n)) no_macro
+abbrev pub generated_name : ℕ → HirExpr
+generated_name n = hir.Path (path_of_name (name.Generated n)) no_macro
 
 abbrev pub generated_binding : BindingAnnotation → ℕ → Binding
 generated_binding mode n = record { name = name.Generated n; mode = mode; hygiene = no_macro; problems = None }
@@ -86,6 +86,6 @@ conversion items None = items.from_residual
 conversion items (Some t) = if t.typed then items.from_residual else items.into_try_type
 
 -- it leaves for the innermost `try`, or returns where there is none
-abbrev pub jump_with : Option (Try LabelId) → ExprId → HirExpr
-jump_with None e = hir.Return (Some e)
-jump_with (Some t) e = hir.Break (Some t.place) (Some e)
+abbrev pub leaving_node : Option (Try LabelId) → ExprId → HirExpr
+leaving_node None e = hir.Return (Some e)
+leaving_node (Some t) e = hir.Break (Some t.place) (Some e)

@@ -33,7 +33,7 @@ use Rattle.hir_store.specs.declared.ids.TypeRefId.{TypeRefId}
 use Rattle.hir_scope.specs.Ribs.{Try}
 use Rattle.hir_env.specs.Answered.{ForItems, QuestionItems}
 use Rattle.hir_meaning.specs.Contents.{BlockContents}
-use Rattle.hir_one_result.specs.Forms.{item_or_missing, no_macro, made_path, generated_binding, conversion, jump_with}
+use Rattle.hir_one_result.specs.Forms.{item_or_missing, no_macro, generated_name, generated_binding, conversion, leaving_node}
 use Rattle.hir_one_result.specs.Leads.{Ways, No, OneWay, OneUnled, OneLabelWay, OneBindingWay, ◌&◌}
 use Rattle.hir_one_result.specs.StandsParts.{ExprAt}
 
@@ -87,7 +87,7 @@ module _ (store : Store) (source_map : SourceMap) where
   abbrev pub StandsCondition : Pointer → Bool → (ExprId → Ways) → ExprId → Ways
   StandsCondition at true C i = C i
   StandsCondition at false C i = λ ws. (condition : ExprId) × (n : ℕ) × (p : PatId) × (e : ExprId)
-      × (C condition & StandsMadeBind Unannotated n p & StandsMade (made_path n) at e
+      × (C condition & StandsMadeBind Unannotated n p & StandsMade (generated_name n) at e
       & StandsMade (hir.Block false None None (statement.Let p None (Some condition) None ∷ []) (Some e)) at i) ws
 
   -- ---- closures
@@ -120,12 +120,12 @@ module _ (store : Store) (source_map : SourceMap) where
   -- the residual of that name, what is made of it, and what leaves with that
   abbrev pub StandsResidual : Pointer → QuestionItems → Option (Try LabelId) → ℕ → ExprId → Ways
   StandsResidual at items t n i = λ ws. (r : ExprId) × (e : ExprId)
-      × (StandsMade (made_path n) at r & StandsItemCall at (conversion items t) r e & StandsMade (jump_with t e) at i) ws
+      × (StandsMade (generated_name n) at r & StandsItemCall at (conversion items t) r e & StandsMade (leaving_node t e) at i) ws
 
   abbrev pub StandsQuestion : Pointer → QuestionItems → Option (Try LabelId) → (ExprId → Ways) → ExprId → Ways
   StandsQuestion at items t S i = λ ws. (e : ExprId) × (b : ExprId) × (goes_on : MatchArm) × (breaks : MatchArm)
       × ExprAt store source_map i (hir.Match b (goes_on ∷ breaks ∷ [])) (Some at)
-      × (S e & StandsItemCall at (Some items.branch) e b & StandsFlowArm items.goes_on (λ n x. StandsMade (made_path n) at x) goes_on
+      × (S e & StandsItemCall at (Some items.branch) e b & StandsFlowArm items.goes_on (λ n x. StandsMade (generated_name n) at x) goes_on
       & StandsFlowArm items.breaks (λ n x. StandsResidual at items t n x) breaks & OneWay at i) ws
 
   -- ---- `try`
@@ -152,7 +152,7 @@ module _ (store : Store) (source_map : SourceMap) where
   -- `{ let g: T = block; g }`, where the block is the `try` without its type
   abbrev pub StandsTypedTry : Pointer → (ExprId → Ways) → (TypeRefId → Ways) → ExprId → Ways
   StandsTypedTry at B T i = λ ws. (b : ExprId) × (t : TypeRefId) × (n : ℕ) × (p : PatId) × (e : ExprId)
-      × (B b & T t & StandsMadeBind Unannotated n p & StandsMade (made_path n) at e
+      × (B b & T t & StandsMadeBind Unannotated n p & StandsMade (generated_name n) at e
       & StandsMade (hir.Block false None None (statement.Let p (Some t) (Some b) None ∷ []) (Some e)) at i) ws
 
   -- ---- `for`
@@ -160,7 +160,7 @@ module _ (store : Store) (source_map : SourceMap) where
   -- a call of the item with `&mut` of the name of this number
   abbrev pub StandsNext : Pointer → LangItemId → ℕ → ExprId → Ways
   StandsNext at item n i = λ ws. (g : ExprId) × (r : ExprId)
-      × ((StandsMade (made_path n) at g & StandsMade (hir.Ref Ref Mut g) at r)
+      × ((StandsMade (generated_name n) at g & StandsMade (hir.Ref Ref Mut g) at r)
       & StandsItemCall at (Some item) r i) ws
 
   -- the arm for the item that holds nothing: it ends the loop
