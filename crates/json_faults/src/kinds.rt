@@ -23,6 +23,9 @@ pub struct Found<'n> {
     pub starts: Vec<usize>,
 }
 
+/// Most nodes have no more members than so many.
+const USUAL_MEMBERS: usize = 4;
+
 /// The kind of the node whose members begin at a place, by its field "k"; none where that is not the word of a kind.
 #[tactic(auto, using(crate::proofs::Sides::past_members))]
 fn kind_from(members: &[Member<'_>], start: usize) -> Option<Kind>
@@ -65,7 +68,7 @@ pub fn found_in(alloc: Global, nodes: &[Value]) -> Result<Option<Found<'_>>, All
 {
     let mut found = Found {
         kinds: Vec::with_capacity(alloc, nodes.len())?,
-        members: Vec::new(alloc),
+        members: Vec::with_capacity(alloc, nodes.len().saturating_mul(USUAL_MEMBERS))?,
         starts: Vec::with_capacity(alloc, nodes.len())?,
     };
     for node in nodes {

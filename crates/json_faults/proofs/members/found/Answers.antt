@@ -2,8 +2,8 @@ use Rattle.std.proofs.Common.{rules, ◌∙◌, ◌+◌, sym, drop}
 use Rattle.json_faults.proofs.Sides.{hit, miss, none_left, this_first}
 use Rattle.json_faults.proofs.members.found.Goals as goal
 
-pub returns-then-eq : goal.returns-then-eq
-returns-then-eq c =
+pub returns-then-is_same : goal.returns-then-is_same
+returns-then-is_same c =
     let ms = c.args.members.now in
     let i = c.loop-member.member-index in
     sym (c.loop-member.invariant
