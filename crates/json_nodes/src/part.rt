@@ -46,10 +46,10 @@ pub trait ReadParts: LetsGo<AnyPart> {
     /// What stands at each node.
     ghost parts: { Self → ℕ → Option AnyPart };
 
-    /// The part that stands at a node, if one does.
-    fn part_at(&self, alloc: Global, at: u32) -> Result<Option<AnyPart>, AllocError>
+    /// The part that stands at a node, if one does. Where memory is refused it sets `refused`.
+    fn part_at(&self, alloc: Global, refused: &mut bool, at: u32) -> Option<AnyPart>
         requires { can self.now }
-        ensures { IfOk result (λ part. part ≡ parts self.now at) };
+        ensures { Kept refused.old refused.new (result ≡ parts self.now at) };
 }
 
 /// A group of parts: what a field for one may hold.

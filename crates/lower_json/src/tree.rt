@@ -1,6 +1,6 @@
 //! The trees of a list of nodes.
 
-ghost use Rattle.std.specs.Prelude.{◌≡◌, IfOk, option_and_then, option_map};
+ghost use Rattle.std.specs.Prelude.{◌≡◌, IfOk, false, option_and_then, option_map};
 ghost use Rattle.serde_json.specs.View.{view, items_view};
 ghost use Rattle.hir_syntax.specs.declared.macros.Fragment.TheVariants as fragment;
 ghost use Rattle.json_nodes.specs.Groups.{as_expr, as_macro_stmts, as_pat, as_type};
@@ -26,7 +26,7 @@ use json_nodes::code_parts::{Exprs, MacroStmtLists};
 use json_nodes::fields::Fields;
 use json_nodes::node::{Node, node_at};
 use json_nodes::param_parts::Pats;
-use json_nodes::part::{AnyPart, BoxedGroup, Group, ReadParts, in_box, served};
+use json_nodes::part::{AnyPart, BoxedGroup, Group, LetsGo, ReadParts, in_box, served};
 use json_nodes::paths::path;
 use json_nodes::type_parts::Types;
 use serde_json::Value;
@@ -56,43 +56,15 @@ pub struct Level<'k, 'n, F> {
 
 impl<F> ReadParts for Level<'_, '_, F>
 where
-    F: Fn(Global, &[Option<Kind>], &NodeList<'_>, u32, u32) -> Result<Option<AnyPart>, AllocError>,
+    F: Fn(Global, &[Option<Kind>], &NodeList<'_>, u32, &mut bool, u32) -> Option<AnyPart>,
 {
     ghost can = { λ it. Reads (F.pre it.read) (F.post it.read) it.kinds.now it.nodes.now it.levels };
 
     ghost parts = { λ it. spec.part_at it.levels it.kinds.now (items_view it.nodes.now.nodes.now) };
 
-    fn part_at(&self, alloc: Global, at: u32) -> Result<Option<AnyPart>, AllocError> {
-        (self.read)(alloc, self.kinds, self.nodes, self.levels, at)
+    fn part_at(&self, alloc: Global, refused: &mut bool, at: u32) -> Option<AnyPart> {
+        (self.read)(alloc, self.kinds, self.nodes, self.levels, refused, at)
     }
-}
-
-/// Lets go of what was read where memory was refused. It has a frame of its own, since few levels come here.
-#[inline(never)]
-fn let_go_if_there<P: ReadParts>(parts: &P, part: Option<AnyPart>) {
-    if let Some(part) = part {
-        parts.let_go(part);
-    }
-}
-
-/// What stands at a node of a kind, by its index and value.
-pub fn part_at<P: ReadParts>(
-    alloc: Global,
-    parts: &P,
-    value: Own<'_>,
-    at: u32,
-    kind: Kind,
-) -> Result<Option<AnyPart>, AllocError>
-    requires { P.can parts.now }
-    ensures { IfOk result (λ part. part ≡ of_kind (node_at (P.parts parts.now) at (view value.entry.node.now)) kind) }
-{
-    let mut refused = false;
-    let part = of_kind(&node_at(alloc, parts, value, at), &mut refused, kind);
-    if refused {
-        let_go_if_there(parts, part);
-        return Err(AllocError);
-    }
-    Ok(part)
 }
 
 fn read_part(
@@ -100,26 +72,23 @@ fn read_part(
     kinds: &[Option<Kind>],
     nodes: &NodeList<'_>,
     levels: u32,
+    refused: &mut bool,
     at: u32,
-) -> Result<Option<AnyPart>, AllocError>
-    ensures { IfOk result (λ part. part ≡ spec.part_at levels kinds.now (items_view nodes.now.nodes.now) at) }
+) -> Option<AnyPart>
+    ensures { Kept refused.old refused.new (result ≡ spec.part_at levels kinds.now (items_view nodes.now.nodes.now) at) }
 {
     if levels == 0 {
-        return Ok(None);
+        return None;
     }
-    let Some(value) = (&*nodes).at(at as usize) else {
-        return Ok(None);
-    };
-    let Some(kind) = kind_at(kinds, at as usize) else {
-        return Ok(None);
-    };
+    let value = (&*nodes).at(at as usize)?;
+    let kind = kind_at(kinds, at as usize)?;
     let inside = Level {
         kinds,
         nodes: &*nodes,
         levels: levels - 1,
         read: read_part,
     };
-    part_at(alloc, &inside, value, at, kind)
+    of_kind(&node_at(alloc, &inside, value, at), refused, kind)
 }
 
 /// What of a group stands at a node, if anything does.
