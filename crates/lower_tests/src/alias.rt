@@ -3,6 +3,8 @@
 ghost use Rattle.std.specs.Prelude.{IfOk};
 ghost use Rattle.hir_store.specs.Range.{HasType};
 
+use crate::documents::{AskOfDocument, Said, own_if, said_of};
+use crate::paths::EMPTY;
 use hir_alias::signature::AliasSignature;
 use hir_alias::visitor::Visitor;
 use hir_base::{Seq, Text};
@@ -11,10 +13,11 @@ use hir_store::builder::ExpressionStoreBuilder;
 use hir_store::fault::StoreFault;
 use hir_store::generics::{GenericParams, LifetimeBoundType, LifetimeParamData};
 use hir_store::hir::Mutability;
-use hir_store::ids::{ItemContainerId, ModuleId, TypeAliasId, TypeRefId};
+use hir_store::ids::{TypeAliasId, TypeRefId};
 use hir_store::name::Name;
 use hir_store::type_ref::{LifetimeRef, RefType, TypeRef};
 use hir_tables::table::TableEnv;
+use lower_json::document::{Document, Root};
 use std::alloc::{AllocError, Global};
 
 fn name(alloc: Global, text: &str) -> Result<Name, AllocError> {
@@ -182,19 +185,45 @@ fn a_visitor_says_what_it_met(rt: HostRuntime) {
     assert!(rt; walked(rt.alloc()) == Ok((false, true, false)));
 }
 
-/// What an object answers of the alias of that number, where the first of two answers for number 3 is `&'b ()`.
-fn asked(alloc: Global, id: u32) -> Result<Option<Named>, StoreFault> {
-    let mut tables = TableEnv::new(alloc, ItemContainerId::ModuleId(ModuleId(0)));
+/// What an object answers of the alias of a number, where the first of two answers for number 3 is `&'b ()`.
+#[derive(Clone, Copy)]
+struct Answers {
+    id: TypeAliasId,
+    named: Option<Named>,
+}
+
+fn set_both(alloc: Global, tables: &mut TableEnv) -> Result<(), StoreFault> {
     let first = alias_of(alloc, &["'b"], Some(TypeRefId(1)))?;
     tables.set_alias(TypeAliasId(3), first)?;
     let second = alias_of(alloc, &["'b"], None)?;
     tables.set_alias(TypeAliasId(3), second)?;
-    let object: &dyn LowerEnv = &tables;
-    Ok(object.alias(TypeAliasId(id)).map(flags))
+    Ok(())
+}
+
+fn named_by_object(object: &dyn LowerEnv, id: TypeAliasId) -> Option<Named> {
+    Some(flags(object.alias(id)?))
+}
+
+impl AskOfDocument for Answers {
+    fn said(&self, alloc: Global, document: &mut Document) -> Said {
+        match set_both(alloc, &mut document.env) {
+            Ok(()) => own_if(named_by_object(&document.env, self.id) == self.named),
+            Err(_) => Said::Memory,
+        }
+    }
 }
 
 #[test]
 fn an_object_answers_of_aliases(rt: HostRuntime) {
-    assert!(rt; asked(rt.alloc(), 3) == Ok(Some([true, false, false])));
-    assert!(rt; asked(rt.alloc(), 0) == Ok(None));
+    let alloc = rt.alloc();
+    let third = Answers {
+        id: TypeAliasId(3),
+        named: Some([true, false, false]),
+    };
+    assert!(rt; said_of(alloc, Root::Path, EMPTY, &third) == Said::Own);
+    let none = Answers {
+        id: TypeAliasId(0),
+        named: None,
+    };
+    assert!(rt; said_of(alloc, Root::Path, EMPTY, &none) == Said::Own);
 }

@@ -1,16 +1,10 @@
 //! Calls of macros that an object answers, without end and otherwise, and what a collector answers to a call behind a refusal.
 
-use crate::collectors::{collector, with_store};
-use crate::documents::{length_in, with_document};
-use crate::lowered::with_lowered_by_object;
-use hir_lower::{Body, BodySourceMap, LowerError};
-use hir_store::source_map::ExpressionStoreSourceMap;
-use hir_store::store::ExpressionStore;
-use hir_syntax::ast::ConstArg;
-use hir_tables::table::TableEnv;
-use lower_json::document::{Document, Root};
-use lower_json::fault::ReadError;
-use std::alloc::Global;
+use crate::collectors::{Call, Holds, Script, said_of_calls};
+use crate::documents::Said;
+use crate::lowered::{By, said_of_body};
+use crate::ways::{Count, Shown};
+use lower_json::document::Root;
 
 /// `f(m!(), n!())`, where each call stands for itself: the call in what it stands for has its number, in its file.
 pub const ENDLESS: &str = r#"{
@@ -46,28 +40,27 @@ pub const NONE_ENTERED: &str = r#"{
     "env": {"limit": 0, "macros": [[0, 2, "file", 0, 3]]}
 }"#;
 
-/// How many expansions are recorded, and how many faults.
-pub fn counted(source_map: &ExpressionStoreSourceMap) -> (usize, usize) {
-    (
-        source_map.expansions().len(),
-        source_map.diagnostics().len(),
-    )
-}
+/// Six expansions are recorded, and no fault.
+pub const SIX: Shown<'static> = Shown {
+    ways: &[],
+    back: &[],
+    counts: &[(Count::Expansions, 6), (Count::Faults, 0)],
+};
 
-pub fn counted_of_body(_body: &Body, source_map: &BodySourceMap) -> (usize, usize) {
-    counted(&source_map.store)
-}
+pub const NONE: Shown<'static> = Shown {
+    ways: &[],
+    back: &[],
+    counts: &[(Count::Expansions, 0), (Count::Faults, 0)],
+};
 
 #[test]
 fn calls_without_end_are_entered_up_to_the_limit(rt: HostRuntime) {
-    assert!(rt; with_lowered_by_object(rt.alloc(), ENDLESS, &counted_of_body) == Ok(Some((6, 0))));
+    assert!(rt; said_of_body(rt.alloc(), ENDLESS, By::Object, &SIX) == Said::Own);
 }
 
 #[test]
 fn no_call_is_entered_where_the_limit_is_zero(rt: HostRuntime) {
-    assert!(rt;
-        with_lowered_by_object(rt.alloc(), NONE_ENTERED, &counted_of_body) == Ok(Some((0, 0)))
-    );
+    assert!(rt; said_of_body(rt.alloc(), NONE_ENTERED, By::Object, &NONE) == Said::Own);
 }
 
 /// `'a: loop { macro_rules! m {..} m!() }`, where m stands for `break 'a`, whose label's context was made in itself.
@@ -92,10 +85,17 @@ pub const ITS_OWN_PARENT: &str = r#"{
     }
 }"#;
 
+/// One expansion is recorded, and one fault.
+pub const ONE_AND_A_FAULT: Shown<'static> = Shown {
+    ways: &[],
+    back: &[],
+    counts: &[(Count::Expansions, 1), (Count::Faults, 1)],
+};
+
 #[test]
 fn a_search_ends_in_a_context_that_is_its_own_parent(rt: HostRuntime) {
     assert!(rt;
-        with_lowered_by_object(rt.alloc(), ITS_OWN_PARENT, &counted_of_body) == Ok(Some((1, 1)))
+        said_of_body(rt.alloc(), ITS_OWN_PARENT, By::Object, &ONE_AND_A_FAULT) == Said::Own
     );
 }
 
@@ -111,11 +111,15 @@ pub const OTHER_KIND: &str = r#"{
     "env": {"macros": [[0, 2, "file", 1, 3]]}
 }"#;
 
+pub const ONE: Shown<'static> = Shown {
+    ways: &[],
+    back: &[],
+    counts: &[(Count::Expansions, 1), (Count::Faults, 0)],
+};
+
 #[test]
 fn a_call_that_is_expanded_to_another_kind_is_recorded(rt: HostRuntime) {
-    assert!(rt;
-        with_lowered_by_object(rt.alloc(), OTHER_KIND, &counted_of_body) == Ok(Some((1, 0)))
-    );
+    assert!(rt; said_of_body(rt.alloc(), OTHER_KIND, By::Object, &ONE) == Said::Own);
 }
 
 /// The type of an array, whose length is a call that stands for a call, and so on, one more than may be entered.
@@ -139,61 +143,19 @@ const NESTED: &str = r#"{
     }
 }"#;
 
-/// How many expressions, expansions and faults a store holds.
-type Held = (u32, usize, usize);
-
-fn held(store: &ExpressionStore, source_map: &ExpressionStoreSourceMap) -> Held {
-    let (expansions, faults) = counted(source_map);
-    (store.exprs_len(), expansions, faults)
-}
-
-/// What a collector answers to a constant, to the constant again where that was refused, and to the question for its store.
-#[derive(Clone, Copy, PartialEq)]
-struct Told {
-    first: Option<LowerError>,
-    again: Option<LowerError>,
-    stored: Result<Held, LowerError>,
-}
-
-fn asked(alloc: Global, env: &TableEnv, constant: &ConstArg) -> Told {
-    let mut collector = collector(alloc, env, u32::MAX);
-    let first = collector.lower_const_arg(constant).err();
-    let again = match first {
-        None => None,
-        Some(_) => collector.lower_const_arg(constant).err(),
-    };
-    let stored = with_store(collector, &held);
-    Told {
-        first,
-        again,
-        stored,
-    }
-}
-
-fn asked_of_length(alloc: Global, document: &Document) -> Option<Told> {
-    let constant = length_in(document)?;
-    Some(asked(alloc, &document.env, constant))
-}
-
-/// What is answered where no memory is refused.
-const GRANTED: Told = Told {
-    first: None,
-    again: None,
-    stored: Ok((1, 3, 0)),
-};
-
-/// What is answered where any request of the first call is refused, and no later one.
-const REFUSED: Told = Told {
-    first: Some(LowerError::Memory),
-    again: Some(LowerError::Failed),
-    stored: Err(LowerError::Failed),
-};
-
-/// It passes whichever request for memory is refused, too: `rt try --test --fail-alloc N`.
+/// It passes whichever request for memory is refused, too: `rt try --test --fail-alloc N`. Where one of the call's is, the call is refused
+/// for good.
 #[test]
 fn a_constant_that_is_refused_is_refused_for_good(rt: HostRuntime) {
-    let told = with_document(rt.alloc(), Root::Type_, NESTED, &asked_of_length);
-    assert!(rt;
-        told == Ok(Some(GRANTED)) || told == Ok(Some(REFUSED)) || told == Err(ReadError::Memory)
-    );
+    let script = Script {
+        limit: u32::MAX,
+        calls: &[(Call::Constant, Ok(true))],
+        holds: Holds::Sizes {
+            exprs: 1,
+            labels: 0,
+            expansions: 3,
+            faults: 0,
+        },
+    };
+    assert!(rt; said_of_calls(rt.alloc(), Root::Type_, NESTED, &script) != Said::Other);
 }

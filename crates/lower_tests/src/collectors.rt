@@ -1,21 +1,90 @@
-//! Collectors, and the stores that they hand out.
+//! Collectors: how their calls are answered, and the stores that they hand out.
 
-use hir_base::node::HirFileId;
+use crate::documents::{AskOfDocument, Said, constant_in, path_in, said_by_error, said_of};
+use crate::in_range::in_range;
+use crate::listings::{is_listed, is_type_listed};
+use crate::owners::{Owners, are_owners};
+use hir_base::Seq;
+use hir_base::node::{AstPtr, HirFileId, NodeId, TextRange};
+use hir_env::env::LowerEnv;
 use hir_env::place::LoweringMode;
-use hir_lower::{ErrorImplTrait, ExprCollector, ImplTraitLower, LowerError};
-use hir_store::ids::{ItemContainerId, ModuleId};
+use hir_lower::{
+    ErrorImplTrait, ExprCollector, ImplTraitLower, LowerError, OpaqueImplTrait,
+    impl_trait_error_allocator,
+};
+use hir_store::ids::{BindingId, ExprId, ModuleId, PatId, TypeRefId};
+use hir_store::roots::ExprRoot;
 use hir_store::source_map::ExpressionStoreSourceMap;
 use hir_store::store::ExpressionStore;
-use hir_syntax::ast::Path;
-use hir_tables::table::TableEnv;
+use lower_json::document::{Document, Root};
 use std::alloc::Global;
 
-pub fn table(alloc: Global) -> TableEnv {
-    TableEnv::new(alloc, ItemContainerId::ModuleId(ModuleId(0)))
+/// A call of a collector: of the document's constant, of its path, in which an `impl` is an error or stays, or of an `impl` without bounds.
+#[derive(Clone, Copy)]
+pub enum Call {
+    Constant,
+    Path,
+    OpaquePath,
+    Allocator,
+    ErrorImpl,
+    OpaqueImpl,
 }
 
-/// A collector that has room for so many entries of each kind.
-pub fn collector(alloc: Global, env: &TableEnv, limit: u32) -> ExprCollector<'_, TableEnv> {
+const ALL_CALLS: [Call; 6] = [
+    Call::Constant,
+    Call::Path,
+    Call::OpaquePath,
+    Call::Allocator,
+    Call::ErrorImpl,
+    Call::OpaqueImpl,
+];
+
+/// What a call is answered: of a path whether it has a lowered form.
+pub type Answer = Result<bool, LowerError>;
+
+/// Where the expressions, the patterns and the bindings of a root end.
+pub type Ends = (ExprId, PatId, BindingId);
+
+/// What a collector hands out behind its calls.
+#[derive(Clone, Copy)]
+pub enum Holds {
+    /// No store, since a call had an error; this many expressions are stored, if that is known.
+    Failed {
+        exprs: Option<u32>,
+    },
+    /// The ends of the first root, none where none is recorded.
+    FirstEnds(Option<Ends>),
+    /// Where the expressions of the only root end.
+    OnlyRootEnd(ExprId),
+    /// The first three roots: the expression of each, and where those end that belong to it.
+    Roots([Option<(ExprId, ExprId)>; 3]),
+    Owners(Owners),
+    Sizes {
+        exprs: u32,
+        labels: u32,
+        expansions: usize,
+        faults: usize,
+    },
+    /// The listing of the first type.
+    FirstType(&'static str),
+    /// The listing of all roots, with sources.
+    Listing(&'static str),
+}
+
+/// The calls of a collector that has room for so many entries of each kind, each with its answer, and what it hands out behind them.
+#[derive(Clone, Copy)]
+pub struct Script<'a> {
+    pub limit: u32,
+    pub calls: &'a [(Call, Answer)],
+    pub holds: Holds,
+}
+
+const POINTER: AstPtr = AstPtr {
+    node: NodeId(4),
+    range: TextRange { start: 4, end: 5 },
+};
+
+pub fn collector<E: LowerEnv>(alloc: Global, env: &E, limit: u32) -> ExprCollector<'_, E> {
     ExprCollector::with_limit(
         alloc,
         env,
@@ -26,47 +95,223 @@ pub fn collector(alloc: Global, env: &TableEnv, limit: u32) -> ExprCollector<'_,
     )
 }
 
-/// What is answered of a store. No other function owns one that a collector handed out.
-pub fn of_both<R, F: Fn(&ExpressionStore, &ExpressionStoreSourceMap) -> R>(
-    store: ExpressionStore,
-    source_map: ExpressionStoreSourceMap,
-    ask: &F,
-) -> R
-    requires { F.IsAlwaysCallable ask.now }
-{
-    let answer = ask(&store, &source_map);
-    drop(store);
-    drop(source_map);
-    answer
+/// What the calls of a collector are made of. Whatever hands it on knows nothing of trees, which are dear to prove anything about.
+pub trait Subject {
+    /// Lowers the constant. Where there is none no call is made.
+    fn constant<E: LowerEnv>(&self, collector: &mut ExprCollector<'_, E>) -> Answer;
+
+    /// Lowers the path. Where there is none no call is made.
+    fn path<E: LowerEnv, I: ImplTraitLower>(
+        &self,
+        collector: &mut ExprCollector<'_, E>,
+        choice: &mut I,
+    ) -> Answer;
 }
 
-/// What is answered of the store that a collector hands out, or why it hands out none.
-pub fn with_store<R, F: Fn(&ExpressionStore, &ExpressionStoreSourceMap) -> R>(
-    collector: ExprCollector<'_, TableEnv>,
-    ask: &F,
-) -> Result<R, LowerError>
-    requires { F.IsAlwaysCallable ask.now }
-{
-    let (store, source_map) = collector.into_store()?;
-    Ok(of_both(store, source_map, ask))
+impl Subject for Document {
+    fn constant<E: LowerEnv>(&self, collector: &mut ExprCollector<'_, E>) -> Answer {
+        match constant_in(self) {
+            Some(constant) => {
+                let _lowered = collector.lower_const_arg(constant)?;
+                Ok(true)
+            }
+            None => Err(LowerError::Failed),
+        }
+    }
+
+    fn path<E: LowerEnv, I: ImplTraitLower>(
+        &self,
+        collector: &mut ExprCollector<'_, E>,
+        choice: &mut I,
+    ) -> Answer {
+        match path_in(self) {
+            Some(path) => {
+                let lowered = collector.lower_path(path, choice)?;
+                let is_some = lowered.is_some();
+                drop(lowered);
+                Ok(is_some)
+            }
+            None => Err(LowerError::Failed),
+        }
+    }
 }
 
-/// Whether the path has a lowered form, where the caller chooses what an `impl` becomes, or why that isn't said.
-pub fn lowered_with<I: ImplTraitLower>(
-    collector: &mut ExprCollector<'_, TableEnv>,
-    path: &Path,
+fn impl_alone<E: LowerEnv, I: ImplTraitLower>(
+    alloc: Global,
+    collector: &mut ExprCollector<'_, E>,
     choice: &mut I,
-) -> Result<bool, LowerError> {
-    let lowered = collector.lower_path(path, choice)?;
-    let is_some = lowered.is_some();
-    drop(lowered);
-    Ok(is_some)
+) -> Answer {
+    let _stored = choice.lower(collector, POINTER, Seq::new(alloc))?;
+    Ok(true)
 }
 
-/// The same where an `impl` is an error.
-pub fn lowered(
-    collector: &mut ExprCollector<'_, TableEnv>,
-    path: &Path,
-) -> Result<bool, LowerError> {
-    lowered_with(collector, path, &mut ErrorImplTrait)
+fn impl_error<E: LowerEnv>(alloc: Global, collector: &mut ExprCollector<'_, E>) -> Answer {
+    let _stored = impl_trait_error_allocator(collector, POINTER, Seq::new(alloc))?;
+    Ok(true)
+}
+
+fn called<E: LowerEnv, S: Subject>(
+    alloc: Global,
+    collector: &mut ExprCollector<'_, E>,
+    call: Call,
+    subject: &S,
+) -> Answer {
+    match call {
+        Call::Constant => subject.constant(collector),
+        Call::Path => subject.path(collector, &mut ErrorImplTrait),
+        Call::OpaquePath => subject.path(collector, &mut OpaqueImplTrait),
+        Call::Allocator => impl_error(alloc, collector),
+        Call::ErrorImpl => impl_alone(alloc, collector, &mut ErrorImplTrait),
+        Call::OpaqueImpl => impl_alone(alloc, collector, &mut OpaqueImplTrait),
+    }
+}
+
+/// Whether the calls are answered so, or how the first that isn't.
+fn answers<E: LowerEnv, S: Subject>(
+    alloc: Global,
+    collector: &mut ExprCollector<'_, E>,
+    calls: &[(Call, Answer)],
+    subject: &S,
+) -> Said {
+    for next in calls {
+        let (call, own) = *next;
+        let answer = called(alloc, collector, call, subject);
+        if answer != own {
+            return match answer {
+                Ok(_) => Said::Other,
+                Err(error) => said_by_error(error),
+            };
+        }
+    }
+    Said::Own
+}
+
+/// Whether each call is answered `Failed`, and none changes how much is stored.
+fn fails_for_good<E: LowerEnv, S: Subject>(
+    alloc: Global,
+    collector: &mut ExprCollector<'_, E>,
+    subject: &S,
+) -> bool {
+    let exprs = collector.store().exprs_len();
+    for call in ALL_CALLS {
+        if called(alloc, collector, call, subject) != Err(LowerError::Failed) {
+            return false;
+        }
+    }
+    collector.store().exprs_len() == exprs
+}
+
+/// Whether the numbers in the store are in range, and where there was an error each later call fails.
+fn is_sound<E: LowerEnv, S: Subject>(
+    alloc: Global,
+    collector: &mut ExprCollector<'_, E>,
+    holds: Holds,
+    subject: &S,
+) -> bool {
+    let Holds::Failed { exprs } = holds else {
+        return in_range(collector.store());
+    };
+    let stored = collector.store().exprs_len();
+    exprs.unwrap_or(stored) == stored
+        && in_range(collector.store())
+        && fails_for_good(alloc, collector, subject)
+}
+
+fn ends_of(root: &ExprRoot) -> Ends {
+    (root.exprs_end, root.pats_end, root.bindings_end)
+}
+
+fn expr_and_end(root: &ExprRoot) -> (ExprId, ExprId) {
+    (root.root, root.exprs_end)
+}
+
+/// The first three roots.
+fn roots_in(roots: &[ExprRoot]) -> [Option<(ExprId, ExprId)>; 3] {
+    [
+        roots.first().map(expr_and_end),
+        roots.get(1).map(expr_and_end),
+        roots.get(2).map(expr_and_end),
+    ]
+}
+
+fn is_held(
+    alloc: Global,
+    store: &ExpressionStore,
+    source_map: &ExpressionStoreSourceMap,
+    holds: Holds,
+) -> bool {
+    let roots = store.expr_roots();
+    match holds {
+        Holds::Failed { .. } => false,
+        Holds::FirstEnds(own) => roots.first().map(ends_of) == own,
+        Holds::OnlyRootEnd(own) => match roots {
+            [root] => root.exprs_end == own,
+            _ => false,
+        },
+        Holds::Roots(own) => roots_in(roots) == own,
+        Holds::Owners(own) => are_owners(store, own),
+        Holds::Sizes {
+            exprs,
+            labels,
+            expansions,
+            faults,
+        } => {
+            store.exprs_len() == exprs
+                && store.labels_len() == labels
+                && source_map.expansions().len() == expansions
+                && source_map.diagnostics().len() == faults
+        }
+        Holds::FirstType(text) => is_type_listed(alloc, store, source_map, TypeRefId(0), text),
+        Holds::Listing(text) => is_listed(alloc, store, source_map, text),
+    }
+}
+
+/// Whether a collector hands out this. No other function owns a store that one handed out.
+fn is_handed_out<E: LowerEnv>(
+    alloc: Global,
+    collector: ExprCollector<'_, E>,
+    holds: Holds,
+) -> bool {
+    match collector.into_store() {
+        Ok((store, source_map)) => {
+            let is_held = is_held(alloc, &store, &source_map, holds);
+            drop(store);
+            drop(source_map);
+            is_held
+        }
+        Err(error) => error == LowerError::Failed && matches!(holds, Holds::Failed { .. }),
+    }
+}
+
+/// How the calls of a script are answered. Behind a refusal of memory a collector fails for good.
+pub fn said_in<E: LowerEnv, S: Subject>(
+    alloc: Global,
+    env: &E,
+    script: &Script<'_>,
+    subject: &S,
+) -> Said {
+    let mut collector = collector(alloc, env, script.limit);
+    let said = answers(alloc, &mut collector, script.calls, subject);
+    let holds = match said {
+        Said::Memory => Holds::Failed { exprs: None },
+        Said::Own | Said::Other => script.holds,
+    };
+    let is_sound = is_sound(alloc, &mut collector, holds, subject);
+    let is_handed_out = is_handed_out(alloc, collector, holds);
+    if is_sound && is_handed_out {
+        said
+    } else {
+        Said::Other
+    }
+}
+
+impl AskOfDocument for Script<'_> {
+    fn said(&self, alloc: Global, document: &mut Document) -> Said {
+        said_in(alloc, &document.env, self, &*document)
+    }
+}
+
+/// How the calls of a collector are answered that have to do with the document of a text.
+pub fn said_of_calls(alloc: Global, want: Root, text: &str, script: &Script<'_>) -> Said {
+    said_of(alloc, want, text, script)
 }

@@ -1,11 +1,13 @@
 //! Which stored parts the parameters of a function are whose body is a coroutine, and where the coroutine of a closure is stored.
 
-use crate::lowered::with_lowered;
+use crate::documents::Said;
+use crate::lowered::{AskOfBody, By, said_of_body};
 use crate::ways::expr_at;
 use hir_lower::{Body, BodySourceMap};
 use hir_store::hir::{Expr, Pat, Statement};
 use hir_store::ids::{BindingId, ExprId, PatId};
 use hir_store::store::ExpressionStore;
+use std::alloc::Global;
 
 /// `async fn f(self, x: A, (y, z): B) {}`
 pub const FUNCTION: &str = r#"{"nodes": [
@@ -82,30 +84,49 @@ fn written_and_bound(body: &Body) -> Option<(Received, Received)> {
     Some((written, (receiver, let_pat(lets, 1))))
 }
 
-/// Whether what was written is what the first two `let`s bind; none where one of these isn't there.
-pub fn is_bound_by_lets(body: &Body, _source_map: &BodySourceMap) -> Option<bool> {
-    let (written, bound) = written_and_bound(body)?;
-    Some(written == bound)
+/// That what was written is what the first two `let`s bind.
+#[derive(Clone, Copy)]
+pub struct BoundByLets;
+
+impl AskOfBody for BoundByLets {
+    fn is_so(&self, _alloc: Global, body: &Body, _source_map: &BodySourceMap) -> bool {
+        match written_and_bound(body) {
+            Some((written, bound)) => written == bound,
+            None => false,
+        }
+    }
 }
 
 #[test]
 fn what_was_written_is_bound_by_the_lets_in_front_of_the_body(rt: HostRuntime) {
-    assert!(rt; with_lowered(rt.alloc(), FUNCTION, &is_bound_by_lets) == Ok(Some(Some(true))));
+    assert!(rt; said_of_body(rt.alloc(), FUNCTION, By::Tables, &BoundByLets) == Said::Own);
 }
 
 /// The numbers of the closure that node 2 leads to, and of the coroutine in it.
-pub fn closure_and_coroutine(body: &Body, source_map: &BodySourceMap) -> Option<(ExprId, ExprId)> {
-    let id = expr_at(source_map, 2)?;
-    match body.store.expr(id) {
-        Some(Expr::Closure { body, .. }) => Some((id, *body)),
-        _ => None,
+#[derive(Clone, Copy)]
+pub struct Numbers {
+    closure: ExprId,
+    coroutine: ExprId,
+}
+
+pub const NUMBERS: Numbers = Numbers {
+    closure: ExprId(4),
+    coroutine: ExprId(3),
+};
+
+impl AskOfBody for Numbers {
+    fn is_so(&self, _alloc: Global, body: &Body, source_map: &BodySourceMap) -> bool {
+        if expr_at(source_map, 2) != Some(self.closure) {
+            return false;
+        }
+        match body.store.expr(self.closure) {
+            Some(Expr::Closure { body, .. }) => *body == self.coroutine,
+            _ => false,
+        }
     }
 }
 
 #[test]
 fn a_coroutine_is_stored_right_in_front_of_its_closure(rt: HostRuntime) {
-    let numbers = (ExprId(4), ExprId(3));
-    assert!(rt;
-        with_lowered(rt.alloc(), CLOSURE, &closure_and_coroutine) == Ok(Some(Some(numbers)))
-    );
+    assert!(rt; said_of_body(rt.alloc(), CLOSURE, By::Tables, &NUMBERS) == Said::Own);
 }

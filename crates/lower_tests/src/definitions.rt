@@ -1,8 +1,10 @@
 //! The patterns that make a binding, which no listing prints by number, and how many patterns and bindings are stored.
 
-use crate::lowered::with_lowered;
+use crate::documents::Said;
+use crate::lowered::{AskOfBody, By, said_of_body};
 use hir_lower::{Body, BodySourceMap};
 use hir_store::ids::{BindingId, PatId};
+use std::alloc::Global;
 
 /// A function with the one parameter `(x, x)` and no body.
 pub const TWICE: &str = r#"{"nodes": [
@@ -50,76 +52,76 @@ const FOR: &str = r#"{"nodes": [
     {"k": "BlockExpr"}
 ]}"#;
 
-/// The first three.
-pub type Definitions = [Option<PatId>; 3];
-
-fn definitions(source_map: &BodySourceMap, binding: BindingId) -> Option<Definitions> {
-    let patterns = source_map.store.binding_definitions(binding)?.as_slice();
-    Some([
-        patterns.first().copied(),
-        patterns.get(1).copied(),
-        patterns.get(2).copied(),
-    ])
-}
-
-pub fn patterns_of_first(_body: &Body, source_map: &BodySourceMap) -> Option<Definitions> {
-    definitions(source_map, BindingId(0))
-}
+/// The patterns of a binding, none where it isn't stored.
+type Definitions = Option<&'static [PatId]>;
 
 /// The patterns of the first two bindings, and how many patterns and bindings there are.
-#[derive(Clone, Copy, PartialEq)]
-struct Defined {
-    first: Option<Definitions>,
-    second: Option<Definitions>,
+#[derive(Clone, Copy)]
+pub struct Defined {
+    first: Definitions,
+    second: Definitions,
     pats: u32,
     bindings: u32,
 }
 
-fn what_is_defined(body: &Body, source_map: &BodySourceMap) -> Defined {
-    Defined {
-        first: definitions(source_map, BindingId(0)),
-        second: definitions(source_map, BindingId(1)),
-        pats: body.store.pats_len(),
-        bindings: body.store.bindings_len(),
+fn is_defined_by(source_map: &BodySourceMap, binding: BindingId, own: Definitions) -> bool {
+    match (source_map.store.binding_definitions(binding), own) {
+        (Some(patterns), Some(own)) => patterns.as_slice() == own,
+        (None, None) => true,
+        _ => false,
     }
 }
 
+impl AskOfBody for Defined {
+    fn is_so(&self, _alloc: Global, body: &Body, source_map: &BodySourceMap) -> bool {
+        is_defined_by(source_map, BindingId(0), self.first)
+            && is_defined_by(source_map, BindingId(1), self.second)
+            && body.store.pats_len() == self.pats
+            && body.store.bindings_len() == self.bindings
+    }
+}
+
+pub const OF_TWICE: Defined = Defined {
+    first: Some(&[PatId(0), PatId(1)]),
+    second: None,
+    pats: 3,
+    bindings: 1,
+};
+
+const OF_TURNED: Defined = Defined {
+    first: Some(&[PatId(0), PatId(4)]),
+    second: Some(&[PatId(1), PatId(3)]),
+    pats: 7,
+    bindings: 2,
+};
+
 #[test]
 fn a_name_used_twice_is_one_binding_of_two_patterns(rt: HostRuntime) {
-    let twice = Defined {
-        first: Some([Some(PatId(0)), Some(PatId(1)), None]),
-        second: None,
-        pats: 3,
-        bindings: 1,
-    };
-    assert!(rt; with_lowered(rt.alloc(), TWICE, &what_is_defined) == Ok(Some(twice)));
-    let turned = Defined {
-        first: Some([Some(PatId(0)), Some(PatId(4)), None]),
-        second: Some([Some(PatId(1)), Some(PatId(3)), None]),
-        pats: 7,
-        bindings: 2,
-    };
-    assert!(rt; with_lowered(rt.alloc(), TURNED, &what_is_defined) == Ok(Some(turned)));
+    let alloc = rt.alloc();
+    assert!(rt; said_of_body(alloc, TWICE, By::Tables, &OF_TWICE) == Said::Own);
+    assert!(rt; said_of_body(alloc, TURNED, By::Tables, &OF_TURNED) == Said::Own);
 }
+
+const OF_QUESTION: Defined = Defined {
+    first: Some(&[PatId(0)]),
+    second: Some(&[PatId(2)]),
+    pats: 4,
+    bindings: 2,
+};
 
 #[test]
 fn each_name_of_a_question_is_a_binding_of_one_pattern(rt: HostRuntime) {
-    let question = Defined {
-        first: Some([Some(PatId(0)), None, None]),
-        second: Some([Some(PatId(2)), None, None]),
-        pats: 4,
-        bindings: 2,
-    };
-    assert!(rt; with_lowered(rt.alloc(), QUESTION, &what_is_defined) == Ok(Some(question)));
+    assert!(rt; said_of_body(rt.alloc(), QUESTION, By::Tables, &OF_QUESTION) == Said::Own);
 }
+
+const OF_FOR: Defined = Defined {
+    first: Some(&[PatId(0)]),
+    second: Some(&[PatId(1)]),
+    pats: 4,
+    bindings: 2,
+};
 
 #[test]
 fn the_name_of_a_for_is_a_binding_behind_those_of_its_pattern(rt: HostRuntime) {
-    let loop_ = Defined {
-        first: Some([Some(PatId(0)), None, None]),
-        second: Some([Some(PatId(1)), None, None]),
-        pats: 4,
-        bindings: 2,
-    };
-    assert!(rt; with_lowered(rt.alloc(), FOR, &what_is_defined) == Ok(Some(loop_)));
+    assert!(rt; said_of_body(rt.alloc(), FOR, By::Tables, &OF_FOR) == Said::Own);
 }

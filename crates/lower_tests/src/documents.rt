@@ -1,25 +1,49 @@
-//! Documents that tests ask about.
+//! Documents that tests ask about, and how they are answered.
 
-use hir_syntax::ast::{ConstArg, Path, TypeKind};
+use hir_lower::LowerError;
+use hir_syntax::ast::{ConstArg, GenericArg, Path, TypeKind};
 use lower_json::document::{Document, Root, Tree};
 use lower_json::fault::ReadError;
 use lower_json::read::read_tree;
 use std::alloc::Global;
 
-/// What is answered of the document that a text is. No other function owns a document, since it is dear to prove that one is
-/// dropped.
-pub fn with_document<R, F: Fn(Global, &Document) -> R>(
-    alloc: Global,
-    want: Root,
-    text: &str,
-    ask: &F,
-) -> Result<R, ReadError>
-    requires { F.IsAlwaysCallable ask.now }
-{
-    let document = read_tree(alloc, want, text.as_bytes())?;
-    let answer = ask(alloc, &document);
-    drop(document);
-    Ok(answer)
+/// How a question is answered: as it has to be, by a refusal of memory, or otherwise.
+#[derive(Clone, Copy, PartialEq, Eq)]
+pub enum Said {
+    Own,
+    Memory,
+    Other,
+}
+
+pub fn own_if(is_so: bool) -> Said {
+    if is_so { Said::Own } else { Said::Other }
+}
+
+/// Of a call that has no error of its own.
+pub fn said_by_error(error: LowerError) -> Said {
+    match error {
+        LowerError::Memory => Said::Memory,
+        LowerError::Full | LowerError::Failed => Said::Other,
+    }
+}
+
+/// A question to a document, with the answer that it has to have.
+pub trait AskOfDocument {
+    fn said(&self, alloc: Global, document: &mut Document) -> Said;
+}
+
+/// How the document that a text is answers. No other function owns a document, since it is dear to prove that one is dropped.
+pub fn said_of<A: AskOfDocument>(alloc: Global, want: Root, text: &str, ask: &A) -> Said {
+    match read_tree(alloc, want, text.as_bytes()) {
+        Ok(read) => {
+            let mut document = read;
+            let said = ask.said(alloc, &mut document);
+            drop(document);
+            said
+        }
+        Err(ReadError::Memory) => Said::Memory,
+        Err(ReadError::Fault(_)) => Said::Other,
+    }
 }
 
 /// The path that a document is.
@@ -30,13 +54,25 @@ pub fn path_in(document: &Document) -> Option<&Path> {
     }
 }
 
-/// The length in a document that is the type of an array.
-pub fn length_in(document: &Document) -> Option<&ConstArg> {
+/// The first argument beside the path's only name, where it is a constant.
+fn argument_of(path: &Path) -> Option<&ConstArg> {
+    match path.segs.as_slice() {
+        [Some(segment)] => match segment.generics.as_ref()?.as_slice() {
+            [GenericArg::ConstArg(constant)] => Some(constant),
+            _ => None,
+        },
+        _ => None,
+    }
+}
+
+/// The constant in a document: of a path the argument beside its only name, of an array type the length.
+pub fn constant_in(document: &Document) -> Option<&ConstArg> {
     match &document.tree {
+        Tree::Path(path) => argument_of(path),
         Tree::Type_(Some(ty)) => match &ty.kind {
             TypeKind::ArrayType { len, .. } => len.as_ref(),
             _ => None,
         },
-        Tree::Type_(None) | Tree::Fn(_) | Tree::Path(_) | Tree::Pat(_) => None,
+        Tree::Type_(None) | Tree::Fn(_) | Tree::Pat(_) => None,
     }
 }

@@ -61,18 +61,19 @@ fn params(alloc: Global) -> Result<GenericParams, AllocError> {
 /// What is found of each name: the places of lifetimes, and then those of types.
 type Found = ([Option<u32>; 2], [Option<u32>; 2]);
 
+fn lifetime_place(made: &GenericParams, name: &Name) -> Option<u32> {
+    Some(made.find_lifetime_by_name(name, DEF)?.local_id.0)
+}
+
+fn type_place(made: &GenericParams, name: &Name) -> Option<u32> {
+    Some(made.find_type_by_name(name, DEF)?.local_id.0)
+}
+
 fn found(alloc: Global, made: &GenericParams) -> Result<Found, AllocError> {
     let late = named(alloc, "'b")?;
     let ty = named(alloc, "T")?;
-    let lifetimes = [
-        made.find_lifetime_by_name(&late, DEF)
-            .map(|it| it.local_id.0),
-        made.find_lifetime_by_name(&ty, DEF).map(|it| it.local_id.0),
-    ];
-    let types = [
-        made.find_type_by_name(&late, DEF).map(|it| it.local_id.0),
-        made.find_type_by_name(&ty, DEF).map(|it| it.local_id.0),
-    ];
+    let lifetimes = [lifetime_place(made, &late), lifetime_place(made, &ty)];
+    let types = [type_place(made, &late), type_place(made, &ty)];
     Ok((lifetimes, types))
 }
 

@@ -1,10 +1,12 @@
 //! What the nodes of `const` blocks, repeat arrays, closures and coroutines lead to, and how much is stored for them.
 
-use crate::lowered::with_lowered;
-use crate::ways::expr_at;
+use crate::documents::Said;
+use crate::lowered::{AskOfBody, By, said_of_body};
+use crate::ways::{Count, are_counts, expr_at};
 use hir_lower::{Body, BodySourceMap};
 use hir_store::hir::{Array, Expr};
 use hir_store::ids::{ExprId, PatId, TypeRefId};
+use std::alloc::Global;
 
 /// `fn f() { const { 1 } }`
 const CONST: &str = r#"{"nodes": [
@@ -48,8 +50,10 @@ const ASYNC: &str = r#"{"nodes": [
 
 /// What a node leads to, with the parts of it.
 #[derive(Clone, Copy, PartialEq)]
-enum Led {
+pub enum Form {
     Nowhere,
+    Match,
+    LabelledBlock,
     Const(ExprId),
     Repeat(ExprId, ExprId),
     /// The patterns of the first two parameters, the types of these, and the body.
@@ -66,87 +70,121 @@ fn type_of(types: &[Option<TypeRefId>], at: usize) -> Option<TypeRefId> {
     *types.get(at)?
 }
 
-fn led_to(body: &Body, source_map: &BodySourceMap) -> Led {
-    let Some(id) = expr_at(source_map, 2) else {
-        return Led::Nowhere;
-    };
-    match body.store.expr(id) {
-        Some(Expr::Const(constant)) => Led::Const(constant.expr),
-        Some(
-            Expr::Array(
-                Array::Repeat {
-                    initializer,
-                    repeat,
-                },
-            ),
-        ) => Led::Repeat(*initializer, repeat.expr),
-        Some(
-            Expr::Closure {
-                args,
-                arg_types,
-                body,
-                ..
+fn form_of(expr: &Expr) -> Form {
+    match expr {
+        Expr::Match { .. } => Form::Match,
+        Expr::Block { label: Some(_), .. } => Form::LabelledBlock,
+        Expr::Const(constant) => Form::Const(constant.expr),
+        Expr::Array(
+            Array::Repeat {
+                initializer,
+                repeat,
             },
-        ) => {
+        ) => Form::Repeat(*initializer, repeat.expr),
+        Expr::Closure {
+            args,
+            arg_types,
+            body,
+            ..
+        } => {
             let args = args.as_slice();
             let types = arg_types.as_slice();
-            Led::Closure(
+            Form::Closure(
                 [pat_of(args, 0), pat_of(args, 1)],
                 [type_of(types, 0), type_of(types, 1)],
                 *body,
             )
         }
-        _ => Led::Other,
+        _ => Form::Other,
     }
 }
 
-/// What node 2 leads to, how many expressions are stored, and how many roots.
-type Became = (Led, u32, usize);
-
-fn what_became(body: &Body, source_map: &BodySourceMap) -> Became {
-    let roots = body.store.expr_roots().len();
-    (led_to(body, source_map), body.store.exprs_len(), roots)
+fn form_in(body: &Body, source_map: &BodySourceMap) -> Form {
+    let Some(id) = expr_at(source_map, 2) else {
+        return Form::Nowhere;
+    };
+    match body.store.expr(id) {
+        Some(expr) => form_of(expr),
+        None => Form::Other,
+    }
 }
+
+/// What node 2 leads to, and how much is stored.
+#[derive(Clone, Copy)]
+pub struct Became {
+    pub form: Form,
+    pub counts: &'static [(Count, usize)],
+}
+
+impl AskOfBody for Became {
+    fn is_so(&self, _alloc: Global, body: &Body, source_map: &BodySourceMap) -> bool {
+        form_in(body, source_map) == self.form && are_counts(body, source_map, self.counts)
+    }
+}
+
+const OF_CONST: Became = Became {
+    form: Form::Const(ExprId(1)),
+    counts: &[(Count::Exprs, 4), (Count::Roots, 1)],
+};
 
 #[test]
 fn a_const_block_leads_to_what_is_around_its_block(rt: HostRuntime) {
-    let became = (Led::Const(ExprId(1)), 4, 1);
-    assert!(rt; with_lowered(rt.alloc(), CONST, &what_became) == Ok(Some(became)));
+    assert!(rt; said_of_body(rt.alloc(), CONST, By::Tables, &OF_CONST) == Said::Own);
 }
+
+const OF_REPEAT: Became = Became {
+    form: Form::Repeat(ExprId(0), ExprId(1)),
+    counts: &[(Count::Exprs, 4), (Count::Roots, 1)],
+};
 
 #[test]
 fn a_repeat_array_is_stored_behind_its_length_which_is_no_root(rt: HostRuntime) {
-    let became = (Led::Repeat(ExprId(0), ExprId(1)), 4, 1);
-    assert!(rt; with_lowered(rt.alloc(), REPEAT, &what_became) == Ok(Some(became)));
+    assert!(rt; said_of_body(rt.alloc(), REPEAT, By::Tables, &OF_REPEAT) == Said::Own);
 }
+
+const OF_CLOSURE: Became = Became {
+    form: Form::Closure(
+        [Some(PatId(0)), Some(PatId(1))],
+        [Some(TypeRefId(0)), None],
+        ExprId(0),
+    ),
+    counts: &[(Count::Exprs, 3), (Count::Roots, 1)],
+};
 
 #[test]
 fn a_closure_has_a_pattern_for_each_parameter_and_is_no_root(rt: HostRuntime) {
-    let pats = [Some(PatId(0)), Some(PatId(1))];
-    let types = [Some(TypeRefId(0)), None];
-    let became = (Led::Closure(pats, types, ExprId(0)), 3, 1);
-    assert!(rt; with_lowered(rt.alloc(), CLOSURE, &what_became) == Ok(Some(became)));
+    assert!(rt; said_of_body(rt.alloc(), CLOSURE, By::Tables, &OF_CLOSURE) == Said::Own);
 }
+
+const OF_ASYNC: Became = Became {
+    form: Form::Closure([None, None], [None, None], ExprId(1)),
+    counts: &[(Count::Exprs, 4), (Count::Roots, 1)],
+};
 
 #[test]
 fn an_async_block_leads_to_the_coroutine_around_its_block(rt: HostRuntime) {
-    let became = (Led::Closure([None, None], [None, None], ExprId(1)), 4, 1);
-    assert!(rt; with_lowered(rt.alloc(), ASYNC, &what_became) == Ok(Some(became)));
+    assert!(rt; said_of_body(rt.alloc(), ASYNC, By::Tables, &OF_ASYNC) == Said::Own);
 }
 
-/// Whether the expressions came from nodes, in the order of their numbers; for the first four.
-fn have_nodes(_body: &Body, source_map: &BodySourceMap) -> [bool; 4] {
-    let map = &source_map.store;
-    [
-        map.expr_syntax(ExprId(0)).is_some(),
-        map.expr_syntax(ExprId(1)).is_some(),
-        map.expr_syntax(ExprId(2)).is_some(),
-        map.expr_syntax(ExprId(3)).is_some(),
-    ]
+/// Whether the first four expressions came from nodes, in the order of their numbers.
+#[derive(Clone, Copy)]
+struct HaveNodes([bool; 4]);
+
+impl AskOfBody for HaveNodes {
+    fn is_so(&self, _alloc: Global, _body: &Body, source_map: &BodySourceMap) -> bool {
+        let map = &source_map.store;
+        let have = [
+            map.expr_syntax(ExprId(0)).is_some(),
+            map.expr_syntax(ExprId(1)).is_some(),
+            map.expr_syntax(ExprId(2)).is_some(),
+            map.expr_syntax(ExprId(3)).is_some(),
+        ];
+        have == self.0
+    }
 }
 
 #[test]
 fn the_block_in_a_coroutine_comes_from_no_node(rt: HostRuntime) {
-    let have = [true, false, true, true];
-    assert!(rt; with_lowered(rt.alloc(), ASYNC, &have_nodes) == Ok(Some(have)));
+    let have = HaveNodes([true, false, true, true]);
+    assert!(rt; said_of_body(rt.alloc(), ASYNC, By::Tables, &have) == Said::Own);
 }

@@ -30,8 +30,6 @@ mod in_range;
 #[cfg(test)]
 mod inner;
 #[cfg(test)]
-mod item_trees;
-#[cfg(test)]
 mod items;
 #[cfg(test)]
 mod limits;
@@ -65,8 +63,6 @@ mod stacks;
 mod streams;
 #[cfg(test)]
 mod targets;
-#[cfg(test)]
-mod tried;
 #[cfg(test)]
 mod types;
 #[cfg(test)]

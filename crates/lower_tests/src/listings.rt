@@ -1,25 +1,26 @@
 //! Listings of stores made by hand: paths of several generated names, nodes of other files, and faults behind a border or
 //! in a constant alone; and a minus in front of an integer.
 
-use crate::collectors::{collector, of_both, table, with_store};
-use crate::documents::{length_in, with_document};
-use crate::types::listed_in;
+use crate::collectors::{Call, Holds, Script, said_of_calls};
+use crate::documents::Said;
 use hir_base::node::{AstPtr, HirFileId, InFile, NodeId, TextRange};
 use hir_base::{Seq, Text};
+use hir_env::env::LowerEnv;
 use hir_env::lang::LangItems;
-use hir_lower::LowerError;
+use hir_lower::{Body, BodySourceMap, ExprCollector};
 use hir_store::builder::ExpressionStoreBuilder;
 use hir_store::diagnostics::ExpressionStoreDiagnostics;
 use hir_store::fault::StoreFault;
 use hir_store::hir::{Expr, Literal};
-use hir_store::ids::HygieneId;
+use hir_store::ids::{HygieneId, TypeRefId};
 use hir_store::name::Name;
 use hir_store::path::{ModPath, Path, PathKind};
 use hir_store::source_map::ExpressionStoreSourceMap;
 use hir_store::store::ExpressionStore;
+use hir_syntax::ast;
 use hir_syntax::ast::LiteralKind;
-use lower_json::document::{Document, Root};
-use lower_run::listing::{Listed, body_listing};
+use lower_json::document::Root;
+use lower_run::listing::{Listed, body_listing, path_listing, type_listing};
 use std::alloc::{AllocError, Global};
 use std::test::Fail;
 
@@ -31,30 +32,91 @@ const OTHER_FILE: InFile<AstPtr> = InFile {
     },
 };
 
-/// The listing of a store, with sources.
-fn listed<'a>(
-    alloc: Global,
+/// What is listed.
+fn listed_in<'a>(
     store: &'a ExpressionStore,
     source_map: &'a ExpressionStoreSourceMap,
-) -> Result<String, AllocError> {
-    let items = LangItems::numbered();
-    let listed = Listed {
-        sources: true,
-        ..listed_in(store, source_map, &items)
-    };
-    body_listing(alloc, listed, None, &[])
-}
-
-/// The listing of what a builder holds.
-fn listing(alloc: Global, builder: ExpressionStoreBuilder) -> Result<String, AllocError> {
-    let (store, source_map) = builder.finish();
-    of_both(
+    lang_items: &'a LangItems,
+    sources: bool,
+) -> Listed<'a> {
+    Listed {
         store,
         source_map,
-        &move |store: &ExpressionStore, source_map: &ExpressionStoreSourceMap| {
-            listed(alloc, store, source_map)
-        },
+        lang_items,
+        sources,
+        params: None,
+    }
+}
+
+/// Whether a listing is this text. No other function owns one.
+pub fn is_text(listed: Result<String, AllocError>, own: &str) -> bool {
+    match listed {
+        Ok(text) => text.as_str() == own,
+        Err(_) => false,
+    }
+}
+
+/// Whether a store is listed so, with sources.
+pub fn is_listed(
+    alloc: Global,
+    store: &ExpressionStore,
+    source_map: &ExpressionStoreSourceMap,
+    own: &str,
+) -> bool {
+    let items = LangItems::numbered();
+    let listed = listed_in(store, source_map, &items, true);
+    is_text(body_listing(alloc, listed, None, &[]), own)
+}
+
+/// Whether a body is listed so.
+pub fn is_body_listed(alloc: Global, body: &Body, source_map: &BodySourceMap, own: &str) -> bool {
+    let items = LangItems::numbered();
+    let listed = listed_in(&body.store, &source_map.store, &items, false);
+    is_text(
+        body_listing(alloc, listed, None, body.params.as_slice()),
+        own,
     )
+}
+
+/// Whether a type is listed so.
+pub fn is_type_listed(
+    alloc: Global,
+    store: &ExpressionStore,
+    source_map: &ExpressionStoreSourceMap,
+    ty: TypeRefId,
+    own: &str,
+) -> bool {
+    let items = LangItems::numbered();
+    let listed = listed_in(store, source_map, &items, false);
+    is_text(type_listing(alloc, listed, ty), own)
+}
+
+/// Whether a lowered path in a collector is listed so, with the written one's segments.
+pub fn is_path_listed<E: LowerEnv>(
+    alloc: Global,
+    collector: ExprCollector<'_, E>,
+    lowered: &Option<Path>,
+    written: &ast::Path,
+    own: &str,
+) -> bool {
+    let Ok((store, source_map)) = collector.into_store() else {
+        return false;
+    };
+    let items = LangItems::numbered();
+    let listed = listed_in(&store, &source_map, &items, false);
+    let is_text = is_text(path_listing(alloc, listed, lowered.as_ref(), written), own);
+    drop(store);
+    drop(source_map);
+    is_text
+}
+
+/// Whether what a builder holds is listed so, with sources.
+fn is_built(alloc: Global, builder: ExpressionStoreBuilder, own: &str) -> bool {
+    let (store, source_map) = builder.finish();
+    let is_listed = is_listed(alloc, &store, &source_map, own);
+    drop(store);
+    drop(source_map);
+    is_listed
 }
 
 fn record_literal(builder: &mut ExpressionStoreBuilder, text: Text) -> Result<(), StoreFault> {
@@ -68,20 +130,20 @@ fn record_literal(builder: &mut ExpressionStoreBuilder, text: Text) -> Result<()
     builder.record_root(root)
 }
 
-/// The listing of an integer after a minus.
-fn literal(alloc: Global, digits: &str) -> Result<String, StoreFault> {
+/// Whether an integer after a minus is listed so.
+fn is_literal(alloc: Global, digits: &str, own: &str) -> Result<bool, StoreFault> {
     let text = Text::new(alloc, digits)?;
     let mut builder = ExpressionStoreBuilder::new(alloc, 1);
     let recorded = record_literal(&mut builder, text);
-    let listed = listing(alloc, builder);
+    let is_built = is_built(alloc, builder, own);
     recorded?;
-    Ok(listed?)
+    Ok(is_built)
 }
 
 #[test]
 fn a_minus_stands_in_front(rt: HostRuntime) -> Result<(), Fail> {
-    let text = literal(rt.alloc(), "0070")?;
-    assert!(rt; text.as_str() == "body r0=(Literal -70)\n");
+    let is_listed = is_literal(rt.alloc(), "0070", "body r0=(Literal -70)\n")?;
+    assert!(rt; is_listed);
     Ok(())
 }
 
@@ -109,40 +171,41 @@ fn record_path(
     builder.record_root(root)
 }
 
-/// The listing of a path of generated names.
-fn path(alloc: Global) -> Result<String, StoreFault> {
+/// Whether a path of generated names is listed so.
+fn is_path(alloc: Global, own: &str) -> Result<bool, StoreFault> {
     let names = generated(alloc)?;
     let mut builder = ExpressionStoreBuilder::new(alloc, 1);
     let recorded = record_path(&mut builder, names);
-    let listed = listing(alloc, builder);
+    let is_built = is_built(alloc, builder, own);
     recorded?;
-    Ok(listed?)
+    Ok(is_built)
 }
 
 #[test]
 fn generated_names_are_numbered_by_first_printing(rt: HostRuntime) -> Result<(), Fail> {
-    let text = path(rt.alloc())?;
-    assert!(rt; text.as_str() == "body r0=(Path@3.4 $0::$1::$0!2)\n");
+    let is_listed = is_path(rt.alloc(), "body r0=(Path@3.4 $0::$1::$0!2)\n")?;
+    assert!(rt; is_listed);
     Ok(())
 }
 
-/// The listing of an empty store with a jump whose label stands behind a border.
-fn unreachable(alloc: Global, label: &str) -> Result<String, StoreFault> {
+/// Whether an empty store with a jump whose label stands behind a border is listed so.
+fn is_unreachable(alloc: Global, label: &str, own: &str) -> Result<bool, StoreFault> {
     let name = Name::Text(Text::new(alloc, label)?);
     let mut builder = ExpressionStoreBuilder::new(alloc, 1);
     let reported = builder.report(ExpressionStoreDiagnostics::UnreachableLabel {
         node: OTHER_FILE,
         name,
     });
-    let listed = listing(alloc, builder);
+    let is_built = is_built(alloc, builder, own);
     reported?;
-    Ok(listed?)
+    Ok(is_built)
 }
 
 #[test]
 fn a_label_behind_a_border_is_told(rt: HostRuntime) -> Result<(), Fail> {
-    let text = unreachable(rt.alloc(), "'a")?;
-    assert!(rt; text.as_str() == "body -\ndiag UnreachableLabel 'a @3.4\n");
+    let text = "body -\ndiag UnreachableLabel 'a @3.4\n";
+    let is_listed = is_unreachable(rt.alloc(), "'a", text)?;
+    assert!(rt; is_listed);
     Ok(())
 }
 
@@ -153,29 +216,14 @@ const AWAIT: &str = r#"{"nodes": [
     {"k": "AwaitExpr"}
 ]}"#;
 
-/// The listing of a length that stands in no body.
-fn length_in_no_body(
-    alloc: Global,
-    document: &Document,
-) -> Option<Result<Result<String, AllocError>, LowerError>> {
-    let length = length_in(document)?;
-    let env = table(alloc);
-    let mut collector = collector(alloc, &env, u32::MAX);
-    let _lowered = collector.lower_const_arg(length);
-    let text = with_store(
-        collector,
-        &move |store: &ExpressionStore, source_map: &ExpressionStoreSourceMap| {
-            listed(alloc, store, source_map)
-        },
-    );
-    drop(env);
-    Some(text)
-}
-
 #[test]
-fn an_await_in_a_constant_alone_stands_in_a_constant(rt: HostRuntime) -> Result<(), Fail> {
-    let listed = with_document(rt.alloc(), Root::Type_, AWAIT, &length_in_no_body)?;
-    let text = "body r0=(Await@2 (Missing))\ndiag AwaitOutsideOfAsync constant @2\n";
-    assert!(rt; matches!(&listed, Some(Ok(Ok(found))) if found.as_str() == text));
-    Ok(())
+fn an_await_in_a_constant_alone_stands_in_a_constant(rt: HostRuntime) {
+    let script = Script {
+        limit: u32::MAX,
+        calls: &[(Call::Constant, Ok(true))],
+        holds: Holds::Listing(
+            "body r0=(Await@2 (Missing))\ndiag AwaitOutsideOfAsync constant @2\n",
+        ),
+    };
+    assert!(rt; said_of_calls(rt.alloc(), Root::Type_, AWAIT, &script) == Said::Own);
 }

@@ -1,115 +1,146 @@
-//! Documents of items, lowered.
+//! Documents of items, lowered, and what is asked of their bodies.
 
-use crate::documents::with_document;
+use crate::documents::{AskOfDocument, Said, own_if, said_by_error, said_of};
 use hir_base::node::{AstPtr, HirFileId};
 use hir_env::env::LowerEnv;
-use hir_items::ast as items;
+use hir_env::lang::LangItems;
 use hir_lower::{Body, BodySourceMap, LowerError, lower_body};
-use hir_store::ids::{DefWithBodyId, ModuleId};
+use hir_odd_envs::cyclic::Cyclic;
+use hir_odd_envs::endless::Endless;
+use hir_odd_envs::lacking::Lacking;
+use hir_odd_envs::one_module::OneModule;
+use hir_store::ids::{MacroDefId, ModuleId};
 use lower_json::document::{Document, Root, Tree};
-use lower_json::fault::ReadError;
 use std::alloc::Global;
 
+/// What answers where a body is lowered: the tables of its document, or an object.
+#[derive(Clone, Copy)]
+pub enum By {
+    Tables,
+    /// The tables, as an object.
+    Object,
+    /// Each call of a macro is expanded to another one.
+    Endless,
+    /// Each context was made in itself.
+    Circles,
+    /// What is known in this module alone.
+    Module(ModuleId),
+    /// The item of ranges isn't there.
+    WithoutRange,
+    /// The item of newer ranges with an included end is that of those with an excluded one.
+    EqualItems,
+}
+
 /// A lowered body with its source map, or why there is none.
-pub type Lowered = Result<(Body, BodySourceMap), LowerError>;
+type Lowered = Result<(Body, BodySourceMap), LowerError>;
 
-/// The lowered body of an item.
-fn lowered_item<E: LowerEnv>(
+/// What is lowered. Whatever hands it on knows nothing of trees, which are dear to prove anything about.
+trait Item {
+    fn lowered<E: LowerEnv>(&self, alloc: Global, env: &E) -> Lowered;
+}
+
+impl Item for Document {
+    fn lowered<E: LowerEnv>(&self, alloc: Global, env: &E) -> Lowered {
+        let Tree::Fn(item) = &self.tree else {
+            return Err(LowerError::Failed);
+        };
+        let body = match &item.body {
+            Some(body) => Some(body.get()),
+            None => None,
+        };
+        lower_body(
+            alloc,
+            env,
+            self.owner,
+            AstPtr {
+                node: item.id,
+                range: item.range,
+            },
+            HirFileId(0),
+            ModuleId(0),
+            item.params.as_ref(),
+            body,
+            item.async_,
+            item.gen_,
+        )
+    }
+}
+
+fn lowered_by_object<I: Item>(alloc: Global, object: &dyn LowerEnv, item: &I) -> Lowered {
+    item.lowered(alloc, &object)
+}
+
+/// These are the items of the language.
+fn lowered_with<E: LowerEnv, I: Item>(
     alloc: Global,
-    env: &E,
-    owner: DefWithBodyId,
-    item: &items::Fn,
+    behind: &E,
+    items: &LangItems,
+    item: &I,
 ) -> Lowered {
-    let body = match &item.body {
-        Some(body) => Some(body.get()),
-        None => None,
-    };
-    lower_body(
-        alloc,
-        env,
-        owner,
-        AstPtr {
-            node: item.id,
-            range: item.range,
-        },
-        HirFileId(0),
-        ModuleId(0),
-        item.params.as_ref(),
-        body,
-        item.async_,
-        item.gen_,
-    )
+    lowered_by_object(alloc, &Lacking { behind, items }, item)
 }
 
-/// The lowered body of the item that a document is, where this environment answers.
-pub fn lowered_of<E: LowerEnv>(alloc: Global, env: &E, document: &Document) -> Lowered {
-    match &document.tree {
-        Tree::Fn(item) => lowered_item(alloc, env, document.owner, item),
-        Tree::Path(_) | Tree::Type_(_) | Tree::Pat(_) => Err(LowerError::Failed),
-    }
-}
-
-pub fn lowered_document(alloc: Global, document: &Document) -> Lowered {
-    lowered_of(alloc, &document.env, document)
-}
-
-/// The same where an object answers.
-pub fn lowered_by_object(alloc: Global, document: &Document) -> Lowered {
-    let object: &dyn LowerEnv = &document.env;
-    lowered_of(alloc, &object, document)
-}
-
-/// What is answered of a body, if there is one. No other function owns a body.
-pub fn asked<R, F: Fn(&Body, &BodySourceMap) -> R>(
-    lowered: Option<(Body, BodySourceMap)>,
-    ask: &F,
-) -> Option<R>
-    requires { F.IsAlwaysCallable ask.now }
-{
-    match lowered {
-        Some((body, source_map)) => {
-            let answer = ask(&body, &source_map);
-            drop(body);
-            drop(source_map);
-            Some(answer)
+fn lowered_by<E: LowerEnv, I: Item>(alloc: Global, by: By, behind: &E, item: &I) -> Lowered {
+    let numbered = LangItems::numbered();
+    match by {
+        By::Tables => item.lowered(alloc, behind),
+        By::Object => lowered_by_object(alloc, behind, item),
+        By::Endless => lowered_by_object(alloc, &Endless { behind }, item),
+        By::Circles => {
+            let outer = MacroDefId(9);
+            lowered_by_object(alloc, &Cyclic { behind, outer }, item)
         }
-        None => None,
+        By::Module(module) => lowered_by_object(alloc, &OneModule { behind, module }, item),
+        By::WithoutRange => {
+            let items = LangItems {
+                range: None,
+                ..numbered
+            };
+            lowered_with(alloc, behind, &items, item)
+        }
+        By::EqualItems => {
+            let items = LangItems {
+                range_inclusive_copy: numbered.range_copy,
+                ..numbered
+            };
+            lowered_with(alloc, behind, &items, item)
+        }
     }
 }
 
-/// What is answered of the body that the item in the document of a text is lowered to by a function.
-pub fn with_lowered_as<R, L: Fn(Global, &Document) -> Lowered, F: Fn(&Body, &BodySourceMap) -> R>(
-    alloc: Global,
-    text: &str,
-    lower: &L,
-    ask: &F,
-) -> Result<Option<R>, ReadError>
-    requires { L.IsAlwaysCallable lower.now × F.IsAlwaysCallable ask.now }
-{
-    let lowered = with_document(alloc, Root::Fn, text, lower)?;
-    Ok(asked(lowered.ok(), ask))
+/// A question to a body, with the answer that it has to have.
+pub trait AskOfBody {
+    fn is_so(&self, alloc: Global, body: &Body, source_map: &BodySourceMap) -> bool;
 }
 
-/// What is answered of the lowered body of the item in the document that a text is.
-pub fn with_lowered<R, F: Fn(&Body, &BodySourceMap) -> R>(
-    alloc: Global,
-    text: &str,
-    ask: &F,
-) -> Result<Option<R>, ReadError>
-    requires { F.IsAlwaysCallable ask.now }
-{
-    let lowered = with_document(alloc, Root::Fn, text, &lowered_document)?;
-    Ok(asked(lowered.ok(), ask))
+/// The question to the body that the item in a document is lowered to.
+struct OfBody<'a, Q> {
+    by: By,
+    own: &'a Q,
 }
 
-/// The same where an object answers what lowering asks.
-pub fn with_lowered_by_object<R, F: Fn(&Body, &BodySourceMap) -> R>(
-    alloc: Global,
-    text: &str,
-    ask: &F,
-) -> Result<Option<R>, ReadError>
-    requires { F.IsAlwaysCallable ask.now }
-{
-    let lowered = with_document(alloc, Root::Fn, text, &lowered_by_object)?;
-    Ok(asked(lowered.ok(), ask))
+impl<Q> Drop for OfBody<'_, Q> {
+    fn drop(self) {
+        let OfBody { by: _, own: _ } = self;
+    }
+}
+
+impl<Q: AskOfBody> AskOfDocument for OfBody<'_, Q> {
+    /// No other function owns a body.
+    fn said(&self, alloc: Global, document: &mut Document) -> Said {
+        match lowered_by(alloc, self.by, &document.env, &*document) {
+            Ok((body, source_map)) => {
+                let is_so = self.own.is_so(alloc, &body, &source_map);
+                drop(body);
+                drop(source_map);
+                own_if(is_so)
+            }
+            Err(error) => said_by_error(error),
+        }
+    }
+}
+
+/// How the body answers that the item in the document of a text is lowered to.
+pub fn said_of_body<Q: AskOfBody>(alloc: Global, text: &str, by: By, own: &Q) -> Said {
+    said_of(alloc, Root::Fn, text, &OfBody { by, own })
 }

@@ -1,10 +1,8 @@
 //! What the nodes of calls of macros lead to, where they stand for statements, patterns and types.
 
-use crate::calls::counted;
-use crate::lowered::with_lowered;
-use crate::ways::{expr_at, node};
-use hir_lower::{Body, BodySourceMap};
-use hir_store::ids::{ExprId, PatId, TypeRefId};
+use crate::documents::Said;
+use crate::lowered::{By, said_of_body};
+use crate::ways::{Count, Leads, Shown};
 
 /// `fn f() { m!(); n!() }`, where m stands for `1; 2`, and n for `3;`.
 const SPLICED: &str = r#"{
@@ -27,15 +25,15 @@ const SPLICED: &str = r#"{
     "env": {"macros": [[0, 4, "file", 1, 7], [0, 6, "file", 2, 11]]}
 }"#;
 
-fn exprs_of_calls(_body: &Body, source_map: &BodySourceMap) -> [Option<ExprId>; 2] {
-    [expr_at(source_map, 3), expr_at(source_map, 5)]
-}
+const OF_SPLICED: Shown<'static> = Shown {
+    ways: &[(0, 3, Leads::Expr(1)), (0, 5, Leads::Nowhere)],
+    back: &[],
+    counts: &[],
+};
 
 #[test]
 fn a_spliced_call_leads_to_its_last_expression(rt: HostRuntime) {
-    assert!(rt;
-        with_lowered(rt.alloc(), SPLICED, &exprs_of_calls) == Ok(Some([Some(ExprId(1)), None]))
-    );
+    assert!(rt; said_of_body(rt.alloc(), SPLICED, By::Tables, &OF_SPLICED) == Said::Own);
 }
 
 /// `fn f() { let (p!(), q!()): t!() = 1; }`, where p stands for `r!()` and that for `..`, and q and t for `_`.
@@ -63,39 +61,23 @@ const MATCHED: &str = r#"{
     }
 }"#;
 
-/// What the two patterns and the type lead to, how many patterns and types there are, how many expansions are recorded, and how many
-/// faults.
-#[derive(Clone, Copy, PartialEq)]
-struct Led {
-    dots: Option<PatId>,
-    pat: Option<PatId>,
-    ty: Option<TypeRefId>,
-    pats: u32,
-    types: u32,
-    told: (usize, usize),
-}
-
-fn where_led(body: &Body, source_map: &BodySourceMap) -> Led {
-    let map = &source_map.store;
-    Led {
-        dots: map.node_pat(node(4)),
-        pat: map.node_pat(node(6)),
-        ty: map.node_type(node(8)),
-        pats: body.store.pats_len(),
-        types: body.store.types_len(),
-        told: counted(map),
-    }
-}
+/// The two patterns and the type, how many patterns and types there are, how many expansions are recorded, and how many faults.
+const OF_MATCHED: Shown<'static> = Shown {
+    ways: &[
+        (0, 4, Leads::Nowhere),
+        (0, 6, Leads::Pat(0)),
+        (0, 8, Leads::Type_(0)),
+    ],
+    back: &[],
+    counts: &[
+        (Count::Pats, 2),
+        (Count::Types, 1),
+        (Count::Expansions, 4),
+        (Count::Faults, 0),
+    ],
+};
 
 #[test]
 fn calls_lead_to_patterns_and_types_but_not_to_dots(rt: HostRuntime) {
-    let led = Led {
-        dots: None,
-        pat: Some(PatId(0)),
-        ty: Some(TypeRefId(0)),
-        pats: 2,
-        types: 1,
-        told: (4, 0),
-    };
-    assert!(rt; with_lowered(rt.alloc(), MATCHED, &where_led) == Ok(Some(led)));
+    assert!(rt; said_of_body(rt.alloc(), MATCHED, By::Tables, &OF_MATCHED) == Said::Own);
 }

@@ -1,10 +1,8 @@
 //! Labels, types and lifetimes, with their nodes and back, and how many are stored.
 
-use crate::lowered::with_lowered;
-use crate::ways::{node, number_of};
-use hir_base::node::NodeId;
-use hir_lower::{Body, BodySourceMap};
-use hir_store::ids::{LabelId, LifetimeRefId, TypeRefId};
+use crate::documents::Said;
+use crate::lowered::{By, said_of_body};
+use crate::ways::{Count, Leads, Part, Shown};
 
 /// `fn f() { 'a: loop { a as &'x T } }`
 const LABEL_AND_TYPE: &str = r#"{"nodes": [
@@ -24,45 +22,26 @@ const LABEL_AND_TYPE: &str = r#"{"nodes": [
     {"k": "PathSegment", "seg": "name", "name": "T"}
 ]}"#;
 
-/// What the nodes of the label, the reference and the lifetime lead to, their nodes, and how many labels, types, lifetimes and
-/// expressions there are.
-#[derive(Clone, Copy, PartialEq)]
-struct Led {
-    label: Option<LabelId>,
-    ty: Option<TypeRefId>,
-    lifetime: Option<LifetimeRefId>,
-    nodes: [Option<NodeId>; 3],
-    lengths: [u32; 4],
-}
-
-fn where_led(body: &Body, source_map: &BodySourceMap) -> Led {
-    let map = &source_map.store;
-    Led {
-        label: map.node_label(node(3)),
-        ty: map.node_type(node(9)),
-        lifetime: map.node_lifetime(node(10)),
-        nodes: [
-            map.label_syntax(LabelId(0)).map(number_of),
-            map.type_syntax(TypeRefId(1)).map(number_of),
-            map.lifetime_syntax(LifetimeRefId(0)).map(number_of),
-        ],
-        lengths: [
-            body.store.labels_len(),
-            body.store.types_len(),
-            body.store.lifetimes_len(),
-            body.store.exprs_len(),
-        ],
-    }
-}
+const SHOWN: Shown<'static> = Shown {
+    ways: &[
+        (0, 3, Leads::Label(0)),
+        (0, 9, Leads::Type_(1)),
+        (0, 10, Leads::Lifetime(0)),
+    ],
+    back: &[
+        (Part::Label(0), 3),
+        (Part::Type_(1), 9),
+        (Part::Lifetime(0), 10),
+    ],
+    counts: &[
+        (Count::Labels, 1),
+        (Count::Types, 2),
+        (Count::Lifetimes, 1),
+        (Count::Exprs, 5),
+    ],
+};
 
 #[test]
 fn labels_types_and_lifetimes_have_their_nodes(rt: HostRuntime) {
-    let led = Led {
-        label: Some(LabelId(0)),
-        ty: Some(TypeRefId(1)),
-        lifetime: Some(LifetimeRefId(0)),
-        nodes: [Some(NodeId(3)), Some(NodeId(9)), Some(NodeId(10))],
-        lengths: [1, 2, 1, 5],
-    };
-    assert!(rt; with_lowered(rt.alloc(), LABEL_AND_TYPE, &where_led) == Ok(Some(led)));
+    assert!(rt; said_of_body(rt.alloc(), LABEL_AND_TYPE, By::Tables, &SHOWN) == Said::Own);
 }

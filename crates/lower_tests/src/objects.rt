@@ -1,13 +1,11 @@
 //! What an object answers: the numbers of blocks, which no listing prints in order, what names stand for, and which ranges are meant.
 
-use crate::lowered::with_lowered_by_object;
-use crate::types::listed_in;
-use hir_env::lang::LangItems;
+use crate::documents::Said;
+use crate::listings::is_body_listed;
+use crate::lowered::{AskOfBody, By, said_of_body};
 use hir_lower::{Body, BodySourceMap};
 use hir_store::ids::BlockId;
-use lower_run::listing::body_listing;
-use std::alloc::{AllocError, Global};
-use std::test::Fail;
+use std::alloc::Global;
 
 pub const BLOCK_IN_BLOCK: &str = r#"{
     "nodes": [{"k": "Fn", "body": 1}, {"k": "BlockExpr", "tail": 2}, {"k": "BlockExpr"}],
@@ -15,21 +13,26 @@ pub const BLOCK_IN_BLOCK: &str = r#"{
 }"#;
 
 /// The first three.
-pub fn entered(_body: &Body, source_map: &BodySourceMap) -> [Option<BlockId>; 3] {
-    let scopes = source_map.store.block_scopes();
-    [
-        scopes.first().copied(),
-        scopes.get(1).copied(),
-        scopes.get(2).copied(),
-    ]
+#[derive(Clone, Copy)]
+pub struct Entered(pub [Option<BlockId>; 3]);
+
+impl AskOfBody for Entered {
+    fn is_so(&self, _alloc: Global, _body: &Body, source_map: &BodySourceMap) -> bool {
+        let scopes = source_map.store.block_scopes();
+        let entered = [
+            scopes.first().copied(),
+            scopes.get(1).copied(),
+            scopes.get(2).copied(),
+        ];
+        entered == self.0
+    }
 }
+
+pub const ENTERED: Entered = Entered([Some(BlockId(3)), Some(BlockId(4)), None]);
 
 #[test]
 fn blocks_are_noted_in_the_order_of_entering(rt: HostRuntime) {
-    assert!(rt;
-        with_lowered_by_object(rt.alloc(), BLOCK_IN_BLOCK, &entered)
-            == Ok(Some([Some(BlockId(3)), Some(BlockId(4)), None]))
-    );
+    assert!(rt; said_of_body(rt.alloc(), BLOCK_IN_BLOCK, By::Object, &ENTERED) == Said::Own);
 }
 
 /// `fn f(C, x) { a..=b }`, where C stands for a constant and ranges are the newer ones.
@@ -53,30 +56,25 @@ const NAMES_AND_RANGES: &str = r#"{
     "env": {"resolve": [[0, "C", null, "const", null]], "new_range": true}
 }"#;
 
-const LISTED: &str = r"param (Path C)
+/// The listing of a body.
+#[derive(Clone, Copy)]
+struct Text(&'static str);
+
+impl AskOfBody for Text {
+    fn is_so(&self, alloc: Global, body: &Body, source_map: &BodySourceMap) -> bool {
+        is_body_listed(alloc, body, source_map, self.0)
+    }
+}
+
+const LISTED: Text = Text(
+    r"param (Path C)
 param (Bind #0 -)
 body r0=(Block - - - [] (RecordLit lang:RangeInclusiveCopy [(start (Path a)) (last (Path b))] -))
 binding 0 x plain - -
-";
-
-fn listed<'a>(
-    alloc: Global,
-    body: &'a Body,
-    source_map: &'a BodySourceMap,
-) -> Result<String, AllocError> {
-    let items = LangItems::numbered();
-    let listed = listed_in(&body.store, &source_map.store, &items);
-    body_listing(alloc, listed, None, body.params.as_slice())
-}
+",
+);
 
 #[test]
-fn names_are_looked_up_and_ranges_are_the_newer_ones(rt: HostRuntime) -> Result<(), Fail> {
-    let alloc = rt.alloc();
-    let listed = with_lowered_by_object(
-        alloc,
-        NAMES_AND_RANGES,
-        &move |body: &Body, source_map: &BodySourceMap| listed(alloc, body, source_map),
-    )?;
-    assert!(rt; matches!(&listed, Some(Ok(found)) if found.as_str() == LISTED));
-    Ok(())
+fn names_are_looked_up_and_ranges_are_the_newer_ones(rt: HostRuntime) {
+    assert!(rt; said_of_body(rt.alloc(), NAMES_AND_RANGES, By::Object, &LISTED) == Said::Own);
 }

@@ -1,23 +1,20 @@
 //! What is lowered where odd objects answer, and a block that no document has.
 
-use crate::calls::{counted, counted_of_body};
-use crate::collectors::{collector, table, with_store};
-use crate::documents::with_document;
-use crate::lowered::{Lowered, lowered_of, with_lowered_as};
-use crate::objects::{BLOCK_IN_BLOCK, entered};
+use crate::calls::ONE_AND_A_FAULT;
+use crate::collectors::{Answer, Call, Holds, Script, Subject, said_in};
+use crate::documents::{AskOfDocument, Said, own_if, said_by_error, said_of};
+use crate::lowered::{AskOfBody, By, said_of_body};
+use crate::objects::{BLOCK_IN_BLOCK, Entered};
+use crate::paths::EMPTY;
 use hir_base::node::{HirFileId, InFile, NodeId, TextRange};
 use hir_base::{Boxed, Seq, Text};
 use hir_env::env::LowerEnv;
 use hir_env::lang::LangItems;
-use hir_lower::{Body, BodySourceMap, LowerError, lower_function};
-use hir_odd_envs::cyclic::Cyclic;
+use hir_lower::{Body, BodySourceMap, ExprCollector, ImplTraitLower, LowerError, lower_function};
 use hir_odd_envs::lacking::Lacking;
-use hir_odd_envs::one_module::OneModule;
 use hir_store::hir::Expr;
-use hir_store::ids::{BlockId, FunctionId, LangItemId, MacroDefId, ModuleId};
+use hir_store::ids::{BlockId, FunctionId, LangItemId, ModuleId};
 use hir_store::path::Path;
-use hir_store::source_map::ExpressionStoreSourceMap;
-use hir_store::store::ExpressionStore;
 use hir_syntax::ast::{self, BlockModifier, ConstArg, ExprKind, Lifetime};
 use lower_json::document::{Document, Root, Tree};
 use std::alloc::{AllocError, Global};
@@ -43,59 +40,23 @@ pub const OWN_PARENTS: &str = r#"{
     }
 }"#;
 
-pub fn lowered_in_circles(alloc: Global, document: &Document) -> Lowered {
-    let cyclic = Cyclic {
-        behind: &document.env,
-        outer: MacroDefId(9),
-    };
-    let object: &dyn LowerEnv = &cyclic;
-    lowered_of(alloc, &object, document)
-}
-
 #[test]
 fn a_search_ends_where_each_context_is_its_own_parent(rt: HostRuntime) {
-    assert!(rt;
-        with_lowered_as(
-            rt.alloc(),
-            OWN_PARENTS,
-            &lowered_in_circles,
-            &counted_of_body
-        ) == Ok(Some((1, 1)))
-    );
+    assert!(rt; said_of_body(rt.alloc(), OWN_PARENTS, By::Circles, &ONE_AND_A_FAULT) == Said::Own);
 }
 
-/// What is known in the module of number 0 alone.
-pub fn lowered_in_the_root(alloc: Global, document: &Document) -> Lowered {
-    let one = OneModule {
-        behind: &document.env,
-        module: ModuleId(0),
-    };
-    let object: &dyn LowerEnv = &one;
-    lowered_of(alloc, &object, document)
-}
+const OUTER: Entered = Entered([Some(BlockId(3)), None, None]);
 
-/// What is known in the module of number 1 alone.
-fn lowered_in_the_other(alloc: Global, document: &Document) -> Lowered {
-    let one = OneModule {
-        behind: &document.env,
-        module: ModuleId(1),
-    };
-    let object: &dyn LowerEnv = &one;
-    lowered_of(alloc, &object, document)
-}
+const NEITHER: Entered = Entered([None, None, None]);
 
 /// The number of a block is asked for in the module around it, which the block around it has made.
 #[test]
 fn a_block_is_asked_about_in_the_module_around_it(rt: HostRuntime) {
     let alloc = rt.alloc();
-    let outer: [Option<BlockId>; 3] = [Some(BlockId(3)), None, None];
-    assert!(rt;
-        with_lowered_as(alloc, BLOCK_IN_BLOCK, &lowered_in_the_root, &entered) == Ok(Some(outer))
-    );
-    assert!(rt;
-        with_lowered_as(alloc, BLOCK_IN_BLOCK, &lowered_in_the_other, &entered)
-            == Ok(Some([None; 3]))
-    );
+    let root = By::Module(ModuleId(0));
+    assert!(rt; said_of_body(alloc, BLOCK_IN_BLOCK, root, &OUTER) == Said::Own);
+    let other = By::Module(ModuleId(1));
+    assert!(rt; said_of_body(alloc, BLOCK_IN_BLOCK, other, &NEITHER) == Said::Own);
 }
 
 /// `fn f() { a..b }`.
@@ -128,61 +89,34 @@ pub const RANGE_INSIDE: &str = r#"{
 }"#;
 
 /// The item that the last record is made of.
-pub fn item_of_record(body: &Body, _source_map: &BodySourceMap) -> Option<LangItemId> {
-    let mut item = None;
-    for (_, expr) in body.store.exprs() {
-        if let Expr::RecordLit {
-            path: Path::LangItem(found),
-            ..
-        } = expr
-        {
-            item = Some(*found);
+#[derive(Clone, Copy)]
+pub struct ItemOfRecord(pub Option<LangItemId>);
+
+impl AskOfBody for ItemOfRecord {
+    fn is_so(&self, _alloc: Global, body: &Body, _source_map: &BodySourceMap) -> bool {
+        let mut item = None;
+        for (_, expr) in body.store.exprs() {
+            if let Expr::RecordLit {
+                path: Path::LangItem(found),
+                ..
+            } = expr
+            {
+                item = Some(*found);
+            }
         }
+        item == self.0
     }
-    item
 }
 
 #[test]
 fn a_range_is_asked_about_in_its_module(rt: HostRuntime) {
     let alloc = rt.alloc();
     let items = LangItems::numbered();
-    assert!(rt;
-        with_lowered_as(alloc, RANGE, &lowered_in_the_root, &item_of_record)
-            == Ok(Some(items.range_copy))
-    );
-    assert!(rt;
-        with_lowered_as(alloc, RANGE_INSIDE, &lowered_in_the_root, &item_of_record)
-            == Ok(Some(items.range))
-    );
-}
-
-/// These are the items of the language.
-fn lowered_with(alloc: Global, document: &Document, items: &LangItems) -> Lowered {
-    let lacking = Lacking {
-        behind: &document.env,
-        items,
-    };
-    let object: &dyn LowerEnv = &lacking;
-    lowered_of(alloc, &object, document)
-}
-
-/// The item of ranges isn't there.
-pub fn lowered_without_range(alloc: Global, document: &Document) -> Lowered {
-    let items = LangItems {
-        range: None,
-        ..LangItems::numbered()
-    };
-    lowered_with(alloc, document, &items)
-}
-
-/// The item of newer ranges with an included end is that of those with an excluded one.
-pub fn lowered_with_equal_items(alloc: Global, document: &Document) -> Lowered {
-    let numbered = LangItems::numbered();
-    let items = LangItems {
-        range_inclusive_copy: numbered.range_copy,
-        ..numbered
-    };
-    lowered_with(alloc, document, &items)
+    let by = By::Module(ModuleId(0));
+    let newer = ItemOfRecord(items.range_copy);
+    assert!(rt; said_of_body(alloc, RANGE, by, &newer) == Said::Own);
+    let older = ItemOfRecord(items.range);
+    assert!(rt; said_of_body(alloc, RANGE_INSIDE, by, &older) == Said::Own);
 }
 
 /// `fn f() { a..=b }`, where ranges are the newer ones.
@@ -204,18 +138,10 @@ pub const NEWER_RANGE: &str = r#"{
 #[test]
 fn items_of_the_language_may_be_absent_or_equal(rt: HostRuntime) {
     let alloc = rt.alloc();
-    assert!(rt;
-        with_lowered_as(alloc, RANGE, &lowered_without_range, &item_of_record) == Ok(Some(None))
-    );
-    let items = LangItems::numbered();
-    assert!(rt;
-        with_lowered_as(
-            alloc,
-            NEWER_RANGE,
-            &lowered_with_equal_items,
-            &item_of_record
-        ) == Ok(Some(items.range_copy))
-    );
+    let absent = ItemOfRecord(None);
+    assert!(rt; said_of_body(alloc, RANGE, By::WithoutRange, &absent) == Said::Own);
+    let equal = ItemOfRecord(LangItems::numbered().range_copy);
+    assert!(rt; said_of_body(alloc, NEWER_RANGE, By::EqualItems, &equal) == Said::Own);
 }
 
 /// `fn f<'x, 'y>(_: Alias<'x, 'y>) -> (&'x u8, &'y u8) {}`, where the name stands for an alias.
@@ -242,12 +168,18 @@ pub const ALIASED: &str = r#"{
     "env": {"resolve": [[0, "Alias", ["alias", 3], null, null]]}
 }"#;
 
-/// How many lifetime parameters a function has, and how many of them are early bound.
-type Lifetimes = (usize, u32);
+/// How many lifetime parameters a function has, and how many of them are early bound, where no alias has an answer.
+#[derive(Clone, Copy)]
+pub struct Lifetimes {
+    all: usize,
+    early: u32,
+}
 
-fn lifetimes_of<E: LowerEnv>(
+pub const LIFETIMES: Lifetimes = Lifetimes { all: 2, early: 2 };
+
+fn lifetimes_of(
     alloc: Global,
-    env: &E,
+    object: &dyn LowerEnv,
     document: &Document,
 ) -> Result<Lifetimes, LowerError> {
     let Tree::Fn(item) = &document.tree else {
@@ -259,12 +191,15 @@ fn lifetimes_of<E: LowerEnv>(
     };
     let (store, source_map, params, args, _ret, _has_self, _has_variadic) = lower_function(
         alloc,
-        env,
+        &object,
         ModuleId(0),
         written,
         FunctionId(0),
     )?;
-    let lifetimes = (params.lifetimes().len(), params.early_bound_lifetimes_len);
+    let lifetimes = Lifetimes {
+        all: params.lifetimes().len(),
+        early: params.early_bound_lifetimes_len,
+    };
     drop(store);
     drop(source_map);
     drop(params);
@@ -272,92 +207,113 @@ fn lifetimes_of<E: LowerEnv>(
     Ok(lifetimes)
 }
 
-/// No alias has an answer.
-pub fn lifetimes_without_aliases(
-    alloc: Global,
-    document: &Document,
-) -> Result<Lifetimes, LowerError> {
-    let items = LangItems::numbered();
-    let lacking = Lacking {
-        behind: &document.env,
-        items: &items,
-    };
-    let object: &dyn LowerEnv = &lacking;
-    lifetimes_of(alloc, &object, document)
+impl AskOfDocument for Lifetimes {
+    fn said(&self, alloc: Global, document: &mut Document) -> Said {
+        let items = LangItems::numbered();
+        let lacking = Lacking {
+            behind: &document.env,
+            items: &items,
+        };
+        match lifetimes_of(alloc, &lacking, document) {
+            Ok(found) => own_if(found.all == self.all && found.early == self.early),
+            Err(error) => said_by_error(error),
+        }
+    }
 }
 
 #[test]
 fn an_alias_without_an_answer_constrains_nothing(rt: HostRuntime) {
-    assert!(rt;
-        with_document(rt.alloc(), Root::Fn, ALIASED, &lifetimes_without_aliases) == Ok(Ok((2, 2)))
-    );
+    assert!(rt; said_of(rt.alloc(), Root::Fn, ALIASED, &LIFETIMES) == Said::Own);
 }
 
 const TEXT_RANGE: TextRange = TextRange { start: 0, end: 1 };
 
-fn lifetime(alloc: Global) -> Result<Option<Lifetime>, AllocError> {
-    Ok(Some(Lifetime {
+/// `'a`
+fn lifetime(alloc: Global) -> Result<Lifetime, AllocError> {
+    Ok(Lifetime {
         id: NodeId(1),
         range: TEXT_RANGE,
         t: Text::new(alloc, "'a")?,
-    }))
+    })
 }
 
-fn expr(alloc: Global, id: u32, kind: ExprKind) -> Result<Option<Boxed<ast::Expr>>, AllocError> {
-    let expr = ast::Expr {
-        id: NodeId(id),
-        range: TEXT_RANGE,
-        kind,
-    };
-    Ok(Some(Boxed::new(alloc, expr)?))
-}
-
-/// `'a: unsafe { break 'a }`.
+/// `'a: unsafe { break 'a }`. Trees in boxes are handed on, and no tree is owned over a `?`, since both are dear to prove.
 fn labelled_unsafe(alloc: Global) -> Result<ConstArg, AllocError> {
-    let jump = ExprKind::BreakExpr {
-        lifetime: lifetime(alloc)?,
-        expr: None,
-    };
-    let label = ast::Label {
-        id: NodeId(2),
+    let label = lifetime(alloc)?;
+    let jump = ast::Expr {
+        id: NodeId(3),
         range: TEXT_RANGE,
-        lifetime: lifetime(alloc)?,
+        kind: ExprKind::BreakExpr {
+            lifetime: Some(lifetime(alloc)?),
+            expr: None,
+        },
     };
+    let jump = Boxed::new(alloc, jump)?;
     let block = ast::BlockExpr {
         id: NodeId(4),
         range: TEXT_RANGE,
         mod_: Some(BlockModifier::Unsafe),
-        label: Some(label),
+        label: Some(ast::Label {
+            id: NodeId(2),
+            range: TEXT_RANGE,
+            lifetime: Some(label),
+        }),
         ty: None,
         move_: false,
         stmts: Seq::new(alloc),
-        tail: expr(alloc, 3, jump)?,
+        tail: Some(jump),
     };
-    expr(alloc, 4, ExprKind::BlockExpr(Boxed::new(alloc, block)?))
+    let block = ast::Expr {
+        id: NodeId(4),
+        range: TEXT_RANGE,
+        kind: ExprKind::BlockExpr(Boxed::new(alloc, block)?),
+    };
+    Ok(Some(Boxed::new(alloc, block)?))
 }
 
-/// How many expressions and labels there are, and how many faults.
-type Held = (u32, u32, usize);
+/// That an `unsafe` block with a label becomes two expressions and no label, and owes a fault.
+#[derive(Clone, Copy)]
+pub struct LabelledUnsafe;
 
-fn held(store: &ExpressionStore, source_map: &ExpressionStoreSourceMap) -> Held {
-    let (_, faults) = counted(source_map);
-    (store.exprs_len(), store.labels_len(), faults)
+impl Subject for ConstArg {
+    fn constant<E: LowerEnv>(&self, collector: &mut ExprCollector<'_, E>) -> Answer {
+        let _lowered = collector.lower_const_arg(self)?;
+        Ok(true)
+    }
+
+    fn path<E: LowerEnv, I: ImplTraitLower>(
+        &self,
+        _collector: &mut ExprCollector<'_, E>,
+        _choice: &mut I,
+    ) -> Answer {
+        Err(LowerError::Failed)
+    }
 }
 
-/// What is held of an `unsafe` block with a label.
-pub fn held_of_unsafe(alloc: Global) -> Result<Held, LowerError> {
-    let block = labelled_unsafe(alloc).map_err(|_| LowerError::Memory)?;
-    let env = table(alloc);
-    let mut collector = collector(alloc, &env, u32::MAX);
-    let lowered = collector.lower_const_arg(&block);
-    let held = with_store(collector, &held);
-    drop(env);
-    drop(block);
-    let _constant = lowered?;
-    held
+impl AskOfDocument for LabelledUnsafe {
+    fn said(&self, alloc: Global, document: &mut Document) -> Said {
+        let script = Script {
+            limit: u32::MAX,
+            calls: &[(Call::Constant, Ok(true))],
+            holds: Holds::Sizes {
+                exprs: 2,
+                labels: 0,
+                expansions: 0,
+                faults: 1,
+            },
+        };
+        match labelled_unsafe(alloc) {
+            Ok(constant) => {
+                let said = said_in(alloc, &document.env, &script, &constant);
+                drop(constant);
+                said
+            }
+            Err(AllocError) => Said::Memory,
+        }
+    }
 }
 
 #[test]
 fn the_label_of_an_unsafe_block_does_not_count(rt: HostRuntime) {
-    assert!(rt; held_of_unsafe(rt.alloc()) == Ok((2, 0, 1)));
+    assert!(rt; said_of(rt.alloc(), Root::Path, EMPTY, &LabelledUnsafe) == Said::Own);
 }

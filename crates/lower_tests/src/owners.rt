@@ -1,15 +1,12 @@
 //! What owns a binding, by number: also one that no listing prints, and one in a collector.
 
-use crate::collectors::{collector, table, with_store};
-use crate::documents::{path_in, with_document};
-use crate::lowered::with_lowered;
-use hir_lower::{Body, BodySourceMap, ErrorImplTrait, ExprCollector};
+use crate::collectors::{Call, Holds, Script, said_of_calls};
+use crate::documents::Said;
+use crate::lowered::{AskOfBody, By, said_of_body};
+use hir_lower::{Body, BodySourceMap};
 use hir_store::ids::{BindingId, ExprId};
-use hir_store::source_map::ExpressionStoreSourceMap;
 use hir_store::store::ExpressionStore;
-use hir_syntax::ast::{GenericArg, Path};
-use hir_tables::table::TableEnv;
-use lower_json::document::{Document, Root};
+use lower_json::document::Root;
 use std::alloc::Global;
 
 /// `fn f(x) { |y| { let z; } }`
@@ -81,77 +78,61 @@ const ARGUMENT: &str = r#"{"nodes": [
 ]}"#;
 
 /// What owns each of the first four bindings. A binding that isn't stored has no owner either.
-type Owners = [Option<ExprId>; 4];
+pub type Owners = [Option<ExprId>; 4];
 
-fn owners_in(store: &ExpressionStore) -> Owners {
-    [
+pub fn are_owners(store: &ExpressionStore, own: Owners) -> bool {
+    let owners = [
         store.binding_owner(BindingId(0)),
         store.binding_owner(BindingId(1)),
         store.binding_owner(BindingId(2)),
         store.binding_owner(BindingId(3)),
-    ]
+    ];
+    owners == own
 }
 
-fn owners_in_body(body: &Body, _source_map: &BodySourceMap) -> Owners {
-    owners_in(&body.store)
-}
+/// The owners in a body.
+#[derive(Clone, Copy)]
+struct Owned(Owners);
 
-fn owners_in_store(store: &ExpressionStore, _source_map: &ExpressionStoreSourceMap) -> Owners {
-    owners_in(store)
+impl AskOfBody for Owned {
+    fn is_so(&self, _alloc: Global, body: &Body, _source_map: &BodySourceMap) -> bool {
+        are_owners(&body.store, self.0)
+    }
 }
 
 #[test]
 fn a_closure_owns_its_parameters_and_what_its_body_binds(rt: HostRuntime) {
-    let owners = [None, Some(ExprId(1)), Some(ExprId(1)), None];
-    assert!(rt; with_lowered(rt.alloc(), CLOSURE, &owners_in_body) == Ok(Some(owners)));
+    let owned = Owned([None, Some(ExprId(1)), Some(ExprId(1)), None]);
+    assert!(rt; said_of_body(rt.alloc(), CLOSURE, By::Tables, &owned) == Said::Own);
 }
 
 #[test]
 fn a_coroutine_owns_what_none_in_it_owns(rt: HostRuntime) {
-    let owners = [Some(ExprId(3)), Some(ExprId(1)), Some(ExprId(3)), None];
-    assert!(rt; with_lowered(rt.alloc(), COROUTINES, &owners_in_body) == Ok(Some(owners)));
+    let owned = Owned([Some(ExprId(3)), Some(ExprId(1)), Some(ExprId(3)), None]);
+    assert!(rt; said_of_body(rt.alloc(), COROUTINES, By::Tables, &owned) == Said::Own);
 }
 
 #[test]
 fn a_const_block_owns_by_itself_and_a_length_by_its_expression(rt: HostRuntime) {
-    let owners = [Some(ExprId(4)), Some(ExprId(1)), None, None];
-    assert!(rt; with_lowered(rt.alloc(), CONSTANTS, &owners_in_body) == Ok(Some(owners)));
+    let owned = Owned([Some(ExprId(4)), Some(ExprId(1)), None, None]);
+    assert!(rt; said_of_body(rt.alloc(), CONSTANTS, By::Tables, &owned) == Said::Own);
 }
 
 #[test]
 fn a_binding_that_nothing_reaches_is_owned(rt: HostRuntime) {
-    let owners = [Some(ExprId(2)), None, None, None];
-    assert!(rt; with_lowered(rt.alloc(), UNREACHED, &owners_in_body) == Ok(Some(owners)));
+    let owned = Owned([Some(ExprId(2)), None, None, None]);
+    assert!(rt; said_of_body(rt.alloc(), UNREACHED, By::Tables, &owned) == Said::Own);
 }
 
-/// Lowers the first argument beside the path's only name, where it is a constant, and then the path.
-fn lower_both(collector: &mut ExprCollector<'_, TableEnv>, path: &Path) {
-    if let [Some(segment)] = path.segs.as_slice()
-        && let Some(list) = &segment.generics
-        && let [GenericArg::ConstArg(constant)] = list.as_slice()
-    {
-        let _constant = collector.lower_const_arg(constant);
-    }
-    let _path = collector.lower_path(path, &mut ErrorImplTrait);
-}
-
-/// The owners behind these two calls, none where the collector hands out no store.
-fn owners_of_both(alloc: Global, document: &Document) -> Option<Owners> {
-    let path = path_in(document)?;
-    let env = table(alloc);
-    let mut collector = collector(alloc, &env, u32::MAX);
-    lower_both(&mut collector, path);
-    let owners = with_store(collector, &owners_in_store).ok();
-    drop(env);
-    owners
-}
-
+/// The argument is lowered, and then the path with it.
 #[test]
 fn a_constant_argument_owns_by_its_expression(rt: HostRuntime) {
     let first = Some(ExprId(0));
     let second = Some(ExprId(1));
-    let owners = [first, first, second, second];
-    assert!(rt;
-        with_document(rt.alloc(), Root::Path, ARGUMENT, &owners_of_both) == Ok(Some(owners))
-    );
+    let script = Script {
+        limit: u32::MAX,
+        calls: &[(Call::Constant, Ok(true)), (Call::Path, Ok(true))],
+        holds: Holds::Owners([first, first, second, second]),
+    };
+    assert!(rt; said_of_calls(rt.alloc(), Root::Path, ARGUMENT, &script) == Said::Own);
 }

@@ -1,10 +1,10 @@
 //! Paths in collectors, and the way back to their segments.
 
-use crate::collectors::{collector, lowered, table};
-use crate::documents::{path_in, with_document};
+use crate::collectors::{Call, Holds, Script, said_of_calls};
+use crate::documents::{AskOfDocument, Said, own_if, path_in, said_of};
 use hir_base::node::NodeId;
 use hir_lower::{LowerError, hir_segment_to_ast_segment};
-use hir_syntax::ast::{ConstArg, Path};
+use hir_syntax::ast::Path;
 use lower_json::document::{Document, Root};
 use std::alloc::Global;
 
@@ -19,54 +19,58 @@ const MIXED: &str = r#"{"nodes": [
 ]}"#;
 
 /// A path without segments.
-const EMPTY: &str = r#"{"nodes": [{"k": "Path"}]}"#;
+pub const EMPTY: &str = r#"{"nodes": [{"k": "Path"}]}"#;
+
+/// An array type whose length is a constant that is absent.
+const ABSENT: &str = r#"{"nodes": [{"k": "ArrayType", "len": 1}, {"k": "ConstArg"}]}"#;
+
+/// The nodes of the first four segments that bear names.
+#[derive(Clone, Copy)]
+struct Segments([Option<NodeId>; 4]);
 
 fn node_of(path: &Path, segment: u32) -> Option<NodeId> {
     Some(hir_segment_to_ast_segment(path, segment)?.id)
 }
 
-/// The nodes of the first four segments that bear names.
-fn nodes_of(_alloc: Global, document: &Document) -> Option<[Option<NodeId>; 4]> {
-    let path = path_in(document)?;
-    Some([
-        node_of(path, 0),
-        node_of(path, 1),
-        node_of(path, 2),
-        node_of(path, 3),
-    ])
+impl AskOfDocument for Segments {
+    fn said(&self, _alloc: Global, document: &mut Document) -> Said {
+        let Some(path) = path_in(document) else {
+            return Said::Other;
+        };
+        let nodes = [
+            node_of(path, 0),
+            node_of(path, 1),
+            node_of(path, 2),
+            node_of(path, 3),
+        ];
+        own_if(nodes == self.0)
+    }
 }
 
 #[test]
 fn segments_that_bear_names_are_lent(rt: HostRuntime) {
-    assert!(rt;
-        with_document(rt.alloc(), Root::Path, MIXED, &nodes_of)
-            == Ok(Some([Some(NodeId(2)), Some(NodeId(3)), Some(NodeId(5)), None]))
-    );
+    let segments = Segments([Some(NodeId(2)), Some(NodeId(3)), Some(NodeId(5)), None]);
+    assert!(rt; said_of(rt.alloc(), Root::Path, MIXED, &segments) == Said::Own);
 }
 
-/// What a collector that has no room answers: to the path, to a constant, and to the path again.
-type Answers = (
-    Result<bool, LowerError>,
-    Option<LowerError>,
-    Result<bool, LowerError>,
-);
-
-fn without_room(alloc: Global, document: &Document) -> Option<Answers> {
-    let path = path_in(document)?;
-    let env = table(alloc);
-    let constant: ConstArg = None;
-    let mut collector = collector(alloc, &env, 0);
-    let first = lowered(&mut collector, path);
-    let error = collector.lower_const_arg(&constant).err();
-    let again = lowered(&mut collector, path);
-    drop(collector);
-    drop(constant);
-    drop(env);
-    Some((first, error, again))
-}
-
+/// In a collector that has no room, where an absent constant is full as an `impl` is.
 #[test]
 fn a_path_takes_no_room_but_is_not_lowered_after_an_error(rt: HostRuntime) {
-    let answers = (Ok(true), Some(LowerError::Full), Err(LowerError::Failed));
-    assert!(rt; with_document(rt.alloc(), Root::Path, EMPTY, &without_room) == Ok(Some(answers)));
+    let alloc = rt.alloc();
+    let path = Script {
+        limit: 0,
+        calls: &[
+            (Call::Path, Ok(true)),
+            (Call::Allocator, Err(LowerError::Full)),
+            (Call::Path, Err(LowerError::Failed)),
+        ],
+        holds: Holds::Failed { exprs: Some(0) },
+    };
+    assert!(rt; said_of_calls(alloc, Root::Path, EMPTY, &path) == Said::Own);
+    let absent = Script {
+        limit: 0,
+        calls: &[(Call::Constant, Err(LowerError::Full))],
+        holds: Holds::Failed { exprs: Some(0) },
+    };
+    assert!(rt; said_of_calls(alloc, Root::Type_, ABSENT, &absent) == Said::Own);
 }

@@ -1,10 +1,12 @@
 //! The ways between written nodes and what patterns become, and what the parameters of a function are, which no listing shows.
 
-use crate::lowered::with_lowered;
-use crate::ways::{Way, number_of, way};
+use crate::documents::Said;
+use crate::lowered::{AskOfBody, By, said_of_body};
+use crate::ways::{Leads, Part, Shown};
 use hir_base::node::NodeId;
-use hir_lower::{Body, BodySourceMap, Either};
-use hir_store::ids::{BindingId, ExprId, PatId};
+use hir_lower::{Body, BodySourceMap};
+use hir_store::ids::{BindingId, PatId};
+use std::alloc::Global;
 
 /// `fn f(&mut self, (1, 2..=, S { a: b }, cfg)) {}`, where `cfg` stands for a predicate.
 const PATTERNS: &str = r#"{"nodes": [
@@ -27,64 +29,68 @@ const PATTERNS: &str = r#"{"nodes": [
     {"k": "BlockExpr"}
 ]}"#;
 
-/// What a function's parts lead to, and what its parameters are.
-#[derive(Clone, Copy, PartialEq)]
-struct Parts {
-    /// Of the literal pattern, its literal, the range, its side, the side's literal, the name and the predicate.
-    ways: [Way; 7],
-    /// The node of the field that the name's pattern comes from.
-    field: Option<NodeId>,
-    /// The first parameter as it is handed in and as it was written.
-    param: Option<(PatId, PatId)>,
-    /// The same of `self`, and its node.
-    receiver: Option<(BindingId, BindingId)>,
-    self_node: Option<NodeId>,
+/// The literal pattern, its literal, the range, its side, the side's literal, the name and the predicate; and the field that the name's
+/// pattern comes from.
+const OF_PATTERNS: Shown<'static> = Shown {
+    ways: &[
+        (0, 5, Leads::Pat(0)),
+        (0, 6, Leads::Expr(0)),
+        (0, 7, Leads::Pat(1)),
+        (0, 8, Leads::Expr(1)),
+        (0, 9, Leads::Nowhere),
+        (0, 14, Leads::Pat(2)),
+        (0, 15, Leads::ExprAndPat(2, 4)),
+    ],
+    back: &[(Part::FieldPat(2), 13)],
+    counts: &[],
+};
+
+/// What the first parameter is, and what `self` is, each as it is handed in and as it was written, and the node of `self`.
+#[derive(Clone, Copy)]
+struct Params {
+    first: PatId,
+    receiver: BindingId,
+    self_node: NodeId,
 }
 
-fn first_param(body: &Body) -> Option<(PatId, PatId)> {
-    let param = body.params.as_slice().first()?;
-    Some((param.formal, param.user_written))
-}
-
-fn receiver(body: &Body) -> Option<(BindingId, BindingId)> {
-    let param = body.self_param?;
-    Some((param.formal, param.user_written))
-}
-
-fn parts_of(body: &Body, source_map: &BodySourceMap) -> Parts {
-    Parts {
-        ways: [
-            way(source_map, 5),
-            way(source_map, 6),
-            way(source_map, 7),
-            way(source_map, 8),
-            way(source_map, 9),
-            way(source_map, 14),
-            way(source_map, 15),
-        ],
-        field: source_map.store.pat_field_syntax(PatId(2)).map(number_of),
-        param: first_param(body),
-        receiver: receiver(body),
-        self_node: source_map.self_param.map(number_of),
+fn is_first(body: &Body, own: PatId) -> bool {
+    match body.params.as_slice().first() {
+        Some(param) => param.formal == own && param.user_written == own,
+        None => false,
     }
 }
 
+fn is_receiver(body: &Body, own: BindingId) -> bool {
+    match body.self_param {
+        Some(param) => param.formal == own && param.user_written == own,
+        None => false,
+    }
+}
+
+fn is_self_node(source_map: &BodySourceMap, own: NodeId) -> bool {
+    match source_map.self_param {
+        Some(node) => node.value.node == own,
+        None => false,
+    }
+}
+
+impl AskOfBody for Params {
+    fn is_so(&self, _alloc: Global, body: &Body, source_map: &BodySourceMap) -> bool {
+        is_first(body, self.first)
+            && is_receiver(body, self.receiver)
+            && is_self_node(source_map, self.self_node)
+    }
+}
+
+const PARAMS: Params = Params {
+    first: PatId(5),
+    receiver: BindingId(0),
+    self_node: NodeId(2),
+};
+
 #[test]
 fn parts_of_patterns_lead_to_what_they_become(rt: HostRuntime) {
-    let parts = Parts {
-        ways: [
-            (None, Some(PatId(0))),
-            (Some(Either::Left(ExprId(0))), None),
-            (None, Some(PatId(1))),
-            (Some(Either::Left(ExprId(1))), None),
-            (None, None),
-            (None, Some(PatId(2))),
-            (Some(Either::Left(ExprId(2))), Some(PatId(4))),
-        ],
-        field: Some(NodeId(13)),
-        param: Some((PatId(5), PatId(5))),
-        receiver: Some((BindingId(0), BindingId(0))),
-        self_node: Some(NodeId(2)),
-    };
-    assert!(rt; with_lowered(rt.alloc(), PATTERNS, &parts_of) == Ok(Some(parts)));
+    let alloc = rt.alloc();
+    assert!(rt; said_of_body(alloc, PATTERNS, By::Tables, &OF_PATTERNS) == Said::Own);
+    assert!(rt; said_of_body(alloc, PATTERNS, By::Tables, &PARAMS) == Said::Own);
 }

@@ -1,10 +1,9 @@
 //! What the nodes of `?`, `try` and `for` lead to, and how much is stored for them.
 
-use crate::lowered::with_lowered;
-use crate::ways::{Way, expr_at, way};
-use hir_lower::{Body, BodySourceMap, Either};
-use hir_store::hir::Expr;
-use hir_store::ids::ExprId;
+use crate::documents::Said;
+use crate::inner::{Became, Form};
+use crate::lowered::{By, said_of_body};
+use crate::ways::{Count, Leads, Shown};
 
 /// `fn f() { a? }`
 const QUESTION: &str = r#"{"nodes": [
@@ -85,110 +84,108 @@ const FOR_OF_DISABLED_HEAD: &str = r#"{"nodes": [
     {"k": "BlockExpr"}
 ], "env": {"disabled": [[0, 5, 5]]}}"#;
 
-/// What a node leads to.
-#[derive(Clone, Copy, PartialEq)]
-enum Led {
-    Nowhere,
-    Match,
-    LabelledBlock,
-    Other,
-}
-
-fn led_to(body: &Body, source_map: &BodySourceMap) -> Led {
-    let Some(id) = expr_at(source_map, 2) else {
-        return Led::Nowhere;
-    };
-    match body.store.expr(id) {
-        Some(Expr::Match { .. }) => Led::Match,
-        Some(Expr::Block { label: Some(_), .. }) => Led::LabelledBlock,
-        _ => Led::Other,
-    }
-}
-
-/// What node 2 leads to, and how many expressions, patterns, bindings, labels and types are stored.
-#[derive(Clone, Copy, PartialEq)]
-struct Rewritten {
-    led: Led,
-    lengths: [u32; 5],
-}
-
-fn what_became(body: &Body, source_map: &BodySourceMap) -> Rewritten {
-    Rewritten {
-        led: led_to(body, source_map),
-        lengths: [
-            body.store.exprs_len(),
-            body.store.pats_len(),
-            body.store.bindings_len(),
-            body.store.labels_len(),
-            body.store.types_len(),
-        ],
-    }
-}
+const OF_QUESTION: Became = Became {
+    form: Form::Match,
+    counts: &[
+        (Count::Exprs, 10),
+        (Count::Pats, 4),
+        (Count::Bindings, 2),
+        (Count::Labels, 0),
+        (Count::Types, 0),
+    ],
+};
 
 #[test]
 fn a_question_leads_to_its_match(rt: HostRuntime) {
-    let question = Rewritten {
-        led: Led::Match,
-        lengths: [10, 4, 2, 0, 0],
-    };
-    assert!(rt; with_lowered(rt.alloc(), QUESTION, &what_became) == Ok(Some(question)));
+    assert!(rt; said_of_body(rt.alloc(), QUESTION, By::Tables, &OF_QUESTION) == Said::Own);
 }
+
+const MISSING: Became = Became {
+    form: Form::Nowhere,
+    counts: &[
+        (Count::Exprs, 2),
+        (Count::Pats, 0),
+        (Count::Bindings, 0),
+        (Count::Labels, 0),
+        (Count::Types, 0),
+    ],
+};
 
 #[test]
 fn a_question_without_its_items_leads_nowhere(rt: HostRuntime) {
-    let missing = Rewritten {
-        led: Led::Nowhere,
-        lengths: [2, 0, 0, 0, 0],
-    };
-    assert!(rt; with_lowered(rt.alloc(), WITHOUT_ITEM, &what_became) == Ok(Some(missing)));
+    assert!(rt; said_of_body(rt.alloc(), WITHOUT_ITEM, By::Tables, &MISSING) == Said::Own);
 }
+
+const OF_TRY: Became = Became {
+    form: Form::LabelledBlock,
+    counts: &[
+        (Count::Exprs, 5),
+        (Count::Pats, 0),
+        (Count::Bindings, 0),
+        (Count::Labels, 1),
+        (Count::Types, 0),
+    ],
+};
 
 #[test]
 fn a_try_leads_to_its_labelled_block(rt: HostRuntime) {
-    let plain = Rewritten {
-        led: Led::LabelledBlock,
-        lengths: [5, 0, 0, 1, 0],
-    };
-    assert!(rt; with_lowered(rt.alloc(), TRY, &what_became) == Ok(Some(plain)));
+    assert!(rt; said_of_body(rt.alloc(), TRY, By::Tables, &OF_TRY) == Said::Own);
 }
+
+const OF_TYPED: Became = Became {
+    form: Form::LabelledBlock,
+    counts: &[
+        (Count::Exprs, 7),
+        (Count::Pats, 1),
+        (Count::Bindings, 1),
+        (Count::Labels, 1),
+        (Count::Types, 1),
+    ],
+};
 
 #[test]
 fn a_typed_try_leads_to_the_labelled_block_inside(rt: HostRuntime) {
-    let typed = Rewritten {
-        led: Led::LabelledBlock,
-        lengths: [7, 1, 1, 1, 1],
-    };
-    assert!(rt; with_lowered(rt.alloc(), TYPED, &what_became) == Ok(Some(typed)));
+    assert!(rt; said_of_body(rt.alloc(), TYPED, By::Tables, &OF_TYPED) == Said::Own);
 }
+
+const OF_FOR: Became = Became {
+    form: Form::Match,
+    counts: &[
+        (Count::Exprs, 14),
+        (Count::Pats, 4),
+        (Count::Bindings, 2),
+        (Count::Labels, 1),
+        (Count::Types, 0),
+    ],
+};
 
 #[test]
 fn a_for_leads_to_its_outer_match(rt: HostRuntime) {
-    let turns = Rewritten {
-        led: Led::Match,
-        lengths: [14, 4, 2, 1, 0],
-    };
-    assert!(rt; with_lowered(rt.alloc(), FOR, &what_became) == Ok(Some(turns)));
+    assert!(rt; said_of_body(rt.alloc(), FOR, By::Tables, &OF_FOR) == Said::Own);
 }
 
 #[test]
 fn a_for_without_its_items_leads_nowhere(rt: HostRuntime) {
-    let missing = Rewritten {
-        led: Led::Nowhere,
-        lengths: [2, 0, 0, 0, 0],
-    };
-    assert!(rt; with_lowered(rt.alloc(), FOR_WITHOUT_ITEM, &what_became) == Ok(Some(missing)));
+    assert!(rt; said_of_body(rt.alloc(), FOR_WITHOUT_ITEM, By::Tables, &MISSING) == Said::Own);
 }
 
-/// What the head of the `for` leads to, which is node 5.
-fn way_of_head(_body: &Body, source_map: &BodySourceMap) -> Way {
-    way(source_map, 5)
-}
+const OF_HEAD: Shown<'static> = Shown {
+    ways: &[(0, 5, Leads::Expr(0))],
+    back: &[],
+    counts: &[],
+};
+
+const OF_DISABLED_HEAD: Shown<'static> = Shown {
+    ways: &[(0, 5, Leads::Nowhere)],
+    back: &[],
+    counts: &[],
+};
 
 #[test]
 fn the_head_of_a_for_leads_to_itself_and_nowhere_where_it_is_disabled(rt: HostRuntime) {
-    let head = (Some(Either::Left(ExprId(0))), None);
-    assert!(rt; with_lowered(rt.alloc(), FOR, &way_of_head) == Ok(Some(head)));
+    let alloc = rt.alloc();
+    assert!(rt; said_of_body(alloc, FOR, By::Tables, &OF_HEAD) == Said::Own);
     assert!(rt;
-        with_lowered(rt.alloc(), FOR_OF_DISABLED_HEAD, &way_of_head) == Ok(Some((None, None)))
+        said_of_body(alloc, FOR_OF_DISABLED_HEAD, By::Tables, &OF_DISABLED_HEAD) == Said::Own
     );
 }

@@ -1,9 +1,13 @@
 //! Collectors with little room: each is full up to the room that a tree takes, and no tree takes more.
 
+use crate::collectors::{Call, Ends, Holds, Script, said_of_calls};
 use crate::constants::{LET, PATH};
-use crate::tried::{Call, Tried, room_of, tried_of};
+use crate::documents::Said;
 use crate::types::IMPL_IN_A_PATH;
+use hir_lower::LowerError;
 use hir_store::ids::{BindingId, ExprId, PatId};
+use lower_json::document::Root;
+use std::alloc::Global;
 
 /// `A<{ .. }>` with `for x in a {}` as the constant.
 pub const FOR: &str = r#"{"nodes": [
@@ -64,35 +68,68 @@ pub const NESTED: &str = r#"{
     }
 }"#;
 
-/// A call is answered, and its first root ends there.
-pub fn answered(exprs: u32, pats: u32, bindings: u32) -> Tried {
-    Tried {
-        error: None,
-        is_sound: true,
-        ends: Ok(Some((ExprId(exprs), PatId(pats), BindingId(bindings)))),
+/// How a call is answered in so much room that has too little.
+pub fn said_of_full(alloc: Global, text: &str, call: Call, limit: u32) -> Said {
+    let calls = [(call, Err(LowerError::Full))];
+    let script = Script {
+        limit,
+        calls: &calls,
+        holds: Holds::Failed { exprs: None },
+    };
+    said_of_calls(alloc, Root::Path, text, &script)
+}
+
+/// How a call is answered in enough room, with the ends of its root, if it has one.
+pub fn said_of_whole(
+    alloc: Global,
+    text: &str,
+    call: Call,
+    limit: u32,
+    ends: Option<Ends>,
+) -> Said {
+    let calls = [(call, Ok(true))];
+    let script = Script {
+        limit,
+        calls: &calls,
+        holds: Holds::FirstEnds(ends),
+    };
+    said_of_calls(alloc, Root::Path, text, &script)
+}
+
+pub fn ends(exprs: u32, pats: u32, bindings: u32) -> Option<Ends> {
+    Some((ExprId(exprs), PatId(pats), BindingId(bindings)))
+}
+
+/// Whether a call takes just so much room: it is answered in it as it is in any, and in less it is full.
+fn takes(alloc: Global, text: &str, call: Call, room: u32, ends: Option<Ends>) -> bool {
+    for limit in 0..room {
+        if said_of_full(alloc, text, call, limit) != Said::Own {
+            return false;
+        }
     }
+    said_of_whole(alloc, text, call, room, ends) == Said::Own
+        && said_of_whole(alloc, text, call, u32::MAX, ends) == Said::Own
 }
 
 #[test]
 fn constants_take_just_so_much_room(rt: HostRuntime) {
     let alloc = rt.alloc();
-    assert!(rt; room_of(alloc, FOR, Call::Constant) == Ok(Some(13)));
-    assert!(rt; tried_of(alloc, FOR, Call::Constant, 13) == Ok(Some(answered(13, 4, 2))));
-    assert!(rt; room_of(alloc, CALL, Call::Constant) == Ok(Some(3)));
-    assert!(rt; room_of(alloc, ONE, Call::Constant) == Ok(Some(1)));
-    assert!(rt; room_of(alloc, NESTED, Call::Constant) == Ok(Some(1)));
-    assert!(rt; room_of(alloc, LET, Call::Constant) == Ok(Some(3)));
-    assert!(rt; room_of(alloc, PATH, Call::Constant) == Ok(Some(2)));
+    assert!(rt; takes(alloc, FOR, Call::Constant, 13, ends(13, 4, 2)));
+    assert!(rt; takes(alloc, CALL, Call::Constant, 3, ends(3, 0, 0)));
+    assert!(rt; takes(alloc, ONE, Call::Constant, 1, ends(1, 0, 0)));
+    assert!(rt; takes(alloc, NESTED, Call::Constant, 1, ends(1, 0, 0)));
+    assert!(rt; takes(alloc, LET, Call::Constant, 3, ends(1, 3, 2)));
+    assert!(rt; takes(alloc, PATH, Call::Constant, 2, ends(2, 0, 0)));
 }
 
 #[test]
 fn paths_and_impls_take_just_so_much_room(rt: HostRuntime) {
     let alloc = rt.alloc();
-    assert!(rt; room_of(alloc, PATH, Call::Path) == Ok(Some(2)));
-    assert!(rt; room_of(alloc, FOR, Call::OpaquePath) == Ok(Some(13)));
-    assert!(rt; room_of(alloc, IMPL_IN_A_PATH, Call::Path) == Ok(Some(2)));
-    assert!(rt; room_of(alloc, IMPL_IN_A_PATH, Call::OpaquePath) == Ok(Some(2)));
-    assert!(rt; room_of(alloc, ONE, Call::Allocator) == Ok(Some(1)));
-    assert!(rt; room_of(alloc, ONE, Call::ErrorImpl) == Ok(Some(1)));
-    assert!(rt; room_of(alloc, ONE, Call::OpaqueImpl) == Ok(Some(1)));
+    assert!(rt; takes(alloc, PATH, Call::Path, 2, ends(2, 0, 0)));
+    assert!(rt; takes(alloc, FOR, Call::OpaquePath, 13, ends(13, 4, 2)));
+    assert!(rt; takes(alloc, IMPL_IN_A_PATH, Call::Path, 2, None));
+    assert!(rt; takes(alloc, IMPL_IN_A_PATH, Call::OpaquePath, 2, None));
+    assert!(rt; takes(alloc, ONE, Call::Allocator, 1, None));
+    assert!(rt; takes(alloc, ONE, Call::ErrorImpl, 1, None));
+    assert!(rt; takes(alloc, ONE, Call::OpaqueImpl, 1, None));
 }

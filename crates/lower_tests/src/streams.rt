@@ -134,8 +134,8 @@ fn writes_that_fail(alloc: Global) -> u32 {
 #[test]
 fn each_read_and_each_write_may_fail(rt: HostRuntime) {
     let alloc = rt.alloc();
-    assert_eq!(rt; reads_that_fail(alloc), READS);
-    assert_eq!(rt; writes_that_fail(alloc), WRITES);
+    assert!(rt; reads_that_fail(alloc) == READS);
+    assert!(rt; writes_that_fail(alloc) == WRITES);
     assert!(rt; ends_with(alloc, READS, WRITES, b"\0\0\0\0\0\0\0\0\0\0\0\0\0\0") == (0, true));
 }
 

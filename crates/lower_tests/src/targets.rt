@@ -1,21 +1,9 @@
-//! What is assigned to: places lead to expressions, and what is taken apart leads to patterns.
+//! What is assigned to: places lead to expressions, and what is taken apart leads to patterns. No look-up of written patterns answers what
+//! is assigned to.
 
-use crate::lowered::with_lowered;
-use crate::ways::{Way, number_of, way, way_in};
-use hir_base::node::{HirFileId, NodeId};
-use hir_lower::{Body, BodySourceMap, Either};
-use hir_store::ids::{ExprId, PatId};
-
-/// No look-up of written patterns answers what is assigned to.
-const NOWHERE: Way = (None, None);
-
-fn to_expr(number: u32) -> Way {
-    (Some(Either::Left(ExprId(number))), None)
-}
-
-fn to_pat(number: u32) -> Way {
-    (Some(Either::Right(PatId(number))), None)
-}
+use crate::documents::Said;
+use crate::lowered::{By, said_of_body};
+use crate::ways::{Leads, Part, Shown};
 
 /// `fn f() { (a, (b), ..) = c }`
 const TARGETS: &str = r#"{"nodes": [
@@ -36,29 +24,23 @@ const TARGETS: &str = r#"{"nodes": [
     {"k": "PathSegment", "seg": "name", "name": "c"}
 ]}"#;
 
-/// What the tuple, `a`, the parentheses, `b`, the two dots and `c` lead to.
-fn targets(_body: &Body, source_map: &BodySourceMap) -> [Way; 6] {
-    [
-        way(source_map, 3),
-        way(source_map, 4),
-        way(source_map, 7),
-        way(source_map, 8),
-        way(source_map, 11),
-        way(source_map, 12),
-    ]
-}
+/// The tuple, `a`, the parentheses, `b`, the two dots and `c`.
+const OF_PLACES: Shown<'static> = Shown {
+    ways: &[
+        (0, 3, Leads::Target(2)),
+        (0, 4, Leads::Expr(0)),
+        (0, 7, Leads::Expr(1)),
+        (0, 8, Leads::Expr(1)),
+        (0, 11, Leads::Nowhere),
+        (0, 12, Leads::Expr(2)),
+    ],
+    back: &[],
+    counts: &[],
+};
 
 #[test]
 fn places_lead_to_expressions_and_a_tuple_to_its_pattern(rt: HostRuntime) {
-    let ways = [
-        to_pat(2),
-        to_expr(0),
-        to_expr(1),
-        to_expr(1),
-        NOWHERE,
-        to_expr(2),
-    ];
-    assert!(rt; with_lowered(rt.alloc(), TARGETS, &targets) == Ok(Some(ways)));
+    assert!(rt; said_of_body(rt.alloc(), TARGETS, By::Tables, &OF_PLACES) == Said::Own);
 }
 
 /// `fn f() { [a, .., S(b), S { x: c }] = d }`
@@ -91,34 +73,23 @@ const KINDS: &str = r#"{"nodes": [
     {"k": "PathSegment", "seg": "name", "name": "d"}
 ]}"#;
 
-/// What the array, the two dots, the call, its callee, the record and the field's value lead to, and the field that the value's
-/// pattern comes from.
-type Kinds = ([Way; 6], Option<NodeId>);
-
-fn kinds(_body: &Body, source_map: &BodySourceMap) -> Kinds {
-    let ways = [
-        way(source_map, 3),
-        way(source_map, 7),
-        way(source_map, 8),
-        way(source_map, 9),
-        way(source_map, 15),
-        way(source_map, 20),
-    ];
-    let field = source_map.store.pat_field_syntax(PatId(3)).map(number_of);
-    (ways, field)
-}
+/// The array, the two dots, the call, its callee, the record and the field's value; and the field that the value's pattern comes from.
+const OF_KINDS: Shown<'static> = Shown {
+    ways: &[
+        (0, 3, Leads::Target(6)),
+        (0, 7, Leads::Target(5)),
+        (0, 8, Leads::Target(2)),
+        (0, 9, Leads::Nowhere),
+        (0, 15, Leads::Target(4)),
+        (0, 20, Leads::Expr(2)),
+    ],
+    back: &[(Part::FieldPat(3), 19)],
+    counts: &[],
+};
 
 #[test]
 fn what_is_taken_apart_leads_to_patterns_alone(rt: HostRuntime) {
-    let ways = [
-        to_pat(6),
-        to_pat(5),
-        to_pat(2),
-        NOWHERE,
-        to_pat(4),
-        to_expr(2),
-    ];
-    assert!(rt; with_lowered(rt.alloc(), KINDS, &kinds) == Ok(Some((ways, Some(NodeId(19))))));
+    assert!(rt; said_of_body(rt.alloc(), KINDS, By::Tables, &OF_KINDS) == Said::Own);
 }
 
 /// `fn f() { ((a, m!())) = 1; n!() = 2 }`, where m stands for `_`, and n for `[b]`.
@@ -149,37 +120,26 @@ const CALLS: &str = r#"{
     "env": {"macros": [[0, 10, "file", 1, 16], [0, 14, "file", 2, 17]]}
 }"#;
 
-/// What the parentheses, the tuple, `a`, the call that is an element and the one that is the whole lead to; what `_`, the array and `b`
-/// do in their files; and the nodes that the patterns of `_` and of the array come from.
-type Called = ([Way; 5], [Way; 3], [Option<NodeId>; 2]);
-
-fn called(_body: &Body, source_map: &BodySourceMap) -> Called {
-    let written = [
-        way(source_map, 4),
-        way(source_map, 5),
-        way(source_map, 6),
-        way(source_map, 9),
-        way(source_map, 13),
-    ];
-    let expanded = [
-        way_in(source_map, HirFileId(1), 16),
-        way_in(source_map, HirFileId(2), 17),
-        way_in(source_map, HirFileId(2), 18),
-    ];
-    let map = &source_map.store;
-    let nodes = [
-        map.pat_syntax(PatId(1)).map(number_of),
-        map.pat_syntax(PatId(4)).map(number_of),
-    ];
-    (written, expanded, nodes)
-}
+/// The parentheses, the tuple, `a`, the call that is an element and the one that is the whole; `_`, the array and `b` in their files; and
+/// the nodes that the patterns of `_` and of the array come from.
+const OF_CALLS: Shown<'static> = Shown {
+    ways: &[
+        (0, 4, Leads::Nowhere),
+        (0, 5, Leads::Target(2)),
+        (0, 6, Leads::Expr(0)),
+        (0, 9, Leads::Nowhere),
+        (0, 13, Leads::Target(4)),
+        (1, 16, Leads::Target(1)),
+        (2, 17, Leads::Target(4)),
+        (2, 18, Leads::Expr(3)),
+    ],
+    back: &[(Part::Pat(1), 9), (Part::Pat(4), 17)],
+    counts: &[],
+};
 
 #[test]
 fn a_call_that_is_assigned_to_leads_to_its_pattern_but_not_as_an_element(rt: HostRuntime) {
-    let written = [NOWHERE, to_pat(2), to_expr(0), NOWHERE, to_pat(4)];
-    let expanded = [to_pat(1), to_pat(4), to_expr(3)];
-    let nodes = [Some(NodeId(9)), Some(NodeId(17))];
-    assert!(rt; with_lowered(rt.alloc(), CALLS, &called) == Ok(Some((written, expanded, nodes))));
+    assert!(rt; said_of_body(rt.alloc(), CALLS, By::Tables, &OF_CALLS) == Said::Own);
 }
 
 /// `fn f() { [m!()] = 1; p!() = 2; q!()(a) = 3 }`, where m stands for `n!()` and n for `..`, p for `x` and q for `S`.
@@ -221,31 +181,26 @@ const NESTED: &str = r#"{
     }
 }"#;
 
-/// What the array and the call for its dots lead to, the inner call and the dots; the call for a place, and the place; the call with
-/// the argument, the call for its callee, the argument, and the callee.
-type Nested = ([Way; 4], [Way; 2], [Way; 4]);
-
-fn nested(_body: &Body, source_map: &BodySourceMap) -> Nested {
-    let dots = [
-        way(source_map, 4),
-        way(source_map, 5),
-        way_in(source_map, HirFileId(1), 21),
-        way_in(source_map, HirFileId(2), 23),
-    ];
-    let place = [way(source_map, 10), way_in(source_map, HirFileId(3), 24)];
-    let callee = [
-        way(source_map, 14),
-        way(source_map, 15),
-        way(source_map, 17),
-        way_in(source_map, HirFileId(4), 27),
-    ];
-    (dots, place, callee)
-}
+/// The array and the call for its dots, the inner call and the dots; the call for a place, and the place; the call with the argument, the
+/// call for its callee, the argument, and the callee.
+const OF_NESTED: Shown<'static> = Shown {
+    ways: &[
+        (0, 4, Leads::Target(1)),
+        (0, 5, Leads::Target(0)),
+        (1, 21, Leads::Nowhere),
+        (2, 23, Leads::Nowhere),
+        (0, 10, Leads::Target(2)),
+        (3, 24, Leads::Expr(2)),
+        (0, 14, Leads::Target(4)),
+        (0, 15, Leads::Nowhere),
+        (0, 17, Leads::Expr(5)),
+        (4, 27, Leads::Nowhere),
+    ],
+    back: &[],
+    counts: &[],
+};
 
 #[test]
 fn a_call_leads_to_dots_and_to_a_place_but_not_to_a_callee(rt: HostRuntime) {
-    let dots = [to_pat(1), to_pat(0), NOWHERE, NOWHERE];
-    let place = [to_pat(2), to_expr(2)];
-    let callee = [to_pat(4), NOWHERE, to_expr(5), NOWHERE];
-    assert!(rt; with_lowered(rt.alloc(), NESTED, &nested) == Ok(Some((dots, place, callee))));
+    assert!(rt; said_of_body(rt.alloc(), NESTED, By::Tables, &OF_NESTED) == Said::Own);
 }

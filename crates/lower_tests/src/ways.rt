@@ -1,21 +1,55 @@
-//! The ways between written nodes and what they become.
+//! The ways between written nodes and what they become, and how much is stored.
 
+use crate::lowered::AskOfBody;
 use hir_base::node::{AstPtr, HirFileId, InFile, NodeId, TextRange};
-use hir_lower::{BodySourceMap, Either};
-use hir_store::ids::{ExprId, PatId};
+use hir_lower::{Body, BodySourceMap, Either};
+use hir_store::ids::{ExprId, LabelId, LifetimeRefId, PatId, TypeRefId};
+use std::alloc::Global;
 
-/// What the node leads to as that of an expression, and as that of a written pattern.
-pub type Way = (Option<Either<ExprId, PatId>>, Option<PatId>);
+/// What a node leads to, by numbers.
+#[derive(Clone, Copy)]
+pub enum Leads {
+    /// As the node of an expression and as that of a written pattern.
+    Nowhere,
+    Expr(u32),
+    /// As the node of an expression, to the pattern of what is assigned to.
+    Target(u32),
+    Pat(u32),
+    ExprAndPat(u32, u32),
+    Label(u32),
+    Type_(u32),
+    Lifetime(u32),
+}
 
-/// The node of this number in a document.
-pub fn node(number: u32) -> InFile<AstPtr> {
-    node_in(HirFileId(0), number)
+/// A stored part, by its number.
+#[derive(Clone, Copy)]
+pub enum Part {
+    Pat(u32),
+    /// The pattern of a field.
+    FieldPat(u32),
+    Label(u32),
+    Type_(u32),
+    Lifetime(u32),
+}
+
+/// What is counted.
+#[derive(Clone, Copy)]
+pub enum Count {
+    Exprs,
+    Pats,
+    Bindings,
+    Labels,
+    Types,
+    Lifetimes,
+    Roots,
+    Expansions,
+    Faults,
 }
 
 /// The node of this number, where it is read in this file.
-pub fn node_in(file_id: HirFileId, number: u32) -> InFile<AstPtr> {
+fn node_in(file: u32, number: u32) -> InFile<AstPtr> {
     InFile {
-        file_id,
+        file_id: HirFileId(file),
         value: AstPtr {
             node: NodeId(number),
             range: TextRange {
@@ -28,24 +62,108 @@ pub fn node_in(file_id: HirFileId, number: u32) -> InFile<AstPtr> {
 
 /// The expression that the node leads to; none where it leads to a pattern, or nowhere.
 pub fn expr_at(source_map: &BodySourceMap, number: u32) -> Option<ExprId> {
-    match source_map.store.node_expr(node(number))? {
+    match source_map.store.node_expr(node_in(0, number))? {
         Either::Left(id) => Some(id),
         Either::Right(_) => None,
     }
 }
 
-pub fn way(source_map: &BodySourceMap, number: u32) -> Way {
-    way_in(source_map, HirFileId(0), number)
+/// Whether the node leads to this expression or pattern as that of an expression, and to this one as that of a written pattern.
+fn is_way(
+    source_map: &BodySourceMap,
+    node: InFile<AstPtr>,
+    expr: Option<Either<ExprId, PatId>>,
+    pat: Option<PatId>,
+) -> bool {
+    source_map.store.node_expr(node) == expr && source_map.store.node_pat(node) == pat
 }
 
-pub fn way_in(source_map: &BodySourceMap, file_id: HirFileId, number: u32) -> Way {
-    let node = node_in(file_id, number);
-    (
-        source_map.store.node_expr(node),
-        source_map.store.node_pat(node),
-    )
+fn does_lead(source_map: &BodySourceMap, node: InFile<AstPtr>, own: Leads) -> bool {
+    match own {
+        Leads::Nowhere => is_way(source_map, node, None, None),
+        Leads::Expr(id) => is_way(source_map, node, Some(Either::Left(ExprId(id))), None),
+        Leads::Target(id) => is_way(source_map, node, Some(Either::Right(PatId(id))), None),
+        Leads::Pat(id) => is_way(source_map, node, None, Some(PatId(id))),
+        Leads::ExprAndPat(expr, pat) => {
+            let expr = Some(Either::Left(ExprId(expr)));
+            is_way(source_map, node, expr, Some(PatId(pat)))
+        }
+        Leads::Label(id) => source_map.store.node_label(node) == Some(LabelId(id)),
+        Leads::Type_(id) => source_map.store.node_type(node) == Some(TypeRefId(id)),
+        Leads::Lifetime(id) => source_map.store.node_lifetime(node) == Some(LifetimeRefId(id)),
+    }
 }
 
-pub fn number_of(node: InFile<AstPtr>) -> NodeId {
-    node.value.node
+/// The node that a part comes from.
+fn node_behind(source_map: &BodySourceMap, part: Part) -> Option<NodeId> {
+    let map = &source_map.store;
+    let node = match part {
+        Part::Pat(id) => map.pat_syntax(PatId(id)),
+        Part::FieldPat(id) => map.pat_field_syntax(PatId(id)),
+        Part::Label(id) => map.label_syntax(LabelId(id)),
+        Part::Type_(id) => map.type_syntax(TypeRefId(id)),
+        Part::Lifetime(id) => map.lifetime_syntax(LifetimeRefId(id)),
+    };
+    Some(node?.value.node)
+}
+
+fn counted(body: &Body, source_map: &BodySourceMap, what: Count) -> usize {
+    let store = &body.store;
+    match what {
+        Count::Exprs => store.exprs_len() as usize,
+        Count::Pats => store.pats_len() as usize,
+        Count::Bindings => store.bindings_len() as usize,
+        Count::Labels => store.labels_len() as usize,
+        Count::Types => store.types_len() as usize,
+        Count::Lifetimes => store.lifetimes_len() as usize,
+        Count::Roots => store.expr_roots().len(),
+        Count::Expansions => source_map.store.expansions().len(),
+        Count::Faults => source_map.store.diagnostics().len(),
+    }
+}
+
+/// Where nodes lead, each by its file and its number; the nodes that parts come from; and how many there are.
+#[derive(Clone, Copy)]
+pub struct Shown<'a> {
+    pub ways: &'a [(u32, u32, Leads)],
+    pub back: &'a [(Part, u32)],
+    pub counts: &'a [(Count, usize)],
+}
+
+fn are_ways(source_map: &BodySourceMap, ways: &[(u32, u32, Leads)]) -> bool {
+    for way in ways {
+        let (file, number, own) = *way;
+        if !does_lead(source_map, node_in(file, number), own) {
+            return false;
+        }
+    }
+    true
+}
+
+fn are_ways_back(source_map: &BodySourceMap, back: &[(Part, u32)]) -> bool {
+    for way in back {
+        let (part, own) = *way;
+        if node_behind(source_map, part) != Some(NodeId(own)) {
+            return false;
+        }
+    }
+    true
+}
+
+pub fn are_counts(body: &Body, source_map: &BodySourceMap, counts: &[(Count, usize)]) -> bool {
+    for count in counts {
+        let (what, own) = *count;
+        if counted(body, source_map, what) != own {
+            return false;
+        }
+    }
+    true
+}
+
+impl AskOfBody for Shown<'_> {
+    fn is_so(&self, _alloc: Global, body: &Body, source_map: &BodySourceMap) -> bool {
+        are_ways(source_map, self.ways)
+            && are_ways_back(source_map, self.back)
+            && are_counts(body, source_map, self.counts)
+    }
 }

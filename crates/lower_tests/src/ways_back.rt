@@ -1,13 +1,13 @@
 //! The ways back from the parts of what is stored to the written nodes.
 
-use crate::documents::{path_in, with_document};
-use crate::lowered::with_lowered;
+use crate::documents::{AskOfDocument, Said, own_if, path_in, said_of};
+use crate::lowered::{AskOfBody, By, said_of_body};
 use hir_base::node::NodeId;
 use hir_lower::{Body, BodySourceMap, hir_assoc_type_binding_to_ast, hir_generic_arg_to_ast};
 use hir_store::hir::Expr;
 use hir_store::ids::ExprId;
 use hir_store::store::ExpressionStore;
-use hir_syntax::ast::{GenericArg, GenericArgList};
+use hir_syntax::ast::{GenericArg, GenericArgList, Path};
 use lower_json::document::{Document, Root};
 use std::alloc::Global;
 
@@ -29,6 +29,21 @@ pub const ARGUMENTS: &str = r#"{"nodes": [
     {"k": "Literal", "lit": "int", "t": "3"}
 ]}"#;
 
+/// The nodes of the first four arguments, of the one behind `Self`, and of the first two bindings.
+#[derive(Clone, Copy)]
+pub struct Lent {
+    args: [Option<NodeId>; 4],
+    behind_self: Option<NodeId>,
+    bindings: [Option<NodeId>; 2],
+}
+
+/// What is lent of the path above.
+pub const LENT: Lent = Lent {
+    args: [Some(NodeId(4)), Some(NodeId(7)), Some(NodeId(13)), None],
+    behind_self: Some(NodeId(4)),
+    bindings: [Some(NodeId(8)), None],
+};
+
 /// The node of a type or a constant that is an argument, of a lifetime with its argument, or of a binding.
 fn node_of(arg: &GenericArg) -> Option<NodeId> {
     match arg {
@@ -39,49 +54,48 @@ fn node_of(arg: &GenericArg) -> Option<NodeId> {
     }
 }
 
-fn arg_node(list: &GenericArgList, at: u32) -> Option<NodeId> {
-    node_of(hir_generic_arg_to_ast(list, at, false)?)
-}
-
-fn first_node_behind_self(list: &GenericArgList) -> Option<NodeId> {
-    node_of(hir_generic_arg_to_ast(list, 1, true)?)
+fn arg_node(list: &GenericArgList, at: u32, has_self: bool) -> Option<NodeId> {
+    node_of(hir_generic_arg_to_ast(list, at, has_self)?)
 }
 
 fn binding_node(list: &GenericArgList, at: u32) -> Option<NodeId> {
     Some(hir_assoc_type_binding_to_ast(list, at)?.id)
 }
 
-/// The first four arguments, the one behind `Self`, and the first two bindings.
-pub type Lent = ([Option<NodeId>; 4], Option<NodeId>, [Option<NodeId>; 2]);
-
-fn lent(list: &GenericArgList) -> Lent {
+fn is_lent(list: &GenericArgList, own: Lent) -> bool {
     let args = [
-        arg_node(list, 0),
-        arg_node(list, 1),
-        arg_node(list, 2),
-        arg_node(list, 3),
+        arg_node(list, 0, false),
+        arg_node(list, 1, false),
+        arg_node(list, 2, false),
+        arg_node(list, 3, false),
     ];
     let bindings = [binding_node(list, 0), binding_node(list, 1)];
-    (args, first_node_behind_self(list), bindings)
+    args == own.args && arg_node(list, 1, true) == own.behind_self && bindings == own.bindings
 }
 
-pub fn lent_in(_alloc: Global, document: &Document) -> Option<Lent> {
-    match path_in(document)?.segs.as_slice() {
-        [Some(segment)] => Some(lent(segment.generics.as_ref()?)),
+/// The list beside the path's only name.
+fn list_of(path: &Path) -> Option<&GenericArgList> {
+    match path.segs.as_slice() {
+        [Some(segment)] => segment.generics.as_ref(),
         _ => None,
     }
 }
 
-/// What is lent of the path above.
-pub const LENT: Lent = (
-    [Some(NodeId(4)), Some(NodeId(7)), Some(NodeId(13)), None],
-    Some(NodeId(4)),
-    [Some(NodeId(8)), None],
-);
+impl AskOfDocument for Lent {
+    fn said(&self, _alloc: Global, document: &mut Document) -> Said {
+        let Some(path) = path_in(document) else {
+            return Said::Other;
+        };
+        match list_of(path) {
+            Some(list) => own_if(is_lent(list, *self)),
+            None => Said::Other,
+        }
+    }
+}
 
 #[test]
 fn arguments_and_bindings_are_lent(rt: HostRuntime) {
-    assert!(rt; with_document(rt.alloc(), Root::Path, ARGUMENTS, &lent_in) == Ok(Some(LENT)));
+    assert!(rt; said_of(rt.alloc(), Root::Path, ARGUMENTS, &LENT) == Said::Own);
 }
 
 /// The constant `S { a: b }`.
@@ -105,13 +119,24 @@ fn first_value(store: &ExpressionStore, record: ExprId) -> Option<ExprId> {
 }
 
 /// The node of the field that the first value of the body's record comes from.
-pub fn field_node(body: &Body, source_map: &BodySourceMap) -> Option<NodeId> {
+#[derive(Clone, Copy)]
+pub struct FieldNode(NodeId);
+
+pub const FIELD_NODE: FieldNode = FieldNode(NodeId(5));
+
+fn field_node(body: &Body, source_map: &BodySourceMap) -> Option<NodeId> {
     let record = body.store.expr_roots().last()?.root;
     let value = first_value(&body.store, record)?;
     Some(source_map.store.field_syntax(value)?.value.node)
 }
 
+impl AskOfBody for FieldNode {
+    fn is_so(&self, _alloc: Global, body: &Body, source_map: &BodySourceMap) -> bool {
+        field_node(body, source_map) == Some(self.0)
+    }
+}
+
 #[test]
 fn a_value_comes_from_its_field(rt: HostRuntime) {
-    assert!(rt; with_lowered(rt.alloc(), RECORD, &field_node) == Ok(Some(Some(NodeId(5)))));
+    assert!(rt; said_of_body(rt.alloc(), RECORD, By::Tables, &FIELD_NODE) == Said::Own);
 }
