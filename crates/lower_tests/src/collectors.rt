@@ -193,8 +193,8 @@ fn fails_for_good<E: LowerEnv, S: Subject>(
     subject: &S,
 ) -> bool {
     let exprs = collector.store().exprs_len();
-    for call in ALL_CALLS {
-        if called(alloc, collector, call, subject) != Err(LowerError::Failed) {
+    for call in ALL_CALLS.iter() {
+        if called(alloc, collector, *call, subject) != Err(LowerError::Failed) {
             return false;
         }
     }

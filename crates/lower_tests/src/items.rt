@@ -1,8 +1,8 @@
 //! Items that no document has as its root: traits, implementations, parameters by themselves, and aliases, whole and without each part.
 //! Their parts are those of the aliases in a document.
 
-use crate::documents::{AskOfDocument, Said, own_if, said_by_error, said_of};
-use crate::listings::is_text;
+use crate::documents::{AskOfDocument, Said, said_by_error, said_of};
+use crate::listings::said_of_text;
 use hir_base::node::{HirFileId, InFile};
 use hir_env::env::LowerEnv;
 use hir_env::lang::LangItems;
@@ -84,8 +84,8 @@ struct ItemIs<'a> {
     listed: &'a str,
 }
 
-/// Whether parameters and types are listed so, as those of a function are.
-fn is_listed(
+/// How parameters and types are listed, as those of a function are.
+fn said_of_listing(
     alloc: Global,
     store: &ExpressionStore,
     source_map: &ExpressionStoreSourceMap,
@@ -93,7 +93,7 @@ fn is_listed(
     args: &[TypeRefId],
     ret: Option<TypeRefId>,
     own: &str,
-) -> bool {
+) -> Said {
     let items = LangItems::numbered();
     let listed = Listed {
         store,
@@ -109,7 +109,7 @@ fn is_listed(
         has_self: false,
         has_variadic: false,
     };
-    is_text(function_listing(alloc, listed, signature), own)
+    said_of_text(function_listing(alloc, listed, signature), own)
 }
 
 fn said_of_trait<E: LowerEnv>(alloc: Global, env: &E, item: &Trait, own: &str) -> Said {
@@ -119,11 +119,11 @@ fn said_of_trait<E: LowerEnv>(alloc: Global, env: &E, item: &Trait, own: &str) -
     };
     match lower_trait(alloc, env, ModuleId(0), written, TraitId(0)) {
         Ok((store, source_map, params)) => {
-            let is_so = is_listed(alloc, &store, &source_map, &params, &[], None, own);
+            let said = said_of_listing(alloc, &store, &source_map, &params, &[], None, own);
             drop(store);
             drop(source_map);
             drop(params);
-            own_if(is_so)
+            said
         }
         Err(error) => said_by_error(error),
     }
@@ -139,17 +139,29 @@ fn said_of_impl<E: LowerEnv>(alloc: Global, env: &E, item: &Impl, own: &str) -> 
     match lower_impl(alloc, env, ModuleId(0), written, ImplId(0)) {
         Ok((store, source_map, self_type, trait_, params)) => {
             let has_node = source_map.type_syntax(self_type).is_some();
-            let is_so = match trait_ {
+            let said = match trait_ {
                 Some(trait_) => {
                     let types = [self_type, trait_.path];
-                    is_listed(alloc, &store, &source_map, &params, &types, None, own)
+                    said_of_listing(alloc, &store, &source_map, &params, &types, None, own)
                 }
-                None => is_listed(alloc, &store, &source_map, &params, &[self_type], None, own),
+                None => said_of_listing(
+                    alloc,
+                    &store,
+                    &source_map,
+                    &params,
+                    &[self_type],
+                    None,
+                    own,
+                ),
             };
             drop(store);
             drop(source_map);
             drop(params);
-            own_if(is_so && has_node == has_type)
+            if has_node == has_type {
+                said
+            } else {
+                Said::Other
+            }
         }
         Err(error) => said_by_error(error),
     }
@@ -170,13 +182,13 @@ fn said_of_alias<E: LowerEnv>(
     };
     match lower_type_alias(alloc, env, container, written, TypeAliasId(0)) {
         Ok((store, source_map, params, bounds, ty)) => {
-            let is_so = is_listed(alloc, &store, &source_map, &params, &[], ty, own);
+            let said = said_of_listing(alloc, &store, &source_map, &params, &[], ty, own);
             let has_bounds = bounds.len() == written_bounds;
             drop(store);
             drop(source_map);
             drop(params);
             drop(bounds);
-            own_if(is_so && has_bounds)
+            if has_bounds { said } else { Said::Other }
         }
         Err(error) => said_by_error(error),
     }
@@ -201,11 +213,11 @@ fn said_of_params<E: LowerEnv>(
     );
     match lowered {
         Ok((store, params, source_map)) => {
-            let is_so = is_listed(alloc, &store, &source_map, &params, &[], None, own);
+            let said = said_of_listing(alloc, &store, &source_map, &params, &[], None, own);
             drop(store);
             drop(params);
             drop(source_map);
-            own_if(is_so)
+            said
         }
         Err(error) => said_by_error(error),
     }

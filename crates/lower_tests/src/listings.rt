@@ -2,7 +2,7 @@
 //! in a constant alone; and a minus in front of an integer.
 
 use crate::collectors::{Call, Holds, Script, said_of_calls};
-use crate::documents::Said;
+use crate::documents::{Said, own_if};
 use hir_base::node::{AstPtr, HirFileId, InFile, NodeId, TextRange};
 use hir_base::{Seq, Text};
 use hir_env::env::LowerEnv;
@@ -48,12 +48,20 @@ fn listed_in<'a>(
     }
 }
 
-/// Whether a listing is this text. No other function owns one.
-pub fn is_text(listed: Result<String, AllocError>, own: &str) -> bool {
+/// What a listing is that has to be this text. No other function owns one.
+pub fn said_of_text(listed: Result<String, AllocError>, own: &str) -> Said {
     match listed {
-        Ok(text) => text.as_str() == own,
-        Err(_) => false,
+        Ok(text) => {
+            let is_own = text.as_str() == own;
+            drop(text);
+            own_if(is_own)
+        }
+        Err(_) => Said::Memory,
     }
+}
+
+fn is_text(listed: Result<String, AllocError>, own: &str) -> bool {
+    said_of_text(listed, own) == Said::Own
 }
 
 /// Whether a store is listed so, with sources.
