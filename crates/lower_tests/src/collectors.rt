@@ -96,7 +96,7 @@ pub fn collector<E: LowerEnv>(alloc: Global, env: &E, limit: u32) -> ExprCollect
 }
 
 /// What the calls of a collector are made of. Whatever hands it on knows nothing of trees, which are dear to prove anything about.
-pub trait Subject {
+trait Subject {
     /// Lowers the constant. Where there is none no call is made.
     fn constant<E: LowerEnv>(&self, collector: &mut ExprCollector<'_, E>) -> Answer;
 
@@ -267,7 +267,7 @@ fn is_held(
 }
 
 /// Whether a collector hands out this. No other function owns a store that one handed out.
-fn is_handed_out<E: LowerEnv>(
+pub fn is_handed_out<E: LowerEnv>(
     alloc: Global,
     collector: ExprCollector<'_, E>,
     holds: Holds,
@@ -284,7 +284,7 @@ fn is_handed_out<E: LowerEnv>(
 }
 
 /// How the calls of a script are answered. Behind a refusal of memory a collector fails for good.
-pub fn said_in<E: LowerEnv, S: Subject>(
+fn said_in<E: LowerEnv, S: Subject>(
     alloc: Global,
     env: &E,
     script: &Script<'_>,

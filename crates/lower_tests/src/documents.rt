@@ -54,21 +54,16 @@ pub fn path_in(document: &Document) -> Option<&Path> {
     }
 }
 
-/// The first argument beside the path's only name, where it is a constant.
-fn argument_of(path: &Path) -> Option<&ConstArg> {
-    match path.segs.as_slice() {
-        [Some(segment)] => match segment.generics.as_ref()?.as_slice() {
-            [GenericArg::ConstArg(constant)] => Some(constant),
-            _ => None,
-        },
-        _ => None,
-    }
-}
-
 /// The constant in a document: of a path the argument beside its only name, of an array type the length.
 pub fn constant_in(document: &Document) -> Option<&ConstArg> {
     match &document.tree {
-        Tree::Path(path) => argument_of(path),
+        Tree::Path(path) => match path.segs.as_slice() {
+            [Some(segment)] => match segment.generics.as_ref()?.as_slice() {
+                [GenericArg::ConstArg(constant)] => Some(constant),
+                _ => None,
+            },
+            _ => None,
+        },
         Tree::Type_(Some(ty)) => match &ty.kind {
             TypeKind::ArrayType { len, .. } => len.as_ref(),
             _ => None,

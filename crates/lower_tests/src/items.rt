@@ -15,7 +15,8 @@ use hir_store::ids::{
 };
 use hir_store::source_map::ExpressionStoreSourceMap;
 use hir_store::store::ExpressionStore;
-use hir_syntax::Seq;
+use hir_syntax::ast::Type_;
+use hir_syntax::{Boxed, Seq};
 use lower_json::document::{Document, Root, Tree};
 use lower_run::listing::{Listed, Signature, function_listing};
 use std::alloc::{AllocError, Global};
@@ -223,45 +224,36 @@ fn said_of_params<E: LowerEnv>(
     }
 }
 
-/// `trait X<T>: A where T: A {}`, of the parts of an alias, which has them no longer then.
-fn trait_of(alloc: Global, alias: &mut TypeAlias) -> Trait {
-    Trait {
-        id: alias.id,
-        range: alias.range,
-        bounds: mem::replace(&mut alias.bounds, Seq::new(alloc)),
-        generics: alias.generics.take(),
-        where_: alias.where_.take(),
-    }
-}
-
-/// `impl<T> Tr<T> for U where T: A {}`, of the parts of an alias and the type of another.
-fn impl_of(alias: &mut TypeAlias, second: &mut TypeAlias) -> Impl {
-    Impl {
-        id: alias.id,
-        range: alias.range,
-        self_ty: alias.ty.take(),
-        trait_: second.ty.take(),
-        generics: alias.generics.take(),
-        where_: alias.where_.take(),
-    }
-}
-
-fn said_of_alias_as<E: LowerEnv>(
+/// The parts of an alias become those of the item, and it has them no longer then.
+fn said_of_made<E: LowerEnv>(
     alloc: Global,
     env: &E,
-    alias: &mut TypeAlias,
-    second: &mut TypeAlias,
     ask: ItemIs<'_>,
+    alias: &mut TypeAlias,
+    trait_: &mut Option<Boxed<Type_>>,
 ) -> Said {
     match ask.item {
         Item::Trait => {
-            let item = trait_of(alloc, alias);
+            let item = Trait {
+                id: alias.id,
+                range: alias.range,
+                bounds: mem::replace(&mut alias.bounds, Seq::new(alloc)),
+                generics: alias.generics.take(),
+                where_: alias.where_.take(),
+            };
             let said = said_of_trait(alloc, env, &item, ask.listed);
             drop(item);
             said
         }
         Item::Impl => {
-            let item = impl_of(alias, second);
+            let item = Impl {
+                id: alias.id,
+                range: alias.range,
+                self_ty: alias.ty.take(),
+                trait_: trait_.take(),
+                generics: alias.generics.take(),
+                where_: alias.where_.take(),
+            };
             let said = said_of_impl(alloc, env, &item, ask.listed);
             drop(item);
             said
@@ -272,14 +264,12 @@ fn said_of_alias_as<E: LowerEnv>(
 
 impl AskOfDocument for ItemIs<'_> {
     fn said(&self, alloc: Global, document: &mut Document) -> Said {
-        let first = document.aliases.pop();
-        let second = document.aliases.pop();
-        match (first, second) {
+        match (document.aliases.pop(), document.aliases.pop()) {
             (Some(first), Some(second)) => {
                 let mut first = first;
                 let mut second = second;
-                let env = &document.env;
-                let said = said_of_alias_as(alloc, env, &mut first.item, &mut second.item, *self);
+                let trait_ = &mut second.item.ty;
+                let said = said_of_made(alloc, &document.env, *self, &mut first.item, trait_);
                 drop(first);
                 drop(second);
                 said

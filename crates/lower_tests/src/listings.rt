@@ -5,9 +5,8 @@ use crate::collectors::{Call, Holds, Script, said_of_calls};
 use crate::documents::{Said, own_if};
 use hir_base::node::{AstPtr, HirFileId, InFile, NodeId, TextRange};
 use hir_base::{Seq, Text};
-use hir_env::env::LowerEnv;
 use hir_env::lang::LangItems;
-use hir_lower::{Body, BodySourceMap, ExprCollector};
+use hir_lower::{Body, BodySourceMap};
 use hir_store::builder::ExpressionStoreBuilder;
 use hir_store::diagnostics::ExpressionStoreDiagnostics;
 use hir_store::fault::StoreFault;
@@ -17,10 +16,9 @@ use hir_store::name::Name;
 use hir_store::path::{ModPath, Path, PathKind};
 use hir_store::source_map::ExpressionStoreSourceMap;
 use hir_store::store::ExpressionStore;
-use hir_syntax::ast;
 use hir_syntax::ast::LiteralKind;
 use lower_json::document::Root;
-use lower_run::listing::{Listed, body_listing, path_listing, type_listing};
+use lower_run::listing::{Listed, body_listing, type_listing};
 use std::alloc::{AllocError, Global};
 use std::test::Fail;
 
@@ -33,7 +31,7 @@ const OTHER_FILE: InFile<AstPtr> = InFile {
 };
 
 /// What is listed.
-fn listed_in<'a>(
+pub fn listed_in<'a>(
     store: &'a ExpressionStore,
     source_map: &'a ExpressionStoreSourceMap,
     lang_items: &'a LangItems,
@@ -97,25 +95,6 @@ pub fn is_type_listed(
     let items = LangItems::numbered();
     let listed = listed_in(store, source_map, &items, false);
     is_text(type_listing(alloc, listed, ty), own)
-}
-
-/// Whether a lowered path in a collector is listed so, with the written one's segments.
-pub fn is_path_listed<E: LowerEnv>(
-    alloc: Global,
-    collector: ExprCollector<'_, E>,
-    lowered: &Option<Path>,
-    written: &ast::Path,
-    own: &str,
-) -> bool {
-    let Ok((store, source_map)) = collector.into_store() else {
-        return false;
-    };
-    let items = LangItems::numbered();
-    let listed = listed_in(&store, &source_map, &items, false);
-    let is_text = is_text(path_listing(alloc, listed, lowered.as_ref(), written), own);
-    drop(store);
-    drop(source_map);
-    is_text
 }
 
 /// Whether what a builder holds is listed so, with sources.

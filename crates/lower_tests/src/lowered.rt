@@ -10,6 +10,7 @@ use hir_odd_envs::endless::Endless;
 use hir_odd_envs::lacking::Lacking;
 use hir_odd_envs::one_module::OneModule;
 use hir_store::ids::{MacroDefId, ModuleId};
+use hir_tables::table::TableEnv;
 use lower_json::document::{Document, Root, Tree};
 use std::alloc::Global;
 
@@ -71,16 +72,16 @@ fn lowered_by_object<I: Item>(alloc: Global, object: &dyn LowerEnv, item: &I) ->
 }
 
 /// These are the items of the language.
-fn lowered_with<E: LowerEnv, I: Item>(
+fn lowered_with<'a, I: Item>(
     alloc: Global,
-    behind: &E,
-    items: &LangItems,
+    behind: &'a TableEnv,
+    items: &'a LangItems,
     item: &I,
 ) -> Lowered {
     lowered_by_object(alloc, &Lacking { behind, items }, item)
 }
 
-fn lowered_by<E: LowerEnv, I: Item>(alloc: Global, by: By, behind: &E, item: &I) -> Lowered {
+fn lowered_by<I: Item>(alloc: Global, by: By, behind: &TableEnv, item: &I) -> Lowered {
     let numbered = LangItems::numbered();
     match by {
         By::Tables => item.lowered(alloc, behind),

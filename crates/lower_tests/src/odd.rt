@@ -1,7 +1,7 @@
 //! What is lowered where odd objects answer, and a block that no document has.
 
 use crate::calls::ONE_AND_A_FAULT;
-use crate::collectors::{Answer, Call, Holds, Script, Subject, said_in};
+use crate::collectors::{Holds, collector, is_handed_out};
 use crate::documents::{AskOfDocument, Said, own_if, said_by_error, said_of};
 use crate::lowered::{AskOfBody, By, said_of_body};
 use crate::objects::{BLOCK_IN_BLOCK, Entered};
@@ -10,7 +10,7 @@ use hir_base::node::{HirFileId, InFile, NodeId, TextRange};
 use hir_base::{Boxed, Seq, Text};
 use hir_env::env::LowerEnv;
 use hir_env::lang::LangItems;
-use hir_lower::{Body, BodySourceMap, ExprCollector, ImplTraitLower, LowerError, lower_function};
+use hir_lower::{Body, BodySourceMap, lower_function};
 use hir_odd_envs::lacking::Lacking;
 use hir_store::hir::Expr;
 use hir_store::ids::{BlockId, FunctionId, LangItemId, ModuleId};
@@ -177,45 +177,31 @@ pub struct Lifetimes {
 
 pub const LIFETIMES: Lifetimes = Lifetimes { all: 2, early: 2 };
 
-fn lifetimes_of(
-    alloc: Global,
-    object: &dyn LowerEnv,
-    document: &Document,
-) -> Result<Lifetimes, LowerError> {
-    let Tree::Fn(item) = &document.tree else {
-        return Err(LowerError::Failed);
-    };
-    let written = InFile {
-        file_id: HirFileId(0),
-        value: item,
-    };
-    let (store, source_map, params, args, _ret, _has_self, _has_variadic) = lower_function(
-        alloc,
-        &object,
-        ModuleId(0),
-        written,
-        FunctionId(0),
-    )?;
-    let lifetimes = Lifetimes {
-        all: params.lifetimes().len(),
-        early: params.early_bound_lifetimes_len,
-    };
-    drop(store);
-    drop(source_map);
-    drop(params);
-    drop(args);
-    Ok(lifetimes)
-}
-
 impl AskOfDocument for Lifetimes {
     fn said(&self, alloc: Global, document: &mut Document) -> Said {
+        let Tree::Fn(item) = &document.tree else {
+            return Said::Other;
+        };
         let items = LangItems::numbered();
         let lacking = Lacking {
             behind: &document.env,
             items: &items,
         };
-        match lifetimes_of(alloc, &lacking, document) {
-            Ok(found) => own_if(found.all == self.all && found.early == self.early),
+        let object: &dyn LowerEnv = &lacking;
+        let written = InFile {
+            file_id: HirFileId(0),
+            value: item,
+        };
+        match lower_function(alloc, &object, ModuleId(0), written, FunctionId(0)) {
+            Ok((store, source_map, params, args, _ret, _has_self, _has_variadic)) => {
+                let all = params.lifetimes().len();
+                let early = params.early_bound_lifetimes_len;
+                drop(store);
+                drop(source_map);
+                drop(params);
+                drop(args);
+                own_if(all == self.all && early == self.early)
+            }
             Err(error) => said_by_error(error),
         }
     }
@@ -275,40 +261,24 @@ fn labelled_unsafe(alloc: Global) -> Result<ConstArg, AllocError> {
 #[derive(Clone, Copy)]
 pub struct LabelledUnsafe;
 
-impl Subject for ConstArg {
-    fn constant<E: LowerEnv>(&self, collector: &mut ExprCollector<'_, E>) -> Answer {
-        let _lowered = collector.lower_const_arg(self)?;
-        Ok(true)
-    }
-
-    fn path<E: LowerEnv, I: ImplTraitLower>(
-        &self,
-        _collector: &mut ExprCollector<'_, E>,
-        _choice: &mut I,
-    ) -> Answer {
-        Err(LowerError::Failed)
-    }
-}
-
 impl AskOfDocument for LabelledUnsafe {
     fn said(&self, alloc: Global, document: &mut Document) -> Said {
-        let script = Script {
-            limit: u32::MAX,
-            calls: &[(Call::Constant, Ok(true))],
-            holds: Holds::Sizes {
-                exprs: 2,
-                labels: 0,
-                expansions: 0,
-                faults: 1,
-            },
+        let Ok(constant) = labelled_unsafe(alloc) else {
+            return Said::Memory;
         };
-        match labelled_unsafe(alloc) {
-            Ok(constant) => {
-                let said = said_in(alloc, &document.env, &script, &constant);
-                drop(constant);
-                said
-            }
-            Err(AllocError) => Said::Memory,
+        let mut collector = collector(alloc, &document.env, u32::MAX);
+        let lowered = collector.lower_const_arg(&constant);
+        drop(constant);
+        let holds = Holds::Sizes {
+            exprs: 2,
+            labels: 0,
+            expansions: 0,
+            faults: 1,
+        };
+        let is_handed_out = is_handed_out(alloc, collector, holds);
+        match lowered {
+            Ok(_) => own_if(is_handed_out),
+            Err(error) => said_by_error(error),
         }
     }
 }

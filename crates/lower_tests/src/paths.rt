@@ -1,10 +1,9 @@
 //! Paths in collectors, and the way back to their segments.
 
 use crate::collectors::{Call, Holds, Script, said_of_calls};
-use crate::documents::{AskOfDocument, Said, own_if, path_in, said_of};
+use crate::documents::{AskOfDocument, Said, path_in, said_of};
 use hir_base::node::NodeId;
 use hir_lower::{LowerError, hir_segment_to_ast_segment};
-use hir_syntax::ast::Path;
 use lower_json::document::{Document, Root};
 use std::alloc::Global;
 
@@ -24,26 +23,27 @@ pub const EMPTY: &str = r#"{"nodes": [{"k": "Path"}]}"#;
 /// An array type whose length is a constant that is absent.
 const ABSENT: &str = r#"{"nodes": [{"k": "ArrayType", "len": 1}, {"k": "ConstArg"}]}"#;
 
-/// The nodes of the first four segments that bear names.
+/// The nodes of the first segments that bear names.
 #[derive(Clone, Copy)]
 struct Segments([Option<NodeId>; 4]);
-
-fn node_of(path: &Path, segment: u32) -> Option<NodeId> {
-    Some(hir_segment_to_ast_segment(path, segment)?.id)
-}
 
 impl AskOfDocument for Segments {
     fn said(&self, _alloc: Global, document: &mut Document) -> Said {
         let Some(path) = path_in(document) else {
             return Said::Other;
         };
-        let nodes = [
-            node_of(path, 0),
-            node_of(path, 1),
-            node_of(path, 2),
-            node_of(path, 3),
-        ];
-        own_if(nodes == self.0)
+        let mut number = 0u32;
+        for own in self.0.iter() {
+            let node = match hir_segment_to_ast_segment(path, number) {
+                Some(segment) => Some(segment.id),
+                None => None,
+            };
+            if node != *own {
+                return Said::Other;
+            }
+            number = number.saturating_add(1);
+        }
+        Said::Own
     }
 }
 

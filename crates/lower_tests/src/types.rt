@@ -2,14 +2,14 @@
 
 use crate::collectors::{Call, Holds, Script, collector, said_of_calls};
 use crate::documents::{AskOfDocument, Said, own_if, path_in, said_by_error, said_of};
-use crate::listings::is_path_listed;
+use crate::listings::{listed_in, said_of_text};
 use crate::paths::EMPTY;
 use hir_base::node::{HirFileId, InFile};
+use hir_env::lang::LangItems;
 use hir_lower::{LowerError, OpaqueImplTrait, lower_type_ref};
 use hir_store::ids::ModuleId;
-use hir_store::source_map::ExpressionStoreSourceMap;
-use hir_store::store::ExpressionStore;
 use lower_json::document::{Document, Root};
+use lower_run::listing::path_listing;
 use std::alloc::Global;
 
 /// `A<impl B>`.
@@ -58,16 +58,18 @@ impl AskOfDocument for OpaquePath {
             return Said::Other;
         };
         let mut collector = collector(alloc, &document.env, 2);
-        match collector.lower_path(path, &mut OpaqueImplTrait) {
-            Ok(lowered) => {
-                let is_listed = is_path_listed(alloc, collector, &lowered, path, self.0);
+        let lowered = collector.lower_path(path, &mut OpaqueImplTrait);
+        match (lowered, collector.into_store()) {
+            (Ok(lowered), Ok((store, source_map))) => {
+                let items = LangItems::numbered();
+                let listed = listed_in(&store, &source_map, &items, false);
+                let text = path_listing(alloc, listed, lowered.as_ref(), path);
                 drop(lowered);
-                own_if(is_listed)
+                drop(store);
+                drop(source_map);
+                said_of_text(text, self.0)
             }
-            Err(error) => {
-                drop(collector);
-                said_by_error(error)
-            }
+            _ => Said::Other,
         }
     }
 }

@@ -7,7 +7,7 @@ use hir_lower::{Body, BodySourceMap, hir_assoc_type_binding_to_ast, hir_generic_
 use hir_store::hir::Expr;
 use hir_store::ids::ExprId;
 use hir_store::store::ExpressionStore;
-use hir_syntax::ast::{GenericArg, GenericArgList, Path};
+use hir_syntax::ast::{GenericArg, GenericArgList};
 use lower_json::document::{Document, Root};
 use std::alloc::Global;
 
@@ -29,19 +29,23 @@ pub const ARGUMENTS: &str = r#"{"nodes": [
     {"k": "Literal", "lit": "int", "t": "3"}
 ]}"#;
 
-/// The nodes of the first four arguments, of the one behind `Self`, and of the first two bindings.
+/// The nodes of arguments, by their numbers and whether `Self` stands in front, and of bindings.
 #[derive(Clone, Copy)]
 pub struct Lent {
-    args: [Option<NodeId>; 4],
-    behind_self: Option<NodeId>,
-    bindings: [Option<NodeId>; 2],
+    args: &'static [(u32, bool, Option<NodeId>)],
+    bindings: &'static [(u32, Option<NodeId>)],
 }
 
 /// What is lent of the path above.
 pub const LENT: Lent = Lent {
-    args: [Some(NodeId(4)), Some(NodeId(7)), Some(NodeId(13)), None],
-    behind_self: Some(NodeId(4)),
-    bindings: [Some(NodeId(8)), None],
+    args: &[
+        (0, false, Some(NodeId(4))),
+        (1, false, Some(NodeId(7))),
+        (2, false, Some(NodeId(13))),
+        (3, false, None),
+        (1, true, Some(NodeId(4))),
+    ],
+    bindings: &[(0, Some(NodeId(8))), (1, None)],
 };
 
 /// The node of a type or a constant that is an argument, of a lifetime with its argument, or of a binding.
@@ -54,41 +58,42 @@ fn node_of(arg: &GenericArg) -> Option<NodeId> {
     }
 }
 
-fn arg_node(list: &GenericArgList, at: u32, has_self: bool) -> Option<NodeId> {
-    node_of(hir_generic_arg_to_ast(list, at, has_self)?)
-}
-
-fn binding_node(list: &GenericArgList, at: u32) -> Option<NodeId> {
-    Some(hir_assoc_type_binding_to_ast(list, at)?.id)
-}
-
 fn is_lent(list: &GenericArgList, own: Lent) -> bool {
-    let args = [
-        arg_node(list, 0, false),
-        arg_node(list, 1, false),
-        arg_node(list, 2, false),
-        arg_node(list, 3, false),
-    ];
-    let bindings = [binding_node(list, 0), binding_node(list, 1)];
-    args == own.args && arg_node(list, 1, true) == own.behind_self && bindings == own.bindings
-}
-
-/// The list beside the path's only name.
-fn list_of(path: &Path) -> Option<&GenericArgList> {
-    match path.segs.as_slice() {
-        [Some(segment)] => segment.generics.as_ref(),
-        _ => None,
+    for lent in own.args {
+        let (at, has_self, own) = *lent;
+        let node = match hir_generic_arg_to_ast(list, at, has_self) {
+            Some(arg) => node_of(arg),
+            None => None,
+        };
+        if node != own {
+            return false;
+        }
     }
+    for lent in own.bindings {
+        let (at, own) = *lent;
+        let node = match hir_assoc_type_binding_to_ast(list, at) {
+            Some(binding) => Some(binding.id),
+            None => None,
+        };
+        if node != own {
+            return false;
+        }
+    }
+    true
 }
 
 impl AskOfDocument for Lent {
+    /// Of the list beside the path's only name.
     fn said(&self, _alloc: Global, document: &mut Document) -> Said {
         let Some(path) = path_in(document) else {
             return Said::Other;
         };
-        match list_of(path) {
-            Some(list) => own_if(is_lent(list, *self)),
-            None => Said::Other,
+        match path.segs.as_slice() {
+            [Some(segment)] => match &segment.generics {
+                Some(list) => own_if(is_lent(list, *self)),
+                None => Said::Other,
+            },
+            _ => Said::Other,
         }
     }
 }
