@@ -80,7 +80,8 @@ abbrev pub with_legacy : List (Name × List ((ℕ × ℕ) × MacroDefId)) → Mo
     → List (Name × List ((ℕ × ℕ) × MacroDefId))
 with_legacy es inside n k d = with_first_below name_cmp place_cmp es n (inside.0, k) d
 
-pub record Tables : Type 0 where
+-- tables, by what they say of a call
+pub record Saying (M : Type 0) : Type 0 where
   pub disabled : List ((ℕ × ℕ) × CfgId)
   pub preds : List (ℕ × Option Bool)
   pub hygiene : List ((ℕ × ℕ) × HygieneId)
@@ -92,12 +93,15 @@ pub record Tables : Type 0 where
   pub aliases : List (ℕ × Alias)
   pub lang_items : LangItems
   pub new_range : Bool
-  pub macros : List ((ℕ × ℕ) × MacroAnswer)
+  pub macros : List ((ℕ × ℕ) × M)
   pub macro_defs : List (Name × List (ℕ × MacroDefId))
   pub legacy : List (Name × List ((ℕ × ℕ) × MacroDefId))
   pub limit : ℕ
 
-abbrev pub empty : ItemContainerId → Tables
+abbrev pub Tables : Type 0
+Tables = Saying MacroAnswer
+
+abbrev pub empty : {M : Type 0} → ItemContainerId → Saying M
 empty container = record {
   disabled = [];
   preds = [];
@@ -153,15 +157,18 @@ decided es (Some p) = if_said (number_found es p.0)
 abbrev pub resolved_in : List (ModPath × List (ℕ × Resolved)) → ModuleId → ModPath → Resolved
 resolved_in es inside p = unwrap_or (path_found es inside p) (record { types = None; values = None; rest = None })
 
--- a call of which nothing is said has no expansion
-abbrev pub expanded_by : Option MacroAnswer → Expanding
-expanded_by None = no_expansion
-expanded_by (Some (answer.Unresolved x)) = unresolved x
-expanded_by (Some answer.NoExpansion) = no_expansion
-expanded_by (Some (answer.Expanded f root es)) = expanded f root es
+abbrev pub expanded_to : MacroAnswer → Expanding
+expanded_to (answer.Unresolved x) = unresolved x
+expanded_to answer.NoExpansion = no_expansion
+expanded_to (answer.Expanded f root es) = expanded f root es
 
-abbrev pub answers_of : Tables → Answers
-answers_of t = record {
+-- a call of which nothing is said has no expansion
+abbrev pub if_expanded : {M : Type 0} → (M → Expanding) → Option M → Expanding
+if_expanded expanding None = no_expansion
+if_expanded expanding (Some answer) = expanding answer
+
+abbrev pub answers_by : {M : Type 0} → (M → Expanding) → Saying M → Answers
+answers_by expanding t = record {
   cfg = λ s. enabled (found t.disabled s);
   hygiene = λ s. hygiene_in t.hygiene s;
   -- that of its hygiene's number
@@ -178,8 +185,11 @@ answers_of t = record {
   alias = alias_found t.aliases;
   lang_items = t.lang_items;
   new_range = λ _. t.new_range;
-  expand = λ s c inside k. expanded_by (found t.macros s);
+  expand = λ s c inside k. if_expanded expanding (found t.macros s);
   macro_def = λ inside n. definition_found t.macro_defs inside n;
   legacy_macro = λ inside n k. legacy_found t.legacy inside n k;
   expansion_limit = t.limit;
 }
+
+abbrev pub answers_of : Tables → Answers
+answers_of t = answers_by expanded_to t

@@ -1,6 +1,8 @@
 //! An environment of tables.
 
 ghost use Rattle.std.specs.Prelude.{◌≡◌, OnOk, OnErr, is_some};
+ghost use Rattle.hir_env.specs.Answers.{Expanding};
+ghost use Rattle.hir_env.specs.Lent.{shown};
 ghost use Rattle.hir_tables.specs.Tables as spec;
 ghost use Rattle.hir_tables.specs.Tables.{found, with_alias, with_first, with_pred, with_context, with_path, with_definition, with_legacy};
 
@@ -46,6 +48,32 @@ pub enum MacroAnswer {
     },
 }
 
+/// What may be said of a call of a macro.
+pub trait ExpandsTo {
+    /// What the call is expanded to.
+    ghost expanding: { Self → Expanding };
+
+    /// Lends what the call is expanded to.
+    fn expansion(&self) -> Expansion<'_>
+        ensures { shown result ≡ expanding self.now };
+}
+
+impl ExpandsTo for MacroAnswer {
+    ghost use Rattle.hir_tables.specs.Tables.{expanded_to};
+
+    ghost expanding = { expanded_to };
+
+    fn expansion(&self) -> Expansion<'_> {
+        match self {
+            MacroAnswer::NoExpansion => Expansion::NoExpansion,
+            MacroAnswer::Unresolved(path) => Expansion::Unresolved(path),
+            MacroAnswer::Expanded { file, root, eager } => {
+                Expansion::Expanded(*file, root.as_ref(), eager.as_slice())
+            }
+        }
+    }
+}
+
 /// An environment that answers all from tables. A node that stands in none is enabled, has root hygiene and no
 /// block, and a call that stands in none has no expansion. A name's context has the number of its hygiene. A context that
 /// stands in no table was made in the root, has the hygiene of its own number, came from no macro, and its crate has no root. A
@@ -53,7 +81,9 @@ pub enum MacroAnswer {
 /// stands in none has no answer. Of two entries for one node, one context, one call, one path, one alias or one name the first counts.
 ///
 /// A node is known by the numbers of its file and its own, all else by number, path or name.
-pub struct TableEnv {
+///
+/// What is said of a call is a type parameter, since it holds trees: what names none of their types is cheap to check.
+pub struct TablesOf<M> {
     disabled: FirstOf<(u32, u32), CfgId>,
     preds: FirstOf<u32, Option<bool>>,
     hygiene: FirstOf<(u32, u32), HygieneId>,
@@ -65,11 +95,14 @@ pub struct TableEnv {
     aliases: FirstOf<u32, AliasSignature>,
     lang_items: LangItems,
     new_range: bool,
-    macros: FirstOf<(u32, u32), MacroAnswer>,
+    macros: FirstOf<(u32, u32), M>,
     macro_defs: FirstBelow<Name, u32, MacroDefId>,
     legacy: FirstBelow<Name, (u32, u32), MacroDefId>,
     limit: u32,
 }
+
+/// Tables that say of a call what it is expanded to.
+pub type TableEnv = TablesOf<MacroAnswer>;
 
 /// The numbers that a node is known by.
 fn place(node: InFile<NodeId>) -> (u32, u32)
@@ -78,9 +111,9 @@ fn place(node: InFile<NodeId>) -> (u32, u32)
     (node.file_id.0, node.value.0)
 }
 
-impl Drop for TableEnv {
+impl<M: Drop> Drop for TablesOf<M> {
     fn drop(self) {
-        let TableEnv {
+        let TablesOf {
             disabled: _,
             preds: _,
             hygiene: _,
@@ -100,25 +133,14 @@ impl Drop for TableEnv {
     }
 }
 
-impl Model for TableEnv {
-    ghost use Rattle.hir_tables.specs.Tables.{Tables};
+impl<M> Model for TablesOf<M> {
+    ghost use Rattle.hir_tables.specs.Tables.{Saying};
     ghost use Rattle.std.specs.Coded.{codes};
     ghost use Rattle.hir_store.specs.contracts.path.GenericArgs as generic_args;
-    ghost use Rattle.hir_syntax.specs.contracts.ast.Expr as expr_tree;
-    ghost use Rattle.hir_syntax.specs.contracts.ast.Stmt as stmt_tree;
-    ghost use Rattle.hir_syntax.specs.contracts.pats.Pat as pat_tree;
-    ghost use Rattle.hir_syntax.specs.contracts.types.Type_ as type_tree;
 
-    ghost Value = { Tables };
+    ghost Value = { Saying M };
 
-    ghost coded = { Prim.hlevel (
-      codes,
-      generic_args.the_row.coded,
-      expr_tree.the_row.coded,
-      stmt_tree.the_row.coded,
-      pat_tree.the_row.coded,
-      type_tree.the_row.coded,
-    ) };
+    ghost coded = { Prim.hlevel (codes, generic_args.the_row.coded, M.code) };
 
     ghost view = { λ t. record {
       disabled = t.disabled;
@@ -139,13 +161,13 @@ impl Model for TableEnv {
     } };
 }
 
-impl TableEnv {
+impl<M> TablesOf<M> {
     /// Tables without entries, of a body that is not skipped and stands in the container. All items of the language are
     /// there, numbered in their order, and ranges are made as the older ones.
-    pub fn new(alloc: Global, container: ItemContainerId) -> TableEnv
+    pub fn new(alloc: Global, container: ItemContainerId) -> TablesOf<M>
         ensures { result ≡ spec.empty container }
     {
-        TableEnv {
+        TablesOf {
             disabled: FirstOf::new(alloc),
             preds: FirstOf::new(alloc),
             hygiene: FirstOf::new(alloc),
@@ -269,14 +291,6 @@ impl TableEnv {
         self.macros.has(place(call))
     }
 
-    /// Says what the call at a node is expanded to.
-    pub fn set_macro(&mut self, call: InFile<NodeId>, answer: MacroAnswer) -> Result<(), AllocError>
-        ensures ok { OnOk result (self.new ≡ record self.old { macros = with_first self.old.macros call answer }) }
-        ensures err { OnErr result (self.new ≡ self.old) }
-    {
-        self.macros.insert(place(call), answer)
-    }
-
     /// Gives a macro of a module its number.
     pub fn set_macro_def(
         &mut self,
@@ -319,10 +333,20 @@ impl TableEnv {
     }
 }
 
-impl LowerEnv for TableEnv {
-    ghost use Rattle.hir_tables.specs.Tables.{answers_of};
+impl TableEnv {
+    /// Says what the call at a node is expanded to.
+    pub fn set_macro(&mut self, call: InFile<NodeId>, answer: MacroAnswer) -> Result<(), AllocError>
+        ensures ok { OnOk result (self.new ≡ record self.old { macros = with_first self.old.macros call answer }) }
+        ensures err { OnErr result (self.new ≡ self.old) }
+    {
+        self.macros.insert(place(call), answer)
+    }
+}
 
-    ghost answers = { answers_of };
+impl<M: ExpandsTo> LowerEnv for TablesOf<M> {
+    ghost use Rattle.hir_tables.specs.Tables.{answers_by};
+
+    ghost answers = { answers_by M.expanding };
 
     fn cfg(&self, node: InFile<NodeId>) -> Result<(), CfgId> {
         match self.disabled.get(place(node)) {
@@ -424,11 +448,7 @@ impl LowerEnv for TableEnv {
     ) -> Expansion<'_> {
         match self.macros.get(place(node)) {
             None => Expansion::NoExpansion,
-            Some(MacroAnswer::NoExpansion) => Expansion::NoExpansion,
-            Some(MacroAnswer::Unresolved(path)) => Expansion::Unresolved(path),
-            Some(MacroAnswer::Expanded { file, root, eager }) => {
-                Expansion::Expanded(*file, root.as_ref(), eager.as_slice())
-            }
+            Some(answer) => answer.expansion(),
         }
     }
 

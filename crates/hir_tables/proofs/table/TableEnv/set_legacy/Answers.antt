@@ -1,6 +1,0 @@
-use Rattle.std.proofs.Common.{refl}
-use Rattle.hir_tables.proofs.Written.{on_ok}
-use Rattle.hir_tables.proofs.table.TableEnv.set_legacy.Goals as goal
-
-pub returns-clause-ok : goal.returns-clause-ok
-returns-clause-ok c = on_ok c.insert.result (λ same. rw (← c.self.view_is) (rw same refl)) c.insert.ensures.ok
