@@ -17,7 +17,7 @@ use hir_base::{Seq, Text};
 use hir_store::ids::{MacroDefId, ModuleId};
 use hir_store::name::Name;
 use hir_syntax::ast::Fragment;
-use hir_tables::table::{MacroAnswer, TableEnv};
+use hir_tables::table::{MacroAnswer, TableEnv, TablesOf};
 use json_faults::members::NodeList;
 use json_faults::value::small;
 use json_kinds::kind::Kind;
@@ -216,7 +216,11 @@ fn legacy(
 }
 
 /// Gives each macro of a module the number that the entries say.
-pub fn define_all(alloc: Global, tables: &mut TableEnv, entries: &[Value]) -> Result<(), AllocError>
+pub fn define_all<M>(
+    alloc: Global,
+    tables: &mut TablesOf<M>,
+    entries: &[Value],
+) -> Result<(), AllocError>
     ensures entries { OnOk result (tables.new.macro_defs ≡ with_definitions (items_view entries.now) tables.old.macro_defs) }
     ensures others { OnOk result (tables.new ≡ record tables.old { macro_defs = tables.new.macro_defs }) }
 {
@@ -231,9 +235,9 @@ pub fn define_all(alloc: Global, tables: &mut TableEnv, entries: &[Value]) -> Re
 }
 
 /// Gives each macro that `macro_rules` has defined the number that the entries say.
-pub fn define_legacy(
+pub fn define_legacy<M>(
     alloc: Global,
-    tables: &mut TableEnv,
+    tables: &mut TablesOf<M>,
     entries: &[Value],
 ) -> Result<(), AllocError>
     ensures entries { OnOk result (tables.new.legacy ≡ with_legacy (items_view entries.now) tables.old.legacy) }

@@ -14,7 +14,7 @@ use crate::tables::number_or_null;
 use hir_env::resolved::{Resolution, Resolved, TypeAliasId};
 use hir_store::ids::ModuleId;
 use hir_store::path::ModPath;
-use hir_tables::table::TableEnv;
+use hir_tables::table::TablesOf;
 use json_faults::value::{is_alias_word, small};
 use serde_json::Value;
 use std::alloc::{AllocError, Global};
@@ -149,9 +149,9 @@ fn said(alloc: Global, entry: &Value) -> Result<Option<(ModPath, (ModuleId, Reso
 }
 
 /// Says of each path what the entries say.
-pub fn resolve_all(
+pub fn resolve_all<M>(
     alloc: Global,
-    tables: &mut TableEnv,
+    tables: &mut TablesOf<M>,
     entries: &[Value],
 ) -> Result<(), AllocError>
     ensures entries { OnOk result (tables.new.paths ≡ with_paths (items_view entries.now) tables.old.paths) }

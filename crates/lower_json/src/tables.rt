@@ -17,7 +17,7 @@ use hir_base::node::{HirFileId, InFile, NodeId, PredId};
 use hir_store::ids::{
     BlockId, CfgId, CrateId, CtxId, HygieneId, ItemContainerId, MacroDefId, ModuleId,
 };
-use hir_tables::table::{Context, TableEnv};
+use hir_tables::table::{Context, TableEnv, TablesOf};
 use json_faults::members::NodeList;
 use json_faults::value::small;
 use json_kinds::kind::Kind;
@@ -181,7 +181,7 @@ fn context(entry: &Value) -> Option<(CtxId, Context)>
     context_with(entry.as_array()?.as_slice())
 }
 
-fn disable_all(tables: &mut TableEnv, entries: &[Value]) -> Result<(), AllocError>
+fn disable_all<M>(tables: &mut TablesOf<M>, entries: &[Value]) -> Result<(), AllocError>
     ensures entries { OnOk result (tables.new.disabled ≡ with_all with_first disabled_of (items_view entries.now) tables.old.disabled) }
     ensures others { OnOk result (tables.new ≡ record tables.old { disabled = tables.new.disabled }) }
 {
@@ -193,7 +193,7 @@ fn disable_all(tables: &mut TableEnv, entries: &[Value]) -> Result<(), AllocErro
     Ok(())
 }
 
-fn decide_all(tables: &mut TableEnv, entries: &[Value]) -> Result<(), AllocError>
+fn decide_all<M>(tables: &mut TablesOf<M>, entries: &[Value]) -> Result<(), AllocError>
     ensures entries { OnOk result (tables.new.preds ≡ with_all with_pred decided_of (items_view entries.now) tables.old.preds) }
     ensures others { OnOk result (tables.new ≡ record tables.old { preds = tables.new.preds }) }
 {
@@ -205,7 +205,7 @@ fn decide_all(tables: &mut TableEnv, entries: &[Value]) -> Result<(), AllocError
     Ok(())
 }
 
-fn name_all(tables: &mut TableEnv, entries: &[Value]) -> Result<(), AllocError>
+fn name_all<M>(tables: &mut TablesOf<M>, entries: &[Value]) -> Result<(), AllocError>
     ensures entries { OnOk result (tables.new.hygiene ≡ with_all with_first named_of (items_view entries.now) tables.old.hygiene) }
     ensures others { OnOk result (tables.new ≡ record tables.old { hygiene = tables.new.hygiene }) }
 {
@@ -217,7 +217,7 @@ fn name_all(tables: &mut TableEnv, entries: &[Value]) -> Result<(), AllocError>
     Ok(())
 }
 
-fn frame_all(tables: &mut TableEnv, entries: &[Value]) -> Result<(), AllocError>
+fn frame_all<M>(tables: &mut TablesOf<M>, entries: &[Value]) -> Result<(), AllocError>
     ensures entries { let es = items_view entries.now in
         OnOk result (tables.new.contexts ≡ with_all with_context context_of es tables.old.contexts) }
     ensures others { OnOk result (tables.new ≡ record tables.old { contexts = tables.new.contexts }) }
@@ -230,7 +230,7 @@ fn frame_all(tables: &mut TableEnv, entries: &[Value]) -> Result<(), AllocError>
     Ok(())
 }
 
-fn number_all(tables: &mut TableEnv, entries: &[Value]) -> Result<(), AllocError>
+fn number_all<M>(tables: &mut TablesOf<M>, entries: &[Value]) -> Result<(), AllocError>
     ensures entries { OnOk result (tables.new.blocks ≡ with_all with_first numbered_of (items_view entries.now) tables.old.blocks) }
     ensures others { OnOk result (tables.new ≡ record tables.old { blocks = tables.new.blocks }) }
 {

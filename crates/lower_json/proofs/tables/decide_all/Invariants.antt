@@ -5,7 +5,7 @@ use Rattle.lower_json.specs.Tables.{with_all, decided_of}
 use Rattle.lower_json.proofs.tables.decide_all.Given as goal
 
 abbrev pub invariant-loop-entry : goal.invariant-loop-entry
-invariant-loop-entry l = record {
+invariant-loop-entry g l = record {
   so_far : with_all with_pred decided_of (items_view l.entries) l.initial.tables.preds
       ≡ with_all with_pred decided_of (items_view (drop l.entry-index l.entries)) l.tables.preds;
   others : l.tables ≡ record l.initial.tables { preds = l.tables.preds };

@@ -5,7 +5,7 @@ use Rattle.lower_json.specs.Tables.{with_all, numbered_of}
 use Rattle.lower_json.proofs.tables.number_all.Given as goal
 
 abbrev pub invariant-loop-entry : goal.invariant-loop-entry
-invariant-loop-entry l = record {
+invariant-loop-entry g l = record {
   so_far : with_all with_first numbered_of (items_view l.entries) l.initial.tables.blocks
       ≡ with_all with_first numbered_of (items_view (drop l.entry-index l.entries)) l.tables.blocks;
   others : l.tables ≡ record l.initial.tables { blocks = l.tables.blocks };
