@@ -1,4 +1,5 @@
 -- A call is what the code makes of it: what is told of it, and then what it stands for.
+use Rattle.std.proofs.Common.{true≢false, is_some}
 use Rattle.std.proofs.Common.{◌≡◌, ◌∙◌, ap, refl, sym, ℕ, zero, suc, List, Option, Some, None, Ok, Err}
 use Rattle.hir_base.specs.declared.node.HirFileId.{HirFileId}
 use Rattle.hir_syntax.specs.declared.macros.Fragment.TheVariants as fragment
@@ -252,12 +253,12 @@ module _ (at : Spot) (c : AstMacroCall) (Inner : Place → AstPat → Type 0)
     → asked_call at.answers kind.Pat c at.place ≡ expanded f (Some (fragment.Pat e)) es → Inner (inside_file f n at.place) e) where
   found_there : (n : ℕ) → at.place.left ≡ suc n → (x : Expanding) → asked_call at.answers kind.Pat c at.place ≡ x
       → (q : Place) (e : AstPat) → pat_there (found_in n at.place x) ≡ Some (q, e) → Inner q e
-  found_there n h (unresolved y) k q e is = cc
-  found_there n h no_expansion k q e is = cc
-  found_there n h (expanded f None es) k q e is = cc
-  found_there n h (expanded f (Some (fragment.Expr x)) es) k q e is = cc
-  found_there n h (expanded f (Some (fragment.Stmts x)) es) k q e is = cc
-  found_there n h (expanded f (Some (fragment.Type_ x)) es) k q e is = cc
+  found_there n h (unresolved y) k q e is = absurd (true≢false (sym (ap is_some is)))
+  found_there n h no_expansion k q e is = absurd (true≢false (sym (ap is_some is)))
+  found_there n h (expanded f None es) k q e is = absurd (true≢false (sym (ap is_some is)))
+  found_there n h (expanded f (Some (fragment.Expr x)) es) k q e is = absurd (true≢false (sym (ap is_some is)))
+  found_there n h (expanded f (Some (fragment.Stmts x)) es) k q e is = absurd (true≢false (sym (ap is_some is)))
+  found_there n h (expanded f (Some (fragment.Type_ x)) es) k q e is = absurd (true≢false (sym (ap is_some is)))
   found_there n h (expanded f (Some (fragment.Pat x)) es) k q e is =
       let place : inside_file f n at.place ≡ q = ap (place_or q) is in
       let same : x ≡ e = ap (pat_or e) is in
@@ -277,7 +278,7 @@ module _ (at : Spot) (c : AstMacroCall) (Inner : Place → AstPat → Type 0)
     where
       by : (l : ℕ) → at.place.left ≡ l → enter_left at.answers kind.Pat c l at.place b ≡ (Ok found, d) → Inner q e
       by zero h m =
-          let apart : nowhere ≡ Some (q, e) = ap (λ z. pat_there (found_or found z.0)) m ∙ is in cc
+          let apart : nowhere ≡ Some (q, e) = ap (λ z. pat_there (found_or found z.0)) m ∙ is in absurd (true≢false (sym (ap is_some apart)))
       by (suc n) h m =
           let t = told (called (call_pointer at.place c) (asked_call at.answers kind.Pat c at.place)) b in
           told_there n h t.0 t.1 d found m q e is

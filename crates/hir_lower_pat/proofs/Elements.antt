@@ -1,4 +1,5 @@
 -- The elements of tuples and calls: two dots are none, be it through calls, and a call that the text lacks is missing at its node.
+use Rattle.std.proofs.Common.{true≢false}
 use Rattle.std.proofs.Common.{arith, ◌≡◌, ◌∙◌, ap, refl, sym, suc, ◌+◌, ◌≤◌, Bool, true, false, List, [], ◌∷◌, ◌++◌}
 use Rattle.std.proofs.Common.{Option, Some, None, Ok, Err, length, slice_index_or}
 use Rattle.std.specs.Prelude.{if◌then◌else◌, ◌-◌, drop, take}
@@ -110,56 +111,56 @@ after_told (Ok _) b p q m h = h b
 -- two dots are no part
 rest_steps : (p : Pat) (t : Table) (b : Builder) → is_rest p ≡ true → element_steps p t b ≡ (told_through p >> pure (None, t)) b
 rest_steps (tree.leaf_pat s tree.rest_leaf) t b h = refl
-rest_steps (tree.leaf_pat s tree.wild_leaf) t b h = cc
-rest_steps (tree.leaf_pat s tree.not_null_leaf) t b h = cc
-rest_steps (tree.leaf_pat s tree.broken_leaf) t b h = cc
-rest_steps (tree.macro_pat s called tree.no_pat) t b h = cc
+rest_steps (tree.leaf_pat s tree.wild_leaf) t b h = absurd (true≢false (sym h))
+rest_steps (tree.leaf_pat s tree.not_null_leaf) t b h = absurd (true≢false (sym h))
+rest_steps (tree.leaf_pat s tree.broken_leaf) t b h = absurd (true≢false (sym h))
+rest_steps (tree.macro_pat s called tree.no_pat) t b h = absurd (true≢false (sym h))
 rest_steps (tree.macro_pat s called (tree.some_pat p)) t b h =
     let o = told called b in
     let through : (c : Builder) → (element_steps p t >>= point_element s) c ≡ (told_through p >> pure (None, t)) c =
     λ c. ap (λ r. go_on r.0 r.1 (point_element s)) (rest_steps p t c h)
     ∙ (behind_told (Ok tt) c (told_through p) (pure (None, t)) (point_element s) ∙ refl) in
     after_told o.0 o.1 (told_through p) (pure (None, t)) (element_steps p t >>= point_element s) through
-rest_steps (tree.bind_pat s u w q) t b h = cc
-rest_steps (tree.name_pat s u w) t b h = cc
-rest_steps (tree.path_pat s x) t b h = cc
-rest_steps (tree.tuple_struct_pat s x comma qs) t b h = cc
-rest_steps (tree.tuple_pat s comma qs) t b h = cc
-rest_steps (tree.record_pat s x fs dots) t b h = cc
-rest_steps (tree.or_pat s qs) t b h = cc
-rest_steps (tree.paren_pat s q) t b h = cc
-rest_steps (tree.slice_pat s before q after) t b h = cc
-rest_steps (tree.over_pat s form q) t b h = cc
-rest_steps (tree.literal_pat s from l) t b h = cc
-rest_steps (tree.range_pat s o low high) t b h = cc
-rest_steps (tree.barred_pat s) t b h = cc
+rest_steps (tree.bind_pat s u w q) t b h = absurd (true≢false (sym h))
+rest_steps (tree.name_pat s u w) t b h = absurd (true≢false (sym h))
+rest_steps (tree.path_pat s x) t b h = absurd (true≢false (sym h))
+rest_steps (tree.tuple_struct_pat s x comma qs) t b h = absurd (true≢false (sym h))
+rest_steps (tree.tuple_pat s comma qs) t b h = absurd (true≢false (sym h))
+rest_steps (tree.record_pat s x fs dots) t b h = absurd (true≢false (sym h))
+rest_steps (tree.or_pat s qs) t b h = absurd (true≢false (sym h))
+rest_steps (tree.paren_pat s q) t b h = absurd (true≢false (sym h))
+rest_steps (tree.slice_pat s before q after) t b h = absurd (true≢false (sym h))
+rest_steps (tree.over_pat s form q) t b h = absurd (true≢false (sym h))
+rest_steps (tree.literal_pat s from l) t b h = absurd (true≢false (sym h))
+rest_steps (tree.range_pat s o low high) t b h = absurd (true≢false (sym h))
+rest_steps (tree.barred_pat s) t b h = absurd (true≢false (sym h))
 
 -- but say where parts are left out
 rest_lowers : (p : Pat) (ps : Pats) (done : Elements) (t : Table) (b : Builder) → is_rest p ≡ true
     → lower_elements done (rest_in p ps) t b
     ≡ (told_through p >> lower_elements (done.0, dots_after done.0 done.1) ps t) b
 rest_lowers (tree.leaf_pat s tree.rest_leaf) ps done t b h = refl
-rest_lowers (tree.leaf_pat s tree.wild_leaf) ps done t b h = cc
-rest_lowers (tree.leaf_pat s tree.not_null_leaf) ps done t b h = cc
-rest_lowers (tree.leaf_pat s tree.broken_leaf) ps done t b h = cc
-rest_lowers (tree.macro_pat s called tree.no_pat) ps done t b h = cc
+rest_lowers (tree.leaf_pat s tree.wild_leaf) ps done t b h = absurd (true≢false (sym h))
+rest_lowers (tree.leaf_pat s tree.not_null_leaf) ps done t b h = absurd (true≢false (sym h))
+rest_lowers (tree.leaf_pat s tree.broken_leaf) ps done t b h = absurd (true≢false (sym h))
+rest_lowers (tree.macro_pat s called tree.no_pat) ps done t b h = absurd (true≢false (sym h))
 rest_lowers (tree.macro_pat s called (tree.some_pat p)) ps done t b h =
     let o = told called b in
     after_told o.0 o.1 (told_through p) (lower_elements (done.0, dots_after done.0 done.1) ps t) (lower_elements done (rest_in p ps) t)
     (λ c. rest_lowers p ps done t c h)
-rest_lowers (tree.bind_pat s u w q) ps done t b h = cc
-rest_lowers (tree.name_pat s u w) ps done t b h = cc
-rest_lowers (tree.path_pat s x) ps done t b h = cc
-rest_lowers (tree.tuple_struct_pat s x comma qs) ps done t b h = cc
-rest_lowers (tree.tuple_pat s comma qs) ps done t b h = cc
-rest_lowers (tree.record_pat s x fs dots) ps done t b h = cc
-rest_lowers (tree.or_pat s qs) ps done t b h = cc
-rest_lowers (tree.paren_pat s q) ps done t b h = cc
-rest_lowers (tree.slice_pat s before q after) ps done t b h = cc
-rest_lowers (tree.over_pat s form q) ps done t b h = cc
-rest_lowers (tree.literal_pat s from l) ps done t b h = cc
-rest_lowers (tree.range_pat s o low high) ps done t b h = cc
-rest_lowers (tree.barred_pat s) ps done t b h = cc
+rest_lowers (tree.bind_pat s u w q) ps done t b h = absurd (true≢false (sym h))
+rest_lowers (tree.name_pat s u w) ps done t b h = absurd (true≢false (sym h))
+rest_lowers (tree.path_pat s x) ps done t b h = absurd (true≢false (sym h))
+rest_lowers (tree.tuple_struct_pat s x comma qs) ps done t b h = absurd (true≢false (sym h))
+rest_lowers (tree.tuple_pat s comma qs) ps done t b h = absurd (true≢false (sym h))
+rest_lowers (tree.record_pat s x fs dots) ps done t b h = absurd (true≢false (sym h))
+rest_lowers (tree.or_pat s qs) ps done t b h = absurd (true≢false (sym h))
+rest_lowers (tree.paren_pat s q) ps done t b h = absurd (true≢false (sym h))
+rest_lowers (tree.slice_pat s before q after) ps done t b h = absurd (true≢false (sym h))
+rest_lowers (tree.over_pat s form q) ps done t b h = absurd (true≢false (sym h))
+rest_lowers (tree.literal_pat s from l) ps done t b h = absurd (true≢false (sym h))
+rest_lowers (tree.range_pat s o low high) ps done t b h = absurd (true≢false (sym h))
+rest_lowers (tree.barred_pat s) ps done t b h = absurd (true≢false (sym h))
 
 abbrev present : PatId × Table → Lowering (Option PatId × Table)
 present r = pure (Some r.0, r.1)
@@ -201,7 +202,7 @@ call_is_part s called p t b h =
 -- any other pattern is a part, and a call of it leads to it
 part_steps : (p : Pat) (t : Table) (b : Builder) → is_rest p ≡ false → element_steps p t b ≡ present_pat (tree.some_pat (element_of p)) t b
 unfolding called_pat_form
-part_steps (tree.leaf_pat s tree.rest_leaf) t b h = cc
+part_steps (tree.leaf_pat s tree.rest_leaf) t b h = absurd (true≢false h)
 part_steps (tree.leaf_pat s tree.wild_leaf) t b h = refl
 part_steps (tree.leaf_pat s tree.not_null_leaf) t b h = refl
 part_steps (tree.leaf_pat s tree.broken_leaf) t b h = refl
@@ -231,7 +232,7 @@ part_steps (tree.range_pat s o low high) t b h = refl
 part_steps (tree.barred_pat s) t b h = refl
 
 part_is_no_dots : (p : Pat) → is_rest p ≡ false → is_dots (element_of p) ≡ false
-part_is_no_dots (tree.leaf_pat s tree.rest_leaf) h = cc
+part_is_no_dots (tree.leaf_pat s tree.rest_leaf) h = absurd (true≢false h)
 part_is_no_dots (tree.leaf_pat s tree.wild_leaf) h = refl
 part_is_no_dots (tree.leaf_pat s tree.not_null_leaf) h = refl
 part_is_no_dots (tree.leaf_pat s tree.broken_leaf) h = refl

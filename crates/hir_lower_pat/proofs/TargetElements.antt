@@ -1,4 +1,5 @@
 -- The elements of what is assigned to, and callees: what is told of the calls that they come out of, and what these come to.
+use Rattle.std.proofs.Common.{sym, true≢false, is_some}
 use Rattle.std.proofs.Common.{◌≡◌, ◌∙◌, ap, refl, ℕ, zero, suc, Bool, true, false, [], Option, Some, None, Ok, Err}
 use Rattle.std.specs.Prelude.{Result, if◌then◌else◌, option_map}
 use Rattle.hir_base.specs.declared.node.HirFileId.{HirFileId}
@@ -64,31 +65,31 @@ then_on (Err e) b p q = refl
 pub noted_lowers : (e : Expr) (ts : Targets) (done : Elements) (b : Builder) → comes_to_dots e ≡ true
     → lower_targets done (noted_in e ts) b ≡ (noted e >> lower_targets done ts) b
 noted_lowers (tree.disabled_expr why e) ts done b h = noted_lowers e ts done b h
-noted_lowers (tree.macro_expr s c tree.no_expr) ts done b h = cc
+noted_lowers (tree.macro_expr s c tree.no_expr) ts done b h = absurd (true≢false (sym h))
 noted_lowers (tree.macro_expr s c (tree.some_expr e)) ts done b h =
     let o = told c b in
     after_told o.0 o.1 (noted e) (lower_targets done ts) (lower_targets done (noted_in e ts)) (λ d. noted_lowers e ts done d h)
 noted_lowers (tree.range_expr at form tree.no_expr tree.no_expr) ts done b h = refl
-noted_lowers _ ts done b h = cc
+noted_lowers _ ts done b h = absurd (true≢false (sym h))
 
 pub callee_lowers : (e : Expr) (t : Target) (p : OptionPath) (b : Builder) → callee_path e ≡ Some p
     → lower_target (around_callee e t) b ≡ (noted e >> lower_target t) b
 callee_lowers (tree.disabled_expr why e) t p b h = callee_lowers e t p b h
-callee_lowers (tree.macro_expr s c tree.no_expr) t p b h = cc
+callee_lowers (tree.macro_expr s c tree.no_expr) t p b h = absurd (true≢false (sym (ap is_some h)))
 callee_lowers (tree.macro_expr s c (tree.some_expr e)) t p b h =
     let o = told c b in
     after_told o.0 o.1 (noted e) (lower_target t) (lower_target (around_callee e t)) (λ d. callee_lowers e t p d h)
 callee_lowers (tree.path_expr at x k) t p b h = refl
-callee_lowers _ t p b h = cc
+callee_lowers _ t p b h = absurd (true≢false (sym (ap is_some h)))
 
 -- a call through calls is a target of its own
 pub callee_aims : (e : Expr) (at : Origin) (q : OptionPath) (ts : Targets) (x : Expr) (p : OptionPath) → callee_path e ≡ Some p
     → aimed (around_callee e (tree.call_target at q ts)) x ≡ patterned (around_callee e (tree.call_target at q ts))
 callee_aims (tree.disabled_expr why e) at q ts x p h = callee_aims e at q ts x p h
-callee_aims (tree.macro_expr s c tree.no_expr) at q ts x p h = cc
+callee_aims (tree.macro_expr s c tree.no_expr) at q ts x p h = absurd (true≢false (sym (ap is_some h)))
 callee_aims (tree.macro_expr s c (tree.some_expr e)) at q ts x p h = refl
 callee_aims (tree.path_expr s y k) at q ts x p h = refl
-callee_aims _ at q ts x p h = cc
+callee_aims _ at q ts x p h = absurd (true≢false (sym (ap is_some h)))
 
 -- ---- an element that is a call, whatever disables it
 
@@ -248,23 +249,23 @@ own_path _ = None
 
 own_dots : (e : Expr) → is_called e ≡ false → comes_to_dots e ≡ is_dots e
 own_dots (tree.disabled_expr why e) h = own_dots e h
-own_dots (tree.macro_expr s c e) h = cc
+own_dots (tree.macro_expr s c e) h = absurd (true≢false h)
 own_dots (tree.range_expr at form tree.no_expr tree.no_expr) h = refl
 own_dots _ h = refl
 
 untold : (e : Expr) → is_called e ≡ false → noted e ≡ pure tt
 untold (tree.disabled_expr why e) h = untold e h
-untold (tree.macro_expr s c e) h = cc
+untold (tree.macro_expr s c e) h = absurd (true≢false h)
 untold _ h = refl
 
 element_alone : (f : Path → Bool) (call : Option Pointer) (t : Target) (e : Expr) → is_called e ≡ false → element_or f call t e ≡ t
 element_alone f call t (tree.disabled_expr why e) h = element_alone f call t e h
-element_alone f call t (tree.macro_expr s c e) h = cc
+element_alone f call t (tree.macro_expr s c e) h = absurd (true≢false h)
 element_alone f call t _ h = refl
 
 callee_alone : (e : Expr) → is_called e ≡ false → callee_path e ≡ own_path e
 callee_alone (tree.disabled_expr why e) h = callee_alone e h
-callee_alone (tree.macro_expr s c e) h = cc
+callee_alone (tree.macro_expr s c e) h = absurd (true≢false h)
 callee_alone (tree.path_expr at p k) h = refl
 callee_alone _ h = refl
 
