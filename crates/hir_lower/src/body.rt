@@ -29,7 +29,7 @@ use hir_base::Seq;
 use hir_base::node::{AstPtr, HirFileId, InFile};
 use hir_env::env::LowerEnv;
 use hir_env::place::{ImplTrait, LifetimeScope, LoweringMode, Place};
-use hir_lower_form::builder::BodyBuilder;
+use hir_lower_form::builder::StoredBody;
 use hir_store::diagnostics::{AwaitLocation, ExpressionStoreDiagnostics, MissingBodyItemKind};
 use hir_store::fault::StoreFault;
 use hir_store::hir::CoroutineKind;
@@ -175,7 +175,7 @@ fn plain_form<E: LowerEnv>(
     alloc: Global,
     env: &E,
     place: Place,
-    state: &mut BodyBuilder,
+    state: &mut StoredBody,
     skipped: bool,
     bare: bool,
     params: Option<&ast::ParamList>,
@@ -197,7 +197,7 @@ fn body_form<E: LowerEnv>(
     alloc: Global,
     env: &E,
     place: Place,
-    state: &mut BodyBuilder,
+    state: &mut StoredBody,
     kind: Option<CoroutineKind>,
     skipped: bool,
     bare: bool,
@@ -223,7 +223,7 @@ fn behind_formals<E: LowerEnv>(
     alloc: Global,
     env: &E,
     place: Place,
-    state: &mut BodyBuilder,
+    state: &mut StoredBody,
     kind: Option<CoroutineKind>,
     skipped: bool,
     bare: bool,
@@ -249,7 +249,7 @@ fn missing_item<E: LowerEnv>(
     alloc: Global,
     env: &E,
     place: Place,
-    state: &mut BodyBuilder,
+    state: &mut StoredBody,
     kind: Option<CoroutineKind>,
     bare: bool,
     node: InFile<AstPtr>,
@@ -272,7 +272,7 @@ fn kept_item<E: LowerEnv>(
     alloc: Global,
     env: &E,
     place: Place,
-    state: &mut BodyBuilder,
+    state: &mut StoredBody,
     kind: Option<CoroutineKind>,
     bare: bool,
     node: InFile<AstPtr>,
@@ -298,7 +298,7 @@ fn lower_item<E: LowerEnv>(
     alloc: Global,
     env: &E,
     place: Place,
-    state: &mut BodyBuilder,
+    state: &mut StoredBody,
     kind: Option<CoroutineKind>,
     owner: DefWithBodyId,
     node: AstPtr,
@@ -380,7 +380,7 @@ fn self_param_of(formal: Option<BindingId>, written: Option<BindingId>) -> Optio
 /// The body of what is stored by then, with the node of `self`.
 fn finished(
     alloc: Global,
-    state: BodyBuilder,
+    state: StoredBody,
     given: Given,
     self_param: Option<InFile<AstPtr>>,
 ) -> Result<(Body, BodySourceMap), AllocError>
@@ -455,7 +455,7 @@ fn body_steps<E: LowerEnv>(
         left: db.expansion_limit(),
     };
     let kind = coroutine_kind_of(is_async_fn, is_gen_fn);
-    let mut state = BodyBuilder::new(alloc, u32::MAX);
+    let mut state = StoredBody::new(alloc, u32::MAX);
     match lower_item(
         alloc,
         db,

@@ -33,7 +33,7 @@ use hir_base::Seq;
 use hir_base::node::{AstPtr, HirFileId, InFile};
 use hir_env::env::LowerEnv;
 use hir_env::place::{ImplTrait, LifetimeScope, LoweringMode, Place, inside_constant};
-use hir_lower_form::builder::BodyBuilder;
+use hir_lower_form::builder::StoredBody;
 use hir_lower_form::generics::GenericLists;
 use hir_lower_knot::knot::{collect_expr, lower_path};
 use hir_store::builder::ExpressionStoreBuilder;
@@ -67,7 +67,7 @@ pub(crate) fn collect_expr_opt<E: LowerEnv>(
     alloc: Global,
     env: &E,
     place: Place,
-    state: &mut BodyBuilder,
+    state: &mut StoredBody,
     expr: Option<&ast::Expr>,
 ) -> Result<ExprId, StoreFault>
     ensures { let spot = spot_at (E.answers env.now) place in
@@ -84,7 +84,7 @@ fn root_steps<E: LowerEnv>(
     alloc: Global,
     env: &E,
     place: Place,
-    state: &mut BodyBuilder,
+    state: &mut StoredBody,
     expr: Option<&ast::Expr>,
 ) -> Result<ExprId, StoreFault>
     ensures { let spot = spot_at (E.answers env.now) place in
@@ -105,7 +105,7 @@ pub(crate) fn lower_root<E: LowerEnv>(
     alloc: Global,
     env: &E,
     place: Place,
-    state: &mut BodyBuilder,
+    state: &mut StoredBody,
     expr: Option<&ast::Expr>,
 ) -> Result<ExprId, StoreFault>
     ensures lowers { let spot = spot_at (E.answers env.now) place in
@@ -138,7 +138,7 @@ fn lower_whole_path<E: LowerEnv>(
     alloc: Global,
     env: &E,
     place: Place,
-    state: &mut BodyBuilder,
+    state: &mut StoredBody,
     path: &ast::Path,
 ) -> Result<Option<Path>, StoreFault>
     ensures data { let p = whole_path (spot_at (E.answers env.now) place) path.now in
@@ -173,7 +173,7 @@ fn lower_whole_path<E: LowerEnv>(
 
 /// Stores a type from this node, and changes nothing else.
 fn add_type(
-    state: &mut BodyBuilder,
+    state: &mut StoredBody,
     ty: TypeRef,
     source: InFile<AstPtr>,
 ) -> Result<TypeRefId, StoreFault>
@@ -238,7 +238,7 @@ fn note_param(
 
 /// Stores the type of a parameter more of these lists, from this node, and notes the parameter.
 fn add_param(
-    state: &mut BodyBuilder,
+    state: &mut StoredBody,
     lists: &mut GenericLists,
     parent: GenericDefId,
     bounds: &Seq<TypeBound>,
@@ -283,7 +283,7 @@ pub struct ExprCollector<'db, E: LowerEnv> {
     alloc: Global,
     db: &'db E,
     place: Place,
-    state: BodyBuilder,
+    state: StoredBody,
     named: NamedLifetimeStore,
     failed: bool,
     ghost unnamed: { named ≡ none_named },
@@ -354,7 +354,7 @@ impl<'db, E: LowerEnv> ExprCollector<'db, E> {
                 lifetimes: LifetimeScope::Nowhere,
                 left: db.expansion_limit(),
             },
-            state: BodyBuilder::new(alloc, limit),
+            state: StoredBody::new(alloc, limit),
             named: NamedLifetimeStore::new(alloc),
             failed: false,
         }

@@ -14,7 +14,7 @@ use crate::collector::collect_expr_opt;
 use crate::formals::{Given, Received, pats_form, self_form};
 use hir_env::env::LowerEnv;
 use hir_env::place::Place;
-use hir_lower_form::builder::BodyBuilder;
+use hir_lower_form::builder::StoredBody;
 use hir_lower_form::preludes::{Handed, Prelude, let_params, lower_handed};
 use hir_store::diagnostics::AwaitLocation;
 use hir_store::fault::StoreFault;
@@ -42,7 +42,7 @@ fn in_function<E: LowerEnv>(
     alloc: Global,
     env: &E,
     place: Place,
-    state: &mut BodyBuilder,
+    state: &mut StoredBody,
     kind: CoroutineKind,
     skipped: bool,
     bare: bool,
@@ -70,7 +70,7 @@ fn owned_in_function<E: LowerEnv>(
     alloc: Global,
     env: &E,
     place: Place,
-    state: &mut BodyBuilder,
+    state: &mut StoredBody,
     kind: CoroutineKind,
     skipped: bool,
     bare: bool,
@@ -99,7 +99,7 @@ fn behind_self<E: LowerEnv>(
     alloc: Global,
     env: &E,
     place: Place,
-    state: &mut BodyBuilder,
+    state: &mut StoredBody,
     kind: CoroutineKind,
     skipped: bool,
     bare: bool,
@@ -133,7 +133,7 @@ pub(crate) fn coroutine_form<E: LowerEnv>(
     alloc: Global,
     env: &E,
     place: Place,
-    state: &mut BodyBuilder,
+    state: &mut StoredBody,
     kind: CoroutineKind,
     skipped: bool,
     bare: bool,

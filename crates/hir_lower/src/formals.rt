@@ -17,7 +17,7 @@ use hir_base::node::{AstPtr, InFile, NodeId, TextRange};
 use hir_base::{Boxed, Seq, Text};
 use hir_env::env::LowerEnv;
 use hir_env::place::Place;
-use hir_lower_form::builder::BodyBuilder;
+use hir_lower_form::builder::StoredBody;
 use hir_lower_form::parts::site;
 use hir_lower_knot::knot::{bare_top, top_pat};
 use hir_store::diagnostics::ExpressionStoreDiagnostics;
@@ -50,7 +50,7 @@ fn kept_form<E: LowerEnv>(
     alloc: Global,
     env: &E,
     place: Place,
-    state: &mut BodyBuilder,
+    state: &mut StoredBody,
     bare: bool,
     part: &Option<Boxed<ast::Pat>>,
 ) -> Result<PatId, StoreFault>
@@ -69,7 +69,7 @@ fn formal<E: LowerEnv>(
     alloc: Global,
     env: &E,
     place: Place,
-    state: &mut BodyBuilder,
+    state: &mut StoredBody,
     skipped: bool,
     bare: bool,
     node: &ast::Param,
@@ -98,7 +98,7 @@ fn each_form<E: LowerEnv>(
     alloc: Global,
     env: &E,
     place: Place,
-    state: &mut BodyBuilder,
+    state: &mut StoredBody,
     skipped: bool,
     bare: bool,
     mut left: &[ast::Param],
@@ -142,7 +142,7 @@ fn self_binding<E: LowerEnv>(
     alloc: Global,
     env: &E,
     place: Place,
-    state: &mut BodyBuilder,
+    state: &mut StoredBody,
     node: &ast::SelfParam,
 ) -> Result<BindingId, StoreFault>
     ensures { let at = spot_at (E.answers env.now) place in
@@ -161,7 +161,7 @@ pub(crate) fn self_form<E: LowerEnv>(
     alloc: Global,
     env: &E,
     place: Place,
-    state: &mut BodyBuilder,
+    state: &mut StoredBody,
     part: &Option<ast::SelfParam>,
 ) -> Result<Option<BindingId>, StoreFault>
     ensures { Lowers HasSelf (lower_self (answered_self (spot_at (E.answers env.now) place) part.now)) state.old result state.new }
@@ -221,7 +221,7 @@ pub(crate) fn pats_form<E: LowerEnv>(
     alloc: Global,
     env: &E,
     place: Place,
-    state: &mut BodyBuilder,
+    state: &mut StoredBody,
     skipped: bool,
     bare: bool,
     params: Option<&ast::ParamList>,
@@ -252,7 +252,7 @@ pub(crate) fn formals_form<E: LowerEnv>(
     alloc: Global,
     env: &E,
     place: Place,
-    state: &mut BodyBuilder,
+    state: &mut StoredBody,
     skipped: bool,
     bare: bool,
     params: Option<&ast::ParamList>,

@@ -15,7 +15,7 @@ use hir_base::node::{HirFileId, InFile};
 use hir_env::env::LowerEnv;
 use hir_env::place::{ImplTrait, LifetimeScope, LoweringMode, Place};
 use hir_items::ast::{Fn, GenericParamList, Impl, Trait, TypeAlias, WhereClause};
-use hir_lower_form::builder::BodyBuilder;
+use hir_lower_form::builder::StoredBody;
 use hir_lower_form::generics::Notes;
 use hir_lower_item::function::{Signature, function};
 use hir_lower_item::items::{alias_form, impl_form, trait_form};
@@ -83,7 +83,7 @@ pub(crate) fn generic_params_steps<E: LowerEnv>(
     ensures own { result ≢ Err LowerError.Failed }
 {
     let place = item_place(db, file_id, inside, mode);
-    let mut state = BodyBuilder::new(alloc, u32::MAX);
+    let mut state = StoredBody::new(alloc, u32::MAX);
     match generics(alloc, db, place, &mut state, def, param_list, where_clause) {
         Ok(()) => {
             let (stored, notes) = state.into_parts();
@@ -126,7 +126,7 @@ pub(crate) fn impl_steps<E: LowerEnv>(
 {
     let place = item_place(db, item.file_id, inside, LoweringMode::Analysis);
     let def = GenericDefId::ImplId(id);
-    let mut state = BodyBuilder::new(alloc, u32::MAX);
+    let mut state = StoredBody::new(alloc, u32::MAX);
     match impl_form(alloc, db, place, &mut state, def, item.value) {
         Ok((self_type, trait_)) => {
             let (stored, notes) = state.into_parts();
@@ -159,7 +159,7 @@ pub(crate) fn trait_steps<E: LowerEnv>(
 {
     let place = item_place(db, item.file_id, inside, LoweringMode::Analysis);
     let def = GenericDefId::TraitId(id);
-    let mut state = BodyBuilder::new(alloc, u32::MAX);
+    let mut state = StoredBody::new(alloc, u32::MAX);
     match trait_form(alloc, db, place, &mut state, def, item.value) {
         Ok(()) => {
             let (stored, notes) = state.into_parts();
@@ -203,7 +203,7 @@ pub(crate) fn alias_steps<E: LowerEnv>(
     let inside = db.module_of(container);
     let place = item_place(db, item.file_id, inside, LoweringMode::Analysis);
     let def = GenericDefId::TypeAliasId(id);
-    let mut state = BodyBuilder::new(alloc, u32::MAX);
+    let mut state = StoredBody::new(alloc, u32::MAX);
     match alias_form(alloc, db, place, &mut state, def, container, item.value) {
         Ok((bounds, ty)) => {
             let (stored, notes) = state.into_parts();
@@ -259,7 +259,7 @@ pub(crate) fn function_steps<E: LowerEnv>(
 {
     let place = item_place(db, item.file_id, inside, LoweringMode::Analysis);
     let def = GenericDefId::FunctionId(id);
-    let mut state = BodyBuilder::new(alloc, u32::MAX);
+    let mut state = StoredBody::new(alloc, u32::MAX);
     match function(alloc, db, place, &mut state, def, item.value) {
         Ok(signature) => {
             let Signature {

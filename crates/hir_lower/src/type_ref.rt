@@ -17,7 +17,7 @@ use crate::error::LowerError;
 use hir_base::node::InFile;
 use hir_env::env::LowerEnv;
 use hir_env::place::{ImplTrait, LifetimeScope, LoweringMode, Place};
-use hir_lower_form::builder::BodyBuilder;
+use hir_lower_form::builder::StoredBody;
 use hir_lower_knot::knot::lower_type_node;
 use hir_store::diagnostics::AwaitLocation;
 use hir_store::fault::StoreFault;
@@ -32,7 +32,7 @@ fn lower_type_opt<E: LowerEnv>(
     alloc: Global,
     env: &E,
     place: Place,
-    state: &mut BodyBuilder,
+    state: &mut StoredBody,
     node: Option<&ast::Type_>,
 ) -> Result<TypeRefId, StoreFault>
     ensures { let spot = spot_at (E.answers env.now) place in
@@ -70,7 +70,7 @@ fn type_steps<E: LowerEnv>(
         lifetimes: LifetimeScope::Nowhere,
         left: db.expansion_limit(),
     };
-    let mut state = BodyBuilder::new(alloc, u32::MAX);
+    let mut state = StoredBody::new(alloc, u32::MAX);
     match lower_type_opt(alloc, db, place, &mut state, type_ref.value) {
         Ok(id) => {
             let (store, source_map) = state.into_store().finish();

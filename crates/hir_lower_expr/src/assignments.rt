@@ -9,7 +9,8 @@ use crate::operators::binary_form;
 use crate::part::ExprPart;
 use hir_base::node::{AstPtr, InFile};
 use hir_lower_form::builder::BodyBuilder;
-use hir_lower_form::parts::{LowerParts, Lowerer};
+use hir_lower_form::parts::{LowerInto, Lowerer};
+use hir_lower_form::storing::Storing;
 use hir_store::fault::StoreFault;
 use hir_store::hir::Expr;
 use hir_store::ids::ExprId;
@@ -18,9 +19,9 @@ use hir_syntax::ast;
 /// The target before the value, which is read first where it runs.
 #[tactic(auto, unfolding(hir_lower_form::specs::Forms::assign_form))]
 #[inline(never)]
-pub(crate) fn assign_form<P: LowerParts, E: ExprPart>(
+pub(crate) fn assign_form<I: Storing, P: LowerInto<I>, E: ExprPart>(
     lowerer: &Lowerer<P>,
-    state: &mut BodyBuilder,
+    state: &mut BodyBuilder<I>,
     at: InFile<AstPtr>,
     lhs: &E,
     rhs: &E,
@@ -40,9 +41,9 @@ pub(crate) fn assign_form<P: LowerParts, E: ExprPart>(
 
 /// By the operator: what is on the left of `=` is no operand.
 #[inline(never)]
-pub fn bin_form<P: LowerParts, E: ExprPart>(
+pub fn bin_form<I: Storing, P: LowerInto<I>, E: ExprPart>(
     lowerer: &Lowerer<P>,
-    state: &mut BodyBuilder,
+    state: &mut BodyBuilder<I>,
     at: InFile<AstPtr>,
     op: Option<ast::BinaryOp>,
     lhs: &E,

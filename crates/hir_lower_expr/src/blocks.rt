@@ -20,7 +20,8 @@ use crate::tries::try_form;
 use crate::written::WrittenBlock;
 use hir_base::node::{AstPtr, InFile};
 use hir_lower_form::builder::BodyBuilder;
-use hir_lower_form::parts::{BlockRole, LowerParts, Lowerer};
+use hir_lower_form::parts::{BlockRole, LowerInto, Lowerer};
+use hir_lower_form::storing::Storing;
 use hir_store::fault::StoreFault;
 use hir_store::hir::{CoroutineKind, Statement};
 use hir_store::ids::{BlockId, ExprId, LabelId, LangItemId};
@@ -63,9 +64,9 @@ fn settle(statements: &mut Seq<Statement>, tail: Option<ExprId>) -> Option<ExprI
 
 /// The statements, and then the tail, behind which the definitions among them are closed.
 #[inline(always)]
-pub(crate) fn flat_contents<P: LowerParts>(
+pub(crate) fn flat_contents<I: Storing, P: LowerInto<I>>(
     lowerer: &Lowerer<P>,
-    state: &mut BodyBuilder,
+    state: &mut BodyBuilder<I>,
     node: &ast::BlockExpr,
 ) -> Result<(Seq<Statement>, Option<ExprId>), StoreFault>
     requires { KidsBlock (P.can lowerer.now.parts) (P.spot lowerer.now.parts).place (out-BlockExpr node.now) }
@@ -85,9 +86,9 @@ pub(crate) fn flat_contents<P: LowerParts>(
 /// A block that is read here, as one that is unsafe or isn't, inside the label of this number.
 #[tactic(auto, unfolding(hir_lower_form::specs::Forms::block_form))]
 #[inline(never)]
-fn plain_node<P: LowerParts, N: WrittenBlock>(
+fn plain_node<I: Storing, P: LowerInto<I>, N: WrittenBlock>(
     lowerer: &Lowerer<P>,
-    state: &mut BodyBuilder,
+    state: &mut BodyBuilder<I>,
     at: InFile<AstPtr>,
     is_unsafe: bool,
     label: Option<LabelId>,
@@ -108,9 +109,9 @@ fn plain_node<P: LowerParts, N: WrittenBlock>(
 /// The block of a `try` that is read here. Its tail goes through the item before the block is stored.
 #[tactic(auto, unfolding(hir_lower_form::specs::Made::try_block_form))]
 #[inline(never)]
-fn try_node<P: LowerParts, N: WrittenBlock>(
+fn try_node<I: Storing, P: LowerInto<I>, N: WrittenBlock>(
     lowerer: &Lowerer<P>,
-    state: &mut BodyBuilder,
+    state: &mut BodyBuilder<I>,
     at: InFile<AstPtr>,
     item: Option<LangItemId>,
     typed: bool,
@@ -141,9 +142,9 @@ fn try_node<P: LowerParts, N: WrittenBlock>(
 /// The block of these statements and this tail, which comes from no node, and the coroutine around it.
 #[tactic(auto, unfolding(hir_lower_form::specs::Forms::coroutine_around_form))]
 #[inline(never)]
-fn coroutine_around(
+fn coroutine_around<I: Storing>(
     alloc: Global,
-    state: &mut BodyBuilder,
+    state: &mut BodyBuilder<I>,
     at: InFile<AstPtr>,
     kind: CoroutineKind,
     moves: bool,
@@ -162,9 +163,9 @@ fn coroutine_around(
 /// The block of a coroutine that is read here, which comes from no node, and the coroutine around it.
 #[tactic(auto, unfolding(hir_lower_form::specs::Forms::coroutine_block_form))]
 #[inline(never)]
-fn coroutine_node<P: LowerParts, N: WrittenBlock>(
+fn coroutine_node<I: Storing, P: LowerInto<I>, N: WrittenBlock>(
     lowerer: &Lowerer<P>,
-    state: &mut BodyBuilder,
+    state: &mut BodyBuilder<I>,
     at: InFile<AstPtr>,
     kind: CoroutineKind,
     moves: bool,
@@ -190,9 +191,9 @@ fn coroutine_node<P: LowerParts, N: WrittenBlock>(
 }
 
 /// A block that is read here, of this role.
-pub fn block_node<P: LowerParts>(
+pub fn block_node<I: Storing, P: LowerInto<I>>(
     lowerer: &Lowerer<P>,
-    state: &mut BodyBuilder,
+    state: &mut BodyBuilder<I>,
     role: BlockRole,
     number: Option<BlockId>,
     node: &ast::BlockExpr,
@@ -215,9 +216,9 @@ pub fn block_node<P: LowerParts>(
 
 /// A block with a label, if it has one, and with no modifier.
 #[tactic(auto, unfolding(hir_lower_form::specs::Forms::labelled))]
-fn labelled_block<P: LowerParts, N: WrittenBlock>(
+fn labelled_block<I: Storing, P: LowerInto<I>, N: WrittenBlock>(
     lowerer: &Lowerer<P>,
-    state: &mut BodyBuilder,
+    state: &mut BodyBuilder<I>,
     label: &Option<ast::Label>,
     node: &N,
 ) -> Result<ExprId, StoreFault>
@@ -240,9 +241,9 @@ fn labelled_block<P: LowerParts, N: WrittenBlock>(
 }
 
 /// An unsafe block, of which no label counts.
-fn unsafe_block<P: LowerParts, N: WrittenBlock>(
+fn unsafe_block<I: Storing, P: LowerInto<I>, N: WrittenBlock>(
     lowerer: &Lowerer<P>,
-    state: &mut BodyBuilder,
+    state: &mut BodyBuilder<I>,
     node: &N,
 ) -> Result<ExprId, StoreFault>
     requires { N.can (P.can lowerer.now.parts) (P.spot lowerer.now.parts).place node.now }
@@ -257,9 +258,9 @@ fn unsafe_block<P: LowerParts, N: WrittenBlock>(
 }
 
 /// A block with its modifier, beside which no label counts, or else with its label.
-fn headed_block<P: LowerParts>(
+fn headed_block<I: Storing, P: LowerInto<I>>(
     lowerer: &Lowerer<P>,
-    state: &mut BodyBuilder,
+    state: &mut BodyBuilder<I>,
     node: &ast::BlockExpr,
 ) -> Result<ExprId, StoreFault>
     requires { KidsBody (P.can lowerer.now.parts) (P.spot lowerer.now.parts).place node.now }
@@ -291,9 +292,9 @@ fn headed_block<P: LowerParts>(
 }
 
 /// A block as an expression, where its own modifier and its own label count.
-pub fn block_form<P: LowerParts>(
+pub fn block_form<I: Storing, P: LowerInto<I>>(
     lowerer: &Lowerer<P>,
-    state: &mut BodyBuilder,
+    state: &mut BodyBuilder<I>,
     node: &ast::BlockExpr,
 ) -> Result<ExprId, StoreFault>
     requires { KidsBody (P.can lowerer.now.parts) (P.spot lowerer.now.parts).place node.now }

@@ -8,7 +8,8 @@ use crate::part::{ArgsPart, ExprPart, GenericsPart};
 use hir_base::node::{AstPtr, InFile};
 use hir_lower_form::builder::BodyBuilder;
 use hir_lower_form::names::name_of;
-use hir_lower_form::parts::{LowerParts, Lowerer};
+use hir_lower_form::parts::{LowerInto, Lowerer};
+use hir_lower_form::storing::Storing;
 use hir_store::fault::StoreFault;
 use hir_store::hir::Expr;
 use hir_store::ids::ExprId;
@@ -17,9 +18,9 @@ use hir_syntax::ast;
 /// A call: the callee, then its arguments first to last.
 #[tactic(auto, unfolding(hir_lower_form::specs::Forms::call_form))]
 #[inline(never)]
-pub fn call_form<P: LowerParts, E: ExprPart, A: ArgsPart>(
+pub fn call_form<I: Storing, P: LowerInto<I>, E: ExprPart, A: ArgsPart>(
     lowerer: &Lowerer<P>,
-    state: &mut BodyBuilder,
+    state: &mut BodyBuilder<I>,
     at: InFile<AstPtr>,
     callee: &E,
     args: &A,
@@ -39,9 +40,9 @@ pub fn call_form<P: LowerParts, E: ExprPart, A: ArgsPart>(
 /// The generic arguments behind the others.
 #[tactic(auto, unfolding(hir_lower_form::specs::Forms::method_call_form))]
 #[inline(never)]
-pub fn method_call_form<P: LowerParts, E: ExprPart, G: GenericsPart, A: ArgsPart>(
+pub fn method_call_form<I: Storing, P: LowerInto<I>, E: ExprPart, G: GenericsPart, A: ArgsPart>(
     lowerer: &Lowerer<P>,
-    state: &mut BodyBuilder,
+    state: &mut BodyBuilder<I>,
     at: InFile<AstPtr>,
     receiver: &E,
     name: &Option<ast::Name>,
@@ -73,9 +74,9 @@ pub fn method_call_form<P: LowerParts, E: ExprPart, G: GenericsPart, A: ArgsPart
 /// The parentheses lead to what is in them.
 #[tactic(auto, unfolding(hir_lower_form::specs::Forms::paren_form))]
 #[inline(never)]
-pub fn paren_form<P: LowerParts, E: ExprPart>(
+pub fn paren_form<I: Storing, P: LowerInto<I>, E: ExprPart>(
     lowerer: &Lowerer<P>,
-    state: &mut BodyBuilder,
+    state: &mut BodyBuilder<I>,
     at: InFile<AstPtr>,
     inner: &E,
 ) -> Result<ExprId, StoreFault>

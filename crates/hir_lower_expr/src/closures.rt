@@ -24,7 +24,8 @@ use hir_base::node::{AstPtr, InFile};
 use hir_env::place::Place;
 use hir_lower_form::builder::BodyBuilder;
 use hir_lower_form::closures::ClosureParams;
-use hir_lower_form::parts::{LowerParts, Lowerer, site};
+use hir_lower_form::parts::{LowerInto, Lowerer, site};
+use hir_lower_form::storing::Storing;
 use hir_store::diagnostics::{AwaitLocation, ExpressionStoreDiagnostics};
 use hir_store::fault::StoreFault;
 use hir_store::hir::{CaptureBy, ClosureKind, CoroutineKind, Expr, Movability};
@@ -72,9 +73,9 @@ pub(crate) fn capture_by(moves: bool) -> CaptureBy
 
 /// A parameter that no condition disables: its pattern, its type.
 #[tactic(auto, unfolding(hir_lower_form::specs::Forms::param_form))]
-fn kept_param<P: LowerParts, Q: PatPart, T: TypePart>(
+fn kept_param<I: Storing, P: LowerInto<I>, Q: PatPart, T: TypePart>(
     lowerer: &Lowerer<P>,
-    state: &mut BodyBuilder,
+    state: &mut BodyBuilder<I>,
     params: ClosureParams,
     pat: &Q,
     ty: &T,
@@ -92,9 +93,9 @@ fn kept_param<P: LowerParts, Q: PatPart, T: TypePart>(
 
 /// A parameter behind others, which stay alone where a condition disables it.
 #[inline(never)]
-fn param_form<P: LowerParts>(
+fn param_form<I: Storing, P: LowerInto<I>>(
     lowerer: &Lowerer<P>,
-    state: &mut BodyBuilder,
+    state: &mut BodyBuilder<I>,
     params: ClosureParams,
     node: &ast::Param,
 ) -> Result<ClosureParams, StoreFault>
@@ -112,9 +113,9 @@ fn param_form<P: LowerParts>(
     }
 }
 
-fn param<P: LowerParts>(
+fn param<I: Storing, P: LowerInto<I>>(
     lowerer: &Lowerer<P>,
-    state: &mut BodyBuilder,
+    state: &mut BodyBuilder<I>,
     params: ClosureParams,
     node: &ast::Param,
 ) -> Result<ClosureParams, StoreFault>
@@ -126,9 +127,9 @@ fn param<P: LowerParts>(
 }
 
 /// The parameters that no condition disables, behind others.
-fn params<P: LowerParts>(
+fn params<I: Storing, P: LowerInto<I>>(
     lowerer: &Lowerer<P>,
-    state: &mut BodyBuilder,
+    state: &mut BodyBuilder<I>,
     mut params: ClosureParams,
     mut left: &[ast::Param],
 ) -> Result<ClosureParams, StoreFault>
@@ -149,10 +150,10 @@ pub trait ParamsPart {
 
     ghost read: { Spot → Self → Params };
 
-    fn lower<P: LowerParts>(
+    fn lower<I: Storing, P: LowerInto<I>>(
         &self,
         lowerer: &Lowerer<P>,
-        state: &mut BodyBuilder,
+        state: &mut BodyBuilder<I>,
     ) -> Result<ClosureParams, StoreFault>
         requires { can (P.can lowerer.now.parts) (P.spot lowerer.now.parts).place self.now }
         ensures { LowersParams spec.no_closure_params (read (P.spot lowerer.now.parts) self.now) state.old result state.new };
@@ -163,10 +164,10 @@ impl ParamsPart for Option<Seq<ast::Param>> {
 
     ghost read = { closure_params_or_none_part };
 
-    fn lower<P: LowerParts>(
+    fn lower<I: Storing, P: LowerInto<I>>(
         &self,
         lowerer: &Lowerer<P>,
-        state: &mut BodyBuilder,
+        state: &mut BodyBuilder<I>,
     ) -> Result<ClosureParams, StoreFault> {
         let none = ClosureParams::new(lowerer.alloc);
         match self {
@@ -182,10 +183,10 @@ pub trait RetPart {
 
     ghost read: { Spot → Self → OptionType };
 
-    fn lower<P: LowerParts>(
+    fn lower<I: Storing, P: LowerInto<I>>(
         &self,
         lowerer: &Lowerer<P>,
-        state: &mut BodyBuilder,
+        state: &mut BodyBuilder<I>,
     ) -> Result<Option<TypeRefId>, StoreFault>
         requires { can (P.can lowerer.now.parts) (P.spot lowerer.now.parts).place self.now }
         ensures { LowersTypeIfPresent (read (P.spot lowerer.now.parts) self.now) state.old result state.new };
@@ -196,10 +197,10 @@ impl RetPart for Option<ast::RetType> {
 
     ghost read = { answer_part };
 
-    fn lower<P: LowerParts>(
+    fn lower<I: Storing, P: LowerInto<I>>(
         &self,
         lowerer: &Lowerer<P>,
-        state: &mut BodyBuilder,
+        state: &mut BodyBuilder<I>,
     ) -> Result<Option<TypeRefId>, StoreFault> {
         match self {
             None => Ok(None),
@@ -209,9 +210,9 @@ impl RetPart for Option<ast::RetType> {
 }
 
 /// The body, missing where it is absent or a condition disables it.
-pub(crate) fn body_opt<P: LowerParts, E: ExprPart>(
+pub(crate) fn body_opt<I: Storing, P: LowerInto<I>, E: ExprPart>(
     lowerer: &Lowerer<P>,
-    state: &mut BodyBuilder,
+    state: &mut BodyBuilder<I>,
     is_async: bool,
     body: &E,
 ) -> Result<ExprId, StoreFault>
@@ -229,9 +230,9 @@ pub(crate) fn body_opt<P: LowerParts, E: ExprPart>(
 /// The parameters, what it returns, its body. No jump in it reaches what is open around it, and whether a `yield` stands in its body,
 /// and in none inside of that, decides what it is.
 #[tactic(auto, unfolding(hir_lower_form::specs::Forms::closure_form))]
-fn bordered_closure<P: LowerParts, A: ParamsPart, R: RetPart, E: ExprPart>(
+fn bordered_closure<I: Storing, P: LowerInto<I>, A: ParamsPart, R: RetPart, E: ExprPart>(
     lowerer: &Lowerer<P>,
-    state: &mut BodyBuilder,
+    state: &mut BodyBuilder<I>,
     at: InFile<AstPtr>,
     params: &A,
     ret: &R,
@@ -270,9 +271,9 @@ fn bordered_closure<P: LowerParts, A: ParamsPart, R: RetPart, E: ExprPart>(
 /// A closure without `async` and `gen`, which owns the bindings that are made in it.
 #[tactic(auto, unfolding(hir_lower_form::specs::Lowering::owning))]
 #[inline(never)]
-fn plain_closure<P: LowerParts, A: ParamsPart, R: RetPart, E: ExprPart>(
+fn plain_closure<I: Storing, P: LowerInto<I>, A: ParamsPart, R: RetPart, E: ExprPart>(
     lowerer: &Lowerer<P>,
-    state: &mut BodyBuilder,
+    state: &mut BodyBuilder<I>,
     at: InFile<AstPtr>,
     params: &A,
     ret: &R,
@@ -299,9 +300,9 @@ fn plain_closure<P: LowerParts, A: ParamsPart, R: RetPart, E: ExprPart>(
 }
 
 /// A closure with `async`, `gen` or both, whose body is a coroutine, or with neither.
-pub fn closure_form<P: LowerParts, A: ParamsPart, R: RetPart, E: ExprPart>(
+pub fn closure_form<I: Storing, P: LowerInto<I>, A: ParamsPart, R: RetPart, E: ExprPart>(
     lowerer: &Lowerer<P>,
-    state: &mut BodyBuilder,
+    state: &mut BodyBuilder<I>,
     at: InFile<AstPtr>,
     params: &A,
     ret: &R,

@@ -14,7 +14,8 @@ use crate::written::WrittenBlock;
 use hir_base::node::{AstPtr, InFile};
 use hir_env::place::Place;
 use hir_lower_form::builder::BodyBuilder;
-use hir_lower_form::parts::{BlockRole, LowerParts, Lowerer};
+use hir_lower_form::parts::{BlockRole, LowerInto, Lowerer};
+use hir_lower_form::storing::Storing;
 use hir_store::diagnostics::AwaitLocation;
 use hir_store::fault::StoreFault;
 use hir_store::ids::ExprId;
@@ -31,9 +32,9 @@ fn inside_const_block(place: Place) -> Place
 }
 
 /// The block in a `const` block, which is a plain one.
-fn inner_block<P: LowerParts, N: WrittenBlock>(
+fn inner_block<I: Storing, P: LowerInto<I>, N: WrittenBlock>(
     lowerer: &Lowerer<P>,
-    state: &mut BodyBuilder,
+    state: &mut BodyBuilder<I>,
     node: &N,
 ) -> Result<ExprId, StoreFault>
     requires { N.can (P.can lowerer.now.parts) (of.inside_const_block (P.spot lowerer.now.parts).place) node.now }
@@ -54,9 +55,9 @@ fn inner_block<P: LowerParts, N: WrittenBlock>(
 
 /// The same as a constant: no jump in it reaches what is open around it.
 #[tactic(auto, unfolding(hir_lower_form::specs::Forms::constant_form))]
-fn inner_constant<P: LowerParts, N: WrittenBlock>(
+fn inner_constant<I: Storing, P: LowerInto<I>, N: WrittenBlock>(
     lowerer: &Lowerer<P>,
-    state: &mut BodyBuilder,
+    state: &mut BodyBuilder<I>,
     node: &N,
 ) -> Result<ConstRef, StoreFault>
     requires { N.can (P.can lowerer.now.parts) (of.inside_const_block (P.spot lowerer.now.parts).place) node.now }
@@ -74,9 +75,9 @@ fn inner_constant<P: LowerParts, N: WrittenBlock>(
 
 /// The constant as an expression.
 #[tactic(auto, unfolding(hir_lower_form::specs::Forms::const_form))]
-fn stored_const<P: LowerParts, N: WrittenBlock>(
+fn stored_const<I: Storing, P: LowerInto<I>, N: WrittenBlock>(
     lowerer: &Lowerer<P>,
-    state: &mut BodyBuilder,
+    state: &mut BodyBuilder<I>,
     at: InFile<AstPtr>,
     node: &N,
 ) -> Result<ExprId, StoreFault>
@@ -97,9 +98,9 @@ fn stored_const<P: LowerParts, N: WrittenBlock>(
 /// { s; t }
 /// ```
 #[tactic(auto, unfolding(hir_lower_form::specs::Lowering::owning))]
-pub(crate) fn const_form<P: LowerParts, N: WrittenBlock>(
+pub(crate) fn const_form<I: Storing, P: LowerInto<I>, N: WrittenBlock>(
     lowerer: &Lowerer<P>,
-    state: &mut BodyBuilder,
+    state: &mut BodyBuilder<I>,
     at: InFile<AstPtr>,
     node: &N,
 ) -> Result<ExprId, StoreFault>

@@ -20,15 +20,16 @@ use crate::part::{BlockPart, ExprPart};
 use crate::stored::{store_break, store_loop};
 use hir_base::node::{AstPtr, InFile};
 use hir_lower_form::builder::BodyBuilder;
-use hir_lower_form::parts::{LowerParts, Lowerer};
+use hir_lower_form::parts::{LowerInto, Lowerer};
+use hir_lower_form::storing::Storing;
 use hir_store::fault::StoreFault;
 use hir_store::hir::{Expr, LoopSource};
 use hir_store::ids::ExprId;
 use hir_syntax::ast;
 
-fn else_node<P: LowerParts>(
+fn else_node<I: Storing, P: LowerInto<I>>(
     lowerer: &Lowerer<P>,
-    state: &mut BodyBuilder,
+    state: &mut BodyBuilder<I>,
     part: &ast::ElseBranch,
 ) -> Result<ExprId, StoreFault>
     requires { KidsElse (P.can lowerer.now.parts) (P.spot lowerer.now.parts).place (out-ElseBranch part.now) }
@@ -40,9 +41,9 @@ fn else_node<P: LowerParts>(
     }
 }
 
-fn else_branch<P: LowerParts>(
+fn else_branch<I: Storing, P: LowerInto<I>>(
     lowerer: &Lowerer<P>,
-    state: &mut BodyBuilder,
+    state: &mut BodyBuilder<I>,
     part: &ast::ElseBranch,
 ) -> Result<ExprId, StoreFault>
     requires { KidsElse (P.can lowerer.now.parts) (P.spot lowerer.now.parts).place (out-ElseBranch part.now) }
@@ -57,10 +58,10 @@ pub trait ElsePart {
 
     ghost read: { Spot → Self → OptionExpr };
 
-    fn lower<P: LowerParts>(
+    fn lower<I: Storing, P: LowerInto<I>>(
         &self,
         lowerer: &Lowerer<P>,
-        state: &mut BodyBuilder,
+        state: &mut BodyBuilder<I>,
     ) -> Result<Option<ExprId>, StoreFault>
         requires { can (P.can lowerer.now.parts) (P.spot lowerer.now.parts).place self.now }
         ensures { LowersIfPresent (read (P.spot lowerer.now.parts) self.now) state.old result state.new };
@@ -71,10 +72,10 @@ impl ElsePart for Option<ast::ElseBranch> {
 
     ghost read = { else_part };
 
-    fn lower<P: LowerParts>(
+    fn lower<I: Storing, P: LowerInto<I>>(
         &self,
         lowerer: &Lowerer<P>,
-        state: &mut BodyBuilder,
+        state: &mut BodyBuilder<I>,
     ) -> Result<Option<ExprId>, StoreFault> {
         match self {
             None => Ok(None),
@@ -86,9 +87,9 @@ impl ElsePart for Option<ast::ElseBranch> {
 /// The branches are lowered before the condition.
 #[tactic(auto, unfolding(hir_lower_form::specs::Forms::if_form))]
 #[inline(never)]
-pub fn if_form<P: LowerParts, E: ExprPart, B: BlockPart, L: ElsePart>(
+pub fn if_form<I: Storing, P: LowerInto<I>, E: ExprPart, B: BlockPart, L: ElsePart>(
     lowerer: &Lowerer<P>,
-    state: &mut BodyBuilder,
+    state: &mut BodyBuilder<I>,
     at: InFile<AstPtr>,
     condition: &E,
     then: &B,
@@ -116,9 +117,9 @@ pub fn if_form<P: LowerParts, E: ExprPart, B: BlockPart, L: ElsePart>(
 /// A `loop`, whose label lies around its body.
 #[tactic(auto, unfolding(hir_lower_form::specs::Forms::loop_form))]
 #[inline(never)]
-pub fn loop_form<P: LowerParts, B: BlockPart>(
+pub fn loop_form<I: Storing, P: LowerInto<I>, B: BlockPart>(
     lowerer: &Lowerer<P>,
-    state: &mut BodyBuilder,
+    state: &mut BodyBuilder<I>,
     at: InFile<AstPtr>,
     label: &Option<ast::Label>,
     body: &B,
@@ -156,9 +157,9 @@ pub fn loop_form<P: LowerParts, B: BlockPart>(
 /// ```
 #[tactic(auto, unfolding(hir_lower_form::specs::Made::held_form))]
 #[inline(never)]
-fn condition_form<P: LowerParts, E: ExprPart>(
+fn condition_form<I: Storing, P: LowerInto<I>, E: ExprPart>(
     lowerer: &Lowerer<P>,
-    state: &mut BodyBuilder,
+    state: &mut BodyBuilder<I>,
     at: InFile<AstPtr>,
     condition: &E,
 ) -> Result<ExprId, StoreFault>
@@ -177,9 +178,9 @@ fn condition_form<P: LowerParts, E: ExprPart>(
 /// The turn of a `while`: its body where the condition holds, else a break. The body is lowered before the condition.
 #[tactic(auto, unfolding(hir_lower_form::specs::Forms::turn_form))]
 #[inline(never)]
-fn turn_form<P: LowerParts, E: ExprPart, B: BlockPart>(
+fn turn_form<I: Storing, P: LowerInto<I>, E: ExprPart, B: BlockPart>(
     lowerer: &Lowerer<P>,
-    state: &mut BodyBuilder,
+    state: &mut BodyBuilder<I>,
     at: InFile<AstPtr>,
     condition: &E,
     body: &B,
@@ -212,9 +213,9 @@ fn turn_form<P: LowerParts, E: ExprPart, B: BlockPart>(
 /// ```
 #[tactic(auto, unfolding(hir_lower_form::specs::Forms::loop_form))]
 #[inline(never)]
-pub fn while_form<P: LowerParts, E: ExprPart, B: BlockPart>(
+pub fn while_form<I: Storing, P: LowerInto<I>, E: ExprPart, B: BlockPart>(
     lowerer: &Lowerer<P>,
-    state: &mut BodyBuilder,
+    state: &mut BodyBuilder<I>,
     at: InFile<AstPtr>,
     label: &Option<ast::Label>,
     condition: &E,

@@ -17,8 +17,9 @@ use crate::part::ExprPart;
 use hir_base::node::{AstPtr, InFile};
 use hir_lower_form::builder::BodyBuilder;
 use hir_lower_form::closures::ClosureParams;
-use hir_lower_form::parts::{LowerParts, Lowerer};
+use hir_lower_form::parts::{LowerInto, Lowerer};
 use hir_lower_form::preludes::{Prelude, Within, let_params, lower_handed};
+use hir_lower_form::storing::Storing;
 use hir_store::fault::StoreFault;
 use hir_store::hir::{ClosureKind, CoroutineKind, CoroutineSource, Expr};
 use hir_store::ids::{ExprId, PatId};
@@ -26,9 +27,9 @@ use hir_syntax::Seq;
 
 /// The coroutine of its body, in front of which its parameters are handed in.
 #[tactic(auto, unfolding(hir_lower_form::specs::Preludes::within_form))]
-fn within<P: LowerParts, A: ParamsPart, R: RetPart, E: ExprPart>(
+fn within<I: Storing, P: LowerInto<I>, A: ParamsPart, R: RetPart, E: ExprPart>(
     lowerer: &Lowerer<P>,
-    state: &mut BodyBuilder,
+    state: &mut BodyBuilder<I>,
     params: &A,
     ret: &R,
     body: &E,
@@ -61,9 +62,9 @@ fn within<P: LowerParts, A: ParamsPart, R: RetPart, E: ExprPart>(
 
 /// The same, where the coroutine owns the bindings that are made in it.
 #[tactic(auto, unfolding(hir_lower_form::specs::Lowering::owning))]
-fn owned_within<P: LowerParts, A: ParamsPart, R: RetPart, E: ExprPart>(
+fn owned_within<I: Storing, P: LowerInto<I>, A: ParamsPart, R: RetPart, E: ExprPart>(
     lowerer: &Lowerer<P>,
-    state: &mut BodyBuilder,
+    state: &mut BodyBuilder<I>,
     params: &A,
     ret: &R,
     body: &E,
@@ -108,8 +109,8 @@ fn coroutine_closure(kind: CoroutineKind, moves: bool, args: Seq<PatId>, inner: 
 
 /// Stores it.
 #[inline(never)]
-fn store_coroutine_closure(
-    state: &mut BodyBuilder,
+fn store_coroutine_closure<I: Storing>(
+    state: &mut BodyBuilder<I>,
     at: InFile<AstPtr>,
     kind: CoroutineKind,
     moves: bool,
@@ -126,9 +127,9 @@ fn store_coroutine_closure(
 /// The coroutine, and what the outside hands its parameters to. No jump in it reaches what is open around it, and a `yield` in it is its
 /// own.
 #[tactic(auto, unfolding(hir_lower_form::specs::Preludes::coroutine_closure_form))]
-fn bordered_coroutine_closure<P: LowerParts, A: ParamsPart, R: RetPart, E: ExprPart>(
+fn bordered_coroutine_closure<I: Storing, P: LowerInto<I>, A: ParamsPart, R: RetPart, E: ExprPart>(
     lowerer: &Lowerer<P>,
-    state: &mut BodyBuilder,
+    state: &mut BodyBuilder<I>,
     at: InFile<AstPtr>,
     params: &A,
     ret: &R,
@@ -163,9 +164,15 @@ fn bordered_coroutine_closure<P: LowerParts, A: ParamsPart, R: RetPart, E: ExprP
 /// ```
 #[tactic(auto, unfolding(hir_lower_form::specs::Lowering::owning))]
 #[inline(never)]
-pub(crate) fn coroutine_closure_form<P: LowerParts, A: ParamsPart, R: RetPart, E: ExprPart>(
+pub(crate) fn coroutine_closure_form<
+    I: Storing,
+    P: LowerInto<I>,
+    A: ParamsPart,
+    R: RetPart,
+    E: ExprPart,
+>(
     lowerer: &Lowerer<P>,
-    state: &mut BodyBuilder,
+    state: &mut BodyBuilder<I>,
     at: InFile<AstPtr>,
     params: &A,
     ret: &R,

@@ -16,7 +16,8 @@ use crate::written::WrittenBlock;
 use hir_base::node::{AstPtr, InFile};
 use hir_env::place::Place;
 use hir_lower_form::builder::BodyBuilder;
-use hir_lower_form::parts::{BlockRole, LowerParts, Lowerer};
+use hir_lower_form::parts::{BlockRole, LowerInto, Lowerer};
+use hir_lower_form::storing::Storing;
 use hir_store::diagnostics::AwaitLocation;
 use hir_store::fault::StoreFault;
 use hir_store::hir::{ClosureKind, CoroutineKind, CoroutineSource, Expr};
@@ -55,9 +56,9 @@ fn coroutine(alloc: Global, kind: CoroutineKind, moves: bool, body: ExprId) -> E
 
 /// Stores it.
 #[inline(never)]
-pub(crate) fn store_coroutine(
+pub(crate) fn store_coroutine<I: Storing>(
     alloc: Global,
-    state: &mut BodyBuilder,
+    state: &mut BodyBuilder<I>,
     at: InFile<AstPtr>,
     kind: CoroutineKind,
     moves: bool,
@@ -70,9 +71,9 @@ pub(crate) fn store_coroutine(
 }
 
 /// The block, read inside of it, and the coroutine around that.
-fn inner_coroutine<P: LowerParts, N: WrittenBlock>(
+fn inner_coroutine<I: Storing, P: LowerInto<I>, N: WrittenBlock>(
     lowerer: &Lowerer<P>,
-    state: &mut BodyBuilder,
+    state: &mut BodyBuilder<I>,
     kind: CoroutineKind,
     moves: bool,
     node: &N,
@@ -89,9 +90,9 @@ fn inner_coroutine<P: LowerParts, N: WrittenBlock>(
 
 /// The same behind a border: no jump in it reaches what is open around it, and a `yield` in it is its own.
 #[tactic(auto, unfolding(hir_lower_form::specs::Forms::coroutine_form))]
-fn bordered_coroutine<P: LowerParts, N: WrittenBlock>(
+fn bordered_coroutine<I: Storing, P: LowerInto<I>, N: WrittenBlock>(
     lowerer: &Lowerer<P>,
-    state: &mut BodyBuilder,
+    state: &mut BodyBuilder<I>,
     kind: CoroutineKind,
     moves: bool,
     node: &N,
@@ -116,9 +117,9 @@ fn bordered_coroutine<P: LowerParts, N: WrittenBlock>(
 /// ```
 #[tactic(auto, unfolding(hir_lower_form::specs::Lowering::owning))]
 #[inline(always)]
-pub(crate) fn coroutine_form<P: LowerParts, N: WrittenBlock>(
+pub(crate) fn coroutine_form<I: Storing, P: LowerInto<I>, N: WrittenBlock>(
     lowerer: &Lowerer<P>,
-    state: &mut BodyBuilder,
+    state: &mut BodyBuilder<I>,
     kind: CoroutineKind,
     moves: bool,
     node: &N,

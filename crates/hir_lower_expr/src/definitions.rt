@@ -9,7 +9,8 @@ ghost use Rattle.hir_lower_expr.specs.Runs.{Counts, DefinesBehind, StmtsBehind, 
 
 use crate::runs::Run;
 use hir_lower_form::builder::BodyBuilder;
-use hir_lower_form::parts::{LowerParts, Lowerer};
+use hir_lower_form::parts::{LowerInto, Lowerer};
+use hir_lower_form::storing::Storing;
 use hir_store::fault::StoreFault;
 use hir_store::hir::Statement;
 use hir_store::ids::MacroDefId;
@@ -41,8 +42,8 @@ fn count_up(counts: &mut BTreeMap<Name, u32>, name: Name, before: u32) -> Result
 
 /// The definition of a macro, of whose name so many are defined before it. What follows it stands inside of it. One that isn't known
 /// is an item.
-fn define(
-    state: &mut BodyBuilder,
+fn define<I: Storing>(
+    state: &mut BodyBuilder<I>,
     done: &mut Seq<Statement>,
     before: u32,
     def: Option<MacroDefId>,
@@ -67,9 +68,9 @@ fn define(
 
 /// A macro that `macro_rules` defines. One without a name is neither counted nor looked up.
 #[inline(never)]
-pub(crate) fn rules_stmt<P: LowerParts>(
+pub(crate) fn rules_stmt<I: Storing, P: LowerInto<I>>(
     lowerer: &Lowerer<P>,
-    state: &mut BodyBuilder,
+    state: &mut BodyBuilder<I>,
     run: &mut Run,
     name: &Option<ast::Name>,
 ) -> Result<(), StoreFault>
@@ -91,9 +92,9 @@ pub(crate) fn rules_stmt<P: LowerParts>(
 
 /// A macro that is defined in another way.
 #[inline(never)]
-pub(crate) fn def_stmt<P: LowerParts>(
+pub(crate) fn def_stmt<I: Storing, P: LowerInto<I>>(
     lowerer: &Lowerer<P>,
-    state: &mut BodyBuilder,
+    state: &mut BodyBuilder<I>,
     done: &mut Seq<Statement>,
     name: &Option<ast::Name>,
 ) -> Result<(), StoreFault>
@@ -111,7 +112,7 @@ pub(crate) fn def_stmt<P: LowerParts>(
 
 /// Closes the definitions among the statements.
 #[inline(never)]
-pub(crate) fn close_definitions(state: &mut BodyBuilder, mut all: &[Statement])
+pub(crate) fn close_definitions<I: Storing>(state: &mut BodyBuilder<I>, mut all: &[Statement])
     ensures { state.new ≡ closed (definitions all.entry.now) state.old }
 {
     while let [one, rest @ ..] = all {

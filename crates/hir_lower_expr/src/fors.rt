@@ -26,7 +26,8 @@ use crate::stored::{store_made_loop, store_made_match, store_match};
 use hir_base::node::{AstPtr, InFile};
 use hir_env::lang::LangItems;
 use hir_lower_form::builder::BodyBuilder;
-use hir_lower_form::parts::{LowerParts, Lowerer, site};
+use hir_lower_form::parts::{LowerInto, LowerParts, Lowerer, site};
+use hir_lower_form::storing::Storing;
 use hir_store::diagnostics::ExpressionStoreDiagnostics;
 use hir_store::fault::StoreFault;
 use hir_store::hir::{BindingAnnotation, Expr, LoopSource, MatchArm, Pat};
@@ -63,9 +64,9 @@ fn for_items(items: &LangItems) -> Option<ForItems>
 
 /// A block as an expression, missing where a condition disables it.
 #[tactic(auto, unfolding(hir_lower_form::specs::Calls::note_gone))]
-fn asked_body<P: LowerParts>(
+fn asked_body<I: Storing, P: LowerInto<I>>(
     lowerer: &Lowerer<P>,
-    state: &mut BodyBuilder,
+    state: &mut BodyBuilder<I>,
     node: &ast::BlockExpr,
 ) -> Result<ExprId, StoreFault>
     requires { KidsBody (P.can lowerer.now.parts) (P.spot lowerer.now.parts).place node.now }
@@ -85,9 +86,9 @@ fn asked_body<P: LowerParts>(
     }
 }
 
-fn body_node<P: LowerParts>(
+fn body_node<I: Storing, P: LowerInto<I>>(
     lowerer: &Lowerer<P>,
-    state: &mut BodyBuilder,
+    state: &mut BodyBuilder<I>,
     node: &ast::BlockExpr,
 ) -> Result<ExprId, StoreFault>
     requires { KidsBody (P.can lowerer.now.parts) (P.spot lowerer.now.parts).place node.now }
@@ -103,10 +104,10 @@ pub trait BodyPart {
     ghost read: { Spot → Self → OptionExpr };
 
     /// The body, missing where it is absent or a condition disables it.
-    fn lower<P: LowerParts>(
+    fn lower<I: Storing, P: LowerInto<I>>(
         &self,
         lowerer: &Lowerer<P>,
-        state: &mut BodyBuilder,
+        state: &mut BodyBuilder<I>,
     ) -> Result<ExprId, StoreFault>
         requires { can (P.can lowerer.now.parts) (P.spot lowerer.now.parts).place self.now }
         ensures { LowersExprOpt (read (P.spot lowerer.now.parts) self.now) state.old result state.new };
@@ -117,10 +118,10 @@ impl BodyPart for Option<Boxed<ast::BlockExpr>> {
 
     ghost read = { body_part };
 
-    fn lower<P: LowerParts>(
+    fn lower<I: Storing, P: LowerInto<I>>(
         &self,
         lowerer: &Lowerer<P>,
-        state: &mut BodyBuilder,
+        state: &mut BodyBuilder<I>,
     ) -> Result<ExprId, StoreFault> {
         match self {
             None => state.missing_expr(),
@@ -132,9 +133,9 @@ impl BodyPart for Option<Boxed<ast::BlockExpr>> {
 /// What asks the iterator for its next item.
 #[tactic(auto, unfolding(hir_lower_form::specs::Made::next_form))]
 #[inline(never)]
-fn next_item(
+fn next_item<I: Storing>(
     alloc: Global,
-    state: &mut BodyBuilder,
+    state: &mut BodyBuilder<I>,
     at: InFile<AstPtr>,
     item: LangItemId,
     number: u32,
@@ -148,8 +149,8 @@ fn next_item(
 /// The arm for no item, which ends the loop.
 #[tactic(auto, unfolding(hir_lower_form::specs::Made::done_arm_form))]
 #[inline(never)]
-fn done_arm(
-    state: &mut BodyBuilder,
+fn done_arm<I: Storing>(
+    state: &mut BodyBuilder<I>,
     at: InFile<AstPtr>,
     item: LangItemId,
 ) -> Result<MatchArm, StoreFault>
@@ -167,9 +168,9 @@ fn done_arm(
 
 /// The arm for an item that the pattern fits, with the body.
 #[tactic(auto, unfolding(hir_lower_form::specs::Made::gives_arm_form))]
-fn gives_arm<P: LowerParts, B: BodyPart>(
+fn gives_arm<I: Storing, P: LowerInto<I>, B: BodyPart>(
     lowerer: &Lowerer<P>,
-    state: &mut BodyBuilder,
+    state: &mut BodyBuilder<I>,
     item: LangItemId,
     part: PatId,
     body: &B,
@@ -187,9 +188,9 @@ fn gives_arm<P: LowerParts, B: BodyPart>(
 
 /// A block with nothing but this value.
 #[inline(never)]
-fn only_tail(
+fn only_tail<I: Storing>(
     alloc: Global,
-    state: &mut BodyBuilder,
+    state: &mut BodyBuilder<I>,
     at: InFile<AstPtr>,
     value: ExprId,
 ) -> Result<ExprId, StoreFault>
@@ -209,9 +210,9 @@ fn only_tail(
 /// One turn of the loop, for the iterator of this name.
 #[tactic(auto, unfolding(hir_lower_form::specs::Made::for_turn_form))]
 #[inline(never)]
-fn turn<P: LowerParts, B: BodyPart>(
+fn turn<I: Storing, P: LowerInto<I>, B: BodyPart>(
     lowerer: &Lowerer<P>,
-    state: &mut BodyBuilder,
+    state: &mut BodyBuilder<I>,
     at: InFile<AstPtr>,
     items: ForItems,
     number: u32,
@@ -234,9 +235,9 @@ fn turn<P: LowerParts, B: BodyPart>(
 /// The loop over such turns.
 #[tactic(auto, unfolding(hir_lower_form::specs::Made::made_loop_form))]
 #[inline(never)]
-fn turns<P: LowerParts, B: BodyPart>(
+fn turns<I: Storing, P: LowerInto<I>, B: BodyPart>(
     lowerer: &Lowerer<P>,
-    state: &mut BodyBuilder,
+    state: &mut BodyBuilder<I>,
     at: InFile<AstPtr>,
     items: ForItems,
     label: &Option<ast::Label>,
@@ -313,9 +314,9 @@ fn one_arm(alloc: Global, pat: PatId, expr: ExprId) -> Result<Seq<MatchArm>, All
 
 /// The head and the pattern lie outside of the label.
 #[tactic(auto, unfolding(hir_lower_form::specs::Made::for_form))]
-fn for_with<P: LowerParts, Q: PatPart, E: ExprPart, B: BodyPart>(
+fn for_with<I: Storing, P: LowerInto<I>, Q: PatPart, E: ExprPart, B: BodyPart>(
     lowerer: &Lowerer<P>,
-    state: &mut BodyBuilder,
+    state: &mut BodyBuilder<I>,
     at: InFile<AstPtr>,
     items: ForItems,
     label: &Option<ast::Label>,
@@ -355,9 +356,9 @@ fn for_with<P: LowerParts, Q: PatPart, E: ExprPart, B: BodyPart>(
 /// }
 /// ```
 #[inline(never)]
-pub fn for_form<P: LowerParts, Q: PatPart, E: ExprPart, B: BodyPart>(
+pub fn for_form<I: Storing, P: LowerInto<I>, Q: PatPart, E: ExprPart, B: BodyPart>(
     lowerer: &Lowerer<P>,
-    state: &mut BodyBuilder,
+    state: &mut BodyBuilder<I>,
     at: InFile<AstPtr>,
     label: &Option<ast::Label>,
     pat: &Q,

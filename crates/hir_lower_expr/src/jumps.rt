@@ -7,7 +7,8 @@ ghost use Rattle.hir_lower_form.specs.Methods.{LowersExpr};
 use crate::part::ExprPart;
 use hir_base::node::{AstPtr, InFile};
 use hir_lower_form::builder::BodyBuilder;
-use hir_lower_form::parts::{LowerParts, Lowerer};
+use hir_lower_form::parts::{LowerInto, Lowerer};
+use hir_lower_form::storing::Storing;
 use hir_store::fault::StoreFault;
 use hir_store::hir::Expr;
 use hir_store::ids::ExprId;
@@ -16,9 +17,9 @@ use hir_syntax::ast;
 /// A `continue`. Where its label has no target, that is told, and it has none.
 #[tactic(auto, unfolding(hir_lower_form::specs::Forms::continue_form))]
 #[inline(never)]
-pub fn continue_form<P: LowerParts>(
+pub fn continue_form<I: Storing, P: LowerInto<I>>(
     lowerer: &Lowerer<P>,
-    state: &mut BodyBuilder,
+    state: &mut BodyBuilder<I>,
     at: InFile<AstPtr>,
     lifetime: &Option<ast::Lifetime>,
 ) -> Result<ExprId, StoreFault>
@@ -31,9 +32,9 @@ pub fn continue_form<P: LowerParts>(
 /// A `break`: its target first, then its value. Where its label has no target, that is told, and it has none.
 #[tactic(auto, unfolding(hir_lower_form::specs::Forms::break_form))]
 #[inline(never)]
-pub fn break_form<P: LowerParts, E: ExprPart>(
+pub fn break_form<I: Storing, P: LowerInto<I>, E: ExprPart>(
     lowerer: &Lowerer<P>,
-    state: &mut BodyBuilder,
+    state: &mut BodyBuilder<I>,
     at: InFile<AstPtr>,
     lifetime: &Option<ast::Lifetime>,
     value: &E,

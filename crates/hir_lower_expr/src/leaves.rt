@@ -7,7 +7,8 @@ ghost use Rattle.hir_lower_form.specs.Methods.{LowersExpr};
 use hir_base::node::{AstPtr, InFile, PredId};
 use hir_lower_form::builder::BodyBuilder;
 use hir_lower_form::names::{literal, truth_literal};
-use hir_lower_form::parts::{LowerParts, Lowerer};
+use hir_lower_form::parts::{LowerInto, Lowerer};
+use hir_lower_form::storing::Storing;
 use hir_store::fault::StoreFault;
 use hir_store::hir::Expr;
 use hir_store::ids::ExprId;
@@ -15,9 +16,9 @@ use hir_syntax::ast;
 
 /// A literal.
 #[inline(never)]
-pub fn literal_form<P: LowerParts>(
+pub fn literal_form<I: Storing, P: LowerInto<I>>(
     lowerer: &Lowerer<P>,
-    state: &mut BodyBuilder,
+    state: &mut BodyBuilder<I>,
     at: InFile<AstPtr>,
     written: &ast::Literal,
 ) -> Result<ExprId, StoreFault>
@@ -29,9 +30,9 @@ pub fn literal_form<P: LowerParts>(
 
 /// A condition predicate is read to what it comes to.
 #[inline(never)]
-pub fn predicate_form<P: LowerParts>(
+pub fn predicate_form<I: Storing, P: LowerInto<I>>(
     lowerer: &Lowerer<P>,
-    state: &mut BodyBuilder,
+    state: &mut BodyBuilder<I>,
     at: InFile<AstPtr>,
     pred: Option<PredId>,
 ) -> Result<ExprId, StoreFault>
@@ -44,9 +45,9 @@ pub fn predicate_form<P: LowerParts>(
 
 /// `_` where a value stands.
 #[inline(never)]
-pub fn underscore_form<P: LowerParts>(
+pub fn underscore_form<I: Storing, P: LowerInto<I>>(
     lowerer: &Lowerer<P>,
-    state: &mut BodyBuilder,
+    state: &mut BodyBuilder<I>,
     at: InFile<AstPtr>,
 ) -> Result<ExprId, StoreFault>
     ensures { LowersExpr (tree.leaf_expr at tree.underscore) state.old result state.new }
@@ -56,9 +57,9 @@ pub fn underscore_form<P: LowerParts>(
 
 /// `include_bytes!`, whose bytes nobody read.
 #[inline(never)]
-pub fn include_bytes_form<P: LowerParts>(
+pub fn include_bytes_form<I: Storing, P: LowerInto<I>>(
     lowerer: &Lowerer<P>,
-    state: &mut BodyBuilder,
+    state: &mut BodyBuilder<I>,
     at: InFile<AstPtr>,
 ) -> Result<ExprId, StoreFault>
     ensures { LowersExpr (tree.leaf_expr at tree.include_bytes) state.old result state.new }
@@ -68,9 +69,9 @@ pub fn include_bytes_form<P: LowerParts>(
 
 /// Inline assembly and format strings are left out, and missing.
 #[inline(never)]
-pub fn left_out_form<P: LowerParts>(
+pub fn left_out_form<I: Storing, P: LowerInto<I>>(
     lowerer: &Lowerer<P>,
-    state: &mut BodyBuilder,
+    state: &mut BodyBuilder<I>,
     at: InFile<AstPtr>,
 ) -> Result<ExprId, StoreFault>
     ensures { LowersExpr (tree.leaf_expr at tree.left_out) state.old result state.new }

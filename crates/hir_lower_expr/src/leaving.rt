@@ -6,7 +6,8 @@ ghost use Rattle.hir_lower_form.specs.Methods.{LowersExpr};
 use crate::part::ExprPart;
 use hir_base::node::{AstPtr, InFile};
 use hir_lower_form::builder::BodyBuilder;
-use hir_lower_form::parts::{LowerParts, Lowerer};
+use hir_lower_form::parts::{LowerInto, Lowerer};
+use hir_lower_form::storing::Storing;
 use hir_store::fault::StoreFault;
 use hir_store::hir::Expr;
 use hir_store::ids::ExprId;
@@ -14,9 +15,9 @@ use hir_store::ids::ExprId;
 /// A `return`, with its value if it has one.
 #[tactic(auto, unfolding(hir_lower_form::specs::Forms::value_form))]
 #[inline(never)]
-pub fn return_form<P: LowerParts, E: ExprPart>(
+pub fn return_form<I: Storing, P: LowerInto<I>, E: ExprPart>(
     lowerer: &Lowerer<P>,
-    state: &mut BodyBuilder,
+    state: &mut BodyBuilder<I>,
     at: InFile<AstPtr>,
     value: &E,
 ) -> Result<ExprId, StoreFault>
@@ -32,9 +33,9 @@ pub fn return_form<P: LowerParts, E: ExprPart>(
 /// A `do yeet`, with its value if it has one.
 #[tactic(auto, unfolding(hir_lower_form::specs::Forms::value_form))]
 #[inline(never)]
-pub fn yeet_form<P: LowerParts, E: ExprPart>(
+pub fn yeet_form<I: Storing, P: LowerInto<I>, E: ExprPart>(
     lowerer: &Lowerer<P>,
-    state: &mut BodyBuilder,
+    state: &mut BodyBuilder<I>,
     at: InFile<AstPtr>,
     value: &E,
 ) -> Result<ExprId, StoreFault>
@@ -50,9 +51,9 @@ pub fn yeet_form<P: LowerParts, E: ExprPart>(
 /// A `yield`, with its value if it has one. It is noted before its value is lowered.
 #[tactic(auto, unfolding(hir_lower_form::specs::Forms::yield_form))]
 #[inline(never)]
-pub fn yield_form<P: LowerParts, E: ExprPart>(
+pub fn yield_form<I: Storing, P: LowerInto<I>, E: ExprPart>(
     lowerer: &Lowerer<P>,
-    state: &mut BodyBuilder,
+    state: &mut BodyBuilder<I>,
     at: InFile<AstPtr>,
     value: &E,
 ) -> Result<ExprId, StoreFault>
@@ -67,9 +68,9 @@ pub fn yield_form<P: LowerParts, E: ExprPart>(
 /// The call that it becomes is missing where it is absent.
 #[tactic(auto, unfolding(hir_lower_form::specs::Forms::operand_form))]
 #[inline(never)]
-pub fn become_form<P: LowerParts, E: ExprPart>(
+pub fn become_form<I: Storing, P: LowerInto<I>, E: ExprPart>(
     lowerer: &Lowerer<P>,
-    state: &mut BodyBuilder,
+    state: &mut BodyBuilder<I>,
     at: InFile<AstPtr>,
     call: &E,
 ) -> Result<ExprId, StoreFault>

@@ -12,7 +12,8 @@ ghost use Rattle.hir_lower_form.specs.Methods.{LowersBlockIfPresent, LowersExpr,
 use crate::part::{ExprPart, PatPart, TypePart};
 use hir_base::node::{AstPtr, InFile};
 use hir_lower_form::builder::BodyBuilder;
-use hir_lower_form::parts::{LowerParts, Lowerer, site};
+use hir_lower_form::parts::{LowerInto, Lowerer, site};
+use hir_lower_form::storing::Storing;
 use hir_store::diagnostics::ExpressionStoreDiagnostics;
 use hir_store::fault::StoreFault;
 use hir_store::hir::{Expr, Statement};
@@ -22,9 +23,9 @@ use hir_syntax::ast;
 /// The pattern before the expression.
 #[tactic(auto, unfolding(hir_lower_form::specs::Forms::let_form))]
 #[inline(never)]
-pub fn let_form<P: LowerParts, Q: PatPart, E: ExprPart>(
+pub fn let_form<I: Storing, P: LowerInto<I>, Q: PatPart, E: ExprPart>(
     lowerer: &Lowerer<P>,
-    state: &mut BodyBuilder,
+    state: &mut BodyBuilder<I>,
     at: InFile<AstPtr>,
     pat: &Q,
     expr: &E,
@@ -45,10 +46,10 @@ pub trait LetElsePart {
 
     ghost read: { Spot → Self → OptionBlock };
 
-    fn lower<P: LowerParts>(
+    fn lower<I: Storing, P: LowerInto<I>>(
         &self,
         lowerer: &Lowerer<P>,
-        state: &mut BodyBuilder,
+        state: &mut BodyBuilder<I>,
     ) -> Result<Option<ExprId>, StoreFault>
         requires { can (P.can lowerer.now.parts) (P.spot lowerer.now.parts).place self.now }
         ensures { LowersBlockIfPresent (read (P.spot lowerer.now.parts) self.now) state.old result state.new };
@@ -59,10 +60,10 @@ impl LetElsePart for Option<ast::LetElse> {
 
     ghost read = { let_else_part };
 
-    fn lower<P: LowerParts>(
+    fn lower<I: Storing, P: LowerInto<I>>(
         &self,
         lowerer: &Lowerer<P>,
-        state: &mut BodyBuilder,
+        state: &mut BodyBuilder<I>,
     ) -> Result<Option<ExprId>, StoreFault> {
         match self {
             None | Some(None) => Ok(None),
@@ -73,9 +74,9 @@ impl LetElsePart for Option<ast::LetElse> {
 
 /// A `let` that no condition disables: its pattern, its type, its initializer, its `else`.
 #[tactic(auto, unfolding(hir_lower_form::specs::Forms::let_stmt_form))]
-fn kept_let<P: LowerParts, Q: PatPart, T: TypePart, E: ExprPart, L: LetElsePart>(
+fn kept_let<I: Storing, P: LowerInto<I>, Q: PatPart, T: TypePart, E: ExprPart, L: LetElsePart>(
     lowerer: &Lowerer<P>,
-    state: &mut BodyBuilder,
+    state: &mut BodyBuilder<I>,
     pat: &Q,
     ty: &T,
     init: &E,
@@ -106,9 +107,16 @@ fn kept_let<P: LowerParts, Q: PatPart, T: TypePart, E: ExprPart, L: LetElsePart>
 
 /// The statement, none where a condition disables it.
 #[inline(never)]
-pub(crate) fn let_stmt<P: LowerParts, Q: PatPart, T: TypePart, E: ExprPart, L: LetElsePart>(
+pub(crate) fn let_stmt<
+    I: Storing,
+    P: LowerInto<I>,
+    Q: PatPart,
+    T: TypePart,
+    E: ExprPart,
+    L: LetElsePart,
+>(
     lowerer: &Lowerer<P>,
-    state: &mut BodyBuilder,
+    state: &mut BodyBuilder<I>,
     at: InFile<AstPtr>,
     pat: &Q,
     ty: &T,

@@ -7,7 +7,8 @@ ghost use Rattle.hir_lower_form.specs.Methods.{LowersExpr};
 use crate::part::{ConstPart, ExprPart, ListPart};
 use hir_base::node::{AstPtr, InFile};
 use hir_lower_form::builder::BodyBuilder;
-use hir_lower_form::parts::{LowerParts, Lowerer};
+use hir_lower_form::parts::{LowerInto, Lowerer};
+use hir_lower_form::storing::Storing;
 use hir_store::fault::StoreFault;
 use hir_store::hir::{Array, Expr};
 use hir_store::ids::ExprId;
@@ -27,9 +28,9 @@ fn with_first(alloc: Global, first: ExprId, rest: Seq<ExprId>) -> Result<Seq<Exp
 /// A leading comma stands for a missing element in front, which is made last.
 #[tactic(auto, unfolding(hir_lower_form::specs::Forms::list_form))]
 #[inline(never)]
-pub fn tuple_form<P: LowerParts, F: ListPart>(
+pub fn tuple_form<I: Storing, P: LowerInto<I>, F: ListPart>(
     lowerer: &Lowerer<P>,
-    state: &mut BodyBuilder,
+    state: &mut BodyBuilder<I>,
     at: InFile<AstPtr>,
     leading_comma: bool,
     fields: &F,
@@ -51,9 +52,9 @@ pub fn tuple_form<P: LowerParts, F: ListPart>(
 /// An array of listed elements, first to last.
 #[tactic(auto, unfolding(hir_lower_form::specs::Forms::list_form))]
 #[inline(never)]
-pub fn array_form<P: LowerParts, F: ListPart>(
+pub fn array_form<I: Storing, P: LowerInto<I>, F: ListPart>(
     lowerer: &Lowerer<P>,
-    state: &mut BodyBuilder,
+    state: &mut BodyBuilder<I>,
     at: InFile<AstPtr>,
     elems: &F,
 ) -> Result<ExprId, StoreFault>
@@ -69,9 +70,9 @@ pub fn array_form<P: LowerParts, F: ListPart>(
 /// An array of one element again and again: the element, then how often.
 #[tactic(auto, unfolding(hir_lower_form::specs::Forms::repeat_form))]
 #[inline(never)]
-pub fn repeat_form<P: LowerParts, E: ExprPart, C: ConstPart>(
+pub fn repeat_form<I: Storing, P: LowerInto<I>, E: ExprPart, C: ConstPart>(
     lowerer: &Lowerer<P>,
-    state: &mut BodyBuilder,
+    state: &mut BodyBuilder<I>,
     at: InFile<AstPtr>,
     init: &E,
     len: &C,

@@ -15,7 +15,8 @@ use hir_env::expand::FragmentKind;
 use hir_env::place::Place;
 use hir_lower_form::builder::BodyBuilder;
 use hir_lower_form::calls::{Entered, enter};
-use hir_lower_form::parts::{LowerParts, Lowerer};
+use hir_lower_form::parts::{LowerInto, Lowerer};
+use hir_lower_form::storing::Storing;
 use hir_store::fault::StoreFault;
 use hir_store::hir::Expr;
 use hir_store::ids::ExprId;
@@ -42,8 +43,8 @@ fn expr_of<'a>(entered: Entered<'a>) -> Option<(Place, &'a ast::Expr)>
 }
 
 /// The node leads to what is left of what it stands for.
-pub(crate) fn pointed(
-    state: &mut BodyBuilder,
+pub(crate) fn pointed<I: Storing>(
+    state: &mut BodyBuilder<I>,
     at: InFile<AstPtr>,
     inner: Option<ExprId>,
 ) -> Result<Option<ExprId>, StoreFault>
@@ -59,9 +60,9 @@ pub(crate) fn pointed(
 
 /// A call that is written here.
 #[tactic(auto, using(crate::proofs::CallLemmas::call_on))]
-fn call_form<P: LowerParts>(
+fn call_form<I: Storing, P: LowerInto<I>>(
     lowerer: &Lowerer<P>,
-    state: &mut BodyBuilder,
+    state: &mut BodyBuilder<I>,
     at: InFile<AstPtr>,
     call: &MacroCall,
 ) -> Result<Option<ExprId>, StoreFault>
@@ -82,9 +83,9 @@ fn call_form<P: LowerParts>(
 /// lacks, and of one whose expression a condition disables, nothing is left.
 #[tactic(auto, unfolding(hir_lower_form::specs::Calls::note_gone))]
 #[inline(never)]
-pub fn macro_form<P: LowerParts>(
+pub fn macro_form<I: Storing, P: LowerInto<I>>(
     lowerer: &Lowerer<P>,
-    state: &mut BodyBuilder,
+    state: &mut BodyBuilder<I>,
     at: InFile<AstPtr>,
     call: &Option<MacroCall>,
 ) -> Result<Option<ExprId>, StoreFault>

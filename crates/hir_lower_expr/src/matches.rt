@@ -17,7 +17,8 @@ use crate::kept::push_kept_arm;
 use crate::part::{ExprPart, PatPart};
 use hir_base::node::{AstPtr, InFile};
 use hir_lower_form::builder::BodyBuilder;
-use hir_lower_form::parts::{LowerParts, Lowerer, site};
+use hir_lower_form::parts::{LowerInto, Lowerer, site};
+use hir_lower_form::storing::Storing;
 use hir_store::diagnostics::ExpressionStoreDiagnostics;
 use hir_store::fault::StoreFault;
 use hir_store::hir::{Expr, MatchArm};
@@ -30,10 +31,10 @@ trait GuardPart {
 
     ghost read: { Spot → Self → Guard };
 
-    fn lower<P: LowerParts>(
+    fn lower<I: Storing, P: LowerInto<I>>(
         &self,
         lowerer: &Lowerer<P>,
-        state: &mut BodyBuilder,
+        state: &mut BodyBuilder<I>,
     ) -> Result<Option<ExprId>, StoreFault>
         requires { can (P.can lowerer.now.parts) (P.spot lowerer.now.parts).place self.now }
         ensures { Lowers HasExprOption (spec.lower_guard (read (P.spot lowerer.now.parts) self.now)) state.old result state.new };
@@ -44,10 +45,10 @@ impl GuardPart for Option<ast::Guard> {
 
     ghost read = { guard_part };
 
-    fn lower<P: LowerParts>(
+    fn lower<I: Storing, P: LowerInto<I>>(
         &self,
         lowerer: &Lowerer<P>,
-        state: &mut BodyBuilder,
+        state: &mut BodyBuilder<I>,
     ) -> Result<Option<ExprId>, StoreFault> {
         match self {
             None => Ok(None),
@@ -58,9 +59,9 @@ impl GuardPart for Option<ast::Guard> {
 
 /// An arm that no condition disables: its pattern, its expression, its guard.
 #[tactic(auto, unfolding(hir_lower_form::specs::Forms::arm_form))]
-fn kept_arm<P: LowerParts, Q: PatPart, E: ExprPart, G: GuardPart>(
+fn kept_arm<I: Storing, P: LowerInto<I>, Q: PatPart, E: ExprPart, G: GuardPart>(
     lowerer: &Lowerer<P>,
-    state: &mut BodyBuilder,
+    state: &mut BodyBuilder<I>,
     pat: &Q,
     expr: &E,
     guard: &G,
@@ -80,9 +81,9 @@ fn kept_arm<P: LowerParts, Q: PatPart, E: ExprPart, G: GuardPart>(
 
 /// The arm, none where a condition disables it.
 #[inline(never)]
-fn arm_form<P: LowerParts>(
+fn arm_form<I: Storing, P: LowerInto<I>>(
     lowerer: &Lowerer<P>,
-    state: &mut BodyBuilder,
+    state: &mut BodyBuilder<I>,
     node: &ast::MatchArm,
 ) -> Result<Option<MatchArm>, StoreFault>
     requires { KidsArm (P.can lowerer.now.parts) (P.spot lowerer.now.parts).place (out-MatchArm node.now) }
@@ -98,9 +99,9 @@ fn arm_form<P: LowerParts>(
     }
 }
 
-fn arm<P: LowerParts>(
+fn arm<I: Storing, P: LowerInto<I>>(
     lowerer: &Lowerer<P>,
-    state: &mut BodyBuilder,
+    state: &mut BodyBuilder<I>,
     node: &ast::MatchArm,
 ) -> Result<Option<MatchArm>, StoreFault>
     requires { KidsArm (P.can lowerer.now.parts) (P.spot lowerer.now.parts).place (out-MatchArm node.now) }
@@ -110,9 +111,9 @@ fn arm<P: LowerParts>(
 }
 
 /// The arms that no condition disables.
-fn each_arm<P: LowerParts>(
+fn each_arm<I: Storing, P: LowerInto<I>>(
     lowerer: &Lowerer<P>,
-    state: &mut BodyBuilder,
+    state: &mut BodyBuilder<I>,
     mut left: &[ast::MatchArm],
 ) -> Result<Seq<MatchArm>, StoreFault>
     requires { KidsArms (P.can lowerer.now.parts) (P.spot lowerer.now.parts).place left.now }
@@ -133,10 +134,10 @@ pub trait ArmsPart {
 
     ghost read: { Spot → Self → Arms };
 
-    fn lower<P: LowerParts>(
+    fn lower<I: Storing, P: LowerInto<I>>(
         &self,
         lowerer: &Lowerer<P>,
-        state: &mut BodyBuilder,
+        state: &mut BodyBuilder<I>,
     ) -> Result<Seq<MatchArm>, StoreFault>
         requires { can (P.can lowerer.now.parts) (P.spot lowerer.now.parts).place self.now }
         ensures { Lowers HasArms (spec.lower_arms [] (read (P.spot lowerer.now.parts) self.now)) state.old result state.new };
@@ -147,10 +148,10 @@ impl ArmsPart for Option<Seq<ast::MatchArm>> {
 
     ghost read = { arms_or_none_part };
 
-    fn lower<P: LowerParts>(
+    fn lower<I: Storing, P: LowerInto<I>>(
         &self,
         lowerer: &Lowerer<P>,
-        state: &mut BodyBuilder,
+        state: &mut BodyBuilder<I>,
     ) -> Result<Seq<MatchArm>, StoreFault> {
         match self {
             None => Ok(Seq::new(lowerer.alloc)),
@@ -162,9 +163,9 @@ impl ArmsPart for Option<Seq<ast::MatchArm>> {
 /// What is matched before the arms.
 #[tactic(auto, unfolding(hir_lower_form::specs::Forms::match_form))]
 #[inline(never)]
-pub fn match_form<P: LowerParts, E: ExprPart, A: ArmsPart>(
+pub fn match_form<I: Storing, P: LowerInto<I>, E: ExprPart, A: ArmsPart>(
     lowerer: &Lowerer<P>,
-    state: &mut BodyBuilder,
+    state: &mut BodyBuilder<I>,
     at: InFile<AstPtr>,
     expr: &E,
     all: &A,

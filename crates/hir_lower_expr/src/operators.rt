@@ -11,7 +11,8 @@ use crate::part::ExprPart;
 use hir_base::node::{AstPtr, InFile};
 use hir_lower_form::builder::BodyBuilder;
 use hir_lower_form::names::name_of;
-use hir_lower_form::parts::{LowerParts, Lowerer};
+use hir_lower_form::parts::{LowerInto, Lowerer};
+use hir_lower_form::storing::Storing;
 use hir_store::fault::StoreFault;
 use hir_store::hir::{Expr, Mutability, Rawness};
 use hir_store::ids::ExprId;
@@ -37,9 +38,9 @@ fn mutability(is_mut: bool) -> Mutability
 /// A field of a value, by its name.
 #[tactic(auto, unfolding(hir_lower_form::specs::Forms::operand_form))]
 #[inline(never)]
-pub fn field_form<P: LowerParts, E: ExprPart>(
+pub fn field_form<I: Storing, P: LowerInto<I>, E: ExprPart>(
     lowerer: &Lowerer<P>,
-    state: &mut BodyBuilder,
+    state: &mut BodyBuilder<I>,
     at: InFile<AstPtr>,
     expr: &E,
     name: &Option<ast::Name>,
@@ -57,9 +58,9 @@ pub fn field_form<P: LowerParts, E: ExprPart>(
 /// Without its operator the expression is missing, and its operand stays.
 #[tactic(auto, unfolding(hir_lower_form::specs::Forms::operand_form))]
 #[inline(never)]
-pub fn prefix_form<P: LowerParts, E: ExprPart>(
+pub fn prefix_form<I: Storing, P: LowerInto<I>, E: ExprPart>(
     lowerer: &Lowerer<P>,
-    state: &mut BodyBuilder,
+    state: &mut BodyBuilder<I>,
     at: InFile<AstPtr>,
     op: Option<ast::UnaryOp>,
     expr: &E,
@@ -77,9 +78,9 @@ pub fn prefix_form<P: LowerParts, E: ExprPart>(
 /// A reference to a place, or a raw pointer to one.
 #[tactic(auto, unfolding(hir_lower_form::specs::Forms::operand_form))]
 #[inline(never)]
-pub fn reference_form<P: LowerParts, E: ExprPart>(
+pub fn reference_form<I: Storing, P: LowerInto<I>, E: ExprPart>(
     lowerer: &Lowerer<P>,
-    state: &mut BodyBuilder,
+    state: &mut BodyBuilder<I>,
     at: InFile<AstPtr>,
     raw: bool,
     is_mut: bool,
@@ -106,9 +107,9 @@ pub fn reference_form<P: LowerParts, E: ExprPart>(
 /// The operands from left to right, whatever the operator, which is no `=`.
 #[tactic(auto, using(hir_lower_form::proofs::Binaries::binary_is), unfolding(hir_lower_form::specs::Forms::operands_form))]
 #[inline(never)]
-pub(crate) fn binary_form<P: LowerParts, E: ExprPart>(
+pub(crate) fn binary_form<I: Storing, P: LowerInto<I>, E: ExprPart>(
     lowerer: &Lowerer<P>,
-    state: &mut BodyBuilder,
+    state: &mut BodyBuilder<I>,
     at: InFile<AstPtr>,
     op: Option<ast::BinaryOp>,
     lhs: &E,
@@ -130,9 +131,9 @@ pub(crate) fn binary_form<P: LowerParts, E: ExprPart>(
 /// An element: what is indexed, then the index.
 #[tactic(auto, unfolding(hir_lower_form::specs::Forms::operands_form))]
 #[inline(never)]
-pub fn index_form<P: LowerParts, E: ExprPart>(
+pub fn index_form<I: Storing, P: LowerInto<I>, E: ExprPart>(
     lowerer: &Lowerer<P>,
-    state: &mut BodyBuilder,
+    state: &mut BodyBuilder<I>,
     at: InFile<AstPtr>,
     base: &E,
     index: &E,
@@ -151,9 +152,9 @@ pub fn index_form<P: LowerParts, E: ExprPart>(
 /// Outside of async code it is a fault, which comes behind those of the operand.
 #[tactic(auto, unfolding(hir_lower_form::specs::Forms::await_form))]
 #[inline(never)]
-pub fn await_form<P: LowerParts, E: ExprPart>(
+pub fn await_form<I: Storing, P: LowerInto<I>, E: ExprPart>(
     lowerer: &Lowerer<P>,
-    state: &mut BodyBuilder,
+    state: &mut BodyBuilder<I>,
     at: InFile<AstPtr>,
     awaited: &E,
 ) -> Result<ExprId, StoreFault>

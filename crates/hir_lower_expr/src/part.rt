@@ -18,9 +18,8 @@ use crate::fors::head_node;
 use hir_base::node::{AstPtr, InFile};
 use hir_env::place::Place;
 use hir_lower_form::builder::BodyBuilder;
-use hir_lower_form::parts::{LowerParts, Lowerer};
-use hir_lower_pat::targets::lower_target;
-use hir_lower_pat::top::top_pat;
+use hir_lower_form::parts::{LowerInto, LowerParts, Lowerer};
+use hir_lower_form::storing::Storing;
 use hir_store::fault::StoreFault;
 use hir_store::ids::{ExprId, PatId, TypeRefId};
 use hir_store::path::{GenericArgs, Path};
@@ -53,38 +52,38 @@ pub trait ExprPart {
         ensures { result ≡ of.holds_let (read (P.spot lowerer.now.parts) self.now) };
 
     /// The expression, missing where it is absent or a condition disables it.
-    fn lower<P: LowerParts>(
+    fn lower<I: Storing, P: LowerInto<I>>(
         &self,
         lowerer: &Lowerer<P>,
-        state: &mut BodyBuilder,
+        state: &mut BodyBuilder<I>,
     ) -> Result<ExprId, StoreFault>
         requires { can (P.can lowerer.now.parts) self.now }
         ensures { LowersExprOpt (read (P.spot lowerer.now.parts) self.now) state.old result state.new };
 
     /// The expression, none where it is absent, and missing where a condition disables it.
-    fn lower_if_present<P: LowerParts>(
+    fn lower_if_present<I: Storing, P: LowerInto<I>>(
         &self,
         lowerer: &Lowerer<P>,
-        state: &mut BodyBuilder,
+        state: &mut BodyBuilder<I>,
     ) -> Result<Option<ExprId>, StoreFault>
         requires { can (P.can lowerer.now.parts) self.now }
         ensures { LowersIfPresent (read (P.spot lowerer.now.parts) self.now) state.old result state.new };
 
     /// The expression, read at this place, missing where it is absent or a condition disables it.
-    fn lower_inside<P: LowerParts>(
+    fn lower_inside<I: Storing, P: LowerInto<I>>(
         &self,
         lowerer: &Lowerer<P>,
-        state: &mut BodyBuilder,
+        state: &mut BodyBuilder<I>,
         place: Place,
     ) -> Result<ExprId, StoreFault>
         requires { can_inside (P.can lowerer.now.parts) place self.now }
         ensures { LowersExprOpt (read (at_place (P.spot lowerer.now.parts) place) self.now) state.old result state.new };
 
     /// What is assigned to, missing where it is absent.
-    fn lower_aim<P: LowerParts>(
+    fn lower_aim<I: Storing, P: LowerInto<I>>(
         &self,
         lowerer: &Lowerer<P>,
-        state: &mut BodyBuilder,
+        state: &mut BodyBuilder<I>,
     ) -> Result<PatId, StoreFault>
         requires { can_aim (P.can lowerer.now.parts) (P.spot lowerer.now.parts).place self.now }
         ensures { let spot = P.spot lowerer.now.parts in
@@ -114,37 +113,37 @@ impl ExprPart for Option<Boxed<ast::Expr>> {
         holds_let(lowerer, self)
     }
 
-    fn lower<P: LowerParts>(
+    fn lower<I: Storing, P: LowerInto<I>>(
         &self,
         lowerer: &Lowerer<P>,
-        state: &mut BodyBuilder,
+        state: &mut BodyBuilder<I>,
     ) -> Result<ExprId, StoreFault> {
         lowerer.collect_expr_opt(state, self)
     }
 
-    fn lower_if_present<P: LowerParts>(
+    fn lower_if_present<I: Storing, P: LowerInto<I>>(
         &self,
         lowerer: &Lowerer<P>,
-        state: &mut BodyBuilder,
+        state: &mut BodyBuilder<I>,
     ) -> Result<Option<ExprId>, StoreFault> {
         lowerer.collect_expr_if_present(state, self)
     }
 
-    fn lower_inside<P: LowerParts>(
+    fn lower_inside<I: Storing, P: LowerInto<I>>(
         &self,
         lowerer: &Lowerer<P>,
-        state: &mut BodyBuilder,
+        state: &mut BodyBuilder<I>,
         place: Place,
     ) -> Result<ExprId, StoreFault> {
         lowerer.collect_expr_opt_inside(state, place, self)
     }
 
-    fn lower_aim<P: LowerParts>(
+    fn lower_aim<I: Storing, P: LowerInto<I>>(
         &self,
         lowerer: &Lowerer<P>,
-        state: &mut BodyBuilder,
+        state: &mut BodyBuilder<I>,
     ) -> Result<PatId, StoreFault> {
-        lower_target(lowerer, state, self)
+        lowerer.parts.lower_target(state, self)
     }
 }
 
@@ -155,10 +154,10 @@ pub trait ConstPart {
     ghost read: { Spot → Self → Constant };
 
     /// The constant, which is missing where the expression is absent or a condition disables it.
-    fn lower<P: LowerParts>(
+    fn lower<I: Storing, P: LowerInto<I>>(
         &self,
         lowerer: &Lowerer<P>,
-        state: &mut BodyBuilder,
+        state: &mut BodyBuilder<I>,
     ) -> Result<ConstRef, StoreFault>
         requires { can (P.can lowerer.now.parts) (P.spot lowerer.now.parts).place self.now }
         ensures { LowersConstant (read (P.spot lowerer.now.parts) self.now) state.old result state.new };
@@ -169,10 +168,10 @@ impl ConstPart for Option<Boxed<ast::Expr>> {
 
     ghost read = { constant_at };
 
-    fn lower<P: LowerParts>(
+    fn lower<I: Storing, P: LowerInto<I>>(
         &self,
         lowerer: &Lowerer<P>,
-        state: &mut BodyBuilder,
+        state: &mut BodyBuilder<I>,
     ) -> Result<ConstRef, StoreFault> {
         lowerer
             .parts
@@ -187,10 +186,10 @@ pub trait ListPart {
     ghost read: { Spot → Self → Exprs };
 
     /// Those that no condition disables.
-    fn lower<P: LowerParts>(
+    fn lower<I: Storing, P: LowerInto<I>>(
         &self,
         lowerer: &Lowerer<P>,
-        state: &mut BodyBuilder,
+        state: &mut BodyBuilder<I>,
     ) -> Result<Seq<ExprId>, StoreFault>
         requires { can (P.can lowerer.now.parts) self.now }
         ensures { LowersEach (read (P.spot lowerer.now.parts) self.now) state.old result state.new };
@@ -201,10 +200,10 @@ impl ListPart for Seq<ast::Expr> {
 
     ghost read = { exprs_part };
 
-    fn lower<P: LowerParts>(
+    fn lower<I: Storing, P: LowerInto<I>>(
         &self,
         lowerer: &Lowerer<P>,
-        state: &mut BodyBuilder,
+        state: &mut BodyBuilder<I>,
     ) -> Result<Seq<ExprId>, StoreFault> {
         lowerer.collect_each(state, self.as_slice())
     }
@@ -218,10 +217,10 @@ pub trait ArgsPart {
 
     ghost is_there: { Self → Bool };
 
-    fn lower<P: LowerParts>(
+    fn lower<I: Storing, P: LowerInto<I>>(
         &self,
         lowerer: &Lowerer<P>,
-        state: &mut BodyBuilder,
+        state: &mut BodyBuilder<I>,
     ) -> Result<Seq<ExprId>, StoreFault>
         requires { can (P.can lowerer.now.parts) self.now }
         ensures { LowersEach (read (P.spot lowerer.now.parts) self.now) state.old result state.new };
@@ -234,10 +233,10 @@ impl ArgsPart for Option<Seq<ast::Expr>> {
 
     ghost is_there = { is_some };
 
-    fn lower<P: LowerParts>(
+    fn lower<I: Storing, P: LowerInto<I>>(
         &self,
         lowerer: &Lowerer<P>,
-        state: &mut BodyBuilder,
+        state: &mut BodyBuilder<I>,
     ) -> Result<Seq<ExprId>, StoreFault> {
         lowerer.arguments(state, self)
     }
@@ -250,10 +249,10 @@ pub trait BlockPart {
     ghost read: { Spot → Self → OptionBlock };
 
     /// The block, missing where it is absent.
-    fn lower<P: LowerParts>(
+    fn lower<I: Storing, P: LowerInto<I>>(
         &self,
         lowerer: &Lowerer<P>,
-        state: &mut BodyBuilder,
+        state: &mut BodyBuilder<I>,
     ) -> Result<ExprId, StoreFault>
         requires { can (P.can lowerer.now.parts) (P.spot lowerer.now.parts).place self.now }
         ensures { LowersBlockOpt (read (P.spot lowerer.now.parts) self.now) state.old result state.new };
@@ -264,10 +263,10 @@ impl BlockPart for Option<Boxed<ast::BlockExpr>> {
 
     ghost read = { block_part };
 
-    fn lower<P: LowerParts>(
+    fn lower<I: Storing, P: LowerInto<I>>(
         &self,
         lowerer: &Lowerer<P>,
-        state: &mut BodyBuilder,
+        state: &mut BodyBuilder<I>,
     ) -> Result<ExprId, StoreFault> {
         lowerer.collect_block_opt(state, self)
     }
@@ -280,10 +279,10 @@ pub trait PatPart {
     ghost read: { Spot → Self → OptionPat };
 
     /// The pattern, missing where it is absent.
-    fn lower<P: LowerParts>(
+    fn lower<I: Storing, P: LowerInto<I>>(
         &self,
         lowerer: &Lowerer<P>,
-        state: &mut BodyBuilder,
+        state: &mut BodyBuilder<I>,
     ) -> Result<PatId, StoreFault>
         requires { can (P.can lowerer.now.parts) (P.spot lowerer.now.parts).place self.now }
         ensures { LowersTop (read (P.spot lowerer.now.parts) self.now) state.old result state.new };
@@ -294,12 +293,12 @@ impl PatPart for Option<Boxed<ast::Pat>> {
 
     ghost read = { pat_part };
 
-    fn lower<P: LowerParts>(
+    fn lower<I: Storing, P: LowerInto<I>>(
         &self,
         lowerer: &Lowerer<P>,
-        state: &mut BodyBuilder,
+        state: &mut BodyBuilder<I>,
     ) -> Result<PatId, StoreFault> {
-        top_pat(lowerer, state, self)
+        lowerer.parts.top_pat(state, self)
     }
 }
 
@@ -310,19 +309,19 @@ pub trait TypePart {
     ghost read: { Spot → Self → OptionType };
 
     /// The type, an error where it is absent.
-    fn lower<P: LowerParts>(
+    fn lower<I: Storing, P: LowerInto<I>>(
         &self,
         lowerer: &Lowerer<P>,
-        state: &mut BodyBuilder,
+        state: &mut BodyBuilder<I>,
     ) -> Result<TypeRefId, StoreFault>
         requires { can (P.can lowerer.now.parts) (P.spot lowerer.now.parts).place self.now }
         ensures { LowersTypeOpt None (read (P.spot lowerer.now.parts) self.now) state.old result state.new };
 
     /// The type, none where it is absent.
-    fn lower_if_present<P: LowerParts>(
+    fn lower_if_present<I: Storing, P: LowerInto<I>>(
         &self,
         lowerer: &Lowerer<P>,
-        state: &mut BodyBuilder,
+        state: &mut BodyBuilder<I>,
     ) -> Result<Option<TypeRefId>, StoreFault>
         requires { can (P.can lowerer.now.parts) (P.spot lowerer.now.parts).place self.now }
         ensures { LowersTypeIfPresent (read (P.spot lowerer.now.parts) self.now) state.old result state.new };
@@ -333,18 +332,18 @@ impl TypePart for Option<Boxed<ast::Type_>> {
 
     ghost read = { type_part };
 
-    fn lower<P: LowerParts>(
+    fn lower<I: Storing, P: LowerInto<I>>(
         &self,
         lowerer: &Lowerer<P>,
-        state: &mut BodyBuilder,
+        state: &mut BodyBuilder<I>,
     ) -> Result<TypeRefId, StoreFault> {
         lowerer.type_or_error(state, lowerer.parts.place(), &None, self)
     }
 
-    fn lower_if_present<P: LowerParts>(
+    fn lower_if_present<I: Storing, P: LowerInto<I>>(
         &self,
         lowerer: &Lowerer<P>,
-        state: &mut BodyBuilder,
+        state: &mut BodyBuilder<I>,
     ) -> Result<Option<TypeRefId>, StoreFault> {
         lowerer.type_if_present(state, lowerer.parts.place(), self)
     }
@@ -357,10 +356,10 @@ pub trait PathPart {
     ghost read: { Spot → Self → OptionPath };
 
     /// The path, none where it is absent or refused.
-    fn lower<P: LowerParts>(
+    fn lower<I: Storing, P: LowerInto<I>>(
         &self,
         lowerer: &Lowerer<P>,
-        state: &mut BodyBuilder,
+        state: &mut BodyBuilder<I>,
     ) -> Result<Option<Path>, StoreFault>
         requires { can (P.can lowerer.now.parts) (P.spot lowerer.now.parts).place self.now }
         ensures { LowersPath (read (P.spot lowerer.now.parts) self.now) state.old result state.new };
@@ -371,10 +370,10 @@ impl PathPart for Option<Boxed<ast::Path>> {
 
     ghost read = { path_part };
 
-    fn lower<P: LowerParts>(
+    fn lower<I: Storing, P: LowerInto<I>>(
         &self,
         lowerer: &Lowerer<P>,
-        state: &mut BodyBuilder,
+        state: &mut BodyBuilder<I>,
     ) -> Result<Option<Path>, StoreFault> {
         lowerer.path_if_present(state, lowerer.parts.place(), self)
     }
@@ -386,10 +385,10 @@ pub trait GenericsPart {
 
     ghost read: { Spot → Self → OptionArgs };
 
-    fn lower<P: LowerParts>(
+    fn lower<I: Storing, P: LowerInto<I>>(
         &self,
         lowerer: &Lowerer<P>,
-        state: &mut BodyBuilder,
+        state: &mut BodyBuilder<I>,
     ) -> Result<Option<GenericArgs>, StoreFault>
         requires { can (P.can lowerer.now.parts) (P.spot lowerer.now.parts).place self.now }
         ensures { LowersArgs (read (P.spot lowerer.now.parts) self.now) state.old result state.new };
@@ -400,10 +399,10 @@ impl GenericsPart for Option<ast::GenericArgList> {
 
     ghost read = { arg_list_part };
 
-    fn lower<P: LowerParts>(
+    fn lower<I: Storing, P: LowerInto<I>>(
         &self,
         lowerer: &Lowerer<P>,
-        state: &mut BodyBuilder,
+        state: &mut BodyBuilder<I>,
     ) -> Result<Option<GenericArgs>, StoreFault> {
         lowerer.args_if_present(state, lowerer.parts.place(), self)
     }

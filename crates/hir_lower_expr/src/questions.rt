@@ -17,7 +17,8 @@ use crate::stored::store_match;
 use hir_base::node::{AstPtr, InFile};
 use hir_env::lang::LangItems;
 use hir_lower_form::builder::BodyBuilder;
-use hir_lower_form::parts::{LowerParts, Lowerer};
+use hir_lower_form::parts::{LowerInto, Lowerer};
+use hir_lower_form::storing::Storing;
 use hir_lower_scope::labels::TryLabel;
 use hir_store::fault::StoreFault;
 use hir_store::hir::{BindingAnnotation, Expr, MatchArm};
@@ -63,8 +64,8 @@ fn conversion(items: QuestionItems, target: Option<TryLabel>) -> Option<LangItem
 }
 
 /// What leaves for the innermost `try`, or else returns.
-fn leaving(
-    state: &mut BodyBuilder,
+fn leaving<I: Storing>(
+    state: &mut BodyBuilder<I>,
     at: InFile<AstPtr>,
     target: Option<TryLabel>,
     value: ExprId,
@@ -86,9 +87,9 @@ fn leaving(
 
 /// The residual of this name is made a value, which leaves.
 #[tactic(auto, unfolding(hir_lower_form::specs::Made::residual_form))]
-fn residual(
+fn residual<I: Storing>(
     alloc: Global,
-    state: &mut BodyBuilder,
+    state: &mut BodyBuilder<I>,
     at: InFile<AstPtr>,
     items: QuestionItems,
     number: u32,
@@ -103,9 +104,9 @@ fn residual(
 
 /// The arm for a value, with which the form goes on.
 #[tactic(auto, unfolding(hir_lower_form::specs::Made::flow_arm_form))]
-fn value_arm(
+fn value_arm<I: Storing>(
     alloc: Global,
-    state: &mut BodyBuilder,
+    state: &mut BodyBuilder<I>,
     at: InFile<AstPtr>,
     item: LangItemId,
 ) -> Result<MatchArm, StoreFault>
@@ -121,9 +122,9 @@ fn value_arm(
 
 /// The arm for a residual, which leaves.
 #[tactic(auto, unfolding(hir_lower_form::specs::Made::flow_arm_form))]
-fn residual_arm(
+fn residual_arm<I: Storing>(
     alloc: Global,
-    state: &mut BodyBuilder,
+    state: &mut BodyBuilder<I>,
     at: InFile<AstPtr>,
     items: QuestionItems,
 ) -> Result<MatchArm, StoreFault>
@@ -155,9 +156,9 @@ pub(crate) fn two_arms(
 
 /// The operand before what is made of it.
 #[tactic(auto, unfolding(hir_lower_form::specs::Made::question_form))]
-fn question_with<P: LowerParts, E: ExprPart>(
+fn question_with<I: Storing, P: LowerInto<I>, E: ExprPart>(
     lowerer: &Lowerer<P>,
-    state: &mut BodyBuilder,
+    state: &mut BodyBuilder<I>,
     at: InFile<AstPtr>,
     items: QuestionItems,
     operand: &E,
@@ -185,9 +186,9 @@ fn question_with<P: LowerParts, E: ExprPart>(
 /// }
 /// ```
 #[inline(never)]
-pub fn question_form<P: LowerParts, E: ExprPart>(
+pub fn question_form<I: Storing, P: LowerInto<I>, E: ExprPart>(
     lowerer: &Lowerer<P>,
-    state: &mut BodyBuilder,
+    state: &mut BodyBuilder<I>,
     at: InFile<AstPtr>,
     operand: &E,
 ) -> Result<ExprId, StoreFault>

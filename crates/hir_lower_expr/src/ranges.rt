@@ -14,7 +14,8 @@ use crate::part::ExprPart;
 use hir_base::node::{AstPtr, InFile};
 use hir_env::lang::LangItems;
 use hir_lower_form::builder::BodyBuilder;
-use hir_lower_form::parts::{LowerParts, Lowerer};
+use hir_lower_form::parts::{LowerInto, LowerParts, Lowerer};
+use hir_lower_form::storing::Storing;
 use hir_lower_pat::items::item_expr;
 use hir_store::fault::StoreFault;
 use hir_store::hir::{Expr, RecordLitField, RecordSpread};
@@ -175,9 +176,9 @@ fn operands(
 }
 
 /// What is called comes from no node.
-fn called(
+fn called<I: Storing>(
     alloc: Global,
-    state: &mut BodyBuilder,
+    state: &mut BodyBuilder<I>,
     at: InFile<AstPtr>,
     item: Option<LangItemId>,
     start: Option<ExprId>,
@@ -194,9 +195,9 @@ fn called(
 
 /// Without an item for its record a range is missing.
 #[inline(never)]
-fn made_of(
+fn made_of<I: Storing>(
     alloc: Global,
-    state: &mut BodyBuilder,
+    state: &mut BodyBuilder<I>,
     at: InFile<AstPtr>,
     made: Made,
     start: Option<ExprId>,
@@ -231,9 +232,9 @@ fn made_of(
 /// ```
 #[tactic(auto, unfolding(hir_lower_form::specs::Ranges::range_form))]
 #[inline(never)]
-pub fn range_form<P: LowerParts, E: ExprPart>(
+pub fn range_form<I: Storing, P: LowerInto<I>, E: ExprPart>(
     lowerer: &Lowerer<P>,
-    state: &mut BodyBuilder,
+    state: &mut BodyBuilder<I>,
     at: InFile<AstPtr>,
     op: Option<RangeOp>,
     start: &E,

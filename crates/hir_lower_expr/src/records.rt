@@ -20,7 +20,8 @@ use crate::kept::push_kept_field;
 use crate::part::{ExprPart, PathPart};
 use hir_base::node::{AstPtr, InFile};
 use hir_lower_form::builder::BodyBuilder;
-use hir_lower_form::parts::{LowerParts, Lowerer, site};
+use hir_lower_form::parts::{LowerInto, Lowerer, site};
+use hir_lower_form::storing::Storing;
 use hir_store::diagnostics::ExpressionStoreDiagnostics;
 use hir_store::fault::StoreFault;
 use hir_store::hir::{Expr, RecordLitField, RecordSpread};
@@ -30,9 +31,9 @@ use hir_syntax::{Boxed, Seq, ast};
 
 /// A field with a name, whose value leads to it.
 #[tactic(auto, unfolding(hir_lower_form::specs::Forms::field_form))]
-fn named_field<P: LowerParts, E: ExprPart>(
+fn named_field<I: Storing, P: LowerInto<I>, E: ExprPart>(
     lowerer: &Lowerer<P>,
-    state: &mut BodyBuilder,
+    state: &mut BodyBuilder<I>,
     at: InFile<AstPtr>,
     name: &ast::Name,
     value: &E,
@@ -49,9 +50,9 @@ fn named_field<P: LowerParts, E: ExprPart>(
 
 /// The field, none where a condition disables it or it has no name.
 #[inline(never)]
-fn field_form<P: LowerParts>(
+fn field_form<I: Storing, P: LowerInto<I>>(
     lowerer: &Lowerer<P>,
-    state: &mut BodyBuilder,
+    state: &mut BodyBuilder<I>,
     node: &ast::RecordExprField,
 ) -> Result<Option<RecordLitField>, StoreFault>
     requires { KidsField (P.can lowerer.now.parts) (P.spot lowerer.now.parts).place (out-RecordExprField node.now) }
@@ -70,9 +71,9 @@ fn field_form<P: LowerParts>(
     }
 }
 
-fn field<P: LowerParts>(
+fn field<I: Storing, P: LowerInto<I>>(
     lowerer: &Lowerer<P>,
-    state: &mut BodyBuilder,
+    state: &mut BodyBuilder<I>,
     node: &ast::RecordExprField,
 ) -> Result<Option<RecordLitField>, StoreFault>
     requires { KidsField (P.can lowerer.now.parts) (P.spot lowerer.now.parts).place (out-RecordExprField node.now) }
@@ -81,9 +82,9 @@ fn field<P: LowerParts>(
     field_form(lowerer, state, node)
 }
 
-fn fields<P: LowerParts>(
+fn fields<I: Storing, P: LowerInto<I>>(
     lowerer: &Lowerer<P>,
-    state: &mut BodyBuilder,
+    state: &mut BodyBuilder<I>,
     mut left: &[ast::RecordExprField],
 ) -> Result<Seq<RecordLitField>, StoreFault>
     requires { KidsFields (P.can lowerer.now.parts) (P.spot lowerer.now.parts).place left.now }
@@ -99,9 +100,9 @@ fn fields<P: LowerParts>(
 }
 
 /// What the other fields come from.
-fn spread<P: LowerParts>(
+fn spread<I: Storing, P: LowerInto<I>>(
     lowerer: &Lowerer<P>,
-    state: &mut BodyBuilder,
+    state: &mut BodyBuilder<I>,
     part: &Option<Boxed<ast::Expr>>,
     dots: bool,
 ) -> Result<RecordSpread, StoreFault>
@@ -121,9 +122,9 @@ fn spread<P: LowerParts>(
 }
 
 #[tactic(auto, unfolding(hir_lower_form::specs::Forms::record_contents))]
-fn record_level_contents<P: LowerParts>(
+fn record_level_contents<I: Storing, P: LowerInto<I>>(
     lowerer: &Lowerer<P>,
-    state: &mut BodyBuilder,
+    state: &mut BodyBuilder<I>,
     node: &ast::RecordExprFieldList,
 ) -> Result<(Seq<RecordLitField>, RecordSpread), StoreFault>
     requires { KidsRecord (P.can lowerer.now.parts) (P.spot lowerer.now.parts).place (out-RecordExprFieldList node.now) }
@@ -134,9 +135,9 @@ fn record_level_contents<P: LowerParts>(
     Ok((fields, spread))
 }
 
-fn listed<P: LowerParts>(
+fn listed<I: Storing, P: LowerInto<I>>(
     lowerer: &Lowerer<P>,
-    state: &mut BodyBuilder,
+    state: &mut BodyBuilder<I>,
     node: &ast::RecordExprFieldList,
 ) -> Result<(Seq<RecordLitField>, RecordSpread), StoreFault>
     requires { KidsRecord (P.can lowerer.now.parts) (P.spot lowerer.now.parts).place (out-RecordExprFieldList node.now) }
@@ -151,10 +152,10 @@ pub trait RecordPart {
 
     ghost read: { Spot → Self → RecordReading };
 
-    fn lower<P: LowerParts>(
+    fn lower<I: Storing, P: LowerInto<I>>(
         &self,
         lowerer: &Lowerer<P>,
-        state: &mut BodyBuilder,
+        state: &mut BodyBuilder<I>,
     ) -> Result<(Seq<RecordLitField>, RecordSpread), StoreFault>
         requires { can (P.can lowerer.now.parts) (P.spot lowerer.now.parts).place self.now }
         ensures { Lowers HasRecord (record_at (read (P.spot lowerer.now.parts) self.now)) state.old result state.new };
@@ -166,10 +167,10 @@ impl RecordPart for Option<ast::RecordExprFieldList> {
     ghost read = { record_part };
 
     #[tactic(auto, unfolding(hir_lower_form::specs::Forms::record_contents))]
-    fn lower<P: LowerParts>(
+    fn lower<I: Storing, P: LowerInto<I>>(
         &self,
         lowerer: &Lowerer<P>,
-        state: &mut BodyBuilder,
+        state: &mut BodyBuilder<I>,
     ) -> Result<(Seq<RecordLitField>, RecordSpread), StoreFault> {
         match self {
             None => Ok((Seq::new(lowerer.alloc), RecordSpread::None)),
@@ -181,9 +182,9 @@ impl RecordPart for Option<ast::RecordExprFieldList> {
 /// Where the path is absent or refused the record is missing, and nothing else of it is read.
 #[tactic(auto, unfolding(hir_lower_form::specs::Forms::record_form))]
 #[inline(never)]
-pub fn record_form<P: LowerParts, W: PathPart, R: RecordPart>(
+pub fn record_form<I: Storing, P: LowerInto<I>, W: PathPart, R: RecordPart>(
     lowerer: &Lowerer<P>,
-    state: &mut BodyBuilder,
+    state: &mut BodyBuilder<I>,
     at: InFile<AstPtr>,
     path: &W,
     list: &R,

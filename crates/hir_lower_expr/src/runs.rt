@@ -20,7 +20,8 @@ use hir_base::node::{AstPtr, InFile};
 use hir_env::place::Place;
 use hir_lower_form::builder::BodyBuilder;
 use hir_lower_form::calls::{Entered, enter_splice};
-use hir_lower_form::parts::{LowerParts, Lowerer, site};
+use hir_lower_form::parts::{LowerInto, Lowerer, site};
+use hir_lower_form::storing::Storing;
 use hir_store::diagnostics::ExpressionStoreDiagnostics;
 use hir_store::fault::StoreFault;
 use hir_store::hir::Statement;
@@ -33,9 +34,9 @@ use std::collections::BTreeMap;
 
 /// Whether the node is enabled; the condition that disables it is told.
 #[inline(never)]
-fn is_enabled<P: LowerParts>(
+fn is_enabled<I: Storing, P: LowerInto<I>>(
     lowerer: &Lowerer<P>,
-    state: &mut BodyBuilder,
+    state: &mut BodyBuilder<I>,
     at: InFile<AstPtr>,
 ) -> Result<bool, StoreFault>
     ensures { let answer = (P.spot lowerer.now.parts).answers.cfg (site_of at) in
@@ -82,9 +83,9 @@ fn stmts_of<'a>(entered: Entered<'a>) -> Option<(Place, &'a MacroStmts)>
 /// the call's node leads, too.
 #[cycle(splice)]
 #[inline(never)]
-fn collect_call<P: LowerParts>(
+fn collect_call<I: Storing, P: LowerInto<I>>(
     lowerer: &Lowerer<P>,
-    state: &mut BodyBuilder,
+    state: &mut BodyBuilder<I>,
     run: &mut Run,
     at: InFile<AstPtr>,
     call: &MacroCall,
@@ -107,9 +108,9 @@ fn collect_call<P: LowerParts>(
 
 /// An expression in statement or tail place.
 #[cycle(splice)]
-fn collect_value<P: LowerParts>(
+fn collect_value<I: Storing, P: LowerInto<I>>(
     lowerer: &Lowerer<P>,
-    state: &mut BodyBuilder,
+    state: &mut BodyBuilder<I>,
     run: &mut Run,
     node: &ast::Expr,
 ) -> Result<Option<ExprId>, StoreFault>
@@ -134,9 +135,9 @@ fn collect_value<P: LowerParts>(
 
 /// The same, none where it is absent.
 #[cycle(splice)]
-pub(crate) fn collect_value_opt<P: LowerParts>(
+pub(crate) fn collect_value_opt<I: Storing, P: LowerInto<I>>(
     lowerer: &Lowerer<P>,
-    state: &mut BodyBuilder,
+    state: &mut BodyBuilder<I>,
     run: &mut Run,
     part: &Option<Boxed<ast::Expr>>,
 ) -> Result<Option<ExprId>, StoreFault>
@@ -154,9 +155,9 @@ pub(crate) fn collect_value_opt<P: LowerParts>(
 
 /// What a statement stands for, behind those that are done.
 #[cycle(splice)]
-fn collect_stmt<P: LowerParts>(
+fn collect_stmt<I: Storing, P: LowerInto<I>>(
     lowerer: &Lowerer<P>,
-    state: &mut BodyBuilder,
+    state: &mut BodyBuilder<I>,
     run: &mut Run,
     node: &ast::Stmt,
 ) -> Result<(), StoreFault>
@@ -204,9 +205,9 @@ fn collect_stmt<P: LowerParts>(
 
 /// Statements, behind those that are done.
 #[cycle(splice)]
-pub(crate) fn collect_run<P: LowerParts>(
+pub(crate) fn collect_run<I: Storing, P: LowerInto<I>>(
     lowerer: &Lowerer<P>,
-    state: &mut BodyBuilder,
+    state: &mut BodyBuilder<I>,
     run: &mut Run,
     mut all: &[ast::Stmt],
 ) -> Result<(), StoreFault>

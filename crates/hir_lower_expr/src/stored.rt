@@ -10,6 +10,7 @@ ghost use Rattle.hir_lower_form.specs.Lowering as step;
 
 use hir_base::node::{AstPtr, InFile};
 use hir_lower_form::builder::BodyBuilder;
+use hir_lower_form::storing::Storing;
 use hir_store::fault::StoreFault;
 use hir_store::hir::{Expr, LoopSource, MatchArm, Statement};
 use hir_store::ids::{BlockId, ExprId, LabelId};
@@ -18,8 +19,8 @@ use hir_syntax::Seq;
 
 /// A loop.
 #[inline(never)]
-pub(crate) fn store_loop(
-    state: &mut BodyBuilder,
+pub(crate) fn store_loop<I: Storing>(
+    state: &mut BodyBuilder<I>,
     at: InFile<AstPtr>,
     body: ExprId,
     label: Option<LabelId>,
@@ -41,8 +42,8 @@ pub(crate) fn store_loop(
 
 /// A loop that lowering makes up.
 #[inline(never)]
-pub(crate) fn store_made_loop(
-    state: &mut BodyBuilder,
+pub(crate) fn store_made_loop<I: Storing>(
+    state: &mut BodyBuilder<I>,
     at: InFile<AstPtr>,
     body: ExprId,
     label: Option<LabelId>,
@@ -64,7 +65,10 @@ pub(crate) fn store_made_loop(
 
 /// A break that names no label and has no value.
 #[inline(never)]
-pub(crate) fn store_break(state: &mut BodyBuilder, at: InFile<AstPtr>) -> Result<ExprId, StoreFault>
+pub(crate) fn store_break<I: Storing>(
+    state: &mut BodyBuilder<I>,
+    at: InFile<AstPtr>,
+) -> Result<ExprId, StoreFault>
     ensures { Lowers HasExpr (step.alloc_expr (hir.Break None None) (Some at)) state.old result state.new }
 {
     let out = Expr::Break {
@@ -76,8 +80,8 @@ pub(crate) fn store_break(state: &mut BodyBuilder, at: InFile<AstPtr>) -> Result
 
 /// A match with these arms.
 #[inline(never)]
-pub(crate) fn store_match(
-    state: &mut BodyBuilder,
+pub(crate) fn store_match<I: Storing>(
+    state: &mut BodyBuilder<I>,
     at: InFile<AstPtr>,
     expr: ExprId,
     arms: Seq<MatchArm>,
@@ -90,8 +94,8 @@ pub(crate) fn store_match(
 
 /// A match that lowering makes up.
 #[inline(never)]
-pub(crate) fn store_made_match(
-    state: &mut BodyBuilder,
+pub(crate) fn store_made_match<I: Storing>(
+    state: &mut BodyBuilder<I>,
     at: InFile<AstPtr>,
     expr: ExprId,
     arms: Seq<MatchArm>,
@@ -104,8 +108,8 @@ pub(crate) fn store_made_match(
 
 /// A constant.
 #[inline(never)]
-pub(crate) fn store_const(
-    state: &mut BodyBuilder,
+pub(crate) fn store_const<I: Storing>(
+    state: &mut BodyBuilder<I>,
     at: InFile<AstPtr>,
     constant: ConstRef,
 ) -> Result<ExprId, StoreFault>
@@ -117,8 +121,8 @@ pub(crate) fn store_const(
 
 /// A block with these statements and this tail, which comes from the node, if from any.
 #[inline(never)]
-pub(crate) fn store_block(
-    state: &mut BodyBuilder,
+pub(crate) fn store_block<I: Storing>(
+    state: &mut BodyBuilder<I>,
     at: Option<InFile<AstPtr>>,
     is_unsafe: bool,
     label: Option<LabelId>,

@@ -9,7 +9,8 @@ ghost use Rattle.hir_lower_form.specs.Nests.{IfPresent};
 
 use crate::written::WrittenBlock;
 use hir_lower_form::builder::BodyBuilder;
-use hir_lower_form::parts::{BlockRole, LowerParts, Lowerer};
+use hir_lower_form::parts::{BlockRole, LowerInto, Lowerer};
+use hir_lower_form::storing::Storing;
 use hir_store::fault::StoreFault;
 use hir_store::hir::BindingAnnotation;
 use hir_store::ids::ExprId;
@@ -18,9 +19,9 @@ use hir_syntax::{Boxed, ast};
 /// The name is made up before the type is lowered, which stands outside of the block.
 #[tactic(auto, unfolding(hir_lower_form::specs::Made::typed_try_form))]
 #[inline(never)]
-fn typed_try<P: LowerParts>(
+fn typed_try<I: Storing, P: LowerInto<I>>(
     lowerer: &Lowerer<P>,
-    state: &mut BodyBuilder,
+    state: &mut BodyBuilder<I>,
     ty: &ast::Type_,
     node: &ast::BlockExpr,
 ) -> Result<ExprId, StoreFault>
@@ -49,9 +50,9 @@ fn typed_try<P: LowerParts>(
 /// 'try: { s; from_output(t) }
 /// { let made: T = 'try: { s; from_output(t) }; made }
 /// ```
-pub(crate) fn try_form<P: LowerParts>(
+pub(crate) fn try_form<I: Storing, P: LowerInto<I>>(
     lowerer: &Lowerer<P>,
-    state: &mut BodyBuilder,
+    state: &mut BodyBuilder<I>,
     ty: &Option<Boxed<ast::Type_>>,
     node: &ast::BlockExpr,
 ) -> Result<ExprId, StoreFault>

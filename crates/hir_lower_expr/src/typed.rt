@@ -13,7 +13,8 @@ use crate::part::{ExprPart, PathPart, TypePart};
 use hir_base::node::{AstPtr, InFile};
 use hir_lower_form::builder::BodyBuilder;
 use hir_lower_form::names::{names_of, path_expr};
-use hir_lower_form::parts::{LowerParts, Lowerer, site};
+use hir_lower_form::parts::{LowerInto, Lowerer, site};
+use hir_lower_form::storing::Storing;
 use hir_store::fault::StoreFault;
 use hir_store::hir::Expr;
 use hir_store::ids::{ExprId, HygieneId};
@@ -23,8 +24,8 @@ use hir_syntax::{Seq, ast};
 use std::alloc::{AllocError, Global};
 
 /// What was read of a path, which is missing where it is absent or refused.
-fn read_path_expr(
-    state: &mut BodyBuilder,
+fn read_path_expr<I: Storing>(
+    state: &mut BodyBuilder<I>,
     at: InFile<AstPtr>,
     path: Option<Path>,
     hygiene: HygieneId,
@@ -38,9 +39,9 @@ fn read_path_expr(
 /// A path that is absent or refused is missing.
 #[tactic(auto, unfolding(hir_lower_form::specs::Forms::path_form))]
 #[inline(never)]
-pub fn path_form<P: LowerParts, W: PathPart>(
+pub fn path_form<I: Storing, P: LowerInto<I>, W: PathPart>(
     lowerer: &Lowerer<P>,
-    state: &mut BodyBuilder,
+    state: &mut BodyBuilder<I>,
     at: InFile<AstPtr>,
     path: &W,
 ) -> Result<ExprId, StoreFault>
@@ -56,9 +57,9 @@ pub fn path_form<P: LowerParts, W: PathPart>(
 /// A cast: what is cast, then the type.
 #[tactic(auto, unfolding(hir_lower_form::specs::Forms::cast_form))]
 #[inline(never)]
-pub fn cast_form<P: LowerParts, E: ExprPart, T: TypePart>(
+pub fn cast_form<I: Storing, P: LowerInto<I>, E: ExprPart, T: TypePart>(
     lowerer: &Lowerer<P>,
-    state: &mut BodyBuilder,
+    state: &mut BodyBuilder<I>,
     at: InFile<AstPtr>,
     operand: &E,
     ty: &T,
@@ -83,9 +84,9 @@ fn field_names(alloc: Global, names: &Seq<ast::Name>) -> Result<Seq<Name>, Alloc
 /// `offset_of!`: the type, then the names of the fields.
 #[tactic(auto, unfolding(hir_lower_form::specs::Forms::offset_of_form))]
 #[inline(never)]
-pub fn offset_of_form<P: LowerParts, T: TypePart>(
+pub fn offset_of_form<I: Storing, P: LowerInto<I>, T: TypePart>(
     lowerer: &Lowerer<P>,
-    state: &mut BodyBuilder,
+    state: &mut BodyBuilder<I>,
     at: InFile<AstPtr>,
     ty: &T,
     names: &Seq<ast::Name>,

@@ -13,7 +13,8 @@ ghost use Rattle.hir_lower_form.specs.Methods.{HasContents, HasRole, LowersInsid
 use crate::blocks::flat_contents;
 use hir_env::place::Place;
 use hir_lower_form::builder::BodyBuilder;
-use hir_lower_form::parts::{BlockRole, LowerParts, Lowerer};
+use hir_lower_form::parts::{BlockRole, LowerInto, Lowerer};
+use hir_lower_form::storing::Storing;
 use hir_store::fault::StoreFault;
 use hir_store::hir::Statement;
 use hir_store::ids::ExprId;
@@ -31,10 +32,10 @@ pub(crate) trait WrittenBlock {
     ghost stored: { Spot → Self → Lowering StoredContents };
 
     /// The block, as one of this role.
-    fn lower<P: LowerParts>(
+    fn lower<I: Storing, P: LowerInto<I>>(
         &self,
         lowerer: &Lowerer<P>,
-        state: &mut BodyBuilder,
+        state: &mut BodyBuilder<I>,
         role: BlockRole,
     ) -> Result<ExprId, StoreFault>
         requires part { can (P.can lowerer.now.parts) (P.spot lowerer.now.parts).place self.now }
@@ -42,10 +43,10 @@ pub(crate) trait WrittenBlock {
         ensures { LowersInside role (read (P.spot lowerer.now.parts) self.now) state.old result state.new };
 
     /// The same, read at this place.
-    fn lower_inside<P: LowerParts>(
+    fn lower_inside<I: Storing, P: LowerInto<I>>(
         &self,
         lowerer: &Lowerer<P>,
-        state: &mut BodyBuilder,
+        state: &mut BodyBuilder<I>,
         place: Place,
         role: BlockRole,
     ) -> Result<ExprId, StoreFault>
@@ -54,10 +55,10 @@ pub(crate) trait WrittenBlock {
         ensures { LowersInside role (read (at_place (P.spot lowerer.now.parts) place) self.now) state.old result state.new };
 
     /// What is in the block, which is read here.
-    fn contents<P: LowerParts>(
+    fn contents<I: Storing, P: LowerInto<I>>(
         &self,
         lowerer: &Lowerer<P>,
-        state: &mut BodyBuilder,
+        state: &mut BodyBuilder<I>,
     ) -> Result<(Seq<Statement>, Option<ExprId>), StoreFault>
         requires { can_parts (P.can lowerer.now.parts) (P.spot lowerer.now.parts).place self.now }
         ensures { Lowers HasContents (stored (P.spot lowerer.now.parts) self.now) state.old result state.new };
@@ -72,10 +73,10 @@ impl WrittenBlock for ast::BlockExpr {
 
     ghost stored = { contents_at };
 
-    fn lower<P: LowerParts>(
+    fn lower<I: Storing, P: LowerInto<I>>(
         &self,
         lowerer: &Lowerer<P>,
-        state: &mut BodyBuilder,
+        state: &mut BodyBuilder<I>,
         role: BlockRole,
     ) -> Result<ExprId, StoreFault> {
         lowerer
@@ -83,10 +84,10 @@ impl WrittenBlock for ast::BlockExpr {
             .collect_block_inside(state, lowerer.parts.place(), role, self)
     }
 
-    fn lower_inside<P: LowerParts>(
+    fn lower_inside<I: Storing, P: LowerInto<I>>(
         &self,
         lowerer: &Lowerer<P>,
-        state: &mut BodyBuilder,
+        state: &mut BodyBuilder<I>,
         place: Place,
         role: BlockRole,
     ) -> Result<ExprId, StoreFault> {
@@ -94,10 +95,10 @@ impl WrittenBlock for ast::BlockExpr {
     }
 
     #[inline(always)]
-    fn contents<P: LowerParts>(
+    fn contents<I: Storing, P: LowerInto<I>>(
         &self,
         lowerer: &Lowerer<P>,
-        state: &mut BodyBuilder,
+        state: &mut BodyBuilder<I>,
     ) -> Result<(Seq<Statement>, Option<ExprId>), StoreFault> {
         flat_contents(lowerer, state, self)
     }

@@ -7,6 +7,7 @@ ghost use Rattle.hir_lower_form.specs.Pats.{missing_pat};
 ghost use Rattle.hir_lower_form.specs.Types.{error_type, unit_type};
 
 use crate::builder::BodyBuilder;
+use crate::storing::Storing;
 use hir_store::fault::StoreFault;
 use hir_store::hir::{Expr, Pat};
 use hir_store::ids::{ExprId, PatId, TypeRefId};
@@ -14,7 +15,7 @@ use hir_store::type_ref::TypeRef;
 use hir_syntax::Seq;
 use std::alloc::Global;
 
-impl BodyBuilder {
+impl<I: Storing> BodyBuilder<I> {
     /// Stores an expression that is not there, which comes from no node.
     #[tactic(auto, unfolding(crate::specs::Lower::missing))]
     #[inline(never)]

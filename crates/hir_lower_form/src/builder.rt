@@ -13,6 +13,7 @@ ghost use Rattle.hir_lower_form.specs.Lowering.{HasFlag, HasNumber, HasStart, Ha
 use crate::generics::Notes;
 use crate::labels::jump_fault;
 use crate::parts::LowerParts;
+use crate::storing::Storing;
 use hir_base::node::{AstPtr, HirFileId, InFile, NodeId, TextRange};
 use hir_lower_scope::labels::{NoTarget, TryLabel};
 use hir_lower_scope::stacks::LabelStacks;
@@ -29,12 +30,12 @@ use hir_store::type_ref::{LifetimeRef, TypeRef};
 use std::alloc::Global;
 use std::marker::Model;
 
-/// What is stored so far, and the labels that are open. Each number in it is in range, whatever happens.
+/// What is stored so far, and the labels that are open, over what it is stored into. Each number in it is in range, whatever happens.
 ///
 /// Each call answers `Full` exactly where the arena that it adds to has reached its limit, or the counter its end, and
 /// `Memory` where a growth was refused.
-pub struct BodyBuilder {
-    pub(crate) store: ExpressionStoreBuilder,
+pub struct BodyBuilder<I: Storing> {
+    pub(crate) store: I,
     scopes: LabelStacks,
     /// How many names were made up.
     names: u32,
@@ -45,7 +46,10 @@ pub struct BodyBuilder {
     pub(crate) notes: Notes,
 }
 
-impl Drop for BodyBuilder {
+/// A builder over the store that there is.
+pub type StoredBody = BodyBuilder<ExpressionStoreBuilder>;
+
+impl<I: Storing + Drop> Drop for BodyBuilder<I> {
     fn drop(self) {
         let BodyBuilder {
             store: _,
@@ -59,7 +63,7 @@ impl Drop for BodyBuilder {
     }
 }
 
-impl Model for BodyBuilder {
+impl<I: Storing> Model for BodyBuilder<I> {
     ghost use Rattle.hir_lower_form.specs.Builder.{Builder, RibsOf};
     ghost use Rattle.hir_store.specs.contracts.path.GenericArgs as generic_args;
     ghost use Rattle.std.specs.Coded.{codes};
@@ -69,7 +73,7 @@ impl Model for BodyBuilder {
     ghost coded = { Prim.hlevel (codes, generic_args.the_row.coded) };
 
     ghost view = { λ b. record {
-      stored = b.store;
+      stored = I.held b.store;
       scopes = b.scopes;
       names = b.names;
       counted_out = b.counted_out;
@@ -78,25 +82,10 @@ impl Model for BodyBuilder {
       notes = b.notes;
     } };
 
-    ghost invariant = { λ b. RibsOf b.store b.scopes };
+    ghost invariant = { λ b. RibsOf (I.held b.store) b.scopes };
 }
 
-impl BodyBuilder {
-    /// A builder that has stored nothing, with this limit for each arena. It takes no memory.
-    pub fn new(alloc: Global, limit: u32) -> BodyBuilder
-        ensures { result ≡ fresh limit }
-    {
-        BodyBuilder {
-            store: ExpressionStoreBuilder::new(alloc, limit),
-            scopes: LabelStacks::new(alloc),
-            names: 0,
-            counted_out: false,
-            in_root: false,
-            yields: false,
-            notes: Notes::new(alloc),
-        }
-    }
-
+impl<I: Storing> BodyBuilder<I> {
     /// Stores an expression, to which its node, where it came from one, leads from now on.
     #[tactic(auto, unfolding(crate::specs::Lowering::alloc_expr))]
     #[inline(never)]
@@ -561,6 +550,23 @@ impl BodyBuilder {
         match parts.find_label(&self.scopes, &name, hygiene) {
             Ok(label) => Ok(Some(label)),
             Err(cause) => self.no_target(cause, name, source),
+        }
+    }
+}
+
+impl StoredBody {
+    /// A builder that has stored nothing, with this limit for each arena. It takes no memory.
+    pub fn new(alloc: Global, limit: u32) -> StoredBody
+        ensures { result ≡ fresh limit }
+    {
+        BodyBuilder {
+            store: ExpressionStoreBuilder::new(alloc, limit),
+            scopes: LabelStacks::new(alloc),
+            names: 0,
+            counted_out: false,
+            in_root: false,
+            yields: false,
+            notes: Notes::new(alloc),
         }
     }
 

@@ -9,7 +9,8 @@ ghost use Rattle.hir_lower_form.specs.Lowering.{Lowers};
 ghost use Rattle.hir_lower_form.specs.Methods.{HasRead};
 
 use crate::builder::BodyBuilder;
-use crate::parts::{LowerParts, Lowerer, site};
+use crate::parts::{LowerPieces, Lowerer, site};
+use crate::storing::Storing;
 use hir_base::node::{AstPtr, HirFileId, InFile, NodeId};
 use hir_env::expand::{Expansion, FragmentKind};
 use hir_env::place::Place;
@@ -38,8 +39,8 @@ fn inside_file(place: Place, file_id: HirFileId, left: u32) -> Place
 }
 
 /// Notes what was expanded for a call beforehand.
-fn record_each(
-    state: &mut BodyBuilder,
+fn record_each<I: Storing>(
+    state: &mut BodyBuilder<I>,
     mut eager: &[(InFile<NodeId>, HirFileId)],
 ) -> Result<(), StoreFault>
     ensures { Lowers HasNone (record_each eager.entry.now) state.old result state.new }
@@ -53,8 +54,8 @@ fn record_each(
 
 /// Notes a call that is entered.
 #[tactic(auto, unfolding(crate::specs::Calls::note))]
-fn note(
-    state: &mut BodyBuilder,
+fn note<I: Storing>(
+    state: &mut BodyBuilder<I>,
     call: InFile<AstPtr>,
     file: HirFileId,
     eager: &[(InFile<NodeId>, HirFileId)],
@@ -68,8 +69,8 @@ fn note(
 /// Tells of a call what it came to, and answers what it stands for. It notes one that is entered, and reports one whose macro isn't
 /// found; `Memory` where that is refused.
 #[inline(never)]
-fn told<'a>(
-    state: &mut BodyBuilder,
+fn told<'a, I: Storing>(
+    state: &mut BodyBuilder<I>,
     place: Place,
     left: u32,
     call: InFile<AstPtr>,
@@ -94,8 +95,8 @@ fn told<'a>(
 /// Tells of a call in statement or tail place what it came to, and answers what it stands for. One whose macro isn't found is none:
 /// no fault is told. What was expanded for one that is entered is noted, and then the call; `Memory` where that is refused.
 #[inline(never)]
-fn told_splice<'a>(
-    state: &mut BodyBuilder,
+fn told_splice<'a, I: Storing>(
+    state: &mut BodyBuilder<I>,
     place: Place,
     left: u32,
     call: InFile<AstPtr>,
@@ -115,9 +116,9 @@ fn told_splice<'a>(
 /// Asks about a call that is read here as an expression, a pattern or a type, tells what it came to, and answers what it stands for.
 /// Where none may be entered nothing is asked, nothing is told, and it is `No`. `Memory` where what is told can't be noted.
 #[inline(never)]
-pub fn enter<'a, P: LowerParts>(
+pub fn enter<'a, I: Storing, P: LowerPieces<I>>(
     lowerer: &'a Lowerer<P>,
-    state: &mut BodyBuilder,
+    state: &mut BodyBuilder<I>,
     kind: FragmentKind,
     call: &MacroCall,
 ) -> Result<Entered<'a>, StoreFault>
@@ -135,9 +136,9 @@ pub fn enter<'a, P: LowerParts>(
 /// Asks about a call that stands here for statements, tells that it is entered, and answers what it stands for. One that isn't entered
 /// is `No` and is told nothing of, also where its macro isn't found. `Memory` where what is told can't be noted.
 #[inline(never)]
-pub fn enter_splice<'a, P: LowerParts>(
+pub fn enter_splice<'a, I: Storing, P: LowerPieces<I>>(
     lowerer: &'a Lowerer<P>,
-    state: &mut BodyBuilder,
+    state: &mut BodyBuilder<I>,
     call: &MacroCall,
 ) -> Result<Entered<'a>, StoreFault>
     ensures { Lowers HasRead (splice_entered (P.spot lowerer.now.parts) call.now) state.old (found result) state.new }

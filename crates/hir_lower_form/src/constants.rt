@@ -5,7 +5,8 @@ ghost use Rattle.hir_lower_form.specs.Methods.{LowersConstant, at_place};
 ghost use Rattle.hir_lower_form.specs.Nests.{const_expr};
 
 use crate::builder::BodyBuilder;
-use crate::parts::{LowerParts, Lowerer};
+use crate::parts::{LowerParts, LowerPieces, Lowerer};
+use crate::storing::Storing;
 use hir_env::place::Place;
 use hir_store::fault::StoreFault;
 use hir_store::type_ref::ConstRef;
@@ -13,12 +14,14 @@ use hir_syntax::ast;
 
 impl<P: LowerParts> Lowerer<P> {
     /// The constant that is written at this place, missing where it is absent.
-    pub fn constant_or_missing(
+    pub fn constant_or_missing<I: Storing>(
         &self,
-        state: &mut BodyBuilder,
+        state: &mut BodyBuilder<I>,
         place: Place,
         part: &Option<ast::ConstArg>,
     ) -> Result<ConstRef, StoreFault>
+    where
+        P: LowerPieces<I>,
         requires { (P.can self.now.parts).constant place (const_expr part.now) }
         ensures { LowersConstant (constant_part (at_place (P.spot self.now.parts) place) part.now) state.old result state.new }
     {

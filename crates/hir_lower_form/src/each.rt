@@ -5,7 +5,8 @@ ghost use Rattle.hir_lower_form.specs.Nests.{Each, IfPresent};
 ghost use Rattle.hir_lower_form.specs.Methods.{LowersEach};
 
 use crate::builder::BodyBuilder;
-use crate::parts::{LowerParts, Lowerer};
+use crate::parts::{LowerParts, LowerPieces, Lowerer};
+use crate::storing::Storing;
 use hir_store::fault::StoreFault;
 use hir_store::ids::ExprId;
 use hir_store::lists::push_id;
@@ -13,11 +14,13 @@ use hir_syntax::{Seq, ast};
 
 impl<P: LowerParts> Lowerer<P> {
     /// The expressions that no condition disables.
-    pub fn collect_each(
+    pub fn collect_each<I: Storing>(
         &self,
-        state: &mut BodyBuilder,
+        state: &mut BodyBuilder<I>,
         mut all: &[ast::Expr],
     ) -> Result<Seq<ExprId>, StoreFault>
+    where
+        P: LowerPieces<I>,
         requires { Each (P.can self.now.parts).expr all.now }
         ensures { LowersEach (exprs_part (P.spot self.now.parts) all.entry.now) state.old result state.new }
     {
@@ -32,11 +35,13 @@ impl<P: LowerParts> Lowerer<P> {
     }
 
     /// The arguments that no condition disables.
-    pub fn arguments(
+    pub fn arguments<I: Storing>(
         &self,
-        state: &mut BodyBuilder,
+        state: &mut BodyBuilder<I>,
         all: &Option<Seq<ast::Expr>>,
     ) -> Result<Seq<ExprId>, StoreFault>
+    where
+        P: LowerPieces<I>,
         requires { IfPresent (Each (P.can self.now.parts).expr) all.now }
         ensures { LowersEach (args_part (P.spot self.now.parts) all.now) state.old result state.new }
     {

@@ -3,9 +3,9 @@
 ghost use Rattle.std.specs.Prelude.{◌≡◌, ◌++◌, ◌∷◌, [], IfOk, OnOk, drop, option_copied, take};
 ghost use Rattle.hir_lower_form.specs.Generics.{chosen, first_chosen, lifetime_names, name_of, no_notes, noted, predicates_of};
 
+use crate::storing::Storing;
 use hir_base::Seq;
 use hir_env::place::LifetimeScope;
-use hir_store::builder::ExpressionStoreBuilder;
 use hir_store::generics::{LifetimeParamData, TypeOrConstParamData, WherePredicate};
 use hir_store::ids::TypeRefId;
 use hir_store::name::Name;
@@ -131,14 +131,14 @@ fn behind_first(flags: &[bool]) -> &[bool]
 
 /// Notes the names of the lifetimes among arguments whose flags are set, behind those that there are.
 #[tactic(auto, using(crate::proofs::Cut::next_chosen))]
-pub(crate) fn push_chosen(
+pub(crate) fn push_chosen<I: Storing>(
     names: &mut Seq<Name>,
-    store: &ExpressionStoreBuilder,
+    store: &I,
     mut flags: &[bool],
     mut left: &[GenericArg],
 ) -> Result<(), AllocError>
     ensures { OnOk result (names.new
-        ≡ names.old ++ chosen flags.entry.now (lifetime_names store.now.lifetimes.entries left.entry.now)) }
+        ≡ names.old ++ chosen flags.entry.now (lifetime_names (I.held store.now).lifetimes.entries left.entry.now)) }
 {
     while let [one, rest @ ..] = left {
         if let GenericArg::Lifetime(id) = one {

@@ -9,7 +9,8 @@ ghost use Rattle.hir_lower_form.specs.Lowering as step;
 
 use crate::builder::BodyBuilder;
 use crate::names::name_of_label;
-use crate::parts::{LowerParts, Lowerer, site};
+use crate::parts::{LowerParts, LowerPieces, Lowerer, site};
+use crate::storing::Storing;
 use hir_base::node::{AstPtr, InFile};
 use hir_lower_scope::labels::NoTarget;
 use hir_store::diagnostics::ExpressionStoreDiagnostics;
@@ -35,11 +36,13 @@ pub(crate) fn jump_fault(
 impl<P: LowerParts> Lowerer<P> {
     /// Stores and opens a label, at whose node its hygiene is asked for.
     #[inline(never)]
-    pub fn open_label(
+    pub fn open_label<I: Storing>(
         &self,
-        state: &mut BodyBuilder,
+        state: &mut BodyBuilder<I>,
         label: &ast::Label,
     ) -> Result<LabelId, StoreFault>
+    where
+        P: LowerPieces<I>,
         ensures { let spot = P.spot self.now.parts in
             Lowers HasLabel (step.open_label (label_of spot.answers spot.place label.now)) state.old result state.new }
     {
@@ -52,11 +55,13 @@ impl<P: LowerParts> Lowerer<P> {
     /// The label that a jump is for, or none; a lifetime that names none is a fault.
     #[tactic(auto, unfolding(crate::specs::Lowering::jump_target))]
     #[inline(never)]
-    pub fn jump_target(
+    pub fn jump_target<I: Storing>(
         &self,
-        state: &mut BodyBuilder,
+        state: &mut BodyBuilder<I>,
         lifetime: &Option<ast::Lifetime>,
     ) -> Result<Option<LabelId>, StoreFault>
+    where
+        P: LowerPieces<I>,
         ensures { Lowers HasLabelOption (step.jump_target (jump_part (P.spot self.now.parts) lifetime.now)) state.old result state.new }
     {
         match lifetime {

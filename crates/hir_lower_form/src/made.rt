@@ -8,6 +8,7 @@ ghost use Rattle.hir_lower_form.specs.Lowering as step;
 ghost use Rattle.hir_lower_form.specs.Made as spec;
 
 use crate::builder::BodyBuilder;
+use crate::storing::Storing;
 use hir_base::node::{AstPtr, InFile};
 use hir_store::fault::StoreFault;
 use hir_store::hir::{Binding, BindingAnnotation, Expr, Mutability, Pat, Rawness, Statement};
@@ -96,7 +97,7 @@ fn held(alloc: Global, pat: PatId, value: ExprId) -> Result<Seq<Statement>, Allo
     Ok(statements)
 }
 
-impl BodyBuilder {
+impl<I: Storing> BodyBuilder<I> {
     /// Stores the made name of this number, as a path.
     #[tactic(auto, unfolding(crate::specs::Made::made_path_form))]
     #[inline(never)]

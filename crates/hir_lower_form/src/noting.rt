@@ -10,6 +10,7 @@ ghost use Rattle.hir_lower_form.specs.Paths.{cut_with};
 
 use crate::builder::BodyBuilder;
 use crate::generics::{cut, push_chosen};
+use crate::storing::Storing;
 use hir_alias::signature::AliasSignature;
 use hir_base::Seq;
 use hir_base::node::{AstPtr, InFile};
@@ -53,7 +54,7 @@ fn flags(alias: Option<&AliasSignature>) -> &[bool]
     }
 }
 
-impl BodyBuilder {
+impl<I: Storing> BodyBuilder<I> {
     /// A parameter that is a type or a constant, behind those that there are, and its number. It answers `Full`, and notes that a
     /// counter is at its end, where there are 4294967295.
     #[tactic(auto, unfolding(crate::specs::Lowering::add_param, crate::specs::Lowering::count_out, crate::specs::Lowering::note_down, crate::specs::Lowering::with_notes))]

@@ -8,16 +8,17 @@ ghost use Rattle.hir_env.specs.LocalPaths.{local_root};
 ghost use Rattle.hir_env.specs.Paths.{alias_named, flags_of};
 ghost use Rattle.hir_env.specs.Spot.{Spot, in_file, ptr, site_of};
 ghost use Rattle.hir_env.specs.Whole.{answered, answered_arg_list, answered_path, answered_plain, answered_type};
-ghost use Rattle.hir_env.specs.Whole.{block_part, expr_part, pointer_at};
+ghost use Rattle.hir_env.specs.Whole.{block_part, expr_part, pat_part, pointer_at, target_part};
 ghost use Rattle.hir_scope.specs.Ribs.{search, sought_first};
 ghost use Rattle.hir_lower_scope.specs.Labels.{answer};
 ghost use Rattle.hir_lower_form.specs.Nests.{CallsNest, Claims, IfPresent, Moved, PatCallsNest, PatsNest, SplicesNest, TargetsArePlaces};
 ghost use Rattle.hir_lower_form.specs.Nests.{TargetCallsNest, TargetsNest, TypeCallsNest};
 ghost use Rattle.hir_lower_form.specs.Methods.{HasRole, LowersBlock, LowersBlockOpt, LowersExpr, LowersExprOpt, LowersIfPresent};
-ghost use Rattle.hir_lower_form.specs.Methods.{LowersInside, MaybeLowersExpr, MaybeLowersExprOpt};
+ghost use Rattle.hir_lower_form.specs.Methods.{LowersInside, LowersTarget, LowersTop, MaybeLowersExpr, MaybeLowersExprOpt};
 ghost use Rattle.hir_lower_form.specs.Methods.{HasWalk, LowersArgs, LowersConstant, LowersType, ReadsPath, at_place, constant_at};
 
 use crate::builder::BodyBuilder;
+use crate::storing::Storing;
 use crate::walk::{PathWalk, Reading};
 use hir_alias::signature::AliasSignature;
 use hir_base::node::{AstPtr, InFile, NodeId, PredId, TextRange};
@@ -30,7 +31,7 @@ use hir_lower_scope::stacks::LabelStacks;
 use hir_store::fault::StoreFault;
 use hir_store::hir::CoroutineKind;
 use hir_store::ids::{
-    CfgId, CrateId, ExprId, HygieneId, LabelId, LangItemId, MacroDefId, TypeRefId,
+    CfgId, CrateId, ExprId, HygieneId, LabelId, LangItemId, MacroDefId, PatId, TypeRefId,
 };
 use hir_store::name::Name;
 use hir_store::path::{GenericArgs, ModPath};
@@ -58,7 +59,7 @@ pub enum BlockRole {
     },
 }
 
-/// What lowers the parts of a form at one place, and answers its questions there.
+/// Which parts of a form may be lowered at one place, and what is answered there.
 pub trait LowerParts: Copy {
     /// The nodes that may be handed in.
     ghost can: { Self → Claims };
@@ -136,81 +137,6 @@ pub trait LowerParts: Copy {
     ) -> Result<LabelId, NoTarget>
         ensures { result ≡ answer (search (spot self.now).answers.contexts name.now (sought_first hygiene) scopes.now) };
 
-    /// The expression, none where a condition disables it.
-    fn maybe_collect_expr(
-        &self,
-        state: &mut BodyBuilder,
-        node: &ast::Expr,
-    ) -> Result<Option<ExprId>, StoreFault>
-        requires { (can self.now).expr node.now }
-        ensures { MaybeLowersExpr (answered (spot self.now) node.now) state.old result state.new };
-
-    /// The same, read at this place.
-    fn maybe_collect_expr_inside(
-        &self,
-        state: &mut BodyBuilder,
-        place: Place,
-        node: &ast::Expr,
-    ) -> Result<Option<ExprId>, StoreFault>
-        requires { (can self.now).inner place node.now }
-        ensures { MaybeLowersExpr (answered (at_place (spot self.now) place) node.now) state.old result state.new };
-
-    /// The block, read at this place, as one of this role.
-    fn collect_block_inside(
-        &self,
-        state: &mut BodyBuilder,
-        place: Place,
-        role: BlockRole,
-        node: &ast::BlockExpr,
-    ) -> Result<ExprId, StoreFault>
-        requires part { (can self.now).block place node.now }
-        requires role { HasRole state.old.stored role }
-        ensures { LowersInside role (answered_plain (at_place (spot self.now) place) node.now) state.old result state.new };
-
-    /// Goes on with the segments of the path, at this place, and then with those of the use tree around it.
-    fn read_path(
-        &self,
-        state: &mut BodyBuilder,
-        place: Place,
-        walk: PathWalk,
-        node: &ast::Path,
-    ) -> Result<Reading, StoreFault>
-        requires part { (can self.now).path place node.now }
-        requires walk { HasWalk state.old.stored walk }
-        ensures { ReadsPath (answered_path (at_place (spot self.now) place) node.now) walk state.old result state.new };
-
-    /// The type, read at this place, with the lifetimes of the `for<..>` directly around it, where one stands there.
-    fn lower_type(
-        &self,
-        state: &mut BodyBuilder,
-        place: Place,
-        binder: &Option<Seq<Name>>,
-        node: &ast::Type_,
-    ) -> Result<TypeRefId, StoreFault>
-        requires { (can self.now).type_ place node.now }
-        ensures { LowersType binder.now (answered_type (at_place (spot self.now) place) node.now) state.old result state.new };
-
-    /// The arguments, read at this place, or none where the list yields nothing.
-    fn lower_args(
-        &self,
-        state: &mut BodyBuilder,
-        place: Place,
-        node: &ast::GenericArgList,
-    ) -> Result<Option<GenericArgs>, StoreFault>
-        requires { (can self.now).args place node.now }
-        ensures { LowersArgs (tree.some_arg_list (answered_arg_list (at_place (spot self.now) place) node.now))
-            state.old result state.new };
-
-    /// The constant with this expression, written at this place. A disabled or absent expression is missing.
-    fn collect_constant(
-        &self,
-        state: &mut BodyBuilder,
-        place: Place,
-        expr: &Option<Boxed<ast::Expr>>,
-    ) -> Result<ConstRef, StoreFault>
-        requires { (can self.now).constant place expr.now }
-        ensures { LowersConstant (constant_at (at_place (spot self.now) place) expr.now) state.old result state.new };
-
     /// What is in a pattern that may be handed in may be handed in, too.
     ghost pat_kids: { PatsNest can };
 
@@ -229,6 +155,105 @@ pub trait LowerParts: Copy {
     ghost type_call_kids: { TypeCallsNest can spot };
 
     ghost splice_kids: { SplicesNest can spot };
+}
+
+/// What lowers the parts of a form into a store.
+pub trait LowerPieces<I: Storing>: LowerParts {
+    /// The expression, none where a condition disables it.
+    fn maybe_collect_expr(
+        &self,
+        state: &mut BodyBuilder<I>,
+        node: &ast::Expr,
+    ) -> Result<Option<ExprId>, StoreFault>
+        requires { (Self.can self.now).expr node.now }
+        ensures { MaybeLowersExpr (answered (Self.spot self.now) node.now) state.old result state.new };
+
+    /// The same, read at this place.
+    fn maybe_collect_expr_inside(
+        &self,
+        state: &mut BodyBuilder<I>,
+        place: Place,
+        node: &ast::Expr,
+    ) -> Result<Option<ExprId>, StoreFault>
+        requires { (Self.can self.now).inner place node.now }
+        ensures { MaybeLowersExpr (answered (at_place (Self.spot self.now) place) node.now) state.old result state.new };
+
+    /// The block, read at this place, as one of this role.
+    fn collect_block_inside(
+        &self,
+        state: &mut BodyBuilder<I>,
+        place: Place,
+        role: BlockRole,
+        node: &ast::BlockExpr,
+    ) -> Result<ExprId, StoreFault>
+        requires part { (Self.can self.now).block place node.now }
+        requires role { HasRole state.old.stored role }
+        ensures { LowersInside role (answered_plain (at_place (Self.spot self.now) place) node.now) state.old result state.new };
+
+    /// Goes on with the segments of the path, at this place, and then with those of the use tree around it.
+    fn read_path(
+        &self,
+        state: &mut BodyBuilder<I>,
+        place: Place,
+        walk: PathWalk,
+        node: &ast::Path,
+    ) -> Result<Reading, StoreFault>
+        requires part { (Self.can self.now).path place node.now }
+        requires walk { HasWalk state.old.stored walk }
+        ensures { ReadsPath (answered_path (at_place (Self.spot self.now) place) node.now) walk state.old result state.new };
+
+    /// The type, read at this place, with the lifetimes of the `for<..>` directly around it, where one stands there.
+    fn lower_type(
+        &self,
+        state: &mut BodyBuilder<I>,
+        place: Place,
+        binder: &Option<Seq<Name>>,
+        node: &ast::Type_,
+    ) -> Result<TypeRefId, StoreFault>
+        requires { (Self.can self.now).type_ place node.now }
+        ensures { LowersType binder.now (answered_type (at_place (Self.spot self.now) place) node.now) state.old result state.new };
+
+    /// The arguments, read at this place, or none where the list yields nothing.
+    fn lower_args(
+        &self,
+        state: &mut BodyBuilder<I>,
+        place: Place,
+        node: &ast::GenericArgList,
+    ) -> Result<Option<GenericArgs>, StoreFault>
+        requires { (Self.can self.now).args place node.now }
+        ensures { LowersArgs (tree.some_arg_list (answered_arg_list (at_place (Self.spot self.now) place) node.now))
+            state.old result state.new };
+
+    /// The constant with this expression, written at this place. A disabled or absent expression is missing.
+    fn collect_constant(
+        &self,
+        state: &mut BodyBuilder<I>,
+        place: Place,
+        expr: &Option<Boxed<ast::Expr>>,
+    ) -> Result<ConstRef, StoreFault>
+        requires { (Self.can self.now).constant place expr.now }
+        ensures { LowersConstant (constant_at (at_place (Self.spot self.now) place) expr.now) state.old result state.new };
+}
+
+/// What lowers all parts of an expression into a store.
+pub trait LowerInto<I: Storing>: LowerPieces<I> {
+    /// A whole pattern, missing where it is absent. Each name of it gets one binding, and this the problem that it shows.
+    fn top_pat(
+        &self,
+        state: &mut BodyBuilder<I>,
+        part: &Option<Boxed<ast::Pat>>,
+    ) -> Result<PatId, StoreFault>
+        requires { IfPresent ((Self.can self.now).pat (Self.spot self.now).place) part.now }
+        ensures { LowersTop (pat_part (Self.spot self.now) part.now) state.old result state.new };
+
+    /// What is assigned to, missing where it is absent.
+    fn lower_target(
+        &self,
+        state: &mut BodyBuilder<I>,
+        part: &Option<Boxed<ast::Expr>>,
+    ) -> Result<PatId, StoreFault>
+        requires { IfPresent ((Self.can self.now).target (Self.spot self.now).place) part.now }
+        ensures { LowersTarget (target_part (Self.spot self.now) part.now) state.old result state.new };
 }
 
 /// The node that a pointer leads to, as it is asked about.
@@ -279,11 +304,13 @@ impl<P: LowerParts> Lowerer<P> {
 
     /// The expression, missing where a condition disables it.
     #[tactic(auto, using(crate::proofs::Kept::lower_on))]
-    pub fn collect_expr(
+    pub fn collect_expr<I: Storing>(
         &self,
-        state: &mut BodyBuilder,
+        state: &mut BodyBuilder<I>,
         node: &ast::Expr,
     ) -> Result<ExprId, StoreFault>
+    where
+        P: LowerPieces<I>,
         requires { (P.can self.now.parts).expr node.now }
         ensures { LowersExpr (answered (P.spot self.now.parts) node.now) state.old result state.new }
     {
@@ -294,11 +321,13 @@ impl<P: LowerParts> Lowerer<P> {
     }
 
     /// The expression, missing where it is absent or a condition disables it.
-    pub fn collect_expr_opt(
+    pub fn collect_expr_opt<I: Storing>(
         &self,
-        state: &mut BodyBuilder,
+        state: &mut BodyBuilder<I>,
         part: &Option<Boxed<ast::Expr>>,
     ) -> Result<ExprId, StoreFault>
+    where
+        P: LowerPieces<I>,
         requires { IfPresent (P.can self.now.parts).expr part.now }
         ensures { LowersExprOpt (expr_part (P.spot self.now.parts) part.now) state.old result state.new }
     {
@@ -310,12 +339,14 @@ impl<P: LowerParts> Lowerer<P> {
 
     /// The expression, read at this place, missing where a condition disables it.
     #[tactic(auto, using(crate::proofs::Kept::lower_on))]
-    fn collect_expr_inside(
+    fn collect_expr_inside<I: Storing>(
         &self,
-        state: &mut BodyBuilder,
+        state: &mut BodyBuilder<I>,
         place: Place,
         node: &ast::Expr,
     ) -> Result<ExprId, StoreFault>
+    where
+        P: LowerPieces<I>,
         requires { (P.can self.now.parts).inner place node.now }
         ensures { LowersExpr (answered (at_place (P.spot self.now.parts) place) node.now) state.old result state.new }
     {
@@ -326,12 +357,14 @@ impl<P: LowerParts> Lowerer<P> {
     }
 
     /// The expression, read at this place, missing where it is absent or a condition disables it.
-    pub fn collect_expr_opt_inside(
+    pub fn collect_expr_opt_inside<I: Storing>(
         &self,
-        state: &mut BodyBuilder,
+        state: &mut BodyBuilder<I>,
         place: Place,
         part: &Option<Boxed<ast::Expr>>,
     ) -> Result<ExprId, StoreFault>
+    where
+        P: LowerPieces<I>,
         requires { IfPresent ((P.can self.now.parts).inner place) part.now }
         ensures { LowersExprOpt (expr_part (at_place (P.spot self.now.parts) place) part.now) state.old result state.new }
     {
@@ -342,11 +375,13 @@ impl<P: LowerParts> Lowerer<P> {
     }
 
     /// The expression, none where it is absent, and missing where a condition disables it.
-    pub fn collect_expr_if_present(
+    pub fn collect_expr_if_present<I: Storing>(
         &self,
-        state: &mut BodyBuilder,
+        state: &mut BodyBuilder<I>,
         part: &Option<Boxed<ast::Expr>>,
     ) -> Result<Option<ExprId>, StoreFault>
+    where
+        P: LowerPieces<I>,
         requires { IfPresent (P.can self.now.parts).expr part.now }
         ensures { LowersIfPresent (expr_part (P.spot self.now.parts) part.now) state.old result state.new }
     {
@@ -357,11 +392,13 @@ impl<P: LowerParts> Lowerer<P> {
     }
 
     /// The expression, none where it is absent or a condition disables it.
-    pub fn maybe_collect_expr_opt(
+    pub fn maybe_collect_expr_opt<I: Storing>(
         &self,
-        state: &mut BodyBuilder,
+        state: &mut BodyBuilder<I>,
         part: &Option<Boxed<ast::Expr>>,
     ) -> Result<Option<ExprId>, StoreFault>
+    where
+        P: LowerPieces<I>,
         requires { IfPresent (P.can self.now.parts).expr part.now }
         ensures { MaybeLowersExprOpt (expr_part (P.spot self.now.parts) part.now) state.old result state.new }
     {
@@ -372,11 +409,13 @@ impl<P: LowerParts> Lowerer<P> {
     }
 
     /// A block in a place where only a block may stand, so that neither a label nor a modifier of its own counts.
-    pub fn collect_block(
+    pub fn collect_block<I: Storing>(
         &self,
-        state: &mut BodyBuilder,
+        state: &mut BodyBuilder<I>,
         node: &ast::BlockExpr,
     ) -> Result<ExprId, StoreFault>
+    where
+        P: LowerPieces<I>,
         requires { (P.can self.now.parts).block (P.spot self.now.parts).place node.now }
         ensures { LowersBlock (answered_plain (P.spot self.now.parts) node.now) state.old result state.new }
     {
@@ -389,11 +428,13 @@ impl<P: LowerParts> Lowerer<P> {
     }
 
     /// Such a block, missing where it is absent.
-    pub fn collect_block_opt(
+    pub fn collect_block_opt<I: Storing>(
         &self,
-        state: &mut BodyBuilder,
+        state: &mut BodyBuilder<I>,
         part: &Option<Boxed<ast::BlockExpr>>,
     ) -> Result<ExprId, StoreFault>
+    where
+        P: LowerPieces<I>,
         requires { IfPresent ((P.can self.now.parts).block (P.spot self.now.parts).place) part.now }
         ensures { LowersBlockOpt (block_part (P.spot self.now.parts) part.now) state.old result state.new }
     {

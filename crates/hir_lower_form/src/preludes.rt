@@ -8,6 +8,7 @@ ghost use Rattle.hir_lower_form.specs.Methods.{HasPrelude, HasRead, HasRebound, 
 ghost use Rattle.hir_lower_form.specs.Preludes as spec;
 
 use crate::builder::BodyBuilder;
+use crate::storing::Storing;
 use hir_base::node::{AstPtr, InFile};
 use hir_store::fault::StoreFault;
 use hir_store::hir::{
@@ -191,7 +192,7 @@ fn coroutine_of(alloc: Global, kind: CoroutineKind, source: CoroutineSource, bod
     }
 }
 
-impl BodyBuilder {
+impl<I: Storing> BodyBuilder<I> {
     /// Stores a path of this name, which comes from no node.
     #[tactic(auto, unfolding(crate::specs::Preludes::name_form))]
     #[inline(never)]
@@ -212,7 +213,7 @@ impl BodyBuilder {
     fn pat_source(&self, pat: PatId) -> Option<InFile<AstPtr>>
         ensures { Lowers HasRead (spec.pat_source pat) self.now (Ok result) self.now }
     {
-        self.store().pat_source(pat)
+        self.store.pat_source(pat)
     }
 
     /// Stores a pattern from the node that this one came from, which doesn't lead to it.
@@ -279,7 +280,7 @@ impl BodyBuilder {
     fn own_bound(&self, id: BindingId, subpat: Option<PatId>) -> Result<Option<OwnName>, AllocError>
         ensures { IfOk result (λ own. own ≡ spec.own_bound subpat (slice_get self.now.stored.bindings.entries id.0)) }
     {
-        match self.store().binding(id) {
+        match self.store.binding(id) {
             None => Ok(None),
             Some(binding) => own_of(subpat, binding),
         }
@@ -290,7 +291,7 @@ impl BodyBuilder {
     fn own_name_of(&self, pat: PatId) -> Result<Option<OwnName>, StoreFault>
         ensures { Lowers HasRead (spec.own_name_of pat) self.now result self.now }
     {
-        match self.store().pat(pat) {
+        match self.store.pat(pat) {
             Some(Pat::Bind { id, subpat }) => Ok(self.own_bound(*id, *subpat)?),
             _ => Ok(None),
         }
@@ -421,7 +422,7 @@ impl BodyBuilder {
     fn binding_of(&self, id: BindingId) -> Result<Option<Binding>, StoreFault>
         ensures { Lowers HasRead (spec.binding_of id) self.now result self.now }
     {
-        let Some(binding) = self.store().binding(id) else {
+        let Some(binding) = self.store.binding(id) else {
             return Ok(None);
         };
         Ok(Some(Binding {
@@ -501,9 +502,9 @@ impl BodyBuilder {
 
 /// The prelude with what hands in the parameters of these patterns.
 #[inline(never)]
-pub fn let_params(
+pub fn let_params<I: Storing>(
     alloc: Global,
-    state: &mut BodyBuilder,
+    state: &mut BodyBuilder<I>,
     mut prelude: Prelude,
     mut left: &[PatId],
 ) -> Result<Prelude, StoreFault>
@@ -520,9 +521,9 @@ pub fn let_params(
 
 /// Stores what the outside hands these parameters to.
 #[inline(never)]
-pub fn lower_handed(
+pub fn lower_handed<I: Storing>(
     alloc: Global,
-    state: &mut BodyBuilder,
+    state: &mut BodyBuilder<I>,
     mut left: &[Handed],
 ) -> Result<Seq<PatId>, StoreFault>
     ensures { Lowers HasPats (spec.lower_handed [] left.entry.now) state.old result state.new }

@@ -8,6 +8,7 @@ ghost use Rattle.hir_lower_form.specs.Targets as spec;
 ghost use Rattle.hir_lower_form.specs.Targets.{origin_of};
 
 use crate::builder::BodyBuilder;
+use crate::storing::Storing;
 use hir_base::node::{AstPtr, InFile};
 use hir_store::fault::StoreFault;
 use hir_store::hir::Pat;
@@ -40,7 +41,7 @@ impl Origin {
     }
 }
 
-impl BodyBuilder {
+impl<I: Storing> BodyBuilder<I> {
     /// Stores a pattern of what is assigned to, to which its node leads from now on. It comes from the outermost call that it is an
     /// element out of, and else from its node.
     #[inline(never)]

@@ -14,7 +14,8 @@ ghost use Rattle.hir_lower_form.specs.Walks.{names_in, names_read};
 ghost use Rattle.hir_lower_form.specs.Walks.{path_read as read_of};
 
 use crate::builder::BodyBuilder;
-use crate::parts::{LowerParts, Lowerer};
+use crate::parts::{LowerParts, LowerPieces, Lowerer};
+use crate::storing::Storing;
 use crate::walk::{PathWalk, Reading, path_read};
 use hir_env::place::Place;
 use hir_store::fault::StoreFault;
@@ -49,13 +50,15 @@ fn names_in(path: &Path) -> Option<&ModPath>
 
 impl<P: LowerParts> Lowerer<P> {
     /// The type, read at this place, and an error where it is absent.
-    pub fn type_or_error(
+    pub fn type_or_error<I: Storing>(
         &self,
-        state: &mut BodyBuilder,
+        state: &mut BodyBuilder<I>,
         place: Place,
         binder: &Option<Seq<Name>>,
         part: &Option<Boxed<ast::Type_>>,
     ) -> Result<TypeRefId, StoreFault>
+    where
+        P: LowerPieces<I>,
         requires { IfPresent ((P.can self.now.parts).type_ place) part.now }
         ensures { LowersTypeOpt binder.now (type_part (at_place (P.spot self.now.parts) place) part.now) state.old result state.new }
     {
@@ -66,12 +69,14 @@ impl<P: LowerParts> Lowerer<P> {
     }
 
     /// The type, read at this place, or none where it is absent.
-    pub fn type_if_present(
+    pub fn type_if_present<I: Storing>(
         &self,
-        state: &mut BodyBuilder,
+        state: &mut BodyBuilder<I>,
         place: Place,
         part: &Option<Boxed<ast::Type_>>,
     ) -> Result<Option<TypeRefId>, StoreFault>
+    where
+        P: LowerPieces<I>,
         requires { IfPresent ((P.can self.now.parts).type_ place) part.now }
         ensures { LowersTypeIfPresent (type_part (at_place (P.spot self.now.parts) place) part.now) state.old result state.new }
     {
@@ -83,12 +88,14 @@ impl<P: LowerParts> Lowerer<P> {
 
     /// The arguments, read at this place, or none where the list is absent or yields nothing.
     #[inline(never)]
-    pub fn args_if_present(
+    pub fn args_if_present<I: Storing>(
         &self,
-        state: &mut BodyBuilder,
+        state: &mut BodyBuilder<I>,
         place: Place,
         part: &Option<ast::GenericArgList>,
     ) -> Result<Option<GenericArgs>, StoreFault>
+    where
+        P: LowerPieces<I>,
         requires { IfPresent ((P.can self.now.parts).args place) part.now }
         ensures { LowersArgs (arg_list_part (at_place (P.spot self.now.parts) place) part.now) state.old result state.new }
     {
@@ -101,13 +108,15 @@ impl<P: LowerParts> Lowerer<P> {
     /// Where the path is an alias in an argument, of what was noted in it, behind the mark, the lifetimes stay that the alias's type names.
     #[tactic(auto, using(crate::proofs::Aliases::cut_found, crate::proofs::Aliases::no_cut))]
     #[inline(never)]
-    fn cut_alias(
+    fn cut_alias<I: Storing>(
         &self,
-        state: &mut BodyBuilder,
+        state: &mut BodyBuilder<I>,
         place: Place,
         mark: usize,
         path: &Option<Path>,
     ) -> Result<(), StoreFault>
+    where
+        P: LowerPieces<I>,
         ensures { let alias = alias_or_none (P.spot self.now.parts).answers place (names_read path.now) in
             Lowers HasNone (cut_where mark alias path.now) state.old result state.new }
     {
@@ -130,13 +139,15 @@ impl<P: LowerParts> Lowerer<P> {
     /// what calls it is open at each level of a path.)
     #[tactic(auto, using(crate::proofs::Walked::path_read_has))]
     #[inline(never)]
-    fn whole_path(
+    fn whole_path<I: Storing>(
         &self,
-        state: &mut BodyBuilder,
+        state: &mut BodyBuilder<I>,
         place: Place,
         mark: usize,
         reading: Reading,
     ) -> Result<Option<Path>, StoreFault>
+    where
+        P: LowerPieces<I>,
         requires { HasReading state.old.stored reading }
         ensures { let alias = alias_or_none (P.spot self.now.parts).answers place (names_read (read_of reading)) in
             Lowers HasPathOption (path_cut mark alias (read_of reading)) state.old result state.new }
@@ -148,12 +159,14 @@ impl<P: LowerParts> Lowerer<P> {
 
     /// The whole path, read at this place, or none where it is refused.
     #[inline(never)]
-    pub fn lower_path(
+    pub fn lower_path<I: Storing>(
         &self,
-        state: &mut BodyBuilder,
+        state: &mut BodyBuilder<I>,
         place: Place,
         node: &ast::Path,
     ) -> Result<Option<Path>, StoreFault>
+    where
+        P: LowerPieces<I>,
         requires { (P.can self.now.parts).path place node.now }
         ensures { LowersPath (some_path (answered_path (at_place (P.spot self.now.parts) place) node.now)) state.old result state.new }
     {
@@ -167,12 +180,14 @@ impl<P: LowerParts> Lowerer<P> {
 
     /// The path, read at this place, or none where it is absent or refused.
     #[inline(never)]
-    pub fn path_if_present(
+    pub fn path_if_present<I: Storing>(
         &self,
-        state: &mut BodyBuilder,
+        state: &mut BodyBuilder<I>,
         place: Place,
         part: &Option<Boxed<ast::Path>>,
     ) -> Result<Option<Path>, StoreFault>
+    where
+        P: LowerPieces<I>,
         requires { IfPresent ((P.can self.now.parts).path place) part.now }
         ensures { LowersPath (path_part (at_place (P.spot self.now.parts) place) part.now) state.old result state.new }
     {

@@ -12,7 +12,7 @@ ghost use Rattle.hir_lower_handlers.specs.Spots.{spot_at};
 
 use hir_env::env::LowerEnv;
 use hir_env::place::Place;
-use hir_lower_form::builder::BodyBuilder;
+use hir_lower_form::builder::StoredBody;
 use hir_store::fault::StoreFault;
 use hir_store::ids::ExprId;
 use hir_store::type_ref::ConstRef;
@@ -23,12 +23,12 @@ use std::alloc::Global;
 #[tactic(auto, using(hir_lower_form::proofs::Kept::lower_on))]
 fn expr_of<
     E: LowerEnv,
-    F: Fn(Global, &E, Place, &mut BodyBuilder, &ast::Expr) -> Result<Option<ExprId>, StoreFault>,
+    F: Fn(Global, &E, Place, &mut StoredBody, &ast::Expr) -> Result<Option<ExprId>, StoreFault>,
 >(
     alloc: Global,
     env: &E,
     place: Place,
-    state: &mut BodyBuilder,
+    state: &mut StoredBody,
     lower: &F,
     node: &ast::Expr,
 ) -> Result<ExprId, StoreFault>
@@ -44,12 +44,12 @@ fn expr_of<
 /// The expression, missing where it is absent or a condition disables it.
 fn expr_or_missing<
     E: LowerEnv,
-    F: Fn(Global, &E, Place, &mut BodyBuilder, &ast::Expr) -> Result<Option<ExprId>, StoreFault>,
+    F: Fn(Global, &E, Place, &mut StoredBody, &ast::Expr) -> Result<Option<ExprId>, StoreFault>,
 >(
     alloc: Global,
     env: &E,
     place: Place,
-    state: &mut BodyBuilder,
+    state: &mut StoredBody,
     lower: &F,
     expr: &Option<Boxed<ast::Expr>>,
 ) -> Result<ExprId, StoreFault>
@@ -67,12 +67,12 @@ fn expr_or_missing<
 #[tactic(auto, unfolding(hir_lower_form::specs::Forms::constant_form))]
 fn rooted_constant<
     E: LowerEnv,
-    F: Fn(Global, &E, Place, &mut BodyBuilder, &ast::Expr) -> Result<Option<ExprId>, StoreFault>,
+    F: Fn(Global, &E, Place, &mut StoredBody, &ast::Expr) -> Result<Option<ExprId>, StoreFault>,
 >(
     alloc: Global,
     env: &E,
     place: Place,
-    state: &mut BodyBuilder,
+    state: &mut StoredBody,
     lower: &F,
     expr: &Option<Boxed<ast::Expr>>,
 ) -> Result<ConstRef, StoreFault>
@@ -92,12 +92,12 @@ fn rooted_constant<
 #[tactic(auto, unfolding(hir_lower_form::specs::Lowering::owning))]
 pub fn constant_form<
     E: LowerEnv,
-    F: Fn(Global, &E, Place, &mut BodyBuilder, &ast::Expr) -> Result<Option<ExprId>, StoreFault>,
+    F: Fn(Global, &E, Place, &mut StoredBody, &ast::Expr) -> Result<Option<ExprId>, StoreFault>,
 >(
     alloc: Global,
     env: &E,
     place: Place,
-    state: &mut BodyBuilder,
+    state: &mut StoredBody,
     lower: &F,
     expr: &Option<Boxed<ast::Expr>>,
 ) -> Result<ConstRef, StoreFault>

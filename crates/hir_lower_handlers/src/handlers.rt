@@ -15,13 +15,16 @@ use hir_env::expand::{Expansion, FragmentKind};
 use hir_env::lang::LangItems;
 use hir_env::place::{Place, inside_constant};
 use hir_env::resolved::{Resolved, Shadow};
-use hir_lower_form::builder::BodyBuilder;
-use hir_lower_form::parts::{BlockRole, LowerParts};
+use hir_lower_form::builder::StoredBody;
+use hir_lower_form::parts::{BlockRole, LowerInto, LowerParts, LowerPieces, Lowerer};
 use hir_lower_form::walk::{PathWalk, Reading};
+use hir_lower_pat::targets::lower_target;
+use hir_lower_pat::top::top_pat;
 use hir_lower_scope::labels::NoTarget;
 use hir_lower_scope::stacks::LabelStacks;
+use hir_store::builder::ExpressionStoreBuilder;
 use hir_store::fault::StoreFault;
-use hir_store::ids::{CfgId, CrateId, ExprId, HygieneId, LabelId, MacroDefId, TypeRefId};
+use hir_store::ids::{CfgId, CrateId, ExprId, HygieneId, LabelId, MacroDefId, PatId, TypeRefId};
 use hir_store::name::Name;
 use hir_store::path::{GenericArgs, ModPath};
 use hir_store::type_ref::ConstRef;
@@ -45,13 +48,13 @@ impl<
     'e,
     E: LowerEnv,
     F: Copy
-        + Fn(Global, &E, Place, &mut BodyBuilder, &ast::Expr) -> Result<Option<ExprId>, StoreFault>,
+        + Fn(Global, &E, Place, &mut StoredBody, &ast::Expr) -> Result<Option<ExprId>, StoreFault>,
     B: Copy
         + Fn(
             Global,
             &E,
             Place,
-            &mut BodyBuilder,
+            &mut StoredBody,
             BlockRole,
             &ast::BlockExpr,
         ) -> Result<ExprId, StoreFault>,
@@ -60,7 +63,7 @@ impl<
             Global,
             &E,
             Place,
-            &mut BodyBuilder,
+            &mut StoredBody,
             PathWalk,
             &ast::Path,
         ) -> Result<Reading, StoreFault>,
@@ -69,7 +72,7 @@ impl<
             Global,
             &E,
             Place,
-            &mut BodyBuilder,
+            &mut StoredBody,
             &Option<Seq<Name>>,
             &ast::Type_,
         ) -> Result<TypeRefId, StoreFault>,
@@ -78,7 +81,7 @@ impl<
             Global,
             &E,
             Place,
-            &mut BodyBuilder,
+            &mut StoredBody,
             &ast::GenericArgList,
         ) -> Result<Option<GenericArgs>, StoreFault>,
 > LowerParts for Handlers<'e, E, F, B, Q, T, G> {
@@ -191,10 +194,52 @@ impl<
     ) -> Result<LabelId, NoTarget> {
         scopes.find(self.env, name, hygiene)
     }
+}
 
+impl<
+    'e,
+    E: LowerEnv,
+    F: Copy
+        + Fn(Global, &E, Place, &mut StoredBody, &ast::Expr) -> Result<Option<ExprId>, StoreFault>,
+    B: Copy
+        + Fn(
+            Global,
+            &E,
+            Place,
+            &mut StoredBody,
+            BlockRole,
+            &ast::BlockExpr,
+        ) -> Result<ExprId, StoreFault>,
+    Q: Copy
+        + Fn(
+            Global,
+            &E,
+            Place,
+            &mut StoredBody,
+            PathWalk,
+            &ast::Path,
+        ) -> Result<Reading, StoreFault>,
+    T: Copy
+        + Fn(
+            Global,
+            &E,
+            Place,
+            &mut StoredBody,
+            &Option<Seq<Name>>,
+            &ast::Type_,
+        ) -> Result<TypeRefId, StoreFault>,
+    G: Copy
+        + Fn(
+            Global,
+            &E,
+            Place,
+            &mut StoredBody,
+            &ast::GenericArgList,
+        ) -> Result<Option<GenericArgs>, StoreFault>,
+> LowerPieces<ExpressionStoreBuilder> for Handlers<'e, E, F, B, Q, T, G> {
     fn maybe_collect_expr(
         &self,
-        state: &mut BodyBuilder,
+        state: &mut StoredBody,
         node: &ast::Expr,
     ) -> Result<Option<ExprId>, StoreFault> {
         (self.expr)(self.alloc, self.env, self.place, state, node)
@@ -202,7 +247,7 @@ impl<
 
     fn maybe_collect_expr_inside(
         &self,
-        state: &mut BodyBuilder,
+        state: &mut StoredBody,
         place: Place,
         node: &ast::Expr,
     ) -> Result<Option<ExprId>, StoreFault> {
@@ -211,7 +256,7 @@ impl<
 
     fn collect_block_inside(
         &self,
-        state: &mut BodyBuilder,
+        state: &mut StoredBody,
         place: Place,
         role: BlockRole,
         node: &ast::BlockExpr,
@@ -221,7 +266,7 @@ impl<
 
     fn read_path(
         &self,
-        state: &mut BodyBuilder,
+        state: &mut StoredBody,
         place: Place,
         walk: PathWalk,
         node: &ast::Path,
@@ -231,7 +276,7 @@ impl<
 
     fn lower_type(
         &self,
-        state: &mut BodyBuilder,
+        state: &mut StoredBody,
         place: Place,
         binder: &Option<Seq<Name>>,
         node: &ast::Type_,
@@ -241,7 +286,7 @@ impl<
 
     fn lower_args(
         &self,
-        state: &mut BodyBuilder,
+        state: &mut StoredBody,
         place: Place,
         node: &ast::GenericArgList,
     ) -> Result<Option<GenericArgs>, StoreFault> {
@@ -250,7 +295,7 @@ impl<
 
     fn collect_constant(
         &self,
-        state: &mut BodyBuilder,
+        state: &mut StoredBody,
         place: Place,
         expr: &Option<Boxed<ast::Expr>>,
     ) -> Result<ConstRef, StoreFault> {
@@ -262,5 +307,71 @@ impl<
             &self.expr,
             expr,
         )
+    }
+}
+
+impl<
+    'e,
+    E: LowerEnv,
+    F: Copy
+        + Fn(Global, &E, Place, &mut StoredBody, &ast::Expr) -> Result<Option<ExprId>, StoreFault>,
+    B: Copy
+        + Fn(
+            Global,
+            &E,
+            Place,
+            &mut StoredBody,
+            BlockRole,
+            &ast::BlockExpr,
+        ) -> Result<ExprId, StoreFault>,
+    Q: Copy
+        + Fn(
+            Global,
+            &E,
+            Place,
+            &mut StoredBody,
+            PathWalk,
+            &ast::Path,
+        ) -> Result<Reading, StoreFault>,
+    T: Copy
+        + Fn(
+            Global,
+            &E,
+            Place,
+            &mut StoredBody,
+            &Option<Seq<Name>>,
+            &ast::Type_,
+        ) -> Result<TypeRefId, StoreFault>,
+    G: Copy
+        + Fn(
+            Global,
+            &E,
+            Place,
+            &mut StoredBody,
+            &ast::GenericArgList,
+        ) -> Result<Option<GenericArgs>, StoreFault>,
+> LowerInto<ExpressionStoreBuilder> for Handlers<'e, E, F, B, Q, T, G> {
+    fn top_pat(
+        &self,
+        state: &mut StoredBody,
+        part: &Option<Boxed<ast::Pat>>,
+    ) -> Result<PatId, StoreFault> {
+        let lowerer = Lowerer {
+            alloc: self.alloc,
+            parts: *self,
+        };
+        top_pat(&lowerer, state, part)
+    }
+
+    fn lower_target(
+        &self,
+        state: &mut StoredBody,
+        part: &Option<Boxed<ast::Expr>>,
+    ) -> Result<PatId, StoreFault> {
+        let lowerer = Lowerer {
+            alloc: self.alloc,
+            parts: *self,
+        };
+        lower_target(&lowerer, state, part)
     }
 }

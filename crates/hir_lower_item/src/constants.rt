@@ -11,7 +11,7 @@ ghost use Rattle.hir_lower_item.specs.Lower.{present_constant};
 
 use hir_env::env::LowerEnv;
 use hir_env::place::Place;
-use hir_lower_form::builder::BodyBuilder;
+use hir_lower_form::builder::StoredBody;
 use hir_lower_knot::items::lower_constant;
 use hir_lower_knot::knot::lower_type_node;
 use hir_store::fault::StoreFault;
@@ -36,7 +36,7 @@ pub(crate) fn type_or_error<E: LowerEnv>(
     alloc: Global,
     env: &E,
     place: Place,
-    state: &mut BodyBuilder,
+    state: &mut StoredBody,
     part: &Option<Boxed<ast::Type_>>,
 ) -> Result<TypeRefId, StoreFault>
     ensures { LowersTypeOpt None (type_part (spot_at (E.answers env.now) place) part.now) state.old result state.new }
@@ -52,7 +52,7 @@ pub(crate) fn type_if_present<E: LowerEnv>(
     alloc: Global,
     env: &E,
     place: Place,
-    state: &mut BodyBuilder,
+    state: &mut StoredBody,
     part: &Option<Boxed<ast::Type_>>,
 ) -> Result<Option<TypeRefId>, StoreFault>
     ensures { LowersTypeIfPresent (type_part (spot_at (E.answers env.now) place) part.now) state.old result state.new }
@@ -68,7 +68,7 @@ pub(crate) fn constant_if_present<E: LowerEnv>(
     alloc: Global,
     env: &E,
     place: Place,
-    state: &mut BodyBuilder,
+    state: &mut StoredBody,
     part: &Option<ast::ConstArg>,
 ) -> Result<Option<ConstRef>, StoreFault>
     ensures { let at = spot_at (E.answers env.now) place in

@@ -6,7 +6,7 @@ ghost use Rattle.hir_env.specs.Answering.{coroutine_kind as kind_of};
 ghost use Rattle.hir_lower_form.specs.Lowering.{Lowers};
 ghost use Rattle.hir_lower_item.specs.Lower as spec;
 
-use hir_lower_form::builder::BodyBuilder;
+use hir_lower_form::builder::StoredBody;
 use hir_store::fault::StoreFault;
 use hir_store::hir::CoroutineKind;
 use hir_store::ids::TypeRefId;
@@ -88,7 +88,7 @@ fn coroutine_path(alloc: Global, kind: CoroutineKind, given: TypeRefId) -> Resul
 /// The type, `()` where there is none.
 fn or_unit(
     alloc: Global,
-    state: &mut BodyBuilder,
+    state: &mut StoredBody,
     ret: Option<TypeRefId>,
 ) -> Result<TypeRefId, StoreFault>
     requires { HasTypeOption state.old.stored ret }
@@ -103,7 +103,7 @@ fn or_unit(
 /// An `impl` of the trait of a coroutine, which gives this type, or `()`.
 fn coroutine_form(
     alloc: Global,
-    state: &mut BodyBuilder,
+    state: &mut StoredBody,
     kind: CoroutineKind,
     ret: Option<TypeRefId>,
 ) -> Result<TypeRefId, StoreFault>
@@ -121,7 +121,7 @@ fn coroutine_form(
 /// What a function answers, of what is written there and the kind of coroutine that its body is, where it is one.
 pub(crate) fn answer_form(
     alloc: Global,
-    state: &mut BodyBuilder,
+    state: &mut StoredBody,
     kind: Option<CoroutineKind>,
     ret: Option<TypeRefId>,
 ) -> Result<Option<TypeRefId>, StoreFault>

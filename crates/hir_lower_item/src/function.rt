@@ -19,7 +19,7 @@ use crate::places::{in_arguments, in_output, pointer};
 use hir_env::env::LowerEnv;
 use hir_env::place::Place;
 use hir_items::ast::Fn;
-use hir_lower_form::builder::BodyBuilder;
+use hir_lower_form::builder::StoredBody;
 use hir_lower_form::parts::site;
 use hir_lower_knot::knot::lower_type_node;
 use hir_lower_type::lifetimes::lifetime_if_present;
@@ -60,7 +60,7 @@ fn self_path(alloc: Global) -> Result<TypeRef, AllocError>
 
 /// A reference to the type, which comes from no node, or the type itself.
 fn borrowed(
-    state: &mut BodyBuilder,
+    state: &mut StoredBody,
     mutability: Option<Mutability>,
     ty: TypeRefId,
     lifetime: Option<LifetimeRefId>,
@@ -86,7 +86,7 @@ fn borrowed(
 fn self_form(
     alloc: Global,
     place: Place,
-    state: &mut BodyBuilder,
+    state: &mut StoredBody,
     mutability: Option<Mutability>,
     written: &Option<ast::Lifetime>,
 ) -> Result<TypeRefId, StoreFault>
@@ -114,7 +114,7 @@ fn kept_receiver<E: LowerEnv>(
     alloc: Global,
     env: &E,
     place: Place,
-    state: &mut BodyBuilder,
+    state: &mut StoredBody,
     node: &ast::SelfParam,
 ) -> Result<Option<TypeRefId>, StoreFault>
     ensures { let read = of.receiver_of (spot_at (E.answers env.now) place) node.now.ty node.now.ref_ node.now.mut_ node.now.lifetime in
@@ -134,7 +134,7 @@ fn receiver<E: LowerEnv>(
     alloc: Global,
     env: &E,
     place: Place,
-    state: &mut BodyBuilder,
+    state: &mut StoredBody,
     def: GenericDefId,
     part: &Option<ast::SelfParam>,
 ) -> Result<Option<TypeRefId>, StoreFault>
@@ -176,7 +176,7 @@ fn is_received<E: LowerEnv>(
 fn report_inactive<E: LowerEnv>(
     env: &E,
     place: Place,
-    state: &mut BodyBuilder,
+    state: &mut StoredBody,
     def: GenericDefId,
     node: &ast::Param,
 ) -> Result<(), StoreFault>
@@ -193,7 +193,7 @@ fn report_inactive<E: LowerEnv>(
 fn report_each<E: LowerEnv>(
     env: &E,
     place: Place,
-    state: &mut BodyBuilder,
+    state: &mut StoredBody,
     def: GenericDefId,
     mut left: &[ast::Param],
 ) -> Result<(), StoreFault>
@@ -212,7 +212,7 @@ fn argument_type<E: LowerEnv>(
     alloc: Global,
     env: &E,
     place: Place,
-    state: &mut BodyBuilder,
+    state: &mut StoredBody,
     def: GenericDefId,
     node: &ast::Param,
 ) -> Result<Option<TypeRefId>, StoreFault>
@@ -237,7 +237,7 @@ fn argument_types<E: LowerEnv>(
     alloc: Global,
     env: &E,
     place: Place,
-    state: &mut BodyBuilder,
+    state: &mut StoredBody,
     def: GenericDefId,
     mut done: Seq<TypeRefId>,
     mut left: &[ast::Param],
@@ -290,7 +290,7 @@ fn listed_types<E: LowerEnv>(
     alloc: Global,
     env: &E,
     place: Place,
-    state: &mut BodyBuilder,
+    state: &mut StoredBody,
     def: GenericDefId,
     list: &ast::ParamList,
 ) -> Result<Seq<TypeRefId>, StoreFault>
@@ -312,7 +312,7 @@ fn input_types<E: LowerEnv>(
     alloc: Global,
     env: &E,
     place: Place,
-    state: &mut BodyBuilder,
+    state: &mut StoredBody,
     def: GenericDefId,
     list: &Option<ast::ParamList>,
 ) -> Result<Seq<TypeRefId>, StoreFault>
@@ -331,7 +331,7 @@ fn written_ret<E: LowerEnv>(
     alloc: Global,
     env: &E,
     place: Place,
-    state: &mut BodyBuilder,
+    state: &mut StoredBody,
     ret: &Option<ast::RetType>,
 ) -> Result<Option<TypeRefId>, StoreFault>
     ensures { let at = spot_at (E.answers env.now) place in
@@ -348,7 +348,7 @@ fn output<E: LowerEnv>(
     alloc: Global,
     env: &E,
     place: Place,
-    state: &mut BodyBuilder,
+    state: &mut StoredBody,
     node: &Fn,
 ) -> Result<Option<TypeRefId>, StoreFault>
     ensures { let at = at_place of.in_output (spot_at (E.answers env.now) place) in
@@ -397,7 +397,7 @@ pub fn function<E: LowerEnv>(
     alloc: Global,
     env: &E,
     place: Place,
-    state: &mut BodyBuilder,
+    state: &mut StoredBody,
     def: GenericDefId,
     node: &Fn,
 ) -> Result<Signature, StoreFault>

@@ -18,7 +18,7 @@ use hir_base::node::{AstPtr, InFile};
 use hir_env::env::LowerEnv;
 use hir_env::place::Place;
 use hir_items::ast::{Impl, Trait, TypeAlias};
-use hir_lower_form::builder::BodyBuilder;
+use hir_lower_form::builder::StoredBody;
 use hir_lower_knot::items::lower_bound;
 use hir_lower_knot::knot::lower_path;
 use hir_store::diagnostics::{ExpressionStoreDiagnostics, MissingBodyItemKind};
@@ -37,7 +37,7 @@ fn self_param<E: LowerEnv>(
     alloc: Global,
     env: &E,
     place: Place,
-    state: &mut BodyBuilder,
+    state: &mut StoredBody,
     def: GenericDefId,
     bounds: &Seq<ast::TypeBound>,
 ) -> Result<(), StoreFault>
@@ -55,7 +55,7 @@ pub fn trait_form<E: LowerEnv>(
     alloc: Global,
     env: &E,
     place: Place,
-    state: &mut BodyBuilder,
+    state: &mut StoredBody,
     def: GenericDefId,
     node: &Trait,
 ) -> Result<(), StoreFault>
@@ -70,7 +70,7 @@ pub fn trait_form<E: LowerEnv>(
 
 /// The path is stored as a type from this node; one that is refused is no trait.
 fn stored_trait(
-    state: &mut BodyBuilder,
+    state: &mut StoredBody,
     at: InFile<AstPtr>,
     path: Option<Path>,
 ) -> Result<Option<TraitRef>, StoreFault>
@@ -91,7 +91,7 @@ fn trait_ref<E: LowerEnv>(
     alloc: Global,
     env: &E,
     place: Place,
-    state: &mut BodyBuilder,
+    state: &mut StoredBody,
     part: &Option<Boxed<ast::Type_>>,
 ) -> Result<Option<TraitRef>, StoreFault>
     ensures { let at = spot_at (E.answers env.now) place in
@@ -116,7 +116,7 @@ pub fn impl_form<E: LowerEnv>(
     alloc: Global,
     env: &E,
     place: Place,
-    state: &mut BodyBuilder,
+    state: &mut StoredBody,
     def: GenericDefId,
     node: &Impl,
 ) -> Result<(TypeRefId, Option<TraitRef>), StoreFault>
@@ -135,7 +135,7 @@ fn each_bound<E: LowerEnv>(
     alloc: Global,
     env: &E,
     place: Place,
-    state: &mut BodyBuilder,
+    state: &mut StoredBody,
     mut left: &[ast::TypeBound],
 ) -> Result<Seq<TypeBound>, StoreFault>
     ensures { let at = spot_at (E.answers env.now) place in
@@ -163,7 +163,7 @@ fn required_type(container: ItemContainerId) -> Option<MissingBodyItemKind>
 
 /// Reports an alias that lacks a type and owes one.
 fn report_missing(
-    state: &mut BodyBuilder,
+    state: &mut StoredBody,
     node: InFile<AstPtr>,
     container: ItemContainerId,
     ty: &Option<Boxed<ast::Type_>>,
@@ -184,7 +184,7 @@ pub fn alias_form<E: LowerEnv>(
     alloc: Global,
     env: &E,
     place: Place,
-    state: &mut BodyBuilder,
+    state: &mut StoredBody,
     def: GenericDefId,
     container: ItemContainerId,
     node: &TypeAlias,

@@ -20,7 +20,7 @@ use hir_base::node::{AstPtr, InFile};
 use hir_env::env::LowerEnv;
 use hir_env::place::Place;
 use hir_items::ast::{GenericParam, GenericParamList, WhereClause};
-use hir_lower_form::builder::BodyBuilder;
+use hir_lower_form::builder::StoredBody;
 use hir_lower_form::parts::site;
 use hir_lower_type::lifetimes::{lifetime, lifetime_ref};
 use hir_store::diagnostics::ExpressionStoreDiagnostics;
@@ -37,7 +37,7 @@ use std::alloc::Global;
 
 /// The type that a parameter of this number is, which comes from no node.
 fn own_type(
-    state: &mut BodyBuilder,
+    state: &mut StoredBody,
     parent: GenericDefId,
     number: u32,
 ) -> Result<TypeRefId, StoreFault>
@@ -52,7 +52,7 @@ pub(crate) fn type_param_form<E: LowerEnv>(
     alloc: Global,
     env: &E,
     place: Place,
-    state: &mut BodyBuilder,
+    state: &mut StoredBody,
     def: GenericDefId,
     name: Name,
     default: Option<TypeRefId>,
@@ -75,7 +75,7 @@ fn type_param<E: LowerEnv>(
     alloc: Global,
     env: &E,
     place: Place,
-    state: &mut BodyBuilder,
+    state: &mut StoredBody,
     def: GenericDefId,
     name: &Option<ast::Name>,
     default: &Option<Boxed<ast::Type_>>,
@@ -96,7 +96,7 @@ fn const_param<E: LowerEnv>(
     alloc: Global,
     env: &E,
     place: Place,
-    state: &mut BodyBuilder,
+    state: &mut StoredBody,
     name: &Option<ast::Name>,
     ty: &Option<Boxed<ast::Type_>>,
     default: &Option<ast::ConstArg>,
@@ -119,7 +119,7 @@ fn written_lifetime<E: LowerEnv>(
     alloc: Global,
     env: &E,
     place: Place,
-    state: &mut BodyBuilder,
+    state: &mut StoredBody,
     def: GenericDefId,
     written: &ast::Lifetime,
     bounds: &Seq<ast::TypeBound>,
@@ -147,7 +147,7 @@ fn lifetime_param<E: LowerEnv>(
     alloc: Global,
     env: &E,
     place: Place,
-    state: &mut BodyBuilder,
+    state: &mut StoredBody,
     def: GenericDefId,
     lifetime: &Option<ast::Lifetime>,
     bounds: &Seq<ast::TypeBound>,
@@ -170,7 +170,7 @@ fn kept_param<E: LowerEnv>(
     alloc: Global,
     env: &E,
     place: Place,
-    state: &mut BodyBuilder,
+    state: &mut StoredBody,
     def: GenericDefId,
     node: &GenericParam,
 ) -> Result<(), StoreFault>
@@ -216,7 +216,7 @@ fn param<E: LowerEnv>(
     alloc: Global,
     env: &E,
     place: Place,
-    state: &mut BodyBuilder,
+    state: &mut StoredBody,
     def: GenericDefId,
     node: &GenericParam,
 ) -> Result<(), StoreFault>
@@ -234,7 +234,7 @@ fn each_param<E: LowerEnv>(
     alloc: Global,
     env: &E,
     place: Place,
-    state: &mut BodyBuilder,
+    state: &mut StoredBody,
     def: GenericDefId,
     mut left: &[GenericParam],
 ) -> Result<(), StoreFault>
@@ -253,7 +253,7 @@ fn params<E: LowerEnv>(
     alloc: Global,
     env: &E,
     place: Place,
-    state: &mut BodyBuilder,
+    state: &mut StoredBody,
     def: GenericDefId,
     list: Option<&GenericParamList>,
 ) -> Result<(), StoreFault>
@@ -271,7 +271,7 @@ pub fn generics<E: LowerEnv>(
     alloc: Global,
     env: &E,
     place: Place,
-    state: &mut BodyBuilder,
+    state: &mut StoredBody,
     def: GenericDefId,
     list: Option<&GenericParamList>,
     clause: Option<&WhereClause>,

@@ -15,7 +15,7 @@ use crate::places::{in_bounds, in_target};
 use hir_env::env::LowerEnv;
 use hir_env::place::{LifetimeScope, Place};
 use hir_items::ast::{WhereClause, WherePred};
-use hir_lower_form::builder::BodyBuilder;
+use hir_lower_form::builder::StoredBody;
 use hir_lower_knot::items::lower_bound;
 use hir_lower_knot::knot::lower_type_node;
 use hir_lower_type::lifetimes::{lifetime, lifetime_ref};
@@ -46,7 +46,7 @@ fn copy_binder(names: &Option<Seq<Name>>) -> Result<Option<Seq<Name>>, AllocErro
 
 /// What a bound of a type becomes.
 fn ask_of_type(
-    state: &mut BodyBuilder,
+    state: &mut StoredBody,
     binder: &Option<Seq<Name>>,
     target: TypeRefId,
     bound: TypeBound,
@@ -68,7 +68,7 @@ fn ask_of_type(
 
 /// What a bound of a lifetime becomes: a predicate only where it is a lifetime, too.
 fn ask_of_lifetime(
-    state: &mut BodyBuilder,
+    state: &mut StoredBody,
     text: &LifetimeRef,
     target: LifetimeRefId,
     bound: TypeBound,
@@ -88,7 +88,7 @@ fn ask_of_lifetime(
 
 /// What a bound becomes, behind the names of a `for<..>`, where one stands there.
 fn ask(
-    state: &mut BodyBuilder,
+    state: &mut StoredBody,
     binder: &Option<Seq<Name>>,
     target: &Bounded,
     bound: TypeBound,
@@ -106,7 +106,7 @@ pub(crate) fn ask_each<E: LowerEnv>(
     alloc: Global,
     env: &E,
     place: Place,
-    state: &mut BodyBuilder,
+    state: &mut StoredBody,
     binder: &Option<Seq<Name>>,
     target: &Bounded,
     mut left: &[ast::TypeBound],
@@ -168,7 +168,7 @@ fn of_type<E: LowerEnv>(
     alloc: Global,
     env: &E,
     place: Place,
-    state: &mut BodyBuilder,
+    state: &mut StoredBody,
     def: GenericDefId,
     ty: &ast::Type_,
     binder: &Option<ast::ForBinder>,
@@ -198,7 +198,7 @@ fn of_lifetime<E: LowerEnv>(
     alloc: Global,
     env: &E,
     place: Place,
-    state: &mut BodyBuilder,
+    state: &mut StoredBody,
     def: GenericDefId,
     written: &ast::Lifetime,
     bounds: &Seq<ast::TypeBound>,
@@ -217,7 +217,7 @@ fn predicate<E: LowerEnv>(
     alloc: Global,
     env: &E,
     place: Place,
-    state: &mut BodyBuilder,
+    state: &mut StoredBody,
     def: GenericDefId,
     node: &WherePred,
 ) -> Result<(), StoreFault>
@@ -249,7 +249,7 @@ fn each_predicate<E: LowerEnv>(
     alloc: Global,
     env: &E,
     place: Place,
-    state: &mut BodyBuilder,
+    state: &mut StoredBody,
     def: GenericDefId,
     mut left: &[WherePred],
 ) -> Result<(), StoreFault>
@@ -268,7 +268,7 @@ pub(crate) fn predicates<E: LowerEnv>(
     alloc: Global,
     env: &E,
     place: Place,
-    state: &mut BodyBuilder,
+    state: &mut StoredBody,
     def: GenericDefId,
     clause: Option<&WhereClause>,
 ) -> Result<(), StoreFault>

@@ -17,16 +17,17 @@ use crate::families::{
 use hir_base::node::{AstPtr, InFile};
 use hir_lower_expr::macros::{call_of, macro_form};
 use hir_lower_form::builder::BodyBuilder;
-use hir_lower_form::parts::{LowerParts, Lowerer, site};
+use hir_lower_form::parts::{LowerInto, Lowerer, site};
+use hir_lower_form::storing::Storing;
 use hir_store::diagnostics::ExpressionStoreDiagnostics;
 use hir_store::fault::StoreFault;
 use hir_store::ids::{CfgId, ExprId};
 use hir_syntax::ast;
 
 /// The form of an expression that no condition disables, and that is no call of a macro.
-fn expr_form<P: LowerParts>(
+fn expr_form<I: Storing, P: LowerInto<I>>(
     lowerer: &Lowerer<P>,
-    state: &mut BodyBuilder,
+    state: &mut BodyBuilder<I>,
     node: &ast::Expr,
 ) -> Result<ExprId, StoreFault>
     requires call { IsNoCall (out-ExprKind node.now.kind) }
@@ -79,8 +80,8 @@ fn expr_form<P: LowerParts>(
 
 /// Tells the condition that disables the node. What is told is large, and stands in no frame in which a part is lowered.
 #[inline(never)]
-fn report_inactive(
-    state: &mut BodyBuilder,
+fn report_inactive<I: Storing>(
+    state: &mut BodyBuilder<I>,
     at: InFile<AstPtr>,
     cfg: CfgId,
 ) -> Result<(), StoreFault>
@@ -90,9 +91,9 @@ fn report_inactive(
 }
 
 /// The expression, none where a condition disables it.
-pub fn expr_node<P: LowerParts>(
+pub fn expr_node<I: Storing, P: LowerInto<I>>(
     lowerer: &Lowerer<P>,
-    state: &mut BodyBuilder,
+    state: &mut BodyBuilder<I>,
     node: &ast::Expr,
 ) -> Result<Option<ExprId>, StoreFault>
     requires { KidsExpr (P.can lowerer.now.parts) (P.spot lowerer.now.parts).place (out-ExprKind node.now.kind) }

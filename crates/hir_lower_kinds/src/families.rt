@@ -27,16 +27,17 @@ use hir_lower_expr::ranges::range_form;
 use hir_lower_expr::records::record_form;
 use hir_lower_expr::typed::{cast_form, offset_of_form, path_form};
 use hir_lower_form::builder::BodyBuilder;
-use hir_lower_form::parts::{LowerParts, Lowerer};
+use hir_lower_form::parts::{LowerInto, Lowerer};
+use hir_lower_form::storing::Storing;
 use hir_store::fault::StoreFault;
 use hir_store::ids::ExprId;
 use hir_syntax::ast;
 
 /// Blocks, branches, `?`, loops but `for`, and jumps.
 #[tactic(auto, using(crate::proofs::OfFamily::only_control))]
-pub(crate) fn control_kind<P: LowerParts>(
+pub(crate) fn control_kind<I: Storing, P: LowerInto<I>>(
     lowerer: &Lowerer<P>,
-    state: &mut BodyBuilder,
+    state: &mut BodyBuilder<I>,
     at: InFile<AstPtr>,
     kind: &ast::ExprKind,
 ) -> Result<ExprId, StoreFault>
@@ -68,9 +69,9 @@ pub(crate) fn control_kind<P: LowerParts>(
 
 /// What has patterns of its own.
 #[tactic(auto, using(crate::proofs::OfFamily::only_matching))]
-pub(crate) fn matching_kind<P: LowerParts>(
+pub(crate) fn matching_kind<I: Storing, P: LowerInto<I>>(
     lowerer: &Lowerer<P>,
-    state: &mut BodyBuilder,
+    state: &mut BodyBuilder<I>,
     at: InFile<AstPtr>,
     kind: &ast::ExprKind,
 ) -> Result<ExprId, StoreFault>
@@ -104,9 +105,9 @@ pub(crate) fn matching_kind<P: LowerParts>(
 
 /// What has a list of parts, or one part again and again.
 #[tactic(auto, using(crate::proofs::OfFamily::only_listing))]
-pub(crate) fn listing_kind<P: LowerParts>(
+pub(crate) fn listing_kind<I: Storing, P: LowerInto<I>>(
     lowerer: &Lowerer<P>,
-    state: &mut BodyBuilder,
+    state: &mut BodyBuilder<I>,
     at: InFile<AstPtr>,
     kind: &ast::ExprKind,
 ) -> Result<ExprId, StoreFault>
@@ -134,9 +135,9 @@ pub(crate) fn listing_kind<P: LowerParts>(
 
 /// What stands for a thing in memory, or refers to one.
 #[tactic(auto, using(crate::proofs::OfFamily::only_access))]
-pub(crate) fn access_kind<P: LowerParts>(
+pub(crate) fn access_kind<I: Storing, P: LowerInto<I>>(
     lowerer: &Lowerer<P>,
-    state: &mut BodyBuilder,
+    state: &mut BodyBuilder<I>,
     at: InFile<AstPtr>,
     kind: &ast::ExprKind,
 ) -> Result<ExprId, StoreFault>
@@ -157,9 +158,9 @@ pub(crate) fn access_kind<P: LowerParts>(
 
 /// What works on the values of operands.
 #[tactic(auto, using(crate::proofs::OfFamily::only_operator))]
-pub(crate) fn operator_kind<P: LowerParts>(
+pub(crate) fn operator_kind<I: Storing, P: LowerInto<I>>(
     lowerer: &Lowerer<P>,
-    state: &mut BodyBuilder,
+    state: &mut BodyBuilder<I>,
     at: InFile<AstPtr>,
     kind: &ast::ExprKind,
 ) -> Result<ExprId, StoreFault>
@@ -180,9 +181,9 @@ pub(crate) fn operator_kind<P: LowerParts>(
 
 /// What leaves the body, for good or for a while.
 #[tactic(auto, using(crate::proofs::OfFamily::only_leaving))]
-pub(crate) fn leaving_kind<P: LowerParts>(
+pub(crate) fn leaving_kind<I: Storing, P: LowerInto<I>>(
     lowerer: &Lowerer<P>,
-    state: &mut BodyBuilder,
+    state: &mut BodyBuilder<I>,
     at: InFile<AstPtr>,
     kind: &ast::ExprKind,
 ) -> Result<ExprId, StoreFault>
@@ -201,9 +202,9 @@ pub(crate) fn leaving_kind<P: LowerParts>(
 
 /// What has a path or a type.
 #[tactic(auto, using(crate::proofs::OfFamily::only_typed))]
-pub(crate) fn typed_kind<P: LowerParts>(
+pub(crate) fn typed_kind<I: Storing, P: LowerInto<I>>(
     lowerer: &Lowerer<P>,
-    state: &mut BodyBuilder,
+    state: &mut BodyBuilder<I>,
     at: InFile<AstPtr>,
     kind: &ast::ExprKind,
 ) -> Result<ExprId, StoreFault>
@@ -224,9 +225,9 @@ pub(crate) fn typed_kind<P: LowerParts>(
 
 /// What has no part.
 #[tactic(auto, using(crate::proofs::OfFamily::only_leaf))]
-pub(crate) fn leaf_kind<P: LowerParts>(
+pub(crate) fn leaf_kind<I: Storing, P: LowerInto<I>>(
     lowerer: &Lowerer<P>,
-    state: &mut BodyBuilder,
+    state: &mut BodyBuilder<I>,
     at: InFile<AstPtr>,
     kind: &ast::ExprKind,
 ) -> Result<ExprId, StoreFault>

@@ -12,7 +12,7 @@ use crate::knot::{
 };
 use hir_env::env::LowerEnv;
 use hir_env::place::Place;
-use hir_lower_form::builder::BodyBuilder;
+use hir_lower_form::builder::StoredBody;
 use hir_lower_form::parts::{LowerParts, Lowerer};
 use hir_lower_handlers::handlers::Handlers;
 use hir_lower_type::bounds::bound_node;
@@ -26,7 +26,7 @@ pub fn lower_bound<E: LowerEnv>(
     alloc: Global,
     env: &E,
     place: Place,
-    state: &mut BodyBuilder,
+    state: &mut StoredBody,
     node: &ast::TypeBound,
 ) -> Result<TypeBound, StoreFault>
     ensures { Lowers HasBound (bound_steps (answered_bound (spot_at (E.answers env.now) place) node.now)) state.old result state.new }
@@ -52,7 +52,7 @@ pub fn lower_constant<E: LowerEnv>(
     alloc: Global,
     env: &E,
     place: Place,
-    state: &mut BodyBuilder,
+    state: &mut StoredBody,
     expr: &Option<Boxed<ast::Expr>>,
 ) -> Result<ConstRef, StoreFault>
     ensures { LowersConstant (constant_at (spot_at (E.answers env.now) place) expr.now) state.old result state.new }

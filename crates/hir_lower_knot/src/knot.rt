@@ -10,7 +10,7 @@ ghost use Rattle.hir_lower_handlers.specs.Spots.{spot_at};
 use hir_env::env::LowerEnv;
 use hir_env::place::Place;
 use hir_lower_expr::blocks::block_node;
-use hir_lower_form::builder::BodyBuilder;
+use hir_lower_form::builder::StoredBody;
 use hir_lower_form::parts::{BlockRole, Lowerer};
 use hir_lower_form::walk::{PathWalk, Reading};
 use hir_lower_handlers::handlers::Handlers;
@@ -33,7 +33,7 @@ pub fn maybe_collect_expr<E: LowerEnv>(
     alloc: Global,
     env: &E,
     place: Place,
-    state: &mut BodyBuilder,
+    state: &mut StoredBody,
     node: &ast::Expr,
 ) -> Result<Option<ExprId>, StoreFault>
     ensures { MaybeLowersExpr (answered (spot_at (E.answers env.now) place) node.now) state.old result state.new }
@@ -60,7 +60,7 @@ pub fn collect_block_inside<E: LowerEnv>(
     alloc: Global,
     env: &E,
     place: Place,
-    state: &mut BodyBuilder,
+    state: &mut StoredBody,
     role: BlockRole,
     node: &ast::BlockExpr,
 ) -> Result<ExprId, StoreFault>
@@ -90,7 +90,7 @@ pub fn read_path_segments<E: LowerEnv>(
     alloc: Global,
     env: &E,
     place: Place,
-    state: &mut BodyBuilder,
+    state: &mut StoredBody,
     walk: PathWalk,
     node: &ast::Path,
 ) -> Result<Reading, StoreFault>
@@ -119,7 +119,7 @@ pub fn lower_type_node<E: LowerEnv>(
     alloc: Global,
     env: &E,
     place: Place,
-    state: &mut BodyBuilder,
+    state: &mut StoredBody,
     binder: &Option<Seq<Name>>,
     node: &ast::Type_,
 ) -> Result<TypeRefId, StoreFault>
@@ -147,7 +147,7 @@ pub fn lower_arg_list<E: LowerEnv>(
     alloc: Global,
     env: &E,
     place: Place,
-    state: &mut BodyBuilder,
+    state: &mut StoredBody,
     node: &ast::GenericArgList,
 ) -> Result<Option<GenericArgs>, StoreFault>
     ensures { let at = spot_at (E.answers env.now) place in
@@ -174,7 +174,7 @@ pub fn lower_path<E: LowerEnv>(
     alloc: Global,
     env: &E,
     place: Place,
-    state: &mut BodyBuilder,
+    state: &mut StoredBody,
     node: &ast::Path,
 ) -> Result<Option<Path>, StoreFault>
     ensures { LowersPath (some_path (answered_path (spot_at (E.answers env.now) place) node.now)) state.old result state.new }
@@ -201,7 +201,7 @@ pub fn collect_expr<E: LowerEnv>(
     alloc: Global,
     env: &E,
     place: Place,
-    state: &mut BodyBuilder,
+    state: &mut StoredBody,
     node: &ast::Expr,
 ) -> Result<ExprId, StoreFault>
     ensures { LowersExpr (answered (spot_at (E.answers env.now) place) node.now) state.old result state.new }
@@ -217,7 +217,7 @@ pub fn top_pat<E: LowerEnv>(
     alloc: Global,
     env: &E,
     place: Place,
-    state: &mut BodyBuilder,
+    state: &mut StoredBody,
     part: &Option<Boxed<ast::Pat>>,
 ) -> Result<PatId, StoreFault>
     ensures { LowersTop (pat_part (spot_at (E.answers env.now) place) part.now) state.old result state.new }
@@ -244,7 +244,7 @@ pub fn bare_top<E: LowerEnv>(
     alloc: Global,
     env: &E,
     place: Place,
-    state: &mut BodyBuilder,
+    state: &mut StoredBody,
     part: &Option<Boxed<ast::Pat>>,
 ) -> Result<PatId, StoreFault>
     ensures { LowersTop (bare_part (pat_part (spot_at (E.answers env.now) place) part.now)) state.old result state.new }

@@ -18,13 +18,14 @@ ghost use Rattle.hir_lower_pat.specs.Aims.{Aims, AimsElement, HasAim, called_aim
 ghost use Rattle.hir_lower_pat.specs.Aims.{landing, led, no_ends, path_aimed, path_steps, place_pat, through, through_place};
 ghost use Rattle.hir_lower_pat.specs.Aims.{uncalled_aim};
 
-use crate::parts::{Here, TargetParts};
+use crate::parts::{Here, HerePaths, TargetParts};
 use crate::paths::PathPart;
 use hir_base::node::{AstPtr, InFile};
 use hir_env::resolved::{Resolution, Resolved, Shadow};
 use hir_lower_form::builder::BodyBuilder;
 use hir_lower_form::names::path_expr;
 use hir_lower_form::parts::site;
+use hir_lower_form::storing::Storing;
 use hir_lower_form::targets::Origin;
 use hir_store::fault::StoreFault;
 use hir_store::hir::{Expr, Pat};
@@ -51,8 +52,8 @@ pub(crate) fn outermost(call: Option<InFile<AstPtr>>, at: InFile<AstPtr>) -> InF
 }
 
 /// Stores a pattern, to which its node leads, and which comes from the outermost call, where it is an element that comes out of calls.
-pub(crate) fn alloc_target(
-    state: &mut BodyBuilder,
+pub(crate) fn alloc_target<I: Storing>(
+    state: &mut BodyBuilder<I>,
     at: InFile<AstPtr>,
     call: Option<InFile<AstPtr>>,
     pat: Pat,
@@ -64,8 +65,8 @@ pub(crate) fn alloc_target(
 }
 
 /// What is missing, from no node but the outermost call, where it is an element that comes out of calls.
-pub(crate) fn missing_target(
-    state: &mut BodyBuilder,
+pub(crate) fn missing_target<I: Storing>(
+    state: &mut BodyBuilder<I>,
     call: Option<InFile<AstPtr>>,
 ) -> Result<PatId, StoreFault>
     ensures { Lowers HasPat (steps.missing_target call) state.old result state.new }
@@ -129,9 +130,9 @@ fn hygiene_of(path: &Path, hygiene: HygieneId) -> HygieneId
 
 /// The path, as a pattern or as a place.
 #[inline(never)]
-fn path_form<H: Here>(
+fn path_form<I: Storing, H: HerePaths<I>>(
     parts: &H,
-    state: &mut BodyBuilder,
+    state: &mut BodyBuilder<I>,
     at: InFile<AstPtr>,
     call: Option<InFile<AstPtr>>,
     hygiene: HygieneId,
@@ -152,9 +153,9 @@ fn path_form<H: Here>(
 }
 
 /// A path that is absent or refused is a place.
-fn read_path<H: Here, W: PathPart>(
+fn read_path<I: Storing, H: HerePaths<I>, W: PathPart>(
     parts: &H,
-    state: &mut BodyBuilder,
+    state: &mut BodyBuilder<I>,
     at: InFile<AstPtr>,
     call: Option<InFile<AstPtr>>,
     hygiene: HygieneId,
@@ -174,9 +175,9 @@ fn read_path<H: Here, W: PathPart>(
 }
 
 /// A path, by what it stands for.
-pub(crate) fn path_aim<H: Here, W: PathPart>(
+pub(crate) fn path_aim<I: Storing, H: HerePaths<I>, W: PathPart>(
     parts: &H,
-    state: &mut BodyBuilder,
+    state: &mut BodyBuilder<I>,
     at: InFile<AstPtr>,
     call: Option<InFile<AstPtr>>,
     path: &W,
@@ -190,7 +191,11 @@ pub(crate) fn path_aim<H: Here, W: PathPart>(
 }
 
 /// Parentheses lead to the expression of a place.
-fn through_place(state: &mut BodyBuilder, at: InFile<AstPtr>, id: ExprId) -> Result<Aim, StoreFault>
+fn through_place<I: Storing>(
+    state: &mut BodyBuilder<I>,
+    at: InFile<AstPtr>,
+    id: ExprId,
+) -> Result<Aim, StoreFault>
     requires { HasExpr state.old.stored id }
     ensures { Lowers HasAim (through_place at id) state.old result state.new }
 {
@@ -199,8 +204,8 @@ fn through_place(state: &mut BodyBuilder, at: InFile<AstPtr>, id: ExprId) -> Res
 }
 
 /// Parentheses lead to the expression of a place, which is missing where nothing is left of it.
-pub(crate) fn parens(
-    state: &mut BodyBuilder,
+pub(crate) fn parens<I: Storing>(
+    state: &mut BodyBuilder<I>,
     at: InFile<AstPtr>,
     inner: Aim,
 ) -> Result<Aim, StoreFault>
@@ -218,7 +223,11 @@ pub(crate) fn parens(
 }
 
 /// The pattern of a place.
-fn place_pat(state: &mut BodyBuilder, at: InFile<AstPtr>, id: ExprId) -> Result<PatId, StoreFault>
+fn place_pat<I: Storing>(
+    state: &mut BodyBuilder<I>,
+    at: InFile<AstPtr>,
+    id: ExprId,
+) -> Result<PatId, StoreFault>
     requires { HasExpr state.old.stored id }
     ensures { Lowers HasPat (place_pat at id) state.old result state.new }
 {
@@ -226,7 +235,10 @@ fn place_pat(state: &mut BodyBuilder, at: InFile<AstPtr>, id: ExprId) -> Result<
 }
 
 /// The same of a place of which nothing is left.
-fn gone_place(state: &mut BodyBuilder, at: InFile<AstPtr>) -> Result<PatId, StoreFault>
+fn gone_place<I: Storing>(
+    state: &mut BodyBuilder<I>,
+    at: InFile<AstPtr>,
+) -> Result<PatId, StoreFault>
     ensures { Lowers HasPat (gone_place at) state.old result state.new }
 {
     let id = state.missing_expr()?;
@@ -234,8 +246,8 @@ fn gone_place(state: &mut BodyBuilder, at: InFile<AstPtr>) -> Result<PatId, Stor
 }
 
 /// The pattern, which a place becomes with the node of its outermost parentheses.
-pub(crate) fn land(
-    state: &mut BodyBuilder,
+pub(crate) fn land<I: Storing>(
+    state: &mut BodyBuilder<I>,
     at: InFile<AstPtr>,
     aim: Aim,
 ) -> Result<PatId, StoreFault>
@@ -250,7 +262,11 @@ pub(crate) fn land(
 }
 
 /// The node of a call leads to the pattern of what it stands for.
-fn led(state: &mut BodyBuilder, at: InFile<AstPtr>, id: PatId) -> Result<Aim, StoreFault>
+fn led<I: Storing>(
+    state: &mut BodyBuilder<I>,
+    at: InFile<AstPtr>,
+    id: PatId,
+) -> Result<Aim, StoreFault>
     requires { HasPat state.old.stored id }
     ensures { Lowers HasAim (led at id) state.old result state.new }
 {
@@ -260,8 +276,8 @@ fn led(state: &mut BodyBuilder, at: InFile<AstPtr>, id: PatId) -> Result<Aim, St
 
 /// What comes of a call, by what comes of what it stands for, which as a place comes from the other node. Where nothing is left of
 /// that, nothing is left of the call.
-pub(crate) fn called_aim(
-    state: &mut BodyBuilder,
+pub(crate) fn called_aim<I: Storing>(
+    state: &mut BodyBuilder<I>,
     at: InFile<AstPtr>,
     source: InFile<AstPtr>,
     inner: Aim,
@@ -280,8 +296,8 @@ pub(crate) fn called_aim(
 }
 
 /// What comes of a call that stands for no expression.
-pub(crate) fn uncalled_aim(
-    state: &mut BodyBuilder,
+pub(crate) fn uncalled_aim<I: Storing>(
+    state: &mut BodyBuilder<I>,
     at: InFile<AstPtr>,
     call: Option<InFile<AstPtr>>,
 ) -> Result<Aim, StoreFault>
@@ -341,20 +357,20 @@ pub trait TargetNode {
 
     /// What comes of the expression, in whatever parentheses it stands, with the outermost call, where it is an element that comes
     /// out of calls.
-    fn aim<T: TargetParts>(
+    fn aim<I: Storing, T: TargetParts<I>>(
         &self,
         parts: &T,
-        state: &mut BodyBuilder,
+        state: &mut BodyBuilder<I>,
         call: Option<InFile<AstPtr>>,
     ) -> Result<Aim, StoreFault>
         requires { can (T.can_target parts.now) self.now }
         ensures { Aims (T.spot parts.now) call (read (T.spot parts.now) self.now) state.old result state.new };
 
     /// The pattern of an element, none where it comes to two dots.
-    fn element<T: TargetParts>(
+    fn element<I: Storing, T: TargetParts<I>>(
         &self,
         parts: &T,
-        state: &mut BodyBuilder,
+        state: &mut BodyBuilder<I>,
     ) -> Result<Option<PatId>, StoreFault>
         requires { can (T.can_target parts.now) self.now }
         ensures { AimsElement (T.spot parts.now) None (read (T.spot parts.now) self.now) state.old result state.new };
@@ -374,28 +390,28 @@ impl TargetNode for ast::Expr {
         pointer_of(parts, self)
     }
 
-    fn aim<T: TargetParts>(
+    fn aim<I: Storing, T: TargetParts<I>>(
         &self,
         parts: &T,
-        state: &mut BodyBuilder,
+        state: &mut BodyBuilder<I>,
         call: Option<InFile<AstPtr>>,
     ) -> Result<Aim, StoreFault> {
         parts.aim(state, call, self)
     }
 
-    fn element<T: TargetParts>(
+    fn element<I: Storing, T: TargetParts<I>>(
         &self,
         parts: &T,
-        state: &mut BodyBuilder,
+        state: &mut BodyBuilder<I>,
     ) -> Result<Option<PatId>, StoreFault> {
         parts.element(state, self)
     }
 }
 
 /// The pattern of an expression, which as a place has its node.
-fn landed_target<T: TargetParts, N: TargetNode>(
+fn landed_target<I: Storing, T: TargetParts<I>, N: TargetNode>(
     parts: &T,
-    state: &mut BodyBuilder,
+    state: &mut BodyBuilder<I>,
     node: &N,
 ) -> Result<PatId, StoreFault>
     requires { N.can (T.can_target parts.now) node.now }
@@ -408,9 +424,9 @@ fn landed_target<T: TargetParts, N: TargetNode>(
 }
 
 /// The pattern of an expression, around which nothing else stands.
-pub(crate) fn target<T: TargetParts, N: TargetNode>(
+pub(crate) fn target<I: Storing, T: TargetParts<I>, N: TargetNode>(
     parts: &T,
-    state: &mut BodyBuilder,
+    state: &mut BodyBuilder<I>,
     node: &N,
 ) -> Result<PatId, StoreFault>
     requires { N.can (T.can_target parts.now) node.now }

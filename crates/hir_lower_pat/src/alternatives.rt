@@ -16,6 +16,7 @@ use crate::part::{PatNode, PatPart, PatsPart};
 use crate::parts::{Here, PatParts};
 use hir_base::node::{AstPtr, InFile};
 use hir_lower_form::builder::BodyBuilder;
+use hir_lower_form::storing::Storing;
 use hir_store::fault::StoreFault;
 use hir_store::hir::Pat;
 use hir_store::ids::PatId;
@@ -24,9 +25,9 @@ use hir_syntax::{Seq, ast};
 
 #[tactic(auto, unfolding(hir_lower_form::specs::Pats::slice_pat_form))]
 #[inline(never)]
-pub(crate) fn slice_form<S: PatParts, L: PatsPart, E: PatPart>(
+pub(crate) fn slice_form<I: Storing, S: PatParts<I>, L: PatsPart, E: PatPart>(
     parts: &S,
-    state: &mut BodyBuilder,
+    state: &mut BodyBuilder<I>,
     bindings: &mut Bindings,
     at: InFile<AstPtr>,
     before: &L,
@@ -53,9 +54,9 @@ pub(crate) fn slice_form<S: PatParts, L: PatsPart, E: PatPart>(
 }
 
 /// The alternative, once the one before has ended.
-fn next<S: PatParts, N: PatNode>(
+fn next<I: Storing, S: PatParts<I>, N: PatNode>(
     parts: &S,
-    state: &mut BodyBuilder,
+    state: &mut BodyBuilder<I>,
     bindings: &mut Bindings,
     node: &N,
 ) -> Result<PatId, StoreFault>
@@ -69,9 +70,9 @@ fn next<S: PatParts, N: PatNode>(
 }
 
 /// The alternatives behind the first.
-fn later<S: PatParts>(
+fn later<I: Storing, S: PatParts<I>>(
     parts: &S,
-    state: &mut BodyBuilder,
+    state: &mut BodyBuilder<I>,
     bindings: &mut Bindings,
     first: PatId,
     mut left: &[ast::Pat],
@@ -92,8 +93,8 @@ fn later<S: PatParts>(
 }
 
 /// One alternative is that one.
-fn one_or_all(
-    state: &mut BodyBuilder,
+fn one_or_all<I: Storing>(
+    state: &mut BodyBuilder<I>,
     at: InFile<AstPtr>,
     ids: Seq<PatId>,
 ) -> Result<PatId, StoreFault>
@@ -108,9 +109,9 @@ fn one_or_all(
 
 /// An or-pattern that has an alternative. Its names are used once in what it stands in.
 #[tactic(auto, unfolding(hir_lower_form::specs::Pats::or_form))]
-fn alternatives<S: PatParts>(
+fn alternatives<I: Storing, S: PatParts<I>>(
     parts: &S,
-    state: &mut BodyBuilder,
+    state: &mut BodyBuilder<I>,
     bindings: &mut Bindings,
     at: InFile<AstPtr>,
     first: &ast::Pat,
@@ -133,9 +134,9 @@ fn alternatives<S: PatParts>(
 
 /// Without alternatives it binds nothing.
 #[inline(never)]
-pub(crate) fn or_form<S: PatParts>(
+pub(crate) fn or_form<I: Storing, S: PatParts<I>>(
     parts: &S,
-    state: &mut BodyBuilder,
+    state: &mut BodyBuilder<I>,
     bindings: &mut Bindings,
     at: InFile<AstPtr>,
     all: &Seq<ast::Pat>,

@@ -26,7 +26,8 @@ use hir_env::expand::FragmentKind;
 use hir_lower_form::builder::BodyBuilder;
 use hir_lower_form::calls::enter;
 use hir_lower_form::names::name_of;
-use hir_lower_form::parts::{LowerParts, Lowerer, site};
+use hir_lower_form::parts::{LowerParts, LowerPieces, Lowerer, site};
+use hir_lower_form::storing::Storing;
 use hir_store::diagnostics::ExpressionStoreDiagnostics;
 use hir_store::fault::StoreFault;
 use hir_store::hir::Pat;
@@ -34,7 +35,10 @@ use hir_store::ids::{HygieneId, PatId};
 use hir_syntax::{Boxed, ast};
 
 /// One that is neither a plain name nor `_` is a fault, and missing.
-fn barred_form(state: &mut BodyBuilder, at: InFile<AstPtr>) -> Result<PatId, StoreFault>
+fn barred_form<I: Storing>(
+    state: &mut BodyBuilder<I>,
+    at: InFile<AstPtr>,
+) -> Result<PatId, StoreFault>
     ensures { Lowers HasPat (barred_pat_form at) state.old result state.new }
 {
     state.report(ExpressionStoreDiagnostics::PatternArgInExternFn { node: at })?;
@@ -65,9 +69,9 @@ fn hygiene_of<P: LowerParts>(lowerer: &Lowerer<P>, name: &Option<ast::Name>) -> 
 
 /// A name that binds, whatever it stands for elsewhere.
 #[tactic(auto, unfolding(hir_lower_form::specs::Pats::bind_form))]
-fn plain_name<P: LowerParts>(
+fn plain_name<I: Storing, P: LowerPieces<I>>(
     lowerer: &Lowerer<P>,
-    state: &mut BodyBuilder,
+    state: &mut BodyBuilder<I>,
     bindings: &mut Bindings,
     at: InFile<AstPtr>,
     name: &Option<ast::Name>,
@@ -87,9 +91,9 @@ fn plain_name<P: LowerParts>(
 /// A call that is written here: what it stands for, which may only be a plain name or `_` either. Its node leads there.
 #[cycle(bare)]
 #[tactic(auto, using(crate::proofs::BarePats::bare_on))]
-fn bare_call<P: LowerParts>(
+fn bare_call<I: Storing, P: LowerPieces<I>>(
     lowerer: &Lowerer<P>,
-    state: &mut BodyBuilder,
+    state: &mut BodyBuilder<I>,
     bindings: &mut Bindings,
     at: InFile<AstPtr>,
     call: &ast::MacroCall,
@@ -110,9 +114,9 @@ fn bare_call<P: LowerParts>(
 
 /// The pattern, by its kind.
 #[cycle(bare)]
-fn bare_kind_form<P: LowerParts>(
+fn bare_kind_form<I: Storing, P: LowerPieces<I>>(
     lowerer: &Lowerer<P>,
-    state: &mut BodyBuilder,
+    state: &mut BodyBuilder<I>,
     bindings: &mut Bindings,
     node: &ast::Pat,
 ) -> Result<PatId, StoreFault>
@@ -147,9 +151,9 @@ fn bare_kind_form<P: LowerParts>(
 /// A pattern where only a plain name, which binds whatever it stands for elsewhere, or `_` may stand. Another is a fault and missing.
 #[cycle(bare)]
 #[tactic(auto, using(crate::proofs::BarePats::bare_is))]
-fn bare_form<P: LowerParts>(
+fn bare_form<I: Storing, P: LowerPieces<I>>(
     lowerer: &Lowerer<P>,
-    state: &mut BodyBuilder,
+    state: &mut BodyBuilder<I>,
     bindings: &mut Bindings,
     node: &ast::Pat,
 ) -> Result<PatId, StoreFault>
@@ -161,9 +165,9 @@ fn bare_form<P: LowerParts>(
     bare_kind_form(lowerer, state, bindings, node)
 }
 
-fn whole_bare<P: LowerParts>(
+fn whole_bare<I: Storing, P: LowerPieces<I>>(
     lowerer: &Lowerer<P>,
-    state: &mut BodyBuilder,
+    state: &mut BodyBuilder<I>,
     node: &ast::Pat,
 ) -> Result<PatId, StoreFault>
     requires { (P.can lowerer.now.parts).pat (P.spot lowerer.now.parts).place node.now }
@@ -178,9 +182,9 @@ fn whole_bare<P: LowerParts>(
 /// The pattern of a parameter that may only be a plain name or `_`, missing where it is absent.
 ///
 /// `Full` where an arena has reached its limit; `Memory` where a growth was refused. What was stored by then stays stored.
-pub fn bare_top<P: LowerParts>(
+pub fn bare_top<I: Storing, P: LowerPieces<I>>(
     lowerer: &Lowerer<P>,
-    state: &mut BodyBuilder,
+    state: &mut BodyBuilder<I>,
     part: &Option<Boxed<ast::Pat>>,
 ) -> Result<PatId, StoreFault>
     requires { IfPresent ((P.can lowerer.now.parts).pat (P.spot lowerer.now.parts).place) part.now }

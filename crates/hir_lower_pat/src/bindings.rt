@@ -12,6 +12,7 @@ ghost use Rattle.hir_lower_pat.specs.Bindings.{HasNames, LowersNamed, table_of};
 use hir_binding::binding::BindingAnnotation;
 use hir_binding::list::BindingList;
 use hir_lower_form::builder::BodyBuilder;
+use hir_lower_form::storing::Storing;
 use hir_store::fault::StoreFault;
 use hir_store::hir::Binding;
 use hir_store::ids::{BindingId, HygieneId};
@@ -73,9 +74,9 @@ impl Bindings {
 
     /// The first use of a name makes its binding.
     #[tactic(auto, using(crate::proofs::NameLemmas::next_counted, crate::proofs::NameLemmas::past_more))]
-    fn first_use(
+    fn first_use<I: Storing>(
         &mut self,
-        state: &mut BodyBuilder,
+        state: &mut BodyBuilder<I>,
         key: (Name, HygieneId),
         mode: BindingAnnotation,
     ) -> Result<BindingId, StoreFault>
@@ -99,9 +100,9 @@ impl Bindings {
 
     /// The binding of a name, made where this is its first use.
     #[tactic(auto, using(crate::proofs::NameLemmas::found_exists, crate::proofs::NameLemmas::known_counted), unfolding(hir_lower_form::specs::Pats::use_name))]
-    pub fn use_name(
+    pub fn use_name<I: Storing>(
         &mut self,
-        state: &mut BodyBuilder,
+        state: &mut BodyBuilder<I>,
         name: Name,
         hygiene: HygieneId,
         mode: BindingAnnotation,
@@ -156,7 +157,7 @@ impl Bindings {
 
     /// Writes the problem that each binding shows. It takes no memory.
     #[tactic(auto, using(crate::proofs::NameLemmas::drop_entry, crate::proofs::NameLemmas::drop_none), unfolding(hir_lower_form::specs::Pats::settle))]
-    pub fn settle(&self, state: &mut BodyBuilder)
+    pub fn settle<I: Storing>(&self, state: &mut BodyBuilder<I>)
         requires { HasNames state.old.stored self.now }
         ensures { Lowers HasNone (spec.settle (table_of self.now)) state.old (Ok tt) state.new }
     {

@@ -15,7 +15,8 @@ use hir_env::expand::{Expansion, FragmentKind};
 use hir_env::place::Place;
 use hir_lower_form::builder::BodyBuilder;
 use hir_lower_form::calls::enter;
-use hir_lower_form::parts::{LowerParts, Lowerer, site};
+use hir_lower_form::parts::{LowerParts, LowerPieces, Lowerer, site};
+use hir_lower_form::storing::Storing;
 use hir_store::fault::StoreFault;
 use hir_store::path::Path;
 use hir_syntax::ast::{self, Fragment};
@@ -75,9 +76,9 @@ pub(crate) fn is_path<P: LowerParts>(lowerer: &Lowerer<P>, node: &ast::Expr) -> 
 /// The same of a call: it is told, and then what it stands for is the callee.
 #[cycle(callee)]
 #[inline(never)]
-fn called_callee<P: LowerParts>(
+fn called_callee<I: Storing, P: LowerPieces<I>>(
     lowerer: &Lowerer<P>,
-    state: &mut BodyBuilder,
+    state: &mut BodyBuilder<I>,
     written: &ast::MacroCall,
 ) -> Result<Option<Path>, StoreFault>
     requires { (P.can lowerer.now.parts).target_call (P.spot lowerer.now.parts).place written.now }
@@ -93,9 +94,9 @@ fn called_callee<P: LowerParts>(
 /// The path of a callee, none where it is absent or refused. The calls are told from the outside in, and the path is read inside of
 /// them.
 #[cycle(callee)]
-pub(crate) fn callee<P: LowerParts>(
+pub(crate) fn callee<I: Storing, P: LowerPieces<I>>(
     lowerer: &Lowerer<P>,
-    state: &mut BodyBuilder,
+    state: &mut BodyBuilder<I>,
     node: &ast::Expr,
 ) -> Result<Option<Path>, StoreFault>
     requires { (P.can lowerer.now.parts).target (P.spot lowerer.now.parts).place node.now }

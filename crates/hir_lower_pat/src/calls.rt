@@ -11,6 +11,7 @@ use hir_base::node::{AstPtr, InFile};
 use hir_env::place::Place;
 use hir_lower_form::builder::BodyBuilder;
 use hir_lower_form::calls::Entered;
+use hir_lower_form::storing::Storing;
 use hir_store::fault::StoreFault;
 use hir_store::ids::PatId;
 use hir_syntax::ast::{self, Fragment};
@@ -36,7 +37,10 @@ pub(crate) fn pat_of<'a>(entered: Entered<'a>) -> Option<(Place, &'a ast::Pat)>
 }
 
 /// What stands for no pattern is missing, and its node leads there.
-pub(crate) fn missing_form(state: &mut BodyBuilder, at: InFile<AstPtr>) -> Result<PatId, StoreFault>
+pub(crate) fn missing_form<I: Storing>(
+    state: &mut BodyBuilder<I>,
+    at: InFile<AstPtr>,
+) -> Result<PatId, StoreFault>
     ensures { Lowers HasPat (spec.missing_led at) state.old result state.new }
 {
     let id = state.missing_pat()?;
@@ -45,8 +49,8 @@ pub(crate) fn missing_form(state: &mut BodyBuilder, at: InFile<AstPtr>) -> Resul
 }
 
 /// The node of a call leads to what it stands for.
-pub(crate) fn pointed_form(
-    state: &mut BodyBuilder,
+pub(crate) fn pointed_form<I: Storing>(
+    state: &mut BodyBuilder<I>,
     at: InFile<AstPtr>,
     id: PatId,
 ) -> Result<PatId, StoreFault>
@@ -58,8 +62,8 @@ pub(crate) fn pointed_form(
 }
 
 /// The node of a call leads to the element that it stands for, unless that is two dots.
-pub(crate) fn point_element(
-    state: &mut BodyBuilder,
+pub(crate) fn point_element<I: Storing>(
+    state: &mut BodyBuilder<I>,
     at: InFile<AstPtr>,
     found: Option<PatId>,
 ) -> Result<Option<PatId>, StoreFault>

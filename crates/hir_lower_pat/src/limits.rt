@@ -27,7 +27,8 @@ use hir_base::node::{AstPtr, InFile};
 use hir_env::place::Place;
 use hir_lower_form::builder::BodyBuilder;
 use hir_lower_form::names::name_of;
-use hir_lower_form::parts::{LowerParts, Lowerer, pointer_in};
+use hir_lower_form::parts::{LowerPieces, Lowerer, pointer_in};
+use hir_lower_form::storing::Storing;
 use hir_store::fault::StoreFault;
 use hir_store::hir::Expr;
 use hir_store::ids::{ExprId, HygieneId, LangItemId};
@@ -38,7 +39,7 @@ use std::alloc::{AllocError, Global};
 
 /// From here on a body of its own is being lowered, where no jump reaches what is open around it. It answers whether a `yield` stood
 /// around it, and whether a root was being lowered before.
-fn open(state: &mut BodyBuilder) -> Result<(bool, bool), StoreFault>
+fn open<I: Storing>(state: &mut BodyBuilder<I>) -> Result<(bool, bool), StoreFault>
     ensures { Lowers bodies.HasFlags bodies.opened state.old result state.new }
 {
     let outside = state.open_barrier()?;
@@ -47,7 +48,11 @@ fn open(state: &mut BodyBuilder) -> Result<(bool, bool), StoreFault>
 }
 
 /// The body ends with this expression, and is recorded unless it stands inside of another root.
-fn shut(state: &mut BodyBuilder, around: (bool, bool), id: ExprId) -> Result<ExprId, StoreFault>
+fn shut<I: Storing>(
+    state: &mut BodyBuilder<I>,
+    around: (bool, bool),
+    id: ExprId,
+) -> Result<ExprId, StoreFault>
     requires { HasExpr state.old.stored id }
     ensures { Lowers HasExpr (bodies.shut around id) state.old result state.new }
 {
@@ -59,8 +64,8 @@ fn shut(state: &mut BodyBuilder, around: (bool, bool), id: ExprId) -> Result<Exp
 
 /// A literal as it is written, with its minus.
 #[tactic(auto, unfolding(hir_lower_form::specs::Ranges::literal_limit_form))]
-fn literal_side(
-    state: &mut BodyBuilder,
+fn literal_side<I: Storing>(
+    state: &mut BodyBuilder<I>,
     at: InFile<AstPtr>,
     lit: &ast::Literal,
     minus: bool,
@@ -73,9 +78,9 @@ fn literal_side(
 
 /// A plain name is a path, whatever it stands for.
 #[tactic(auto, unfolding(hir_lower_form::specs::Ranges::name_limit_form))]
-fn name_side(
+fn name_side<I: Storing>(
     alloc: Global,
-    state: &mut BodyBuilder,
+    state: &mut BodyBuilder<I>,
     at: InFile<AstPtr>,
     name: &Option<ast::Name>,
 ) -> Result<ExprId, StoreFault>
@@ -88,9 +93,9 @@ fn name_side(
 
 /// A path that is absent or refused is missing.
 #[tactic(auto, unfolding(hir_lower_form::specs::Ranges::path_limit_form))]
-fn path_side<P: LowerParts, W: PathPart>(
+fn path_side<I: Storing, P: LowerPieces<I>, W: PathPart>(
     lowerer: &Lowerer<P>,
-    state: &mut BodyBuilder,
+    state: &mut BodyBuilder<I>,
     place: Place,
     at: InFile<AstPtr>,
     path: &W,
@@ -110,9 +115,9 @@ fn path_side<P: LowerParts, W: PathPart>(
 
 /// What a pattern is as a side, missing where it is another pattern.
 #[tactic(auto, using(crate::proofs::KindLemmas::named_side, crate::proofs::TypePats::no_limit_left))]
-fn side_form<P: LowerParts>(
+fn side_form<I: Storing, P: LowerPieces<I>>(
     lowerer: &Lowerer<P>,
-    state: &mut BodyBuilder,
+    state: &mut BodyBuilder<I>,
     place: Place,
     node: &ast::Pat,
 ) -> Result<ExprId, StoreFault>
@@ -151,10 +156,10 @@ pub trait LimitNode {
     ghost read: { Spot → Self → AnsweredPat };
 
     /// What the pattern is as a side, missing where it is another pattern.
-    fn side<P: LowerParts>(
+    fn side<I: Storing, P: LowerPieces<I>>(
         &self,
         lowerer: &Lowerer<P>,
-        state: &mut BodyBuilder,
+        state: &mut BodyBuilder<I>,
         place: Place,
     ) -> Result<ExprId, StoreFault>
         requires { can ((P.can lowerer.now.parts).path place) self.now }
@@ -167,10 +172,10 @@ impl LimitNode for ast::Pat {
 
     ghost read = { answered_pat };
 
-    fn side<P: LowerParts>(
+    fn side<I: Storing, P: LowerPieces<I>>(
         &self,
         lowerer: &Lowerer<P>,
-        state: &mut BodyBuilder,
+        state: &mut BodyBuilder<I>,
         place: Place,
     ) -> Result<ExprId, StoreFault> {
         side_form(lowerer, state, place, self)
@@ -179,7 +184,10 @@ impl LimitNode for ast::Pat {
 
 /// The item that stands for an absent end.
 #[tactic(auto, unfolding(hir_lower_form::specs::Ranges::inner_form, hir_lower_form::specs::Ranges::item_form))]
-fn item_limit(state: &mut BodyBuilder, item: Option<LangItemId>) -> Result<ExprId, StoreFault>
+fn item_limit<I: Storing>(
+    state: &mut BodyBuilder<I>,
+    item: Option<LangItemId>,
+) -> Result<ExprId, StoreFault>
     ensures { LowersLimit (tree.item_limit item) state.old result state.new }
 {
     let around = open(state)?;
@@ -189,9 +197,9 @@ fn item_limit(state: &mut BodyBuilder, item: Option<LangItemId>) -> Result<ExprI
 
 /// The side itself.
 #[tactic(auto, unfolding(hir_lower_form::specs::Ranges::inner_form))]
-fn side_limit<P: LowerParts, N: LimitNode>(
+fn side_limit<I: Storing, P: LowerPieces<I>, N: LimitNode>(
     lowerer: &Lowerer<P>,
-    state: &mut BodyBuilder,
+    state: &mut BodyBuilder<I>,
     place: Place,
     node: &N,
 ) -> Result<ExprId, StoreFault>
@@ -213,7 +221,10 @@ fn operand(alloc: Global, id: ExprId) -> Result<Seq<ExprId>, AllocError>
 }
 
 /// The item, from no node.
-fn item_callee(state: &mut BodyBuilder, item: Option<LangItemId>) -> Result<ExprId, StoreFault>
+fn item_callee<I: Storing>(
+    state: &mut BodyBuilder<I>,
+    item: Option<LangItemId>,
+) -> Result<ExprId, StoreFault>
     ensures { Lowers HasExpr (step.alloc_expr (spec.item_expr item) None) state.old result state.new }
 {
     state.alloc_expr(item_expr(item), None)
@@ -221,9 +232,9 @@ fn item_callee(state: &mut BodyBuilder, item: Option<LangItemId>) -> Result<Expr
 
 /// A call of the item with the side, both from no node.
 #[tactic(auto, unfolding(hir_lower_form::specs::Ranges::before_form))]
-fn before<P: LowerParts, N: LimitNode>(
+fn before<I: Storing, P: LowerPieces<I>, N: LimitNode>(
     lowerer: &Lowerer<P>,
-    state: &mut BodyBuilder,
+    state: &mut BodyBuilder<I>,
     place: Place,
     item: Option<LangItemId>,
     node: &N,
@@ -241,9 +252,9 @@ fn before<P: LowerParts, N: LimitNode>(
 
 /// The last before the side.
 #[tactic(auto, unfolding(hir_lower_form::specs::Ranges::inner_form))]
-fn before_limit<P: LowerParts, N: LimitNode>(
+fn before_limit<I: Storing, P: LowerPieces<I>, N: LimitNode>(
     lowerer: &Lowerer<P>,
-    state: &mut BodyBuilder,
+    state: &mut BodyBuilder<I>,
     place: Place,
     item: Option<LangItemId>,
     node: &N,
@@ -259,9 +270,9 @@ fn before_limit<P: LowerParts, N: LimitNode>(
 
 /// An end that is written is part of the range, unless it is excluded.
 #[tactic(auto, using(crate::proofs::TypePats::end_is_side))]
-fn written_end<P: LowerParts, N: LimitNode>(
+fn written_end<I: Storing, P: LowerPieces<I>, N: LimitNode>(
     lowerer: &Lowerer<P>,
-    state: &mut BodyBuilder,
+    state: &mut BodyBuilder<I>,
     place: Place,
     op: Option<RangeOp>,
     node: &N,
@@ -287,10 +298,10 @@ pub trait LimitPart {
     ghost read: { Spot → Self → Side };
 
     /// The least value of the type where no start is written.
-    fn start_limit<P: LowerParts>(
+    fn start_limit<I: Storing, P: LowerPieces<I>>(
         &self,
         lowerer: &Lowerer<P>,
-        state: &mut BodyBuilder,
+        state: &mut BodyBuilder<I>,
         place: Place,
     ) -> Result<ExprId, StoreFault>
         requires { can ((P.can lowerer.now.parts).path place) self.now }
@@ -298,10 +309,10 @@ pub trait LimitPart {
             LowersLimit (of.start_limit here.answers.lang_items (read here self.now)) state.old result state.new };
 
     /// The greatest value of the type where no end is written.
-    fn end_limit<P: LowerParts>(
+    fn end_limit<I: Storing, P: LowerPieces<I>>(
         &self,
         lowerer: &Lowerer<P>,
-        state: &mut BodyBuilder,
+        state: &mut BodyBuilder<I>,
         place: Place,
         op: Option<RangeOp>,
     ) -> Result<ExprId, StoreFault>
@@ -316,10 +327,10 @@ impl LimitPart for Option<Boxed<ast::Pat>> {
     ghost read = { λ at p. side_of (pat_part at p) };
 
     #[tactic(auto, using(crate::proofs::TypePats::start_is_side))]
-    fn start_limit<P: LowerParts>(
+    fn start_limit<I: Storing, P: LowerPieces<I>>(
         &self,
         lowerer: &Lowerer<P>,
-        state: &mut BodyBuilder,
+        state: &mut BodyBuilder<I>,
         place: Place,
     ) -> Result<ExprId, StoreFault> {
         match self {
@@ -328,10 +339,10 @@ impl LimitPart for Option<Boxed<ast::Pat>> {
         }
     }
 
-    fn end_limit<P: LowerParts>(
+    fn end_limit<I: Storing, P: LowerPieces<I>>(
         &self,
         lowerer: &Lowerer<P>,
-        state: &mut BodyBuilder,
+        state: &mut BodyBuilder<I>,
         place: Place,
         op: Option<RangeOp>,
     ) -> Result<ExprId, StoreFault> {

@@ -23,6 +23,7 @@ use hir_env::resolved::{Resolution, Shadow};
 use hir_lower_form::builder::BodyBuilder;
 use hir_lower_form::names::name_of;
 use hir_lower_form::parts::site;
+use hir_lower_form::storing::Storing;
 use hir_store::fault::StoreFault;
 use hir_store::hir::Pat;
 use hir_store::ids::{HygieneId, PatId};
@@ -94,9 +95,9 @@ fn is_found<H: Here>(parts: &H, name: &Name) -> Result<bool, AllocError>
 
 /// A name that stands for something else is a path.
 #[inline(never)]
-fn name_form(
+fn name_form<I: Storing>(
     alloc: Global,
-    state: &mut BodyBuilder,
+    state: &mut BodyBuilder<I>,
     at: InFile<AstPtr>,
     name: Name,
 ) -> Result<PatId, StoreFault>
@@ -110,9 +111,9 @@ fn name_form(
 /// A name that binds, behind what stands after its `@`.
 #[tactic(auto, unfolding(hir_lower_form::specs::Pats::bind_form))]
 #[inline(never)]
-fn bind_form<S: PatParts, E: PatPart>(
+fn bind_form<I: Storing, S: PatParts<I>, E: PatPart>(
     parts: &S,
-    state: &mut BodyBuilder,
+    state: &mut BodyBuilder<I>,
     bindings: &mut Bindings,
     at: InFile<AstPtr>,
     name: Name,
@@ -135,9 +136,9 @@ fn bind_form<S: PatParts, E: PatPart>(
 
 /// A plain name that stands for a constant, a variant or a struct is a path, and any other name binds.
 #[inline(never)]
-pub(crate) fn ident_form<S: PatParts>(
+pub(crate) fn ident_form<I: Storing, S: PatParts<I>>(
     parts: &S,
-    state: &mut BodyBuilder,
+    state: &mut BodyBuilder<I>,
     bindings: &mut Bindings,
     at: InFile<AstPtr>,
     name: &Option<ast::Name>,

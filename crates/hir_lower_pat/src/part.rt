@@ -12,6 +12,7 @@ use crate::bindings::Bindings;
 use crate::parts::PatParts;
 use crate::tuples::element;
 use hir_lower_form::builder::BodyBuilder;
+use hir_lower_form::storing::Storing;
 use hir_store::fault::StoreFault;
 use hir_store::ids::PatId;
 use hir_store::lists::push_pat;
@@ -24,10 +25,10 @@ pub trait PatNode {
     ghost read: { Spot → Self → AnsweredPat };
 
     /// The pattern, with the names of its top pattern that were used before.
-    fn lower_node<S: PatParts>(
+    fn lower_node<I: Storing, S: PatParts<I>>(
         &self,
         parts: &S,
-        state: &mut BodyBuilder,
+        state: &mut BodyBuilder<I>,
         bindings: &mut Bindings,
     ) -> Result<PatId, StoreFault>
         requires part { can (S.can_pat parts.now) self.now }
@@ -35,10 +36,10 @@ pub trait PatNode {
         ensures { LowersPat (read (S.spot parts.now) self.now) bindings.old state.old result bindings.new state.new };
 
     /// The same as an element of a tuple or a call, none where it is two dots, be it through calls.
-    fn lower_element<S: PatParts>(
+    fn lower_element<I: Storing, S: PatParts<I>>(
         &self,
         parts: &S,
-        state: &mut BodyBuilder,
+        state: &mut BodyBuilder<I>,
         bindings: &mut Bindings,
     ) -> Result<Option<PatId>, StoreFault>
         requires part { can (S.can_pat parts.now) self.now }
@@ -51,19 +52,19 @@ impl PatNode for ast::Pat {
 
     ghost read = { answered_pat };
 
-    fn lower_node<S: PatParts>(
+    fn lower_node<I: Storing, S: PatParts<I>>(
         &self,
         parts: &S,
-        state: &mut BodyBuilder,
+        state: &mut BodyBuilder<I>,
         bindings: &mut Bindings,
     ) -> Result<PatId, StoreFault> {
         parts.lower_pat(state, bindings, self)
     }
 
-    fn lower_element<S: PatParts>(
+    fn lower_element<I: Storing, S: PatParts<I>>(
         &self,
         parts: &S,
-        state: &mut BodyBuilder,
+        state: &mut BodyBuilder<I>,
         bindings: &mut Bindings,
     ) -> Result<Option<PatId>, StoreFault> {
         parts.lower_element(state, bindings, self)
@@ -77,10 +78,10 @@ pub trait PatPart {
     ghost read: { Spot → Self → OptionPat };
 
     /// The pattern, missing where it is absent.
-    fn lower<S: PatParts>(
+    fn lower<I: Storing, S: PatParts<I>>(
         &self,
         parts: &S,
-        state: &mut BodyBuilder,
+        state: &mut BodyBuilder<I>,
         bindings: &mut Bindings,
     ) -> Result<PatId, StoreFault>
         requires part { can (S.can_pat parts.now) self.now }
@@ -88,10 +89,10 @@ pub trait PatPart {
         ensures { LowersPatOpt (read (S.spot parts.now) self.now) bindings.old state.old result bindings.new state.new };
 
     /// The pattern, or none where it is absent.
-    fn lower_if_present<S: PatParts>(
+    fn lower_if_present<I: Storing, S: PatParts<I>>(
         &self,
         parts: &S,
-        state: &mut BodyBuilder,
+        state: &mut BodyBuilder<I>,
         bindings: &mut Bindings,
     ) -> Result<Option<PatId>, StoreFault>
         requires part { can (S.can_pat parts.now) self.now }
@@ -104,10 +105,10 @@ impl PatPart for Option<Boxed<ast::Pat>> {
 
     ghost read = { pat_part };
 
-    fn lower<S: PatParts>(
+    fn lower<I: Storing, S: PatParts<I>>(
         &self,
         parts: &S,
-        state: &mut BodyBuilder,
+        state: &mut BodyBuilder<I>,
         bindings: &mut Bindings,
     ) -> Result<PatId, StoreFault> {
         match self {
@@ -116,10 +117,10 @@ impl PatPart for Option<Boxed<ast::Pat>> {
         }
     }
 
-    fn lower_if_present<S: PatParts>(
+    fn lower_if_present<I: Storing, S: PatParts<I>>(
         &self,
         parts: &S,
-        state: &mut BodyBuilder,
+        state: &mut BodyBuilder<I>,
         bindings: &mut Bindings,
     ) -> Result<Option<PatId>, StoreFault> {
         match self {
@@ -138,10 +139,10 @@ pub trait PatsPart {
     ghost read_elements: { Spot → Self → Pats };
 
     /// The patterns.
-    fn lower_each<S: PatParts>(
+    fn lower_each<I: Storing, S: PatParts<I>>(
         &self,
         parts: &S,
-        state: &mut BodyBuilder,
+        state: &mut BodyBuilder<I>,
         bindings: &mut Bindings,
     ) -> Result<Seq<PatId>, StoreFault>
         requires parts { can (S.can_pat parts.now) self.now }
@@ -149,10 +150,10 @@ pub trait PatsPart {
         ensures { LowersPats (read (S.spot parts.now) self.now) bindings.old state.old result bindings.new state.new };
 
     /// The patterns without two dots, and how many stand in front of the first of these.
-    fn elements<S: PatParts>(
+    fn elements<I: Storing, S: PatParts<I>>(
         &self,
         parts: &S,
-        state: &mut BodyBuilder,
+        state: &mut BodyBuilder<I>,
         bindings: &mut Bindings,
     ) -> Result<(Seq<PatId>, Option<usize>), StoreFault>
         requires parts { can (S.can_pat parts.now) self.now }
@@ -167,10 +168,10 @@ impl PatsPart for Seq<ast::Pat> {
 
     ghost read_elements = { elements_part };
 
-    fn lower_each<S: PatParts>(
+    fn lower_each<I: Storing, S: PatParts<I>>(
         &self,
         parts: &S,
-        state: &mut BodyBuilder,
+        state: &mut BodyBuilder<I>,
         bindings: &mut Bindings,
     ) -> Result<Seq<PatId>, StoreFault> {
         let mut done = Seq::new(parts.alloc());
@@ -183,10 +184,10 @@ impl PatsPart for Seq<ast::Pat> {
         Ok(done)
     }
 
-    fn elements<S: PatParts>(
+    fn elements<I: Storing, S: PatParts<I>>(
         &self,
         parts: &S,
-        state: &mut BodyBuilder,
+        state: &mut BodyBuilder<I>,
         bindings: &mut Bindings,
     ) -> Result<(Seq<PatId>, Option<usize>), StoreFault> {
         let mut done = (Seq::new(parts.alloc()), None);

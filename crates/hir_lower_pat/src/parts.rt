@@ -23,8 +23,10 @@ use crate::callees::{callee, is_path};
 use crate::paths::PathPart;
 use hir_base::node::{AstPtr, InFile, NodeId, PredId, TextRange};
 use hir_env::resolved::{Resolved, Shadow};
-use hir_lower_form::builder::BodyBuilder;
-use hir_lower_form::parts::{LowerParts, Lowerer};
+use hir_lower_form::builder::{BodyBuilder, StoredBody};
+use hir_lower_form::parts::{LowerParts, LowerPieces, Lowerer};
+use hir_lower_form::storing::Storing;
+use hir_store::builder::ExpressionStoreBuilder;
 use hir_store::fault::StoreFault;
 use hir_store::ids::{CfgId, HygieneId, PatId};
 use hir_store::path::{ModPath, Path};
@@ -58,26 +60,29 @@ pub trait Here {
     /// What the path stands for.
     fn resolve(&self, path: &ModPath, shadow: Shadow) -> Resolved
         ensures { let at = spot self.now in result ≡ at.answers.resolve at.place.module_id path.now shadow };
+}
 
+/// The same, where paths are lowered.
+pub trait HerePaths<I: Storing>: Here {
     /// The path, or none where it is absent or refused.
     fn path<W: PathPart>(
         &self,
-        state: &mut BodyBuilder,
+        state: &mut BodyBuilder<I>,
         part: &W,
     ) -> Result<Option<Path>, StoreFault>
-        requires { W.can (can_path self.now) part.now }
-        ensures { LowersPath (W.read (spot self.now) part.now) state.old result state.new };
+        requires { W.can (Self.can_path self.now) part.now }
+        ensures { LowersPath (W.read (Self.spot self.now) part.now) state.old result state.new };
 }
 
 /// What lowers the parts of a pattern at one place.
-pub trait PatParts: Here {
+pub trait PatParts<I: Storing>: HerePaths<I> {
     /// The patterns that may be handed in.
     ghost can_pat: { Self → AstPat → Type 0 };
 
     /// The pattern, with the names of its top pattern that were used before.
     fn lower_pat(
         &self,
-        state: &mut BodyBuilder,
+        state: &mut BodyBuilder<I>,
         bindings: &mut Bindings,
         node: &ast::Pat,
     ) -> Result<PatId, StoreFault>
@@ -88,7 +93,7 @@ pub trait PatParts: Here {
     /// The pattern as an element of a tuple or a call, none where it is two dots, be it through calls.
     fn lower_element(
         &self,
-        state: &mut BodyBuilder,
+        state: &mut BodyBuilder<I>,
         bindings: &mut Bindings,
         node: &ast::Pat,
     ) -> Result<Option<PatId>, StoreFault>
@@ -98,7 +103,7 @@ pub trait PatParts: Here {
 }
 
 /// What lowers the parts of what is assigned to at one place.
-pub trait TargetParts: Here {
+pub trait TargetParts<I: Storing>: HerePaths<I> {
     /// What may be handed in as a target, as a place, and as a callee.
     ghost can_target: { Self → AstExpr → Type 0 };
 
@@ -107,7 +112,7 @@ pub trait TargetParts: Here {
     ghost can_callee: { Self → AstExpr → Type 0 };
 
     /// The expression as it stands, of which nothing may be left.
-    fn place(&self, state: &mut BodyBuilder, node: &ast::Expr) -> Result<Aim, StoreFault>
+    fn place(&self, state: &mut BodyBuilder<I>, node: &ast::Expr) -> Result<Aim, StoreFault>
         requires { can_place self.now node.now }
         ensures { Lowers HasAim (placed (answered (Self.spot self.now) node.now)) state.old result state.new };
 
@@ -115,7 +120,7 @@ pub trait TargetParts: Here {
     /// of calls.
     fn aim(
         &self,
-        state: &mut BodyBuilder,
+        state: &mut BodyBuilder<I>,
         call: Option<InFile<AstPtr>>,
         node: &ast::Expr,
     ) -> Result<Aim, StoreFault>
@@ -125,7 +130,7 @@ pub trait TargetParts: Here {
     /// The pattern of an element, none where it comes to two dots.
     fn element(
         &self,
-        state: &mut BodyBuilder,
+        state: &mut BodyBuilder<I>,
         node: &ast::Expr,
     ) -> Result<Option<PatId>, StoreFault>
         requires { can_target self.now node.now }
@@ -136,7 +141,11 @@ pub trait TargetParts: Here {
         ensures { result ≡ is_some (of.callee_path (answered (Self.spot self.now) node.now)) };
 
     /// The path of such a callee, or none where it is absent or refused.
-    fn callee(&self, state: &mut BodyBuilder, node: &ast::Expr) -> Result<Option<Path>, StoreFault>
+    fn callee(
+        &self,
+        state: &mut BodyBuilder<I>,
+        node: &ast::Expr,
+    ) -> Result<Option<Path>, StoreFault>
         requires { can_callee self.now node.now }
         ensures { Lowers HasPathOption (callee_steps (answered (Self.spot self.now) node.now)) state.old result state.new };
 }
@@ -176,10 +185,12 @@ impl<'l, P: LowerParts, F> Here for Inside<'l, P, F> {
     fn resolve(&self, path: &ModPath, shadow: Shadow) -> Resolved {
         self.lowerer.parts.resolve(path, shadow)
     }
+}
 
+impl<'l, I: Storing, P: LowerPieces<I>, F> HerePaths<I> for Inside<'l, P, F> {
     fn path<W: PathPart>(
         &self,
-        state: &mut BodyBuilder,
+        state: &mut BodyBuilder<I>,
         part: &W,
     ) -> Result<Option<Path>, StoreFault> {
         part.lower(self.lowerer, state, self.lowerer.parts.place())
@@ -195,21 +206,21 @@ pub struct PatBy<F, G> {
 
 impl<
     'l,
-    P: LowerParts,
-    F: Fn(&Lowerer<P>, &mut BodyBuilder, &mut Bindings, &ast::Pat) -> Result<PatId, StoreFault>,
+    P: LowerPieces<ExpressionStoreBuilder>,
+    F: Fn(&Lowerer<P>, &mut StoredBody, &mut Bindings, &ast::Pat) -> Result<PatId, StoreFault>,
     G: Fn(
         &Lowerer<P>,
-        &mut BodyBuilder,
+        &mut StoredBody,
         &mut Bindings,
         &ast::Pat,
     ) -> Result<Option<PatId>, StoreFault>,
-> PatParts for Inside<'l, P, PatBy<F, G>> {
+> PatParts<ExpressionStoreBuilder> for Inside<'l, P, PatBy<F, G>> {
     ghost can_pat = { λ it p. HandlesPat P.spot (F.pre it.by.pat) (F.post it.by.pat) it.lowerer.now p
         × HandlesElement P.spot (G.pre it.by.element) (G.post it.by.element) it.lowerer.now p };
 
     fn lower_pat(
         &self,
-        state: &mut BodyBuilder,
+        state: &mut StoredBody,
         bindings: &mut Bindings,
         node: &ast::Pat,
     ) -> Result<PatId, StoreFault> {
@@ -218,7 +229,7 @@ impl<
 
     fn lower_element(
         &self,
-        state: &mut BodyBuilder,
+        state: &mut StoredBody,
         bindings: &mut Bindings,
         node: &ast::Pat,
     ) -> Result<Option<PatId>, StoreFault> {
@@ -235,20 +246,20 @@ pub struct TargetBy<F, G> {
 
 impl<
     'l,
-    P: LowerParts,
+    P: LowerPieces<ExpressionStoreBuilder>,
     F: Fn(
         &Lowerer<P>,
-        &mut BodyBuilder,
+        &mut StoredBody,
         Option<InFile<AstPtr>>,
         &ast::Expr,
     ) -> Result<Aim, StoreFault>,
     G: Fn(
         &Lowerer<P>,
-        &mut BodyBuilder,
+        &mut StoredBody,
         Option<InFile<AstPtr>>,
         &ast::Expr,
     ) -> Result<Option<PatId>, StoreFault>,
-> TargetParts for Inside<'l, P, TargetBy<F, G>> {
+> TargetParts<ExpressionStoreBuilder> for Inside<'l, P, TargetBy<F, G>> {
     ghost can_target = { λ it e. HandlesTarget P.spot (F.pre it.by.aim) (F.post it.by.aim) it.lowerer.now e
         × HandlesTargetElement P.spot (G.pre it.by.element) (G.post it.by.element) it.lowerer.now e };
 
@@ -256,13 +267,13 @@ impl<
 
     ghost can_callee = { λ it. (P.can it.lowerer.now.parts).target (P.spot it.lowerer.now.parts).place };
 
-    fn place(&self, state: &mut BodyBuilder, node: &ast::Expr) -> Result<Aim, StoreFault> {
+    fn place(&self, state: &mut StoredBody, node: &ast::Expr) -> Result<Aim, StoreFault> {
         place(self.lowerer, state, node)
     }
 
     fn aim(
         &self,
-        state: &mut BodyBuilder,
+        state: &mut StoredBody,
         call: Option<InFile<AstPtr>>,
         node: &ast::Expr,
     ) -> Result<Aim, StoreFault> {
@@ -271,7 +282,7 @@ impl<
 
     fn element(
         &self,
-        state: &mut BodyBuilder,
+        state: &mut StoredBody,
         node: &ast::Expr,
     ) -> Result<Option<PatId>, StoreFault> {
         (self.by.element)(self.lowerer, state, None, node)
@@ -281,19 +292,15 @@ impl<
         is_path(self.lowerer, node)
     }
 
-    fn callee(
-        &self,
-        state: &mut BodyBuilder,
-        node: &ast::Expr,
-    ) -> Result<Option<Path>, StoreFault> {
+    fn callee(&self, state: &mut StoredBody, node: &ast::Expr) -> Result<Option<Path>, StoreFault> {
         callee(self.lowerer, state, node)
     }
 }
 
 /// An expression as a place, of which nothing may be left.
-pub(crate) fn place<P: LowerParts>(
+pub(crate) fn place<I: Storing, P: LowerPieces<I>>(
     lowerer: &Lowerer<P>,
-    state: &mut BodyBuilder,
+    state: &mut BodyBuilder<I>,
     node: &ast::Expr,
 ) -> Result<Aim, StoreFault>
     requires { (P.can lowerer.now.parts).expr node.now }

@@ -9,7 +9,8 @@ ghost use Rattle.hir_lower_form.specs.Nests.{IfPresent};
 
 use hir_env::place::Place;
 use hir_lower_form::builder::BodyBuilder;
-use hir_lower_form::parts::{LowerParts, Lowerer};
+use hir_lower_form::parts::{LowerPieces, Lowerer};
+use hir_lower_form::storing::Storing;
 use hir_store::fault::StoreFault;
 use hir_store::path::Path;
 use hir_syntax::{Boxed, ast};
@@ -22,10 +23,10 @@ pub trait PathPart {
     ghost read: { Spot → Self → OptionPath };
 
     /// The path, read at this place, or none where it is absent or refused.
-    fn lower<P: LowerParts>(
+    fn lower<I: Storing, P: LowerPieces<I>>(
         &self,
         lowerer: &Lowerer<P>,
-        state: &mut BodyBuilder,
+        state: &mut BodyBuilder<I>,
         place: Place,
     ) -> Result<Option<Path>, StoreFault>
         requires { can ((P.can lowerer.now.parts).path place) self.now }
@@ -37,10 +38,10 @@ impl PathPart for Option<Boxed<ast::Path>> {
 
     ghost read = { path_part };
 
-    fn lower<P: LowerParts>(
+    fn lower<I: Storing, P: LowerPieces<I>>(
         &self,
         lowerer: &Lowerer<P>,
-        state: &mut BodyBuilder,
+        state: &mut BodyBuilder<I>,
         place: Place,
     ) -> Result<Option<Path>, StoreFault> {
         lowerer.path_if_present(state, place, self)

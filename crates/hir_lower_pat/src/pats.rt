@@ -20,9 +20,11 @@ use crate::records::record_form;
 use crate::tuples::{tuple_form, tuple_struct_form};
 use hir_base::node::{AstPtr, InFile};
 use hir_env::expand::FragmentKind;
-use hir_lower_form::builder::BodyBuilder;
+use hir_lower_form::builder::{BodyBuilder, StoredBody};
 use hir_lower_form::calls::enter;
-use hir_lower_form::parts::{LowerParts, Lowerer};
+use hir_lower_form::parts::{LowerPieces, Lowerer};
+use hir_lower_form::storing::Storing;
+use hir_store::builder::ExpressionStoreBuilder;
 use hir_store::fault::StoreFault;
 use hir_store::hir::{Mutability, Pat};
 use hir_store::ids::PatId;
@@ -30,9 +32,9 @@ use hir_syntax::ast;
 
 #[tactic(auto, unfolding(hir_lower_form::specs::Pats::over_pat_form))]
 #[inline(never)]
-fn ref_form<S: PatParts, E: PatPart>(
+fn ref_form<I: Storing, S: PatParts<I>, E: PatPart>(
     parts: &S,
-    state: &mut BodyBuilder,
+    state: &mut BodyBuilder<I>,
     bindings: &mut Bindings,
     at: InFile<AstPtr>,
     is_mut: bool,
@@ -54,9 +56,9 @@ fn ref_form<S: PatParts, E: PatPart>(
 
 #[tactic(auto, unfolding(hir_lower_form::specs::Pats::over_pat_form))]
 #[inline(never)]
-fn box_form<S: PatParts, E: PatPart>(
+fn box_form<I: Storing, S: PatParts<I>, E: PatPart>(
     parts: &S,
-    state: &mut BodyBuilder,
+    state: &mut BodyBuilder<I>,
     bindings: &mut Bindings,
     at: InFile<AstPtr>,
     part: &E,
@@ -72,9 +74,9 @@ fn box_form<S: PatParts, E: PatPart>(
 
 #[tactic(auto, unfolding(hir_lower_form::specs::Pats::over_pat_form))]
 #[inline(never)]
-fn deref_form<S: PatParts, E: PatPart>(
+fn deref_form<I: Storing, S: PatParts<I>, E: PatPart>(
     parts: &S,
-    state: &mut BodyBuilder,
+    state: &mut BodyBuilder<I>,
     bindings: &mut Bindings,
     at: InFile<AstPtr>,
     part: &E,
@@ -90,9 +92,9 @@ fn deref_form<S: PatParts, E: PatPart>(
 
 /// The form of a pattern that is no call. One whose parts know of no name is made by itself.
 #[tactic(auto, using(crate::proofs::KindLemmas::plain_is_alone))]
-pub(crate) fn pat_form<S: PatParts>(
+pub(crate) fn pat_form<I: Storing, S: PatParts<I>>(
     parts: &S,
-    state: &mut BodyBuilder,
+    state: &mut BodyBuilder<I>,
     bindings: &mut Bindings,
     node: &ast::Pat,
 ) -> Result<PatId, StoreFault>
@@ -146,9 +148,9 @@ pub(crate) fn pat_form<S: PatParts>(
 /// A call that is written here: what it stands for, which is missing where it stands for no pattern. Its node leads there.
 #[cycle(pat)]
 #[inline(never)]
-fn called_pat<P: LowerParts>(
+fn called_pat<P: LowerPieces<ExpressionStoreBuilder>>(
     lowerer: &Lowerer<P>,
-    state: &mut BodyBuilder,
+    state: &mut StoredBody,
     bindings: &mut Bindings,
     at: InFile<AstPtr>,
     call: &ast::MacroCall,
@@ -169,9 +171,9 @@ fn called_pat<P: LowerParts>(
 /// The same as an element, none where it stands for two dots, to which it doesn't lead.
 #[cycle(pat)]
 #[inline(never)]
-fn called_element<P: LowerParts>(
+fn called_element<P: LowerPieces<ExpressionStoreBuilder>>(
     lowerer: &Lowerer<P>,
-    state: &mut BodyBuilder,
+    state: &mut StoredBody,
     bindings: &mut Bindings,
     at: InFile<AstPtr>,
     call: &ast::MacroCall,
@@ -192,9 +194,9 @@ fn called_element<P: LowerParts>(
 
 /// An element of a tuple or a call, none where it is two dots. A call that the text lacks is missing at its own node here.
 #[cycle(pat)]
-fn lower_element<P: LowerParts>(
+fn lower_element<P: LowerPieces<ExpressionStoreBuilder>>(
     lowerer: &Lowerer<P>,
-    state: &mut BodyBuilder,
+    state: &mut StoredBody,
     bindings: &mut Bindings,
     node: &ast::Pat,
 ) -> Result<Option<PatId>, StoreFault>
@@ -218,9 +220,9 @@ fn lower_element<P: LowerParts>(
 /// `Full` where an arena has reached its limit, or more parts than are counted stand in front of two dots; `Memory` where a growth
 /// was refused.
 #[cycle(pat)]
-pub fn lower_pat<P: LowerParts>(
+pub fn lower_pat<P: LowerPieces<ExpressionStoreBuilder>>(
     lowerer: &Lowerer<P>,
-    state: &mut BodyBuilder,
+    state: &mut StoredBody,
     bindings: &mut Bindings,
     node: &ast::Pat,
 ) -> Result<PatId, StoreFault>

@@ -8,11 +8,12 @@ ghost use Rattle.hir_lower_form.specs.Nests.{KidsOfPat};
 ghost use Rattle.hir_lower_form.specs.Pats as spec;
 ghost use Rattle.hir_lower_pat.specs.Methods.{AnyCall, IsPlain, kind_at, lower_plain};
 
-use crate::parts::{Here, PatParts};
+use crate::parts::{HerePaths, PatParts};
 use crate::paths::PathPart;
 use crate::sides::{literal_form, predicate_form, range_form};
 use hir_base::node::{AstPtr, InFile};
 use hir_lower_form::builder::BodyBuilder;
+use hir_lower_form::storing::Storing;
 use hir_store::fault::StoreFault;
 use hir_store::hir::Pat;
 use hir_store::ids::{HygieneId, PatId};
@@ -21,9 +22,9 @@ use hir_syntax::ast;
 /// A path that is absent or refused is missing.
 #[tactic(auto, unfolding(hir_lower_form::specs::Pats::path_pat_form))]
 #[inline(never)]
-fn path_form<H: Here, W: PathPart>(
+fn path_form<I: Storing, H: HerePaths<I>, W: PathPart>(
     parts: &H,
-    state: &mut BodyBuilder,
+    state: &mut BodyBuilder<I>,
     at: InFile<AstPtr>,
     path: &W,
 ) -> Result<PatId, StoreFault>
@@ -42,9 +43,9 @@ fn path_form<H: Here, W: PathPart>(
 /// A pattern that knows of no name.
 #[tactic(auto, using(crate::proofs::KindLemmas::only_plain))]
 #[inline(never)]
-pub(crate) fn plain_kind<S: PatParts>(
+pub(crate) fn plain_kind<I: Storing, S: PatParts<I>>(
     parts: &S,
-    state: &mut BodyBuilder,
+    state: &mut BodyBuilder<I>,
     at: InFile<AstPtr>,
     kind: &ast::PatKind,
 ) -> Result<PatId, StoreFault>

@@ -22,6 +22,7 @@ use crate::paths::PathPart;
 use hir_base::node::{AstPtr, InFile};
 use hir_lower_form::builder::BodyBuilder;
 use hir_lower_form::parts::site;
+use hir_lower_form::storing::Storing;
 use hir_store::diagnostics::ExpressionStoreDiagnostics;
 use hir_store::fault::StoreFault;
 use hir_store::hir::{Pat, RecordFieldPat};
@@ -32,8 +33,8 @@ use hir_store::path::Path;
 use hir_syntax::{Seq, ast};
 
 /// A field with a name, whose part leads to it. One without is no part of the record.
-fn named_part(
-    state: &mut BodyBuilder,
+fn named_part<I: Storing>(
+    state: &mut BodyBuilder<I>,
     at: InFile<AstPtr>,
     name: &Option<ast::Name>,
     pat: PatId,
@@ -53,9 +54,9 @@ fn named_part(
 
 /// A field with its part.
 #[tactic(auto, unfolding(hir_lower_form::specs::Pats::pat_field_form))]
-fn present_field<S: PatParts, N: PatNode>(
+fn present_field<I: Storing, S: PatParts<I>, N: PatNode>(
     parts: &S,
-    state: &mut BodyBuilder,
+    state: &mut BodyBuilder<I>,
     bindings: &mut Bindings,
     at: InFile<AstPtr>,
     name: &Option<ast::Name>,
@@ -73,9 +74,9 @@ fn present_field<S: PatParts, N: PatNode>(
 
 /// The field, none where a condition disables it, or it has no part or no name.
 #[inline(never)]
-fn field_form<S: PatParts>(
+fn field_form<I: Storing, S: PatParts<I>>(
     parts: &S,
-    state: &mut BodyBuilder,
+    state: &mut BodyBuilder<I>,
     bindings: &mut Bindings,
     node: &ast::RecordPatField,
 ) -> Result<Option<RecordFieldPat>, StoreFault>
@@ -96,9 +97,9 @@ fn field_form<S: PatParts>(
     }
 }
 
-fn field<S: PatParts>(
+fn field<I: Storing, S: PatParts<I>>(
     parts: &S,
-    state: &mut BodyBuilder,
+    state: &mut BodyBuilder<I>,
     bindings: &mut Bindings,
     node: &ast::RecordPatField,
 ) -> Result<Option<RecordFieldPat>, StoreFault>
@@ -116,10 +117,10 @@ pub trait PatFieldsPart {
     ghost read: { Spot → Self → PatFields };
 
     /// The fields that no condition disables and that have a name and a part.
-    fn lower_fields<S: PatParts>(
+    fn lower_fields<I: Storing, S: PatParts<I>>(
         &self,
         parts: &S,
-        state: &mut BodyBuilder,
+        state: &mut BodyBuilder<I>,
         bindings: &mut Bindings,
     ) -> Result<Seq<RecordFieldPat>, StoreFault>
         requires parts { can (S.can_pat parts.now) self.now }
@@ -132,10 +133,10 @@ impl PatFieldsPart for Seq<ast::RecordPatField> {
 
     ghost read = { pat_fields_part };
 
-    fn lower_fields<S: PatParts>(
+    fn lower_fields<I: Storing, S: PatParts<I>>(
         &self,
         parts: &S,
-        state: &mut BodyBuilder,
+        state: &mut BodyBuilder<I>,
         bindings: &mut Bindings,
     ) -> Result<Seq<RecordFieldPat>, StoreFault> {
         let mut done = Seq::new(parts.alloc());
@@ -151,9 +152,9 @@ impl PatFieldsPart for Seq<ast::RecordPatField> {
 }
 
 /// A record of this path.
-fn record_of<S: PatParts, L: PatFieldsPart>(
+fn record_of<I: Storing, S: PatParts<I>, L: PatFieldsPart>(
     parts: &S,
-    state: &mut BodyBuilder,
+    state: &mut BodyBuilder<I>,
     bindings: &mut Bindings,
     at: InFile<AstPtr>,
     path: Path,
@@ -178,9 +179,9 @@ fn record_of<S: PatParts, L: PatFieldsPart>(
 /// Where the path is absent or refused the record is missing, and nothing else of it is read.
 #[tactic(auto, unfolding(hir_lower_form::specs::Pats::record_pat_form))]
 #[inline(never)]
-pub(crate) fn record_form<S: PatParts, W: PathPart, L: PatFieldsPart>(
+pub(crate) fn record_form<I: Storing, S: PatParts<I>, W: PathPart, L: PatFieldsPart>(
     parts: &S,
-    state: &mut BodyBuilder,
+    state: &mut BodyBuilder<I>,
     bindings: &mut Bindings,
     at: InFile<AstPtr>,
     path: &W,

@@ -18,12 +18,13 @@ ghost use Rattle.hir_lower_form.specs.Pats as spec;
 ghost use Rattle.hir_lower_pat.specs.Methods.{lower_plain, plain_truth, use_with};
 
 use crate::names::{is_without_words, mode_of, path_of_name};
-use crate::parts::Here;
+use crate::parts::HerePaths;
 use crate::paths::PathPart;
 use hir_base::node::{AstPtr, InFile, PredId};
 use hir_binding::binding::BindingAnnotation;
 use hir_lower_form::builder::BodyBuilder;
 use hir_lower_form::names::{literal, truth_literal};
+use hir_lower_form::storing::Storing;
 use hir_store::fault::StoreFault;
 use hir_store::hir::{Expr, Literal, Pat};
 use hir_store::ids::{ExprId, HygieneId, PatId};
@@ -57,9 +58,9 @@ pub(crate) fn signed(written: &ast::Literal, minus: bool) -> Result<Literal, All
 /// A literal pattern, missing where its literal is absent or takes no minus.
 #[tactic(auto, unfolding(hir_lower_form::specs::Pats::literal_pat_form))]
 #[inline(never)]
-pub(crate) fn literal_form<H: Here>(
+pub(crate) fn literal_form<I: Storing, H: HerePaths<I>>(
     parts: &H,
-    state: &mut BodyBuilder,
+    state: &mut BodyBuilder<I>,
     at: InFile<AstPtr>,
     lit: &Option<ast::PatLiteral>,
     minus: bool,
@@ -83,9 +84,9 @@ pub(crate) fn literal_form<H: Here>(
 /// A predicate is a literal, which is true unless it is known not to be.
 #[tactic(auto, unfolding(hir_lower_form::specs::Pats::literal_pat_form))]
 #[inline(never)]
-pub(crate) fn predicate_form<H: Here>(
+pub(crate) fn predicate_form<I: Storing, H: HerePaths<I>>(
     parts: &H,
-    state: &mut BodyBuilder,
+    state: &mut BodyBuilder<I>,
     at: InFile<AstPtr>,
     pred: Option<PredId>,
 ) -> Result<PatId, StoreFault>
@@ -99,8 +100,8 @@ pub(crate) fn predicate_form<H: Here>(
 
 /// A literal as a side.
 #[tactic(auto, unfolding(hir_lower_form::specs::Pats::literal_side_form))]
-fn literal_side(
-    state: &mut BodyBuilder,
+fn literal_side<I: Storing>(
+    state: &mut BodyBuilder<I>,
     at: InFile<AstPtr>,
     lit: &ast::Literal,
     minus: bool,
@@ -112,9 +113,9 @@ fn literal_side(
 }
 
 /// A plain name as a side is a path, whatever it stands for, and none where the text lacks it.
-fn name_side(
+fn name_side<I: Storing>(
     alloc: Global,
-    state: &mut BodyBuilder,
+    state: &mut BodyBuilder<I>,
     at: InFile<AstPtr>,
     name: &Option<ast::Name>,
 ) -> Result<Option<ExprId>, StoreFault>
@@ -132,9 +133,9 @@ fn name_side(
 
 /// A path as a side, none where it is absent or refused.
 #[tactic(auto, unfolding(hir_lower_form::specs::Pats::path_side_form))]
-fn path_side<H: Here, W: PathPart>(
+fn path_side<I: Storing, H: HerePaths<I>, W: PathPart>(
     parts: &H,
-    state: &mut BodyBuilder,
+    state: &mut BodyBuilder<I>,
     at: InFile<AstPtr>,
     path: &W,
 ) -> Result<Option<ExprId>, StoreFault>
@@ -152,9 +153,9 @@ fn path_side<H: Here, W: PathPart>(
 
 /// A name as a side, none where it isn't plain.
 #[tactic(auto, using(crate::proofs::KindLemmas::named_side))]
-fn plain_side<H: Here>(
+fn plain_side<I: Storing, H: HerePaths<I>>(
     parts: &H,
-    state: &mut BodyBuilder,
+    state: &mut BodyBuilder<I>,
     at: InFile<AstPtr>,
     name: &Option<ast::Name>,
     mode: BindingAnnotation,
@@ -178,9 +179,9 @@ fn plain_side<H: Here>(
 }
 
 /// What a pattern is as a side, none where it is another pattern.
-fn side_form<H: Here>(
+fn side_form<I: Storing, H: HerePaths<I>>(
     parts: &H,
-    state: &mut BodyBuilder,
+    state: &mut BodyBuilder<I>,
     node: &ast::Pat,
 ) -> Result<Option<ExprId>, StoreFault>
     requires { KidsSide (H.can_path parts.now) (out-PatKind node.now.kind) }
@@ -224,9 +225,9 @@ fn side_form<H: Here>(
     }
 }
 
-fn present_side<H: Here>(
+fn present_side<I: Storing, H: HerePaths<I>>(
     parts: &H,
-    state: &mut BodyBuilder,
+    state: &mut BodyBuilder<I>,
     node: &ast::Pat,
 ) -> Result<Option<ExprId>, StoreFault>
     requires { KidsSide (H.can_path parts.now) (out-PatKind node.now.kind) }
@@ -242,10 +243,10 @@ pub trait SidePart {
     ghost read: { Spot → Self → Side };
 
     /// What the pattern is as a side, none where it is absent or another pattern.
-    fn lower_side<H: Here>(
+    fn lower_side<I: Storing, H: HerePaths<I>>(
         &self,
         parts: &H,
-        state: &mut BodyBuilder,
+        state: &mut BodyBuilder<I>,
     ) -> Result<Option<ExprId>, StoreFault>
         requires { can (H.can_path parts.now) self.now }
         ensures { LowersSide (read (H.spot parts.now) self.now) state.old result state.new };
@@ -256,10 +257,10 @@ impl SidePart for Option<Boxed<ast::Pat>> {
 
     ghost read = { λ at p. side_of (pat_part at p) };
 
-    fn lower_side<H: Here>(
+    fn lower_side<I: Storing, H: HerePaths<I>>(
         &self,
         parts: &H,
-        state: &mut BodyBuilder,
+        state: &mut BodyBuilder<I>,
     ) -> Result<Option<ExprId>, StoreFault> {
         match self {
             None => Ok(None),
@@ -271,9 +272,9 @@ impl SidePart for Option<Boxed<ast::Pat>> {
 /// Without its operator a range is missing, and its sides are read all the same.
 #[tactic(auto, unfolding(hir_lower_form::specs::Pats::range_pat_form))]
 #[inline(never)]
-pub(crate) fn range_form<H: Here, E: SidePart>(
+pub(crate) fn range_form<I: Storing, H: HerePaths<I>, E: SidePart>(
     parts: &H,
-    state: &mut BodyBuilder,
+    state: &mut BodyBuilder<I>,
     at: InFile<AstPtr>,
     op: Option<RangeOp>,
     low: &E,

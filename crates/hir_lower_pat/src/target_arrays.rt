@@ -15,6 +15,7 @@ use crate::parts::TargetParts;
 use crate::target_elements::TargetsPart;
 use hir_base::node::{AstPtr, InFile};
 use hir_lower_form::builder::BodyBuilder;
+use hir_lower_form::storing::Storing;
 use hir_store::fault::StoreFault;
 use hir_store::hir::Pat;
 use hir_store::ids::PatId;
@@ -22,9 +23,9 @@ use hir_store::lists::push_pat;
 use hir_syntax::Seq;
 
 /// A part more in front of the dots, or the dots, be it through calls, by the part's own node.
-fn front_element<T: TargetParts, N: TargetNode>(
+fn front_element<I: Storing, T: TargetParts<I>, N: TargetNode>(
     parts: &T,
-    state: &mut BodyBuilder,
+    state: &mut BodyBuilder<I>,
     mut prefix: Seq<PatId>,
     suffix: Seq<PatId>,
     node: &N,
@@ -44,9 +45,9 @@ fn front_element<T: TargetParts, N: TargetNode>(
 }
 
 /// A part more behind the dots. Two dots are one there.
-fn back_element<T: TargetParts, N: TargetNode>(
+fn back_element<I: Storing, T: TargetParts<I>, N: TargetNode>(
     parts: &T,
-    state: &mut BodyBuilder,
+    state: &mut BodyBuilder<I>,
     prefix: Seq<PatId>,
     dots: InFile<AstPtr>,
     mut suffix: Seq<PatId>,
@@ -63,9 +64,9 @@ fn back_element<T: TargetParts, N: TargetNode>(
 }
 
 /// The parts with one more, or with the node of the first two dots.
-pub(crate) fn array_element<T: TargetParts, N: TargetNode>(
+pub(crate) fn array_element<I: Storing, T: TargetParts<I>, N: TargetNode>(
     parts: &T,
-    state: &mut BodyBuilder,
+    state: &mut BodyBuilder<I>,
     done: (Seq<PatId>, Option<InFile<AstPtr>>, Seq<PatId>),
     node: &N,
 ) -> Result<(Seq<PatId>, Option<InFile<AstPtr>>, Seq<PatId>), StoreFault>
@@ -82,7 +83,10 @@ pub(crate) fn array_element<T: TargetParts, N: TargetNode>(
 }
 
 /// The two dots, where it has such.
-fn rest(state: &mut BodyBuilder, dots: Option<InFile<AstPtr>>) -> Result<Option<PatId>, StoreFault>
+fn rest<I: Storing>(
+    state: &mut BodyBuilder<I>,
+    dots: Option<InFile<AstPtr>>,
+) -> Result<Option<PatId>, StoreFault>
     ensures { Lowers HasPatOption (steps.rest_target dots) state.old result state.new }
 {
     match dots {
@@ -92,9 +96,9 @@ fn rest(state: &mut BodyBuilder, dots: Option<InFile<AstPtr>>) -> Result<Option<
 }
 
 /// The dots come behind the parts on both sides of them.
-fn array_of<T: TargetParts, L: TargetsPart>(
+fn array_of<I: Storing, T: TargetParts<I>, L: TargetsPart>(
     parts: &T,
-    state: &mut BodyBuilder,
+    state: &mut BodyBuilder<I>,
     at: InFile<AstPtr>,
     call: Option<InFile<AstPtr>>,
     elems: &L,
@@ -115,9 +119,9 @@ fn array_of<T: TargetParts, L: TargetsPart>(
 
 /// The parts in front of the first two dots, the node of these, and the parts behind them.
 #[inline(never)]
-fn array_form<T: TargetParts, L: TargetsPart>(
+fn array_form<I: Storing, T: TargetParts<I>, L: TargetsPart>(
     parts: &T,
-    state: &mut BodyBuilder,
+    state: &mut BodyBuilder<I>,
     at: InFile<AstPtr>,
     call: Option<InFile<AstPtr>>,
     elems: &L,
@@ -132,9 +136,9 @@ fn array_form<T: TargetParts, L: TargetsPart>(
     array_of(parts, state, at, call, elems)
 }
 
-pub(crate) fn array_aim<T: TargetParts, L: TargetsPart>(
+pub(crate) fn array_aim<I: Storing, T: TargetParts<I>, L: TargetsPart>(
     parts: &T,
-    state: &mut BodyBuilder,
+    state: &mut BodyBuilder<I>,
     at: InFile<AstPtr>,
     call: Option<InFile<AstPtr>>,
     elems: &L,

@@ -22,6 +22,7 @@ use crate::target_elements::TargetsPart;
 use crate::tuples::stored_elements;
 use hir_base::node::{AstPtr, InFile};
 use hir_lower_form::builder::BodyBuilder;
+use hir_lower_form::storing::Storing;
 use hir_store::fault::StoreFault;
 use hir_store::hir::Pat;
 use hir_store::ids::PatId;
@@ -35,10 +36,10 @@ pub trait CalleeNode {
     ghost read: { Spot → Self → AnsweredExpr };
 
     /// The path that it is, itself or through calls, none where it is absent or refused. The calls are told.
-    fn path<T: TargetParts>(
+    fn path<I: Storing, T: TargetParts<I>>(
         &self,
         parts: &T,
-        state: &mut BodyBuilder,
+        state: &mut BodyBuilder<I>,
     ) -> Result<Option<Path>, StoreFault>
         requires { can (T.can_callee parts.now) self.now }
         ensures { Lowers HasPathOption (callee_steps (read (T.spot parts.now) self.now)) state.old result state.new };
@@ -49,19 +50,19 @@ impl CalleeNode for ast::Expr {
 
     ghost read = { answered };
 
-    fn path<T: TargetParts>(
+    fn path<I: Storing, T: TargetParts<I>>(
         &self,
         parts: &T,
-        state: &mut BodyBuilder,
+        state: &mut BodyBuilder<I>,
     ) -> Result<Option<Path>, StoreFault> {
         parts.callee(state, self)
     }
 }
 
 /// A call of this path.
-fn call_of<T: TargetParts, L: TargetsPart>(
+fn call_of<I: Storing, T: TargetParts<I>, L: TargetsPart>(
     parts: &T,
-    state: &mut BodyBuilder,
+    state: &mut BodyBuilder<I>,
     at: InFile<AstPtr>,
     call: Option<InFile<AstPtr>>,
     path: Path,
@@ -86,9 +87,9 @@ fn call_of<T: TargetParts, L: TargetsPart>(
 /// Where the path is absent or refused the call is missing, and nothing else of it is read. The calls that the callee comes out of
 /// are told first.
 #[inline(never)]
-fn call_form<T: TargetParts, C: CalleeNode, L: TargetsPart>(
+fn call_form<I: Storing, T: TargetParts<I>, C: CalleeNode, L: TargetsPart>(
     parts: &T,
-    state: &mut BodyBuilder,
+    state: &mut BodyBuilder<I>,
     at: InFile<AstPtr>,
     call: Option<InFile<AstPtr>>,
     callee: &C,
@@ -107,9 +108,9 @@ fn call_form<T: TargetParts, C: CalleeNode, L: TargetsPart>(
 }
 
 /// A call whose callee is a path.
-fn called_aim<T: TargetParts, C: CalleeNode, L: TargetsPart>(
+fn called_aim<I: Storing, T: TargetParts<I>, C: CalleeNode, L: TargetsPart>(
     parts: &T,
-    state: &mut BodyBuilder,
+    state: &mut BodyBuilder<I>,
     at: InFile<AstPtr>,
     call: Option<InFile<AstPtr>>,
     callee: &C,
@@ -125,9 +126,9 @@ fn called_aim<T: TargetParts, C: CalleeNode, L: TargetsPart>(
 }
 
 /// A call without a list of arguments, and one whose callee is no path, is a place.
-pub(crate) fn call_aim<T: TargetParts>(
+pub(crate) fn call_aim<I: Storing, T: TargetParts<I>>(
     parts: &T,
-    state: &mut BodyBuilder,
+    state: &mut BodyBuilder<I>,
     at: InFile<AstPtr>,
     call: Option<InFile<AstPtr>>,
     node: &ast::Expr,

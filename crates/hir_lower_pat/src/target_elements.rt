@@ -23,6 +23,7 @@ use crate::target_arrays::array_element;
 use crate::tuples::stored_elements;
 use hir_base::node::{AstPtr, InFile};
 use hir_lower_form::builder::BodyBuilder;
+use hir_lower_form::storing::Storing;
 use hir_store::fault::StoreFault;
 use hir_store::hir::Pat;
 use hir_store::ids::PatId;
@@ -31,9 +32,9 @@ use hir_syntax::{Seq, ast};
 use std::alloc::Global;
 
 /// One part more. Two dots are none, be it through calls, and of several the first count.
-fn element<T: TargetParts, N: TargetNode>(
+fn element<I: Storing, T: TargetParts<I>, N: TargetNode>(
     parts: &T,
-    state: &mut BodyBuilder,
+    state: &mut BodyBuilder<I>,
     done: (Seq<PatId>, Option<usize>),
     node: &N,
 ) -> Result<(Seq<PatId>, Option<usize>), StoreFault>
@@ -60,9 +61,9 @@ fn element<T: TargetParts, N: TargetNode>(
 }
 
 /// One part after another.
-fn each_element<T: TargetParts>(
+fn each_element<I: Storing, T: TargetParts<I>>(
     parts: &T,
-    state: &mut BodyBuilder,
+    state: &mut BodyBuilder<I>,
     mut left: &[ast::Expr],
 ) -> Result<(Seq<PatId>, Option<usize>), StoreFault>
     requires { Each (T.can_target parts.now) left.now }
@@ -84,10 +85,10 @@ pub trait TargetsPart {
     ghost read: { Spot → Self → Exprs };
 
     /// The parts, and how many stand in front of the first two dots.
-    fn elements<T: TargetParts>(
+    fn elements<I: Storing, T: TargetParts<I>>(
         &self,
         parts: &T,
-        state: &mut BodyBuilder,
+        state: &mut BodyBuilder<I>,
     ) -> Result<(Seq<PatId>, Option<usize>), StoreFault>
         requires { can (T.can_target parts.now) self.now }
         ensures { let spot = T.spot parts.now in
@@ -95,10 +96,10 @@ pub trait TargetsPart {
             Lowers HasElements (spec.lower_targets no_elements read) state.old result state.new };
 
     /// The parts in front of the first two dots, the node of these, and the parts behind them.
-    fn around_dots<T: TargetParts>(
+    fn around_dots<I: Storing, T: TargetParts<I>>(
         &self,
         parts: &T,
-        state: &mut BodyBuilder,
+        state: &mut BodyBuilder<I>,
     ) -> Result<(Seq<PatId>, Option<InFile<AstPtr>>, Seq<PatId>), StoreFault>
         requires { can (T.can_target parts.now) self.now }
         ensures { let spot = T.spot parts.now in
@@ -110,18 +111,18 @@ impl TargetsPart for Seq<ast::Expr> {
 
     ghost read = { exprs_part };
 
-    fn elements<T: TargetParts>(
+    fn elements<I: Storing, T: TargetParts<I>>(
         &self,
         parts: &T,
-        state: &mut BodyBuilder,
+        state: &mut BodyBuilder<I>,
     ) -> Result<(Seq<PatId>, Option<usize>), StoreFault> {
         each_element(parts, state, self.as_slice())
     }
 
-    fn around_dots<T: TargetParts>(
+    fn around_dots<I: Storing, T: TargetParts<I>>(
         &self,
         parts: &T,
-        state: &mut BodyBuilder,
+        state: &mut BodyBuilder<I>,
     ) -> Result<(Seq<PatId>, Option<InFile<AstPtr>>, Seq<PatId>), StoreFault> {
         let mut done = (Seq::new(parts.alloc()), None, Seq::new(parts.alloc()));
         let mut left = self.as_slice();
@@ -136,9 +137,9 @@ impl TargetsPart for Seq<ast::Expr> {
 /// A leading comma adds nothing.
 #[tactic(auto, unfolding(hir_lower_form::specs::Targets::tuple_target_form))]
 #[inline(never)]
-fn tuple_form<T: TargetParts, L: TargetsPart>(
+fn tuple_form<I: Storing, T: TargetParts<I>, L: TargetsPart>(
     parts: &T,
-    state: &mut BodyBuilder,
+    state: &mut BodyBuilder<I>,
     at: InFile<AstPtr>,
     call: Option<InFile<AstPtr>>,
     fields: &L,
@@ -155,9 +156,9 @@ fn tuple_form<T: TargetParts, L: TargetsPart>(
 
 /// `(..)`, the tuple without parts.
 #[tactic(auto, unfolding(hir_lower_form::specs::Targets::tuple_target_form, hir_lower_form::specs::Pats::elements_form))]
-pub(crate) fn dots_alone(
+pub(crate) fn dots_alone<I: Storing>(
     alloc: Global,
-    state: &mut BodyBuilder,
+    state: &mut BodyBuilder<I>,
     at: InFile<AstPtr>,
     call: Option<InFile<AstPtr>>,
 ) -> Result<PatId, StoreFault>
@@ -170,9 +171,9 @@ pub(crate) fn dots_alone(
     alloc_target(state, at, call, pat)
 }
 
-pub(crate) fn tuple_aim<T: TargetParts, L: TargetsPart>(
+pub(crate) fn tuple_aim<I: Storing, T: TargetParts<I>, L: TargetsPart>(
     parts: &T,
-    state: &mut BodyBuilder,
+    state: &mut BodyBuilder<I>,
     at: InFile<AstPtr>,
     call: Option<InFile<AstPtr>>,
     leading_comma: bool,

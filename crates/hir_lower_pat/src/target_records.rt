@@ -23,11 +23,12 @@ ghost use Rattle.hir_lower_pat.specs.Aims.{Aims, HasAim, KidsOfFields, found_at,
 ghost use Rattle.hir_lower_pat.specs.Methods.{HasPatField, field_name};
 
 use crate::aims::{Aim, TargetNode, alloc_target, missing_target, pointer_of, target};
-use crate::parts::{Here, TargetParts};
+use crate::parts::{HerePaths, TargetParts};
 use crate::paths::PathPart;
 use hir_base::node::{AstPtr, InFile};
 use hir_lower_form::builder::BodyBuilder;
 use hir_lower_form::parts::site;
+use hir_lower_form::storing::Storing;
 use hir_store::diagnostics::ExpressionStoreDiagnostics;
 use hir_store::fault::StoreFault;
 use hir_store::hir::{Pat, RecordFieldPat};
@@ -38,8 +39,8 @@ use hir_store::path::Path;
 use hir_syntax::{Boxed, Seq, ast};
 
 /// The part of a field, which leads to the field where that has a name.
-fn named_part(
-    state: &mut BodyBuilder,
+fn named_part<I: Storing>(
+    state: &mut BodyBuilder<I>,
     at: InFile<AstPtr>,
     name: &Option<ast::Name>,
     pat: PatId,
@@ -59,9 +60,9 @@ fn named_part(
 
 /// A field with an expression. Without a name it is no part of the record.
 #[tactic(auto, unfolding(hir_lower_form::specs::Targets::target_field_form))]
-fn present_field<T: TargetParts, N: TargetNode>(
+fn present_field<I: Storing, T: TargetParts<I>, N: TargetNode>(
     parts: &T,
-    state: &mut BodyBuilder,
+    state: &mut BodyBuilder<I>,
     at: InFile<AstPtr>,
     name: &Option<ast::Name>,
     expr: &N,
@@ -76,9 +77,9 @@ fn present_field<T: TargetParts, N: TargetNode>(
 }
 
 /// Without an expression nothing comes of it.
-fn kept_field<T: TargetParts>(
+fn kept_field<I: Storing, T: TargetParts<I>>(
     parts: &T,
-    state: &mut BodyBuilder,
+    state: &mut BodyBuilder<I>,
     at: InFile<AstPtr>,
     name: &Option<ast::Name>,
     expr: &Option<Boxed<ast::Expr>>,
@@ -96,9 +97,9 @@ fn kept_field<T: TargetParts>(
 
 /// The field, none where a condition disables it.
 #[inline(never)]
-fn field_form<T: TargetParts>(
+fn field_form<I: Storing, T: TargetParts<I>>(
     parts: &T,
-    state: &mut BodyBuilder,
+    state: &mut BodyBuilder<I>,
     node: &ast::RecordExprField,
 ) -> Result<Option<RecordFieldPat>, StoreFault>
     requires { IfPresent (T.can_target parts.now) (out-RecordExprField node.now).expr }
@@ -116,9 +117,9 @@ fn field_form<T: TargetParts>(
     }
 }
 
-fn field<T: TargetParts>(
+fn field<I: Storing, T: TargetParts<I>>(
     parts: &T,
-    state: &mut BodyBuilder,
+    state: &mut BodyBuilder<I>,
     node: &ast::RecordExprField,
 ) -> Result<Option<RecordFieldPat>, StoreFault>
     requires { IfPresent (T.can_target parts.now) (out-RecordExprField node.now).expr }
@@ -130,9 +131,9 @@ fn field<T: TargetParts>(
 }
 
 /// The fields that no condition disables and that have a name and an expression.
-fn fields<T: TargetParts>(
+fn fields<I: Storing, T: TargetParts<I>>(
     parts: &T,
-    state: &mut BodyBuilder,
+    state: &mut BodyBuilder<I>,
     mut left: &[ast::RecordExprField],
 ) -> Result<Seq<RecordFieldPat>, StoreFault>
     requires { KidsOfFields (T.can_target parts.now) left.now }
@@ -151,9 +152,9 @@ fn fields<T: TargetParts>(
 }
 
 /// An expression behind the two dots of a record is a fault.
-fn report_spread<H: Here>(
+fn report_spread<I: Storing, H: HerePaths<I>>(
     parts: &H,
-    state: &mut BodyBuilder,
+    state: &mut BodyBuilder<I>,
     spread: &Option<Boxed<ast::Expr>>,
     dots: bool,
 ) -> Result<(), StoreFault>
@@ -180,10 +181,10 @@ pub trait TargetRecord {
     ghost has_dots: { Self → Bool };
 
     /// A record of this path. The fault of a spread comes before those of the fields.
-    fn record<T: TargetParts>(
+    fn record<I: Storing, T: TargetParts<I>>(
         &self,
         parts: &T,
-        state: &mut BodyBuilder,
+        state: &mut BodyBuilder<I>,
         at: InFile<AstPtr>,
         call: Option<InFile<AstPtr>>,
         path: Path,
@@ -205,10 +206,10 @@ impl TargetRecord for ast::RecordExprFieldList {
 
     ghost has_dots = { λ l. (out-RecordExprFieldList l).dotdot };
 
-    fn record<T: TargetParts>(
+    fn record<I: Storing, T: TargetParts<I>>(
         &self,
         parts: &T,
-        state: &mut BodyBuilder,
+        state: &mut BodyBuilder<I>,
         at: InFile<AstPtr>,
         call: Option<InFile<AstPtr>>,
         path: Path,
@@ -227,9 +228,9 @@ impl TargetRecord for ast::RecordExprFieldList {
 /// Where the path is absent or refused the record is missing, and nothing else of it is read.
 #[tactic(auto, unfolding(hir_lower_form::specs::Targets::record_target_form))]
 #[inline(never)]
-fn record_form<T: TargetParts, W: PathPart, L: TargetRecord>(
+fn record_form<I: Storing, T: TargetParts<I>, W: PathPart, L: TargetRecord>(
     parts: &T,
-    state: &mut BodyBuilder,
+    state: &mut BodyBuilder<I>,
     at: InFile<AstPtr>,
     call: Option<InFile<AstPtr>>,
     path: &W,
@@ -249,9 +250,9 @@ fn record_form<T: TargetParts, W: PathPart, L: TargetRecord>(
 }
 
 /// A record with a list of fields.
-fn listed_aim<T: TargetParts, W: PathPart, L: TargetRecord>(
+fn listed_aim<I: Storing, T: TargetParts<I>, W: PathPart, L: TargetRecord>(
     parts: &T,
-    state: &mut BodyBuilder,
+    state: &mut BodyBuilder<I>,
     at: InFile<AstPtr>,
     call: Option<InFile<AstPtr>>,
     path: &W,
@@ -268,9 +269,9 @@ fn listed_aim<T: TargetParts, W: PathPart, L: TargetRecord>(
 }
 
 /// A record without a list of fields is a place.
-pub(crate) fn record_aim<T: TargetParts>(
+pub(crate) fn record_aim<I: Storing, T: TargetParts<I>>(
     parts: &T,
-    state: &mut BodyBuilder,
+    state: &mut BodyBuilder<I>,
     at: InFile<AstPtr>,
     call: Option<InFile<AstPtr>>,
     node: &ast::Expr,

@@ -27,9 +27,11 @@ use crate::target_elements::{dots_alone, tuple_aim};
 use crate::target_records::record_aim;
 use hir_base::node::{AstPtr, InFile};
 use hir_env::expand::FragmentKind;
-use hir_lower_form::builder::BodyBuilder;
+use hir_lower_form::builder::{BodyBuilder, StoredBody};
 use hir_lower_form::calls::enter;
-use hir_lower_form::parts::{LowerParts, Lowerer, site};
+use hir_lower_form::parts::{LowerParts, LowerPieces, Lowerer, site};
+use hir_lower_form::storing::Storing;
+use hir_store::builder::ExpressionStoreBuilder;
 use hir_store::fault::StoreFault;
 use hir_store::hir::Pat;
 use hir_store::ids::PatId;
@@ -37,8 +39,8 @@ use hir_syntax::{Boxed, ast};
 use std::alloc::Global;
 
 /// `_`.
-fn wild(
-    state: &mut BodyBuilder,
+fn wild<I: Storing>(
+    state: &mut BodyBuilder<I>,
     at: InFile<AstPtr>,
     call: Option<InFile<AstPtr>>,
 ) -> Result<Aim, StoreFault>
@@ -49,9 +51,9 @@ fn wild(
 }
 
 /// `(..)`, the tuple without parts.
-fn dots_aim(
+fn dots_aim<I: Storing>(
     alloc: Global,
-    state: &mut BodyBuilder,
+    state: &mut BodyBuilder<I>,
     at: InFile<AstPtr>,
     call: Option<InFile<AstPtr>>,
 ) -> Result<Aim, StoreFault>
@@ -61,9 +63,9 @@ fn dots_aim(
 }
 
 /// What stands in parentheses, which lead to the expression of a place.
-fn parens_around<T: TargetParts, N: TargetNode>(
+fn parens_around<I: Storing, T: TargetParts<I>, N: TargetNode>(
     parts: &T,
-    state: &mut BodyBuilder,
+    state: &mut BodyBuilder<I>,
     at: InFile<AstPtr>,
     call: Option<InFile<AstPtr>>,
     inner: &N,
@@ -77,9 +79,9 @@ fn parens_around<T: TargetParts, N: TargetNode>(
 }
 
 /// Two dots in parentheses are a tuple.
-fn paren_around<T: TargetParts, N: TargetNode>(
+fn paren_around<I: Storing, T: TargetParts<I>, N: TargetNode>(
     parts: &T,
-    state: &mut BodyBuilder,
+    state: &mut BodyBuilder<I>,
     at: InFile<AstPtr>,
     call: Option<InFile<AstPtr>>,
     inner: &N,
@@ -97,7 +99,10 @@ fn paren_around<T: TargetParts, N: TargetNode>(
 
 /// Parentheses without expression.
 #[tactic(auto, unfolding(hir_lower_form::specs::Forms::paren_form))]
-fn empty_parens(state: &mut BodyBuilder, at: InFile<AstPtr>) -> Result<Aim, StoreFault>
+fn empty_parens<I: Storing>(
+    state: &mut BodyBuilder<I>,
+    at: InFile<AstPtr>,
+) -> Result<Aim, StoreFault>
     ensures { Lowers HasAim (placed (tree.paren_expr at tree.no_expr)) state.old result state.new }
 {
     let id = state.missing_expr()?;
@@ -106,9 +111,9 @@ fn empty_parens(state: &mut BodyBuilder, at: InFile<AstPtr>) -> Result<Aim, Stor
 }
 
 /// Parentheses without expression are a place.
-fn paren_aim<T: TargetParts>(
+fn paren_aim<I: Storing, T: TargetParts<I>>(
     parts: &T,
-    state: &mut BodyBuilder,
+    state: &mut BodyBuilder<I>,
     at: InFile<AstPtr>,
     call: Option<InFile<AstPtr>>,
     expr: &Option<Boxed<ast::Expr>>,
@@ -125,9 +130,9 @@ fn paren_aim<T: TargetParts>(
 
 /// An expression of any other kind.
 #[tactic(auto, using(crate::proofs::AimLemmas::other_is))]
-fn other_aim<T: TargetParts>(
+fn other_aim<I: Storing, T: TargetParts<I>>(
     parts: &T,
-    state: &mut BodyBuilder,
+    state: &mut BodyBuilder<I>,
     call: Option<InFile<AstPtr>>,
     node: &ast::Expr,
 ) -> Result<Aim, StoreFault>
@@ -140,9 +145,9 @@ fn other_aim<T: TargetParts>(
 
 /// An expression that no condition disables, and that is no call.
 #[tactic(auto, using(crate::proofs::AimLemmas::only_places))]
-fn kept_aim<T: TargetParts>(
+fn kept_aim<I: Storing, T: TargetParts<I>>(
     parts: &T,
-    state: &mut BodyBuilder,
+    state: &mut BodyBuilder<I>,
     at: InFile<AstPtr>,
     call: Option<InFile<AstPtr>>,
     node: &ast::Expr,
@@ -176,9 +181,9 @@ fn kept_aim<T: TargetParts>(
 
 /// What comes of an expression that is no call. One that a condition disables is a place.
 #[tactic(auto, using(crate::proofs::AimLemmas::enabled_is, crate::proofs::AimLemmas::disabled_is))]
-pub(crate) fn aim_node<T: TargetParts>(
+pub(crate) fn aim_node<I: Storing, T: TargetParts<I>>(
     parts: &T,
-    state: &mut BodyBuilder,
+    state: &mut BodyBuilder<I>,
     call: Option<InFile<AstPtr>>,
     node: &ast::Expr,
 ) -> Result<Aim, StoreFault>
@@ -210,9 +215,9 @@ pub(crate) fn source<P: LowerParts>(
 /// where it is an element that comes out of calls.
 #[cycle(aim)]
 #[inline(never)]
-fn aim_called<P: LowerParts>(
+fn aim_called<P: LowerPieces<ExpressionStoreBuilder>>(
     lowerer: &Lowerer<P>,
-    state: &mut BodyBuilder,
+    state: &mut StoredBody,
     at: InFile<AstPtr>,
     call: Option<InFile<AstPtr>>,
     written: &ast::MacroCall,
@@ -233,9 +238,9 @@ fn aim_called<P: LowerParts>(
 
 /// What comes of an expression that is read here, in whatever parentheses it stands. A call that the text lacks is gone.
 #[cycle(aim)]
-pub(crate) fn aim<P: LowerParts>(
+pub(crate) fn aim<P: LowerPieces<ExpressionStoreBuilder>>(
     lowerer: &Lowerer<P>,
-    state: &mut BodyBuilder,
+    state: &mut StoredBody,
     call: Option<InFile<AstPtr>>,
     node: &ast::Expr,
 ) -> Result<Aim, StoreFault>
@@ -264,9 +269,9 @@ pub(crate) fn aim<P: LowerParts>(
 }
 
 /// What is assigned to, which as a place has its node.
-fn whole_target<P: LowerParts>(
+fn whole_target<P: LowerPieces<ExpressionStoreBuilder>>(
     lowerer: &Lowerer<P>,
-    state: &mut BodyBuilder,
+    state: &mut StoredBody,
     node: &ast::Expr,
 ) -> Result<PatId, StoreFault>
     requires { (P.can lowerer.now.parts).target (P.spot lowerer.now.parts).place node.now }
@@ -278,9 +283,9 @@ fn whole_target<P: LowerParts>(
 }
 
 /// What is assigned to, missing where it is absent.
-pub fn lower_target<P: LowerParts>(
+pub fn lower_target<P: LowerPieces<ExpressionStoreBuilder>>(
     lowerer: &Lowerer<P>,
-    state: &mut BodyBuilder,
+    state: &mut StoredBody,
     part: &Option<Boxed<ast::Expr>>,
 ) -> Result<PatId, StoreFault>
     requires { IfPresent ((P.can lowerer.now.parts).target (P.spot lowerer.now.parts).place) part.now }
@@ -295,9 +300,9 @@ pub fn lower_target<P: LowerParts>(
 /// What an element stands for that is a call, none where it is two dots. It is missing at the outermost call where it is no expression.
 #[cycle(aim)]
 #[inline(never)]
-fn called_element<P: LowerParts>(
+fn called_element<P: LowerPieces<ExpressionStoreBuilder>>(
     lowerer: &Lowerer<P>,
-    state: &mut BodyBuilder,
+    state: &mut StoredBody,
     outer: InFile<AstPtr>,
     written: &ast::MacroCall,
 ) -> Result<Option<PatId>, StoreFault>
@@ -315,9 +320,9 @@ fn called_element<P: LowerParts>(
 /// The pattern of an element of a tuple or a call, or in front of the two dots of an array, none where it comes to two dots. A call is
 /// what it stands for, whatever disables it; one that the text lacks is missing, and its node leads there.
 #[cycle(aim)]
-fn element<P: LowerParts>(
+fn element<P: LowerPieces<ExpressionStoreBuilder>>(
     lowerer: &Lowerer<P>,
-    state: &mut BodyBuilder,
+    state: &mut StoredBody,
     call: Option<InFile<AstPtr>>,
     node: &ast::Expr,
 ) -> Result<Option<PatId>, StoreFault>

@@ -7,15 +7,16 @@ ghost use Rattle.hir_lower_form.specs.Nests.{IfPresent};
 
 use crate::bindings::Bindings;
 use crate::pats::lower_pat;
-use hir_lower_form::builder::BodyBuilder;
-use hir_lower_form::parts::{LowerParts, Lowerer};
+use hir_lower_form::builder::StoredBody;
+use hir_lower_form::parts::{LowerPieces, Lowerer};
+use hir_store::builder::ExpressionStoreBuilder;
 use hir_store::fault::StoreFault;
 use hir_store::ids::PatId;
 use hir_syntax::{Boxed, ast};
 
-fn whole_pat<P: LowerParts>(
+fn whole_pat<P: LowerPieces<ExpressionStoreBuilder>>(
     lowerer: &Lowerer<P>,
-    state: &mut BodyBuilder,
+    state: &mut StoredBody,
     node: &ast::Pat,
 ) -> Result<PatId, StoreFault>
     requires { (P.can lowerer.now.parts).pat (P.spot lowerer.now.parts).place node.now }
@@ -28,9 +29,9 @@ fn whole_pat<P: LowerParts>(
 }
 
 /// A whole pattern, missing where it is absent. Each name of it gets one binding, and this the problem that it shows.
-pub fn top_pat<P: LowerParts>(
+pub fn top_pat<P: LowerPieces<ExpressionStoreBuilder>>(
     lowerer: &Lowerer<P>,
-    state: &mut BodyBuilder,
+    state: &mut StoredBody,
     part: &Option<Boxed<ast::Pat>>,
 ) -> Result<PatId, StoreFault>
     requires { IfPresent ((P.can lowerer.now.parts).pat (P.spot lowerer.now.parts).place) part.now }

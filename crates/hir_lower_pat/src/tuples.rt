@@ -17,6 +17,7 @@ use crate::parts::{Here, PatParts};
 use crate::paths::PathPart;
 use hir_base::node::{AstPtr, InFile};
 use hir_lower_form::builder::BodyBuilder;
+use hir_lower_form::storing::Storing;
 use hir_store::fault::StoreFault;
 use hir_store::hir::Pat;
 use hir_store::ids::PatId;
@@ -26,9 +27,9 @@ use hir_syntax::Seq;
 use std::alloc::{AllocError, Global};
 
 /// One part more. Two dots are none, and of several the first count.
-pub(crate) fn element<S: PatParts, N: PatNode>(
+pub(crate) fn element<I: Storing, S: PatParts<I>, N: PatNode>(
     parts: &S,
-    state: &mut BodyBuilder,
+    state: &mut BodyBuilder<I>,
     bindings: &mut Bindings,
     done: (Seq<PatId>, Option<usize>),
     node: &N,
@@ -74,8 +75,8 @@ fn small_place(leading_comma: bool, place: usize) -> Option<u32>
 
 /// The place of the dots as it is stored. There may be more parts in front than are counted.
 #[tactic(auto, unfolding(hir_lower_form::specs::Lowering::count_out))]
-fn counted_dots(
-    state: &mut BodyBuilder,
+fn counted_dots<I: Storing>(
+    state: &mut BodyBuilder<I>,
     leading_comma: bool,
     dots: Option<usize>,
 ) -> Result<Option<u32>, StoreFault>
@@ -101,9 +102,9 @@ fn with_first(alloc: Global, first: PatId, rest: Seq<PatId>) -> Result<Seq<PatId
 }
 
 /// A comma in front stands for a missing part, which is made last.
-fn with_first_missing(
+fn with_first_missing<I: Storing>(
     alloc: Global,
-    state: &mut BodyBuilder,
+    state: &mut BodyBuilder<I>,
     leading_comma: bool,
     ids: Seq<PatId>,
 ) -> Result<Seq<PatId>, StoreFault>
@@ -119,9 +120,9 @@ fn with_first_missing(
 
 /// The parts as they are stored: where the dots stand, and the numbers.
 #[tactic(auto, unfolding(hir_lower_form::specs::Pats::elements_form))]
-pub(crate) fn stored_elements(
+pub(crate) fn stored_elements<I: Storing>(
     alloc: Global,
-    state: &mut BodyBuilder,
+    state: &mut BodyBuilder<I>,
     leading_comma: bool,
     done: (Seq<PatId>, Option<usize>),
 ) -> Result<(Option<u32>, Seq<PatId>), StoreFault>
@@ -136,9 +137,9 @@ pub(crate) fn stored_elements(
 
 #[tactic(auto, unfolding(hir_lower_form::specs::Pats::tuple_pat_form))]
 #[inline(never)]
-pub(crate) fn tuple_form<S: PatParts, L: PatsPart>(
+pub(crate) fn tuple_form<I: Storing, S: PatParts<I>, L: PatsPart>(
     parts: &S,
-    state: &mut BodyBuilder,
+    state: &mut BodyBuilder<I>,
     bindings: &mut Bindings,
     at: InFile<AstPtr>,
     leading_comma: bool,
@@ -156,8 +157,8 @@ pub(crate) fn tuple_form<S: PatParts, L: PatsPart>(
 
 /// Stores a call of this path. A `Pat` is large: one that is made here stands in no frame in which a part is lowered.
 #[inline(never)]
-fn store_tuple_struct(
-    state: &mut BodyBuilder,
+fn store_tuple_struct<I: Storing>(
+    state: &mut BodyBuilder<I>,
     at: InFile<AstPtr>,
     path: Path,
     ellipsis: Option<u32>,
@@ -176,9 +177,9 @@ fn store_tuple_struct(
 }
 
 /// A call of this path.
-fn tuple_struct_of<S: PatParts, L: PatsPart>(
+fn tuple_struct_of<I: Storing, S: PatParts<I>, L: PatsPart>(
     parts: &S,
-    state: &mut BodyBuilder,
+    state: &mut BodyBuilder<I>,
     bindings: &mut Bindings,
     at: InFile<AstPtr>,
     path: Path,
@@ -199,9 +200,9 @@ fn tuple_struct_of<S: PatParts, L: PatsPart>(
 /// Where the path is absent or refused the call is missing, and nothing else of it is read.
 #[tactic(auto, unfolding(hir_lower_form::specs::Pats::tuple_struct_form))]
 #[inline(never)]
-pub(crate) fn tuple_struct_form<S: PatParts, W: PathPart, L: PatsPart>(
+pub(crate) fn tuple_struct_form<I: Storing, S: PatParts<I>, W: PathPart, L: PatsPart>(
     parts: &S,
-    state: &mut BodyBuilder,
+    state: &mut BodyBuilder<I>,
     bindings: &mut Bindings,
     at: InFile<AstPtr>,
     path: &W,

@@ -21,7 +21,8 @@ use hir_env::expand::FragmentKind;
 use hir_env::place::Place;
 use hir_lower_form::builder::BodyBuilder;
 use hir_lower_form::calls::enter;
-use hir_lower_form::parts::{LowerParts, Lowerer, pointer_in};
+use hir_lower_form::parts::{LowerPieces, Lowerer, pointer_in};
+use hir_lower_form::storing::Storing;
 use hir_store::fault::StoreFault;
 use hir_store::hir::Pat;
 use hir_store::ids::PatId;
@@ -30,7 +31,10 @@ use hir_syntax::ast::RangeOp;
 use hir_syntax::{Boxed, Seq, ast};
 
 /// What is never null.
-fn not_null_form(state: &mut BodyBuilder, at: InFile<AstPtr>) -> Result<PatId, StoreFault>
+fn not_null_form<I: Storing>(
+    state: &mut BodyBuilder<I>,
+    at: InFile<AstPtr>,
+) -> Result<PatId, StoreFault>
     ensures { Lowers HasPat (steps.lower_type_pat (tree.not_null_type_pat at)) state.old result state.new }
 {
     state.alloc_pat(Pat::NotNull, Some(at))
@@ -39,9 +43,9 @@ fn not_null_form(state: &mut BodyBuilder, at: InFile<AstPtr>) -> Result<PatId, S
 /// Both ends are part of the range as it is stored.
 #[tactic(auto, unfolding(hir_lower_form::specs::Ranges::limits_form))]
 #[inline(never)]
-fn range_form<P: LowerParts, E: LimitPart>(
+fn range_form<I: Storing, P: LowerPieces<I>, E: LimitPart>(
     lowerer: &Lowerer<P>,
-    state: &mut BodyBuilder,
+    state: &mut BodyBuilder<I>,
     place: Place,
     at: InFile<AstPtr>,
     op: Option<RangeOp>,
@@ -64,9 +68,9 @@ fn range_form<P: LowerParts, E: LimitPart>(
 
 /// A pattern that no type has is missing.
 #[tactic(auto, using(crate::proofs::TypePats::other_is))]
-fn other_form<P: LowerParts>(
+fn other_form<I: Storing, P: LowerPieces<I>>(
     lowerer: &Lowerer<P>,
-    state: &mut BodyBuilder,
+    state: &mut BodyBuilder<I>,
     place: Place,
     node: &ast::Pat,
 ) -> Result<PatId, StoreFault>
@@ -79,9 +83,9 @@ fn other_form<P: LowerParts>(
 }
 
 #[cycle(type_pat)]
-fn each_type_pat<P: LowerParts>(
+fn each_type_pat<I: Storing, P: LowerPieces<I>>(
     lowerer: &Lowerer<P>,
-    state: &mut BodyBuilder,
+    state: &mut BodyBuilder<I>,
     place: Place,
     mut left: &[ast::Pat],
 ) -> Result<Seq<PatId>, StoreFault>
@@ -103,9 +107,9 @@ fn each_type_pat<P: LowerParts>(
 #[cycle(type_pat)]
 #[tactic(auto, unfolding(hir_lower_form::specs::Ranges::type_alternatives_form))]
 #[inline(never)]
-fn alternatives_form<P: LowerParts>(
+fn alternatives_form<I: Storing, P: LowerPieces<I>>(
     lowerer: &Lowerer<P>,
-    state: &mut BodyBuilder,
+    state: &mut BodyBuilder<I>,
     place: Place,
     node: &ast::Pat,
     all: &Seq<ast::Pat>,
@@ -124,9 +128,9 @@ fn alternatives_form<P: LowerParts>(
 /// A call: what it stands for, which is missing where it stands for no pattern. Its node leads there.
 #[cycle(type_pat)]
 #[inline(never)]
-fn called_form<P: LowerParts>(
+fn called_form<I: Storing, P: LowerPieces<I>>(
     lowerer: &Lowerer<P>,
-    state: &mut BodyBuilder,
+    state: &mut BodyBuilder<I>,
     place: Place,
     at: InFile<AstPtr>,
     call: &ast::MacroCall,
@@ -149,9 +153,9 @@ fn called_form<P: LowerParts>(
 
 #[cycle(type_pat)]
 #[tactic(auto, using(crate::proofs::TypePats::others_left))]
-fn type_pat<P: LowerParts>(
+fn type_pat<I: Storing, P: LowerPieces<I>>(
     lowerer: &Lowerer<P>,
-    state: &mut BodyBuilder,
+    state: &mut BodyBuilder<I>,
     place: Place,
     node: &ast::Pat,
 ) -> Result<PatId, StoreFault>
@@ -176,9 +180,9 @@ fn type_pat<P: LowerParts>(
 }
 
 /// The pattern of a type, read at this place, missing where it is absent. The ends of its ranges are bodies of their own.
-pub fn lower_type_pat<P: LowerParts>(
+pub fn lower_type_pat<I: Storing, P: LowerPieces<I>>(
     lowerer: &Lowerer<P>,
-    state: &mut BodyBuilder,
+    state: &mut BodyBuilder<I>,
     place: Place,
     part: &Option<Boxed<ast::Pat>>,
 ) -> Result<PatId, StoreFault>

@@ -13,7 +13,8 @@ ghost use Rattle.hir_lower_path.specs.Found.{found_or};
 
 use hir_lower_form::args::or_notation;
 use hir_lower_form::builder::BodyBuilder;
-use hir_lower_form::parts::{LowerParts, Lowerer};
+use hir_lower_form::parts::{LowerPieces, Lowerer};
+use hir_lower_form::storing::Storing;
 use hir_store::fault::StoreFault;
 use hir_store::ids::TypeRefId;
 use hir_store::lists::push_type;
@@ -24,9 +25,9 @@ use hir_syntax::{Seq, Text, ast};
 use std::alloc::{AllocError, Global};
 
 /// The types in `(A, B)`.
-fn type_args<P: LowerParts>(
+fn type_args<I: Storing, P: LowerPieces<I>>(
     lowerer: &Lowerer<P>,
-    state: &mut BodyBuilder,
+    state: &mut BodyBuilder<I>,
     mut left: &[ast::TypeArg],
 ) -> Result<Seq<TypeRefId>, StoreFault>
     requires { Each (KidsTypeArg (P.can lowerer.now.parts) (P.spot lowerer.now.parts).place) left.now }
@@ -42,9 +43,9 @@ fn type_args<P: LowerParts>(
 }
 
 /// What `-> C` says: `()` where it is absent, and an error where it has no type.
-fn output<P: LowerParts>(
+fn output<I: Storing, P: LowerPieces<I>>(
     lowerer: &Lowerer<P>,
-    state: &mut BodyBuilder,
+    state: &mut BodyBuilder<I>,
     ret: &Option<ast::RetType>,
 ) -> Result<TypeRefId, StoreFault>
     requires { IfPresent (KidsRet (P.can lowerer.now.parts) (P.spot lowerer.now.parts).place) ret.now }
@@ -76,9 +77,9 @@ fn sugared_args(
 /// `(A) -> C`. Without `(A)` nothing is read.
 #[tactic(auto, using(crate::proofs::Sugar::sugared_has), unfolding(hir_lower_form::specs::Paths::parens_form))]
 #[inline(never)]
-fn parens<P: LowerParts>(
+fn parens<I: Storing, P: LowerPieces<I>>(
     lowerer: &Lowerer<P>,
-    state: &mut BodyBuilder,
+    state: &mut BodyBuilder<I>,
     parens: &Option<ast::ParenArgs>,
     ret: &Option<ast::RetType>,
 ) -> Result<Option<GenericArgs>, StoreFault>
@@ -96,9 +97,9 @@ fn parens<P: LowerParts>(
 }
 
 /// `(A) -> C`, or else `(..)`.
-fn parens_or_dots<P: LowerParts>(
+fn parens_or_dots<I: Storing, P: LowerPieces<I>>(
     lowerer: &Lowerer<P>,
-    state: &mut BodyBuilder,
+    state: &mut BodyBuilder<I>,
     node: &ast::PathSegment,
 ) -> Result<Option<GenericArgs>, StoreFault>
     requires { let level = out-PathSegment node.now in
@@ -115,9 +116,9 @@ fn parens_or_dots<P: LowerParts>(
 
 /// These arguments, or else `(A) -> C`, or else `(..)`.
 #[inline(never)]
-fn found_or_parens<P: LowerParts>(
+fn found_or_parens<I: Storing, P: LowerPieces<I>>(
     lowerer: &Lowerer<P>,
-    state: &mut BodyBuilder,
+    state: &mut BodyBuilder<I>,
     node: &ast::PathSegment,
     found: Option<GenericArgs>,
 ) -> Result<Option<GenericArgs>, StoreFault>
@@ -136,9 +137,9 @@ fn found_or_parens<P: LowerParts>(
 
 /// Of `<..>`, `(A) -> C` and `(..)` the first that yields any.
 #[tactic(auto, unfolding(hir_lower_form::specs::Paths::segment_args_form))]
-pub(crate) fn segment_args<P: LowerParts>(
+pub(crate) fn segment_args<I: Storing, P: LowerPieces<I>>(
     lowerer: &Lowerer<P>,
-    state: &mut BodyBuilder,
+    state: &mut BodyBuilder<I>,
     node: &ast::PathSegment,
 ) -> Result<Option<GenericArgs>, StoreFault>
     requires { KidsSegmentArgs (P.can lowerer.now.parts) (P.spot lowerer.now.parts).place (out-PathSegment node.now) }

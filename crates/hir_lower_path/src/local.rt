@@ -25,7 +25,8 @@ use crate::places::inside_projection;
 use hir_base::node::InFile;
 use hir_env::place::Place;
 use hir_lower_form::builder::BodyBuilder;
-use hir_lower_form::parts::{LowerParts, Lowerer};
+use hir_lower_form::parts::{LowerPieces, Lowerer};
+use hir_lower_form::storing::Storing;
 use hir_lower_form::walk::{PathWalk, Reading, crate_kind};
 use hir_store::fault::StoreFault;
 use hir_store::ids::{CrateId, TypeRefId};
@@ -87,9 +88,9 @@ fn if_read(
 /// `<T as Trait>`, which stands for the names of the trait.
 #[tactic(auto, using(crate::proofs::Rooted::root_has, crate::proofs::Rooted::as_bare), unfolding(hir_lower_form::specs::Paths::with_trait))]
 #[inline(never)]
-fn local_trait<P: LowerParts>(
+fn local_trait<I: Storing, P: LowerPieces<I>>(
     lowerer: &Lowerer<P>,
-    state: &mut BodyBuilder,
+    state: &mut BodyBuilder<I>,
     place: Place,
     walk: PathWalk,
     root: Option<CrateId>,
@@ -113,9 +114,9 @@ fn local_trait<P: LowerParts>(
 
 /// A qualified type with a trait.
 #[inline(never)]
-fn local_qualified<P: LowerParts>(
+fn local_qualified<I: Storing, P: LowerPieces<I>>(
     lowerer: &Lowerer<P>,
-    state: &mut BodyBuilder,
+    state: &mut BodyBuilder<I>,
     walk: PathWalk,
     root: Option<CrateId>,
     ty: &Option<Boxed<ast::Type_>>,
@@ -161,9 +162,9 @@ fn is_bare_segment(leading: bool, seg: Option<SegmentKind>) -> bool
 
 /// The segment, which begins at this root where it is one name that begins nowhere.
 #[inline(never)]
-fn local_segment<P: LowerParts>(
+fn local_segment<I: Storing, P: LowerPieces<I>>(
     lowerer: &Lowerer<P>,
-    state: &mut BodyBuilder,
+    state: &mut BodyBuilder<I>,
     walk: PathWalk,
     leading: bool,
     root: Option<CrateId>,
@@ -195,9 +196,9 @@ fn local_segment<P: LowerParts>(
 /// The segment of a path of one, in a call.
 #[tactic(auto, using(crate::proofs::Rooted::local_reads))]
 #[inline(never)]
-fn only_segment<P: LowerParts>(
+fn only_segment<I: Storing, P: LowerPieces<I>>(
     lowerer: &Lowerer<P>,
-    state: &mut BodyBuilder,
+    state: &mut BodyBuilder<I>,
     walk: PathWalk,
     leading: bool,
     node: &ast::PathSegment,
@@ -221,8 +222,8 @@ fn only_segment<P: LowerParts>(
 
 /// A path without any segment that is there, in a call.
 #[inline(never)]
-fn absent_path(
-    state: &mut BodyBuilder,
+fn absent_path<I: Storing>(
+    state: &mut BodyBuilder<I>,
     walk: PathWalk,
     leading: bool,
 ) -> Result<Reading, StoreFault>
@@ -239,9 +240,9 @@ fn absent_path(
 
 /// A path that stands directly in a call, where no use tree stands around it.
 #[inline(never)]
-pub(crate) fn called_path<P: LowerParts>(
+pub(crate) fn called_path<I: Storing, P: LowerPieces<I>>(
     lowerer: &Lowerer<P>,
-    state: &mut BodyBuilder,
+    state: &mut BodyBuilder<I>,
     walk: PathWalk,
     node: &ast::Path,
 ) -> Result<Reading, StoreFault>

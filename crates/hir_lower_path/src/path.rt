@@ -26,7 +26,8 @@ use crate::places::inside_projection;
 use hir_base::node::InFile;
 use hir_env::place::Place;
 use hir_lower_form::builder::BodyBuilder;
-use hir_lower_form::parts::{LowerParts, Lowerer, pointer_in};
+use hir_lower_form::parts::{LowerParts, LowerPieces, Lowerer, pointer_in};
+use hir_lower_form::storing::Storing;
 use hir_lower_form::walk::{PathWalk, Reading, crate_kind};
 use hir_store::fault::StoreFault;
 use hir_store::ids::TypeRefId;
@@ -47,7 +48,10 @@ fn refused(_walk: PathWalk) -> Result<Reading, StoreFault>
 
 /// A name that isn't there.
 #[inline(never)]
-fn missing_name(state: &mut BodyBuilder, walk: PathWalk) -> Result<Reading, StoreFault>
+fn missing_name<I: Storing>(
+    state: &mut BodyBuilder<I>,
+    walk: PathWalk,
+) -> Result<Reading, StoreFault>
     requires { HasWalk state.old.stored walk }
     ensures { ReadsSegment true tree.absent_segment walk state.old result state.new }
 {
@@ -56,8 +60,8 @@ fn missing_name(state: &mut BodyBuilder, walk: PathWalk) -> Result<Reading, Stor
 
 /// A written name, with what stands beside it.
 #[inline(never)]
-fn written_name(
-    state: &mut BodyBuilder,
+fn written_name<I: Storing>(
+    state: &mut BodyBuilder<I>,
     walk: PathWalk,
     written: &ast::Name,
     args: Option<GenericArgs>,
@@ -93,9 +97,9 @@ fn dollar_crate<P: LowerParts>(
 
 /// A name with what stands behind it, or `$crate`, which may only be the first.
 #[inline(never)]
-fn name_form<P: LowerParts>(
+fn name_form<I: Storing, P: LowerPieces<I>>(
     lowerer: &Lowerer<P>,
-    state: &mut BodyBuilder,
+    state: &mut BodyBuilder<I>,
     walk: PathWalk,
     first: bool,
     node: &ast::PathSegment,
@@ -119,9 +123,9 @@ fn name_form<P: LowerParts>(
     }
 }
 
-pub(crate) fn trait_path<P: LowerParts>(
+pub(crate) fn trait_path<I: Storing, P: LowerPieces<I>>(
     lowerer: &Lowerer<P>,
-    state: &mut BodyBuilder,
+    state: &mut BodyBuilder<I>,
     place: Place,
     node: &ast::PathType,
 ) -> Result<Option<Path>, StoreFault>
@@ -133,9 +137,9 @@ pub(crate) fn trait_path<P: LowerParts>(
 
 /// `<T as Trait>` with this path, which is stored as a type too.
 #[tactic(auto, using(hir_lower_form::proofs::Walked::projected_has))]
-pub(crate) fn projected_form<P: LowerParts>(
+pub(crate) fn projected_form<I: Storing, P: LowerPieces<I>>(
     lowerer: &Lowerer<P>,
-    state: &mut BodyBuilder,
+    state: &mut BodyBuilder<I>,
     place: Place,
     walk: PathWalk,
     ty: TypeRefId,
@@ -164,9 +168,9 @@ fn anchored(walk: PathWalk, ty: TypeRefId) -> Result<Reading, StoreFault>
 /// `<T as Trait>`.
 #[tactic(auto, unfolding(hir_lower_form::specs::Paths::with_trait))]
 #[inline(never)]
-fn trait_form<P: LowerParts>(
+fn trait_form<I: Storing, P: LowerPieces<I>>(
     lowerer: &Lowerer<P>,
-    state: &mut BodyBuilder,
+    state: &mut BodyBuilder<I>,
     place: Place,
     walk: PathWalk,
     ty: TypeRefId,
@@ -187,9 +191,9 @@ fn trait_form<P: LowerParts>(
 /// `<T>` or `<T as Trait>`, which may only be the first.
 #[tactic(auto, using(hir_env::proofs::PathLevels::path_type_is_level, hir_lower_form::proofs::Walked::anchored_has))]
 #[inline(never)]
-fn qualified_form<P: LowerParts>(
+fn qualified_form<I: Storing, P: LowerPieces<I>>(
     lowerer: &Lowerer<P>,
-    state: &mut BodyBuilder,
+    state: &mut BodyBuilder<I>,
     walk: PathWalk,
     first: bool,
     ty: &Option<Boxed<ast::Type_>>,
@@ -215,7 +219,7 @@ fn qualified_form<P: LowerParts>(
 /// One `super` more, where one more is counted.
 #[tactic(auto, using(hir_lower_form::proofs::Walked::super_has), unfolding(hir_lower_form::specs::Lowering::count_out))]
 #[inline(never)]
-fn super_form(state: &mut BodyBuilder, walk: PathWalk) -> Result<Reading, StoreFault>
+fn super_form<I: Storing>(state: &mut BodyBuilder<I>, walk: PathWalk) -> Result<Reading, StoreFault>
     requires { HasWalk state.old.stored walk }
     ensures { Lowers HasReading (forms.counted (super_read walk)) state.old result state.new }
 {
@@ -227,9 +231,9 @@ fn super_form(state: &mut BodyBuilder, walk: PathWalk) -> Result<Reading, StoreF
 
 /// `Self`, which is a name.
 #[inline(never)]
-fn self_type_form(
+fn self_type_form<I: Storing>(
     alloc: Global,
-    state: &mut BodyBuilder,
+    state: &mut BodyBuilder<I>,
     walk: PathWalk,
 ) -> Result<Reading, StoreFault>
     requires { HasWalk state.old.stored walk }
@@ -241,7 +245,11 @@ fn self_type_form(
 
 /// `crate`, which may only be the first.
 #[inline(never)]
-fn crate_form(state: &mut BodyBuilder, walk: PathWalk, first: bool) -> Result<Reading, StoreFault>
+fn crate_form<I: Storing>(
+    state: &mut BodyBuilder<I>,
+    walk: PathWalk,
+    first: bool,
+) -> Result<Reading, StoreFault>
     requires { HasWalk state.old.stored walk }
     ensures { ReadsSegment first tree.crate_segment walk state.old result state.new }
 {
@@ -255,7 +263,11 @@ fn crate_form(state: &mut BodyBuilder, walk: PathWalk, first: bool) -> Result<Re
 /// `self`, which may only be the first.
 #[tactic(auto, using(hir_lower_form::proofs::Walked::self_has))]
 #[inline(never)]
-fn self_form(state: &mut BodyBuilder, walk: PathWalk, first: bool) -> Result<Reading, StoreFault>
+fn self_form<I: Storing>(
+    state: &mut BodyBuilder<I>,
+    walk: PathWalk,
+    first: bool,
+) -> Result<Reading, StoreFault>
     requires { HasWalk state.old.stored walk }
     ensures { ReadsSegment first tree.self_segment walk state.old result state.new }
 {
@@ -268,9 +280,9 @@ fn self_form(state: &mut BodyBuilder, walk: PathWalk, first: bool) -> Result<Rea
 
 /// A segment that is a word of the language, or else broken, since it has neither a name nor a type.
 #[inline(never)]
-fn word_form<P: LowerParts>(
+fn word_form<I: Storing, P: LowerPieces<I>>(
     lowerer: &Lowerer<P>,
-    state: &mut BodyBuilder,
+    state: &mut BodyBuilder<I>,
     walk: PathWalk,
     first: bool,
     word: Option<SegmentKind>,
@@ -291,9 +303,9 @@ fn word_form<P: LowerParts>(
 }
 
 #[inline(always)]
-pub(crate) fn segment_form<P: LowerParts>(
+pub(crate) fn segment_form<I: Storing, P: LowerPieces<I>>(
     lowerer: &Lowerer<P>,
-    state: &mut BodyBuilder,
+    state: &mut BodyBuilder<I>,
     walk: PathWalk,
     first: bool,
     node: &ast::PathSegment,
@@ -314,9 +326,9 @@ pub(crate) fn segment_form<P: LowerParts>(
 /// A segment, or the missing name where it is absent.
 #[tactic(auto, using(hir_env::proofs::PathLevels::segment_is_level))]
 #[inline(never)]
-fn segment<P: LowerParts>(
+fn segment<I: Storing, P: LowerPieces<I>>(
     lowerer: &Lowerer<P>,
-    state: &mut BodyBuilder,
+    state: &mut BodyBuilder<I>,
     walk: PathWalk,
     first: bool,
     node: &Option<ast::PathSegment>,
@@ -334,9 +346,9 @@ fn segment<P: LowerParts>(
 /// The segments behind the first, from the last.
 #[tactic(auto, using(crate::proofs::Ends::each_before, crate::proofs::Ends::each_last, crate::proofs::Ends::read_each_last))]
 #[inline(never)]
-fn segments<P: LowerParts>(
+fn segments<I: Storing, P: LowerPieces<I>>(
     lowerer: &Lowerer<P>,
-    state: &mut BodyBuilder,
+    state: &mut BodyBuilder<I>,
     mut walk: PathWalk,
     mut left: &[Option<ast::PathSegment>],
 ) -> Result<Reading, StoreFault>
@@ -366,8 +378,8 @@ fn begin(walk: &mut PathWalk, leading: bool)
 
 /// A path without any segment.
 #[inline(never)]
-fn missing_first(
-    state: &mut BodyBuilder,
+fn missing_first<I: Storing>(
+    state: &mut BodyBuilder<I>,
     walk: PathWalk,
     leading: bool,
 ) -> Result<Reading, StoreFault>
@@ -379,9 +391,9 @@ fn missing_first(
 
 /// The segments of a path, without those of the use tree around it.
 #[inline(never)]
-pub(crate) fn own_segments<P: LowerParts>(
+pub(crate) fn own_segments<I: Storing, P: LowerPieces<I>>(
     lowerer: &Lowerer<P>,
-    state: &mut BodyBuilder,
+    state: &mut BodyBuilder<I>,
     walk: PathWalk,
     leading: bool,
     all: &[Option<ast::PathSegment>],
@@ -406,9 +418,9 @@ pub(crate) fn own_segments<P: LowerParts>(
 
 /// The segments of the use tree around a path, if there is one.
 #[inline(never)]
-fn outer_segments<P: LowerParts>(
+fn outer_segments<I: Storing, P: LowerPieces<I>>(
     lowerer: &Lowerer<P>,
-    state: &mut BodyBuilder,
+    state: &mut BodyBuilder<I>,
     walk: PathWalk,
     outer: &Option<Boxed<ast::Path>>,
 ) -> Result<Reading, StoreFault>
@@ -428,9 +440,9 @@ fn outer_segments<P: LowerParts>(
 /// The segments of a path, and those of the use tree around it.
 #[tactic(auto, unfolding(hir_lower_form::specs::Paths::whole))]
 #[inline(never)]
-fn whole_path<P: LowerParts>(
+fn whole_path<I: Storing, P: LowerPieces<I>>(
     lowerer: &Lowerer<P>,
-    state: &mut BodyBuilder,
+    state: &mut BodyBuilder<I>,
     walk: PathWalk,
     leading: bool,
     all: &[Option<ast::PathSegment>],
@@ -450,9 +462,9 @@ fn whole_path<P: LowerParts>(
 }
 
 /// Goes on with the segments of a path that is read here, and then with those of the use tree around it.
-pub fn path_node<P: LowerParts>(
+pub fn path_node<I: Storing, P: LowerPieces<I>>(
     lowerer: &Lowerer<P>,
-    state: &mut BodyBuilder,
+    state: &mut BodyBuilder<I>,
     walk: PathWalk,
     node: &ast::Path,
 ) -> Result<Reading, StoreFault>

@@ -23,7 +23,8 @@ use crate::places::outside_impl;
 use hir_env::place::Place;
 use hir_lower_form::args::{ArgLists, or_notation};
 use hir_lower_form::builder::BodyBuilder;
-use hir_lower_form::parts::{LowerParts, Lowerer};
+use hir_lower_form::parts::{LowerPieces, Lowerer};
+use hir_lower_form::storing::Storing;
 use hir_store::fault::StoreFault;
 use hir_store::name::Name;
 use hir_store::path::{AssociatedTypeBinding, GenericArg, GenericArgs};
@@ -32,9 +33,9 @@ use hir_syntax::ast;
 /// A binding, whose parts are read at this place: its arguments, its type, its bounds.
 #[tactic(auto, unfolding(hir_lower_form::specs::Types::binding_form))]
 #[inline(never)]
-fn binding_form<P: LowerParts>(
+fn binding_form<I: Storing, P: LowerPieces<I>>(
     lowerer: &Lowerer<P>,
-    state: &mut BodyBuilder,
+    state: &mut BodyBuilder<I>,
     place: Place,
     written: &ast::Name,
     node: &ast::AssocTypeArg,
@@ -56,9 +57,9 @@ fn binding_form<P: LowerParts>(
 
 /// A binding with a parameter list, and one without a name, is skipped.
 #[inline(never)]
-fn assoc_form<P: LowerParts>(
+fn assoc_form<I: Storing, P: LowerPieces<I>>(
     lowerer: &Lowerer<P>,
-    state: &mut BodyBuilder,
+    state: &mut BodyBuilder<I>,
     node: &ast::AssocTypeArg,
 ) -> Result<OneArg, StoreFault>
     requires { KidsAssoc (P.can lowerer.now.parts) (P.spot lowerer.now.parts).place (out-AssocTypeArg node.now) }
@@ -71,9 +72,9 @@ fn assoc_form<P: LowerParts>(
     Ok(OneArg::Binding(binding_form(lowerer, state, place, name, node)?))
 }
 
-fn assoc_arg<P: LowerParts>(
+fn assoc_arg<I: Storing, P: LowerPieces<I>>(
     lowerer: &Lowerer<P>,
-    state: &mut BodyBuilder,
+    state: &mut BodyBuilder<I>,
     node: &ast::AssocTypeArg,
 ) -> Result<OneArg, StoreFault>
     requires { KidsAssoc (P.can lowerer.now.parts) (P.spot lowerer.now.parts).place (out-AssocTypeArg node.now) }
@@ -83,9 +84,9 @@ fn assoc_arg<P: LowerParts>(
 }
 
 #[inline(never)]
-fn type_arg<P: LowerParts>(
+fn type_arg<I: Storing, P: LowerPieces<I>>(
     lowerer: &Lowerer<P>,
-    state: &mut BodyBuilder,
+    state: &mut BodyBuilder<I>,
     node: &ast::TypeArg,
 ) -> Result<OneArg, StoreFault>
     requires { KidsTypeArg (P.can lowerer.now.parts) (P.spot lowerer.now.parts).place node.now }
@@ -101,9 +102,9 @@ fn type_arg<P: LowerParts>(
 
 /// A lifetime that isn't there is skipped.
 #[inline(never)]
-fn lifetime_arg<P: LowerParts>(
+fn lifetime_arg<I: Storing, P: LowerPieces<I>>(
     lowerer: &Lowerer<P>,
-    state: &mut BodyBuilder,
+    state: &mut BodyBuilder<I>,
     written: &Option<ast::Lifetime>,
 ) -> Result<OneArg, StoreFault>
     ensures { let level = lifetime_arg_of (P.spot lowerer.now.parts).place written.now in
@@ -119,9 +120,9 @@ fn lifetime_arg<P: LowerParts>(
 }
 
 #[inline(never)]
-fn const_arg<P: LowerParts>(
+fn const_arg<I: Storing, P: LowerPieces<I>>(
     lowerer: &Lowerer<P>,
-    state: &mut BodyBuilder,
+    state: &mut BodyBuilder<I>,
     node: &ast::ConstArg,
 ) -> Result<OneArg, StoreFault>
     requires { (P.can lowerer.now.parts).constant (P.spot lowerer.now.parts).place node.now }
@@ -134,9 +135,9 @@ fn const_arg<P: LowerParts>(
 }
 
 #[inline(never)]
-fn arg_form<P: LowerParts>(
+fn arg_form<I: Storing, P: LowerPieces<I>>(
     lowerer: &Lowerer<P>,
-    state: &mut BodyBuilder,
+    state: &mut BodyBuilder<I>,
     node: &ast::GenericArg,
 ) -> Result<OneArg, StoreFault>
     requires { KidsArg (P.can lowerer.now.parts) (P.spot lowerer.now.parts).place (out-GenericArg node.now) }
@@ -151,9 +152,9 @@ fn arg_form<P: LowerParts>(
 }
 
 /// The lists with an argument more.
-fn with_arg<P: LowerParts>(
+fn with_arg<I: Storing, P: LowerPieces<I>>(
     lowerer: &Lowerer<P>,
-    state: &mut BodyBuilder,
+    state: &mut BodyBuilder<I>,
     lists: ArgLists,
     node: &ast::GenericArg,
 ) -> Result<ArgLists, StoreFault>
@@ -164,9 +165,9 @@ fn with_arg<P: LowerParts>(
     behind_others(arg_form(lowerer, state, node), lists)
 }
 
-fn args<P: LowerParts>(
+fn args<I: Storing, P: LowerPieces<I>>(
     lowerer: &Lowerer<P>,
-    state: &mut BodyBuilder,
+    state: &mut BodyBuilder<I>,
     mut lists: ArgLists,
     mut left: &[ast::GenericArg],
 ) -> Result<ArgLists, StoreFault>
@@ -184,9 +185,9 @@ fn args<P: LowerParts>(
 }
 
 /// The arguments of a list that is read here, or none where it yields nothing.
-pub fn args_node<P: LowerParts>(
+pub fn args_node<I: Storing, P: LowerPieces<I>>(
     lowerer: &Lowerer<P>,
-    state: &mut BodyBuilder,
+    state: &mut BodyBuilder<I>,
     node: &ast::GenericArgList,
 ) -> Result<Option<GenericArgs>, StoreFault>
     requires { KidsArgs (P.can lowerer.now.parts) (P.spot lowerer.now.parts).place node.now }

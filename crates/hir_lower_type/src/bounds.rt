@@ -18,7 +18,8 @@ ghost use Rattle.hir_lower_type.specs.Bounds.{LowersPathBound};
 use crate::lifetimes::{binder, lifetime};
 use hir_env::place::Place;
 use hir_lower_form::builder::BodyBuilder;
-use hir_lower_form::parts::{LowerParts, Lowerer, pointer_in};
+use hir_lower_form::parts::{LowerPieces, Lowerer, pointer_in};
+use hir_lower_form::storing::Storing;
 use hir_store::fault::StoreFault;
 use hir_store::ids::TypeRefId;
 use hir_store::lists::{push_bound, push_use_arg};
@@ -27,9 +28,9 @@ use hir_store::path::Path;
 use hir_store::type_ref::{TraitBoundModifier, TypeBound, TypeRef, UseArgRef};
 use hir_syntax::{Seq, ast};
 
-fn trait_path<P: LowerParts>(
+fn trait_path<I: Storing, P: LowerPieces<I>>(
     lowerer: &Lowerer<P>,
-    state: &mut BodyBuilder,
+    state: &mut BodyBuilder<I>,
     place: Place,
     node: &ast::PathType,
 ) -> Result<Option<Path>, StoreFault>
@@ -55,9 +56,9 @@ fn stored_path_bound(maybe: bool, names: Seq<Name>, ty: TypeRefId) -> TypeBound
 
 #[tactic(auto, using(crate::proofs::BoundsExist::path_bound_has), unfolding(hir_lower_form::specs::Types::path_bound_form))]
 #[inline(never)]
-fn path_bound_form<P: LowerParts>(
+fn path_bound_form<I: Storing, P: LowerPieces<I>>(
     lowerer: &Lowerer<P>,
-    state: &mut BodyBuilder,
+    state: &mut BodyBuilder<I>,
     place: Place,
     node: &ast::PathType,
     maybe: bool,
@@ -77,9 +78,9 @@ fn path_bound_form<P: LowerParts>(
 }
 
 /// A bound by a trait, and an error where its path is absent or refused.
-fn path_bound<P: LowerParts>(
+fn path_bound<I: Storing, P: LowerPieces<I>>(
     lowerer: &Lowerer<P>,
-    state: &mut BodyBuilder,
+    state: &mut BodyBuilder<I>,
     place: Place,
     node: &ast::PathType,
     maybe: bool,
@@ -93,8 +94,8 @@ fn path_bound<P: LowerParts>(
 }
 
 /// What a `use<..>` names.
-fn use_arg(
-    state: &mut BodyBuilder,
+fn use_arg<I: Storing>(
+    state: &mut BodyBuilder<I>,
     place: Place,
     written: &ast::UseArg,
 ) -> Result<UseArgRef, StoreFault>
@@ -106,9 +107,9 @@ fn use_arg(
     }
 }
 
-fn use_args<P: LowerParts>(
+fn use_args<I: Storing, P: LowerPieces<I>>(
     lowerer: &Lowerer<P>,
-    state: &mut BodyBuilder,
+    state: &mut BodyBuilder<I>,
     place: Place,
     mut left: &[ast::UseArg],
 ) -> Result<Seq<UseArgRef>, StoreFault>
@@ -124,9 +125,9 @@ fn use_args<P: LowerParts>(
 }
 
 #[inline(never)]
-fn bound_form<P: LowerParts>(
+fn bound_form<I: Storing, P: LowerPieces<I>>(
     lowerer: &Lowerer<P>,
-    state: &mut BodyBuilder,
+    state: &mut BodyBuilder<I>,
     place: Place,
     node: &ast::TypeBound,
 ) -> Result<TypeBound, StoreFault>
@@ -152,9 +153,9 @@ fn bound_form<P: LowerParts>(
 }
 
 /// A bound, read at this place.
-pub fn bound_node<P: LowerParts>(
+pub fn bound_node<I: Storing, P: LowerPieces<I>>(
     lowerer: &Lowerer<P>,
-    state: &mut BodyBuilder,
+    state: &mut BodyBuilder<I>,
     place: Place,
     node: &ast::TypeBound,
 ) -> Result<TypeBound, StoreFault>
@@ -172,10 +173,10 @@ pub trait BoundsPart {
     ghost read: { Spot → Self → Bounds };
 
     /// The bounds, read at this place.
-    fn lower<P: LowerParts>(
+    fn lower<I: Storing, P: LowerPieces<I>>(
         &self,
         lowerer: &Lowerer<P>,
-        state: &mut BodyBuilder,
+        state: &mut BodyBuilder<I>,
         place: Place,
     ) -> Result<Seq<TypeBound>, StoreFault>
         requires { can (P.can lowerer.now.parts) place self.now }
@@ -187,10 +188,10 @@ impl BoundsPart for Seq<ast::TypeBound> {
 
     ghost read = { bounds_part };
 
-    fn lower<P: LowerParts>(
+    fn lower<I: Storing, P: LowerPieces<I>>(
         &self,
         lowerer: &Lowerer<P>,
-        state: &mut BodyBuilder,
+        state: &mut BodyBuilder<I>,
         place: Place,
     ) -> Result<Seq<TypeBound>, StoreFault> {
         let mut done = Seq::new(lowerer.alloc);

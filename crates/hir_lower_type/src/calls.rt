@@ -10,7 +10,8 @@ use hir_env::expand::FragmentKind;
 use hir_env::place::Place;
 use hir_lower_form::builder::BodyBuilder;
 use hir_lower_form::calls::{Entered, enter};
-use hir_lower_form::parts::{LowerParts, Lowerer};
+use hir_lower_form::parts::{LowerPieces, Lowerer};
+use hir_lower_form::storing::Storing;
 use hir_store::fault::StoreFault;
 use hir_store::ids::TypeRefId;
 use hir_store::name::Name;
@@ -31,9 +32,9 @@ fn type_of<'a>(entered: Entered<'a>) -> Option<(Place, &'a ast::Type_)>
 /// stands for no type. Its node leads there.
 #[tactic(auto, using(crate::proofs::CallLemmas::call_on))]
 #[inline(never)]
-pub(crate) fn call_form<P: LowerParts>(
+pub(crate) fn call_form<I: Storing, P: LowerPieces<I>>(
     lowerer: &Lowerer<P>,
-    state: &mut BodyBuilder,
+    state: &mut BodyBuilder<I>,
     at: InFile<AstPtr>,
     binder: &Option<Seq<Name>>,
     call: &MacroCall,

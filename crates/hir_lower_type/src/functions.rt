@@ -20,7 +20,8 @@ ghost use Rattle.hir_lower_type.specs.Params.{lower_param, param_name, param_nam
 use hir_base::node::{AstPtr, InFile};
 use hir_lower_form::builder::BodyBuilder;
 use hir_lower_form::names::name_of;
-use hir_lower_form::parts::{LowerParts, Lowerer};
+use hir_lower_form::parts::{LowerParts, LowerPieces, Lowerer};
+use hir_lower_form::storing::Storing;
 use hir_store::fault::StoreFault;
 use hir_store::ids::TypeRefId;
 use hir_store::lists::push_type;
@@ -88,9 +89,9 @@ fn abi(written: &Option<Text>) -> ExternAbi
 }
 
 #[inline(never)]
-fn param_form<P: LowerParts>(
+fn param_form<I: Storing, P: LowerPieces<I>>(
     lowerer: &Lowerer<P>,
-    state: &mut BodyBuilder,
+    state: &mut BodyBuilder<I>,
     node: &ast::Param,
 ) -> Result<Option<TypeRefId>, StoreFault>
     requires { KidsParam (P.can lowerer.now.parts) (P.spot lowerer.now.parts).place (out-Param node.now) }
@@ -104,9 +105,9 @@ fn param_form<P: LowerParts>(
 }
 
 /// The type of a parameter, none where it is variadic.
-fn param<P: LowerParts>(
+fn param<I: Storing, P: LowerPieces<I>>(
     lowerer: &Lowerer<P>,
-    state: &mut BodyBuilder,
+    state: &mut BodyBuilder<I>,
     node: &ast::Param,
 ) -> Result<Option<TypeRefId>, StoreFault>
     requires { KidsParam (P.can lowerer.now.parts) (P.spot lowerer.now.parts).place (out-Param node.now) }
@@ -117,9 +118,9 @@ fn param<P: LowerParts>(
 
 /// The types of the parameters that aren't variadic.
 #[tactic(auto, using(crate::proofs::Params::params_more))]
-fn params<P: LowerParts>(
+fn params<I: Storing, P: LowerPieces<I>>(
     lowerer: &Lowerer<P>,
-    state: &mut BodyBuilder,
+    state: &mut BodyBuilder<I>,
     mut left: &[ast::Param],
 ) -> Result<Seq<TypeRefId>, StoreFault>
     requires { Each (λ x. KidsParam (P.can lowerer.now.parts) (P.spot lowerer.now.parts).place (out-Param x)) left.now }
@@ -195,10 +196,10 @@ pub trait ParamsPart {
     ghost varargs: { Spot → Self → Bool };
 
     /// The types of those that aren't variadic.
-    fn types<P: LowerParts>(
+    fn types<I: Storing, P: LowerPieces<I>>(
         &self,
         lowerer: &Lowerer<P>,
-        state: &mut BodyBuilder,
+        state: &mut BodyBuilder<I>,
     ) -> Result<Seq<TypeRefId>, StoreFault>
         requires { can (P.can lowerer.now.parts) (P.spot lowerer.now.parts).place self.now }
         ensures { LowersParts (read (P.spot lowerer.now.parts) self.now) state.old result state.new };
@@ -221,10 +222,10 @@ impl ParamsPart for Option<Seq<ast::Param>> {
 
     ghost varargs = { varargs_part };
 
-    fn types<P: LowerParts>(
+    fn types<I: Storing, P: LowerPieces<I>>(
         &self,
         lowerer: &Lowerer<P>,
-        state: &mut BodyBuilder,
+        state: &mut BodyBuilder<I>,
     ) -> Result<Seq<TypeRefId>, StoreFault> {
         match self {
             None => Ok(Seq::new(lowerer.alloc)),
@@ -257,10 +258,10 @@ pub trait AnswerPart {
     ghost read: { Spot → Self → OptionType };
 
     /// The type that it returns: `()` where no type is written.
-    fn answer<P: LowerParts>(
+    fn answer<I: Storing, P: LowerPieces<I>>(
         &self,
         lowerer: &Lowerer<P>,
-        state: &mut BodyBuilder,
+        state: &mut BodyBuilder<I>,
     ) -> Result<TypeRefId, StoreFault>
         requires { can (P.can lowerer.now.parts) (P.spot lowerer.now.parts).place self.now }
         ensures { Lowers HasType (spec.type_or_unit (read (P.spot lowerer.now.parts) self.now)) state.old result state.new };
@@ -271,10 +272,10 @@ impl AnswerPart for Option<ast::RetType> {
 
     ghost read = { answer_part };
 
-    fn answer<P: LowerParts>(
+    fn answer<I: Storing, P: LowerPieces<I>>(
         &self,
         lowerer: &Lowerer<P>,
-        state: &mut BodyBuilder,
+        state: &mut BodyBuilder<I>,
     ) -> Result<TypeRefId, StoreFault> {
         match self {
             None | Some(None) => state.unit_type(lowerer.alloc),
@@ -289,9 +290,9 @@ impl AnswerPart for Option<ast::RetType> {
 /// What it returns is lowered first.
 #[tactic(auto, unfolding(hir_lower_form::specs::Types::fn_type_form))]
 #[inline(never)]
-pub(crate) fn fn_form<P: LowerParts, L: ParamsPart, R: AnswerPart>(
+pub(crate) fn fn_form<I: Storing, P: LowerPieces<I>, L: ParamsPart, R: AnswerPart>(
     lowerer: &Lowerer<P>,
-    state: &mut BodyBuilder,
+    state: &mut BodyBuilder<I>,
     at: InFile<AstPtr>,
     binder: &Option<Seq<Name>>,
     is_unsafe: bool,

@@ -9,6 +9,7 @@ ghost use Rattle.hir_lower_form.specs.Types.{lower_lifetime, lower_lifetime_opti
 use hir_env::place::Place;
 use hir_lower_form::builder::BodyBuilder;
 use hir_lower_form::parts::pointer_in;
+use hir_lower_form::storing::Storing;
 use hir_store::fault::StoreFault;
 use hir_store::ids::LifetimeRefId;
 use hir_store::name::Name;
@@ -36,8 +37,8 @@ pub fn lifetime_ref(written: &ast::Lifetime) -> Result<LifetimeRef, AllocError>
 /// A lifetime of the file of this place, which is noted where lifetimes count there.
 #[tactic(auto, unfolding(hir_lower_form::specs::Types::lower_lifetime))]
 #[inline(never)]
-pub fn lifetime(
-    state: &mut BodyBuilder,
+pub fn lifetime<I: Storing>(
+    state: &mut BodyBuilder<I>,
     place: Place,
     written: &ast::Lifetime,
 ) -> Result<LifetimeRefId, StoreFault>
@@ -50,8 +51,8 @@ pub fn lifetime(
 }
 
 /// The lifetime, where one is written.
-pub fn lifetime_if_present(
-    state: &mut BodyBuilder,
+pub fn lifetime_if_present<I: Storing>(
+    state: &mut BodyBuilder<I>,
     place: Place,
     written: &Option<ast::Lifetime>,
 ) -> Result<Option<LifetimeRefId>, StoreFault>

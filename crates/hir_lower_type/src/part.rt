@@ -15,7 +15,8 @@ ghost use Rattle.hir_lower_form.specs.Nests.{Each, IfPresent, const_expr};
 
 use hir_env::place::inside_constant;
 use hir_lower_form::builder::BodyBuilder;
-use hir_lower_form::parts::{LowerParts, Lowerer};
+use hir_lower_form::parts::{LowerPieces, Lowerer};
+use hir_lower_form::storing::Storing;
 use hir_lower_pat::type_pats::lower_type_pat;
 use hir_store::fault::StoreFault;
 use hir_store::ids::{PatId, TypeRefId};
@@ -31,10 +32,10 @@ pub trait TypePart {
     ghost read: { Spot → Self → OptionType };
 
     /// The type, with the names of the `for<..>` directly around it, and an error where it is absent.
-    fn lower<P: LowerParts>(
+    fn lower<I: Storing, P: LowerPieces<I>>(
         &self,
         lowerer: &Lowerer<P>,
-        state: &mut BodyBuilder,
+        state: &mut BodyBuilder<I>,
         binder: &Option<Seq<Name>>,
     ) -> Result<TypeRefId, StoreFault>
         requires { can ((P.can lowerer.now.parts).type_ (P.spot lowerer.now.parts).place) self.now }
@@ -46,10 +47,10 @@ impl TypePart for Option<Boxed<ast::Type_>> {
 
     ghost read = { type_part };
 
-    fn lower<P: LowerParts>(
+    fn lower<I: Storing, P: LowerPieces<I>>(
         &self,
         lowerer: &Lowerer<P>,
-        state: &mut BodyBuilder,
+        state: &mut BodyBuilder<I>,
         binder: &Option<Seq<Name>>,
     ) -> Result<TypeRefId, StoreFault> {
         lowerer.type_or_error(state, lowerer.parts.place(), binder, self)
@@ -62,10 +63,10 @@ pub trait TypesPart {
 
     ghost read: { Spot → Self → Parts };
 
-    fn lower_each<P: LowerParts>(
+    fn lower_each<I: Storing, P: LowerPieces<I>>(
         &self,
         lowerer: &Lowerer<P>,
-        state: &mut BodyBuilder,
+        state: &mut BodyBuilder<I>,
     ) -> Result<Seq<TypeRefId>, StoreFault>
         requires { can ((P.can lowerer.now.parts).type_ (P.spot lowerer.now.parts).place) self.now }
         ensures { LowersParts (read (P.spot lowerer.now.parts) self.now) state.old result state.new };
@@ -76,10 +77,10 @@ impl TypesPart for Seq<ast::Type_> {
 
     ghost read = { types_part };
 
-    fn lower_each<P: LowerParts>(
+    fn lower_each<I: Storing, P: LowerPieces<I>>(
         &self,
         lowerer: &Lowerer<P>,
-        state: &mut BodyBuilder,
+        state: &mut BodyBuilder<I>,
     ) -> Result<Seq<TypeRefId>, StoreFault> {
         let mut done = Seq::new(lowerer.alloc);
         let mut left = self.as_slice();
@@ -100,10 +101,10 @@ pub trait ConstPart {
     ghost read: { Spot → Self → Constant };
 
     /// The constant, missing where it is absent.
-    fn lower<P: LowerParts>(
+    fn lower<I: Storing, P: LowerPieces<I>>(
         &self,
         lowerer: &Lowerer<P>,
-        state: &mut BodyBuilder,
+        state: &mut BodyBuilder<I>,
     ) -> Result<ConstRef, StoreFault>
         requires { can ((P.can lowerer.now.parts).constant (P.spot lowerer.now.parts).place) self.now }
         ensures { LowersConstant (read (P.spot lowerer.now.parts) self.now) state.old result state.new };
@@ -114,10 +115,10 @@ impl ConstPart for Option<ast::ConstArg> {
 
     ghost read = { constant_part };
 
-    fn lower<P: LowerParts>(
+    fn lower<I: Storing, P: LowerPieces<I>>(
         &self,
         lowerer: &Lowerer<P>,
-        state: &mut BodyBuilder,
+        state: &mut BodyBuilder<I>,
     ) -> Result<ConstRef, StoreFault> {
         lowerer.constant_or_missing(state, lowerer.parts.place(), self)
     }
@@ -130,10 +131,10 @@ pub trait TypePatPart {
     ghost read: { Spot → Self → OptionPat };
 
     /// The pattern, the ends of whose ranges are constants.
-    fn lower_inside<P: LowerParts>(
+    fn lower_inside<I: Storing, P: LowerPieces<I>>(
         &self,
         lowerer: &Lowerer<P>,
-        state: &mut BodyBuilder,
+        state: &mut BodyBuilder<I>,
     ) -> Result<PatId, StoreFault>
         requires { can ((P.can lowerer.now.parts).pat (of.inside_constant (P.spot lowerer.now.parts).place)) self.now }
         ensures { let spot = P.spot lowerer.now.parts in
@@ -146,10 +147,10 @@ impl TypePatPart for Option<Boxed<ast::Pat>> {
 
     ghost read = { pat_part };
 
-    fn lower_inside<P: LowerParts>(
+    fn lower_inside<I: Storing, P: LowerPieces<I>>(
         &self,
         lowerer: &Lowerer<P>,
-        state: &mut BodyBuilder,
+        state: &mut BodyBuilder<I>,
     ) -> Result<PatId, StoreFault> {
         lower_type_pat(lowerer, state, inside_constant(lowerer.parts.place()), self)
     }

@@ -19,7 +19,8 @@ use crate::part::{ConstPart, TypePart, TypePatPart, TypesPart};
 use crate::places::inside_impl;
 use hir_base::node::{AstPtr, InFile};
 use hir_lower_form::builder::BodyBuilder;
-use hir_lower_form::parts::{LowerParts, Lowerer};
+use hir_lower_form::parts::{LowerPieces, Lowerer};
+use hir_lower_form::storing::Storing;
 use hir_lower_pat::paths::PathPart;
 use hir_store::fault::StoreFault;
 use hir_store::hir::Mutability;
@@ -40,8 +41,8 @@ fn written_mutability(mut_: bool) -> Mutability
 
 /// A type without parts, as it is stored.
 #[inline(never)]
-pub(crate) fn error_form(
-    state: &mut BodyBuilder,
+pub(crate) fn error_form<I: Storing>(
+    state: &mut BodyBuilder<I>,
     at: InFile<AstPtr>,
 ) -> Result<TypeRefId, StoreFault>
     ensures { Lowers HasType (alloc_type ty.Error (Some at)) state.old result state.new }
@@ -50,8 +51,8 @@ pub(crate) fn error_form(
 }
 
 #[inline(never)]
-pub(crate) fn never_form(
-    state: &mut BodyBuilder,
+pub(crate) fn never_form<I: Storing>(
+    state: &mut BodyBuilder<I>,
     at: InFile<AstPtr>,
 ) -> Result<TypeRefId, StoreFault>
     ensures { Lowers HasType (alloc_type ty.Never (Some at)) state.old result state.new }
@@ -60,8 +61,8 @@ pub(crate) fn never_form(
 }
 
 #[inline(never)]
-pub(crate) fn infer_form(
-    state: &mut BodyBuilder,
+pub(crate) fn infer_form<I: Storing>(
+    state: &mut BodyBuilder<I>,
     at: InFile<AstPtr>,
 ) -> Result<TypeRefId, StoreFault>
     ensures { Lowers HasType (alloc_type ty.Placeholder (Some at)) state.old result state.new }
@@ -71,9 +72,9 @@ pub(crate) fn infer_form(
 
 /// `for<..> T` is what T is.
 #[inline(never)]
-pub(crate) fn for_form<P: LowerParts, T: TypePart>(
+pub(crate) fn for_form<I: Storing, P: LowerPieces<I>, T: TypePart>(
     lowerer: &Lowerer<P>,
-    state: &mut BodyBuilder,
+    state: &mut BodyBuilder<I>,
     written: &Option<ast::ForBinder>,
     ty: &T,
 ) -> Result<TypeRefId, StoreFault>
@@ -86,9 +87,9 @@ pub(crate) fn for_form<P: LowerParts, T: TypePart>(
 
 #[tactic(auto, unfolding(hir_lower_form::specs::Types::over_form))]
 #[inline(never)]
-pub(crate) fn slice_form<P: LowerParts, T: TypePart>(
+pub(crate) fn slice_form<I: Storing, P: LowerPieces<I>, T: TypePart>(
     lowerer: &Lowerer<P>,
-    state: &mut BodyBuilder,
+    state: &mut BodyBuilder<I>,
     at: InFile<AstPtr>,
     ty: &T,
 ) -> Result<TypeRefId, StoreFault>
@@ -101,9 +102,9 @@ pub(crate) fn slice_form<P: LowerParts, T: TypePart>(
 
 #[tactic(auto, unfolding(hir_lower_form::specs::Types::over_form))]
 #[inline(never)]
-pub(crate) fn pointer_form<P: LowerParts, T: TypePart>(
+pub(crate) fn pointer_form<I: Storing, P: LowerPieces<I>, T: TypePart>(
     lowerer: &Lowerer<P>,
-    state: &mut BodyBuilder,
+    state: &mut BodyBuilder<I>,
     at: InFile<AstPtr>,
     mut_: bool,
     ty: &T,
@@ -117,9 +118,9 @@ pub(crate) fn pointer_form<P: LowerParts, T: TypePart>(
 }
 
 /// An array of this length.
-fn array_of_length<P: LowerParts, T: TypePart>(
+fn array_of_length<I: Storing, P: LowerPieces<I>, T: TypePart>(
     lowerer: &Lowerer<P>,
-    state: &mut BodyBuilder,
+    state: &mut BodyBuilder<I>,
     at: InFile<AstPtr>,
     len: ConstRef,
     ty: &T,
@@ -136,9 +137,9 @@ fn array_of_length<P: LowerParts, T: TypePart>(
 /// The length before the type of the elements.
 #[tactic(auto, unfolding(hir_lower_form::specs::Types::array_type_form))]
 #[inline(never)]
-pub(crate) fn array_form<P: LowerParts, T: TypePart, C: ConstPart>(
+pub(crate) fn array_form<I: Storing, P: LowerPieces<I>, T: TypePart, C: ConstPart>(
     lowerer: &Lowerer<P>,
-    state: &mut BodyBuilder,
+    state: &mut BodyBuilder<I>,
     at: InFile<AstPtr>,
     ty: &T,
     len: &C,
@@ -155,9 +156,9 @@ pub(crate) fn array_form<P: LowerParts, T: TypePart, C: ConstPart>(
 /// The type before the lifetime.
 #[tactic(auto, unfolding(hir_lower_form::specs::Types::ref_type_form))]
 #[inline(never)]
-pub(crate) fn ref_form<P: LowerParts, T: TypePart>(
+pub(crate) fn ref_form<I: Storing, P: LowerPieces<I>, T: TypePart>(
     lowerer: &Lowerer<P>,
-    state: &mut BodyBuilder,
+    state: &mut BodyBuilder<I>,
     at: InFile<AstPtr>,
     written: &Option<ast::Lifetime>,
     mut_: bool,
@@ -181,9 +182,9 @@ pub(crate) fn ref_form<P: LowerParts, T: TypePart>(
 
 #[tactic(auto, unfolding(hir_lower_form::specs::Types::tuple_type_form))]
 #[inline(never)]
-pub(crate) fn tuple_form<P: LowerParts, L: TypesPart>(
+pub(crate) fn tuple_form<I: Storing, P: LowerPieces<I>, L: TypesPart>(
     lowerer: &Lowerer<P>,
-    state: &mut BodyBuilder,
+    state: &mut BodyBuilder<I>,
     at: InFile<AstPtr>,
     fields: &L,
 ) -> Result<TypeRefId, StoreFault>
@@ -196,8 +197,8 @@ pub(crate) fn tuple_form<P: LowerParts, L: TypesPart>(
 
 /// The type that a path is, an error where it is absent or refused.
 #[inline(never)]
-fn type_of_path(
-    state: &mut BodyBuilder,
+fn type_of_path<I: Storing>(
+    state: &mut BodyBuilder<I>,
     at: InFile<AstPtr>,
     path: Option<Path>,
 ) -> Result<TypeRefId, StoreFault>
@@ -212,9 +213,9 @@ fn type_of_path(
 
 #[tactic(auto, unfolding(hir_lower_form::specs::Types::path_type_form))]
 #[inline(never)]
-pub(crate) fn path_form<P: LowerParts, W: PathPart>(
+pub(crate) fn path_form<I: Storing, P: LowerPieces<I>, W: PathPart>(
     lowerer: &Lowerer<P>,
-    state: &mut BodyBuilder,
+    state: &mut BodyBuilder<I>,
     at: InFile<AstPtr>,
     path: &W,
 ) -> Result<TypeRefId, StoreFault>
@@ -230,9 +231,9 @@ pub(crate) fn path_form<P: LowerParts, W: PathPart>(
 /// An `impl` inside of another one is an error, whose bounds aren't read; those of one that isn't allowed are.
 #[tactic(auto, unfolding(hir_lower_form::specs::Types::impl_type_form))]
 #[inline(never)]
-pub(crate) fn impl_form<P: LowerParts, L: BoundsPart>(
+pub(crate) fn impl_form<I: Storing, P: LowerPieces<I>, L: BoundsPart>(
     lowerer: &Lowerer<P>,
-    state: &mut BodyBuilder,
+    state: &mut BodyBuilder<I>,
     at: InFile<AstPtr>,
     written: &L,
 ) -> Result<TypeRefId, StoreFault>
@@ -252,9 +253,9 @@ pub(crate) fn impl_form<P: LowerParts, L: BoundsPart>(
 
 #[tactic(auto, unfolding(hir_lower_form::specs::Types::dyn_type_form))]
 #[inline(never)]
-pub(crate) fn dyn_form<P: LowerParts, L: BoundsPart>(
+pub(crate) fn dyn_form<I: Storing, P: LowerPieces<I>, L: BoundsPart>(
     lowerer: &Lowerer<P>,
-    state: &mut BodyBuilder,
+    state: &mut BodyBuilder<I>,
     at: InFile<AstPtr>,
     written: &L,
 ) -> Result<TypeRefId, StoreFault>
@@ -268,9 +269,9 @@ pub(crate) fn dyn_form<P: LowerParts, L: BoundsPart>(
 /// The type before its pattern.
 #[tactic(auto, unfolding(hir_lower_form::specs::Types::pattern_type_form))]
 #[inline(never)]
-pub(crate) fn pattern_form<P: LowerParts, T: TypePart, R: TypePatPart>(
+pub(crate) fn pattern_form<I: Storing, P: LowerPieces<I>, T: TypePart, R: TypePatPart>(
     lowerer: &Lowerer<P>,
-    state: &mut BodyBuilder,
+    state: &mut BodyBuilder<I>,
     at: InFile<AstPtr>,
     ty: &T,
     pat: &R,

@@ -12,16 +12,17 @@ use crate::simple::{
     pattern_form, pointer_form, ref_form, slice_form, tuple_form,
 };
 use hir_lower_form::builder::BodyBuilder;
-use hir_lower_form::parts::{LowerParts, Lowerer};
+use hir_lower_form::parts::{LowerPieces, Lowerer};
+use hir_lower_form::storing::Storing;
 use hir_store::fault::StoreFault;
 use hir_store::ids::TypeRefId;
 use hir_store::name::Name;
 use hir_syntax::{Seq, ast};
 
 /// A type that is read here, with the names of the `for<..>` directly around it, where one stands there.
-pub fn type_node<P: LowerParts>(
+pub fn type_node<I: Storing, P: LowerPieces<I>>(
     lowerer: &Lowerer<P>,
-    state: &mut BodyBuilder,
+    state: &mut BodyBuilder<I>,
     binder: &Option<Seq<Name>>,
     node: &ast::Type_,
 ) -> Result<TypeRefId, StoreFault>

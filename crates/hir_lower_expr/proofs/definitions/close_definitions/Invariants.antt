@@ -3,9 +3,9 @@ use Rattle.hir_lower_expr.specs.Runs.{closed, definitions}
 use Rattle.hir_lower_expr.proofs.definitions.close_definitions.Given as goal
 
 abbrev pub invariant-loop-all : goal.invariant-loop-all
-invariant-loop-all l = record {
+invariant-loop-all g l = record {
   so_far : closed (definitions l.fn.all) l.fn.state ≡ closed (definitions l.all) l.state;
 }
 
 abbrev pub decreases-loop-all : goal.decreases-loop-all
-decreases-loop-all l = length l.all
+decreases-loop-all g l = length l.all

@@ -5,4 +5,4 @@ use Rattle.hir_lower_expr.proofs.questions.residual.Goals as goal
 
 pub returns : goal.returns
 unfolding residual_form
-returns c = grind (arith, common_steps)
+returns g c = grind (arith, common_steps)

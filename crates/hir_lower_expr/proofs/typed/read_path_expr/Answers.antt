@@ -12,5 +12,5 @@ path_has s h None w = (omega arith, omega arith, omega arith, omega arith, omega
 path_has s h (Some p) w = (w.0, omega arith, w.1, w.2, w.3)
 
 pub alloc_expr-requires : goal.alloc_expr-requires
-alloc_expr-requires c =
+alloc_expr-requires g c =
     rw c.path_expr.ensures (path_has c.args.state.now.stored c.args.hygiene c.args.path c.requires)

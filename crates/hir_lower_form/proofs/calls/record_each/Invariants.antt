@@ -4,10 +4,10 @@ use Rattle.hir_lower_form.specs.Calls.{record_each}
 use Rattle.hir_lower_form.proofs.calls.record_each.Given as goal
 
 abbrev pub invariant-loop-eager : goal.invariant-loop-eager
-invariant-loop-eager l = record {
+invariant-loop-eager g l = record {
   so_far : record_each l.fn.eager l.fn.state ≡ record_each l.eager l.state;
   placed : Grows l.fn.state.stored l.state.stored;
 }
 
 abbrev pub decreases-loop-eager : goal.decreases-loop-eager
-decreases-loop-eager l = length l.eager
+decreases-loop-eager g l = length l.eager

@@ -5,11 +5,11 @@ use Rattle.hir_lower_form.specs.Preludes.{let_params}
 use Rattle.hir_lower_form.proofs.preludes.let_params.Given as goal
 
 abbrev pub invariant-loop-left : goal.invariant-loop-left
-invariant-loop-left l = record {
+invariant-loop-left g l = record {
   so_far : let_params l.fn.prelude l.fn.left l.fn.state ≡ let_params l.prelude l.left l.state;
   patterns : HasPats l.state.stored l.left;
   placed : Grows l.fn.state.stored l.state.stored × HasPrelude l.state.stored l.prelude;
 }
 
 abbrev pub decreases-loop-left : goal.decreases-loop-left
-decreases-loop-left l = length l.left
+decreases-loop-left g l = length l.left

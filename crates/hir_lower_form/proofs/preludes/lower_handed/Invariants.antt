@@ -4,10 +4,10 @@ use Rattle.hir_lower_form.specs.Preludes.{lower_handed}
 use Rattle.hir_lower_form.proofs.preludes.lower_handed.Given as goal
 
 abbrev pub invariant-loop-left : goal.invariant-loop-left
-invariant-loop-left l = record {
+invariant-loop-left g l = record {
   so_far : lower_handed [] l.fn.left l.fn.state ≡ lower_handed l.done l.left l.state;
   placed : Grows l.fn.state.stored l.state.stored × HasPats l.state.stored l.done;
 }
 
 abbrev pub decreases-loop-left : goal.decreases-loop-left
-decreases-loop-left l = length l.left
+decreases-loop-left g l = length l.left

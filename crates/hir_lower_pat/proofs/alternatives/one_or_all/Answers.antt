@@ -3,4 +3,4 @@ use Rattle.std.proofs.lemmas.Grind.{common_steps}
 use Rattle.hir_lower_pat.proofs.alternatives.one_or_all.Goals as goal
 
 pub returns-in-len1 : goal.returns-in-len1
-returns-in-len1 c = grind (arith, common_steps)
+returns-in-len1 g c = grind (arith, common_steps)

@@ -5,4 +5,4 @@ use Rattle.hir_lower_pat.proofs.sides.literal_side.Goals as goal
 
 pub returns : goal.returns
 unfolding literal_side_form
-returns c = grind (arith, common_steps)
+returns g c = grind (arith, common_steps)

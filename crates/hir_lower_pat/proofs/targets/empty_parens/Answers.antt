@@ -5,4 +5,4 @@ use Rattle.hir_lower_pat.proofs.targets.empty_parens.Goals as goal
 
 pub returns : goal.returns
 unfolding paren_form
-returns c = grind (arith, common_steps)
+returns g c = grind (arith, common_steps)

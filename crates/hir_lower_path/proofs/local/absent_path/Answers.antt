@@ -8,7 +8,7 @@ use Rattle.hir_lower_path.proofs.Rooted.{absent_read, refused_read}
 use Rattle.hir_lower_path.proofs.local.absent_path.Goals as goal
 
 pub returns-in_ok-named : goal.returns-in_ok-named
-returns-in_ok-named c =
+returns-in_ok-named g c =
     let plain = tree.path None c.args.leading tree.absent_segment tree.no_segments tree.no_path in
     let e : spec.read_path (crate_local.lacking c.args.leading plain) c.args.walk c.args.state.now
     ≡ (Ok c.in_ok-named.field-0, c.args.state.now) =
@@ -17,7 +17,7 @@ returns-in_ok-named c =
     grind (arith, common_steps)
 
 pub returns-else-leading : goal.returns-else-leading
-returns-else-leading c =
+returns-else-leading g c =
     let plain = tree.path None c.args.leading tree.absent_segment tree.no_segments tree.no_path in
     let e : spec.read_path (crate_local.lacking c.args.leading plain) c.args.walk c.args.state.now ≡ (Ok Refused, c.args.state.now) =
     refused_read c.args.leading c.args.walk c.args.state.now c.if-leading.false in

@@ -6,4 +6,4 @@ use Rattle.hir_lower_path.proofs.path.super_form.Goals as goal
 
 pub returns-in-Some : goal.returns-in-Some
 unfolding count_out
-returns-in-Some c = grind (arith, common_steps, super_has)
+returns-in-Some g c = grind (arith, common_steps, super_has)

@@ -4,4 +4,4 @@ use Rattle.hir_lower_form.proofs.builder.BodyBuilder.alloc_expr.Goals as goal
 
 pub returns : goal.returns
 unfolding alloc_expr
-returns c = search rules
+returns g c = search rules

@@ -4,4 +4,4 @@ use Rattle.hir_lower_form.proofs.builder.BodyBuilder.enter_block.Goals as goal
 
 pub returns-in-Some : goal.returns-in-Some
 unfolding enter_block
-returns-in-Some c = search rules
+returns-in-Some g c = search rules

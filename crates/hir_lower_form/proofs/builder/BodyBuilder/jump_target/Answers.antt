@@ -6,7 +6,7 @@ use Rattle.hir_lower_form.proofs.builder.BodyBuilder.jump_target.Goals as goal
 pub returns-in-Ok : goal.returns-in-Ok
 returns-in-Ok g c =
     let b : Builder = record {
-      stored = c.self.inside.store;
+      stored = g.I.Storing.held c.self.inside.store;
       scopes = c.self.inside.scopes;
       names = c.self.inside.names;
       counted_out = c.self.inside.counted_out;
@@ -22,7 +22,7 @@ returns-in-Ok g c =
 pub returns-in-Err : goal.returns-in-Err
 returns-in-Err g c =
     let b : Builder = record {
-      stored = c.self.inside.store;
+      stored = g.I.Storing.held c.self.inside.store;
       scopes = c.self.inside.scopes;
       names = c.self.inside.names;
       counted_out = c.self.inside.counted_out;

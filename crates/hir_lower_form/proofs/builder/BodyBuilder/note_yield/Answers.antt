@@ -4,4 +4,4 @@ use Rattle.hir_lower_form.proofs.builder.BodyBuilder.note_yield.Goals as goal
 
 pub returns : goal.returns
 unfolding note_yield
-returns c = search rules
+returns g c = search rules

@@ -4,4 +4,4 @@ use Rattle.hir_lower_form.proofs.builder.BodyBuilder.open_barrier.Goals as goal
 
 pub returns : goal.returns
 unfolding open_barrier
-returns c = search rules
+returns g c = search rules

@@ -4,4 +4,4 @@ use Rattle.hir_lower_form.proofs.builder.BodyBuilder.open_label.Goals as goal
 
 pub returns : goal.returns
 unfolding open_label
-returns c = search rules
+returns g c = search rules

@@ -4,4 +4,4 @@ use Rattle.hir_lower_form.proofs.builder.BodyBuilder.record_root.Goals as goal
 
 pub returns : goal.returns
 unfolding record_root
-returns c = search rules
+returns g c = search rules

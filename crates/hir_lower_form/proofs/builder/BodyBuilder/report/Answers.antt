@@ -4,4 +4,4 @@ use Rattle.hir_lower_form.proofs.builder.BodyBuilder.report.Goals as goal
 
 pub returns : goal.returns
 unfolding report
-returns c = search rules
+returns g c = search rules

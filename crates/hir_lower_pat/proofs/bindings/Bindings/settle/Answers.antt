@@ -4,11 +4,11 @@ use Rattle.hir_lower_pat.proofs.bindings.Bindings.settle.Goals as goal
 use Rattle.hir_lower_pat.proofs.bindings.Bindings.settle.Goals.{in-Some, in_default}
 
 pub set_problem-requires : goal.set_problem-requires
-set_problem-requires c =
+set_problem-requires g c =
     entry_exists c.args.self.now.ids c.loop-number.number _ _ (sym c.in-Some.ensures) c.loop-number.invariant.placed.1.1
 
 pub loop-number-preserved : goal.loop-number-preserved
-loop-number-preserved c =
+loop-number-preserved g c =
     let b = c.args.self.now in
     let n = c.loop-number.number in
     let first = c.args.state.now in

@@ -3,7 +3,7 @@ use Rattle.hir_lower_pat.proofs.NameLemmas.{used_again}
 use Rattle.hir_lower_pat.proofs.bindings.Bindings.use_name.Goals as goal
 
 pub returns-in_ok-note-in-Some : goal.returns-in_ok-note-in-Some
-returns-in_ok-note-in-Some c = used_again (record { name = c.args.name; hygiene = c.args.hygiene; mode = c.args.mode })
+returns-in_ok-note-in-Some g c = used_again (record { name = c.args.name; hygiene = c.args.hygiene; mode = c.args.mode })
     c.args.self.now c.note.new.self c.args.state.now c.in-Some.id c.in-Some.number
     (sym c.in-Some.ensures.binding) c.in-Some.ensures.number c.in-Some.ensures.known
     c.note.ensures.ids c.in_ok-note-in-Some.ensures.noted c.in_ok-note-in-Some.ensures.count c.note.ensures.depth c.requires
