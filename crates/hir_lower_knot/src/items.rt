@@ -13,7 +13,7 @@ use crate::knot::{
 use hir_env::env::LowerEnv;
 use hir_env::place::Place;
 use hir_lower_form::builder::StoredBody;
-use hir_lower_form::parts::{LowerParts, Lowerer};
+use hir_lower_form::parts::{LowerPieces, Lowerer};
 use hir_lower_handlers::handlers::Handlers;
 use hir_lower_type::bounds::bound_node;
 use hir_store::fault::StoreFault;
