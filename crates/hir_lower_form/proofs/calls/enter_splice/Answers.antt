@@ -1,0 +1,10 @@
+use Rattle.hir_env.specs.Lent.{shown}
+use Rattle.hir_lower_form.specs.Calls.{found}
+use Rattle.hir_lower_form.proofs.Entering.{splice_on}
+use Rattle.hir_lower_form.proofs.calls.enter_splice.Goals as goal
+
+pub returns : goal.returns
+returns g c =
+    splice_on (g.P.LowerParts.spot c.args.lowerer.now.parts) c.args.call.now c.place-place.result c.pointer-at.result c.site.result
+    c.place-place.ensures c.pointer-at.ensures c.site.ensures c.if-place-eq0.false c.args.state.now (found c.told_splice.result)
+    c.told_splice.new.state (shown c.expand-expansion.result) c.expand-expansion.ensures c.told_splice.ensures
