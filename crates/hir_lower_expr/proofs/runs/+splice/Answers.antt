@@ -63,7 +63,7 @@ collect_call-collect_run-requires g t c =
     let same = ap (λ x. x.place.left) c.moved-inner.ensures.spot in
     let done = still_has c.args.state.now.stored c.enter_splice.new.state.stored c.args.run.now.done c.in_ok-entered.ensures.1
     c.requires.done in
-    λ κs within. (omega (arith, c.decreases, less, same), (within, (rw (c.moved-inner.ensures.spot, c.as_slice.ensures) moved.stmts, done)))
+    λ κs within. (omega (arith, c.decreases, less, same), (within.0, (within.1, (rw (c.moved-inner.ensures.spot, c.as_slice.ensures) moved.stmts, done))))
 
 pub collect_call-returns-in_err-collect_run-clause-steps : goal.collect_call-returns-in_err-collect_run-clause-steps
 collect_call-returns-in_err-collect_run-clause-steps g t c =
@@ -99,7 +99,7 @@ collect_call-collect_value_opt-requires g t c =
     c.in-Some.made.now is in
     let same = ap (λ x. x.place.left) c.moved-inner.ensures.spot in
     let done = c.in_ok-collect_run.ensures.placed.1 in
-    λ κs within. (omega (arith, c.decreases, less, same), (within, (rw c.moved-inner.ensures.spot moved.tail, done)))
+    λ κs within. (omega (arith, c.decreases, less, same), (within.0, (within.1, (rw c.moved-inner.ensures.spot moved.tail, done))))
 
 pub collect_call-returns-in_err-value-clause-steps : goal.collect_call-returns-in_err-value-clause-steps
 collect_call-returns-in_err-value-clause-steps g t c =
@@ -157,7 +157,7 @@ pub collect_run-collect_stmt-requires : goal.collect_run-collect_stmt-requires
 collect_run-collect_stmt-requires g t c =
     let l = c.loop-all in
     let may = first_may _ l.all.now c.one-item.result c.one-item.is c.in-len1-up.len_at_least l.invariant.may in
-    λ κs within. (omega (arith, c.decreases), (within, (may, l.invariant.placed.1)))
+    λ κs within. (omega (arith, c.decreases), (within.0, (within.1, (may, l.invariant.placed.1))))
 
 pub collect_run-returns-in_err-collect_stmt-clause-steps : goal.collect_run-returns-in_err-collect_stmt-clause-steps
 collect_run-returns-in_err-collect_stmt-clause-steps g t c =
@@ -238,7 +238,7 @@ collect_stmt-collect_value_opt-requires g t c =
     let it = c.args.lowerer.now.parts in
     let may = subst (KidsStmt (g.P.LowerParts.can it) (g.P.LowerParts.spot it).place) (ends_in c.args.node.now _ _ c.in-ExprStmt.is)
     c.requires.parts in
-    λ κs within. (omega (arith, c.decreases), (within, (may, c.requires.done)))
+    λ κs within. (omega (arith, c.decreases), (within.0, (within.1, (may, c.requires.done))))
 
 pub collect_stmt-returns-in_err-value-in-ExprStmt-clause-steps : goal.collect_stmt-returns-in_err-value-in-ExprStmt-clause-steps
 collect_stmt-returns-in_err-value-in-ExprStmt-clause-steps g t c =
@@ -505,7 +505,7 @@ collect_value-collect_call-requires g t c =
     λ n f ms es left asked. g.met.P.LowerParts.splice_kids it c.args.node.now c.in-Some-call.call n f ms es may is on.0 left asked in
     let done = still_has c.args.state.now.stored c.is_enabled.new.state.stored c.args.run.now.done c.in_ok-is_enabled.ensures.1
     c.requires.done in
-    λ κs within. (omega (arith, c.decreases), (within, (enters, done)))
+    λ κs within. (omega (arith, c.decreases), (within.0, (within.1, (enters, done))))
 
 pub collect_value-returns-in-None-clause-steps : goal.collect_value-returns-in-None-clause-steps
 collect_value-returns-in-None-clause-steps g t c =
@@ -557,7 +557,7 @@ collect_value-returns-in-Some-call-clause-placed g t c =
 
 pub collect_value_opt-collect_value-requires : goal.collect_value_opt-collect_value-requires
 collect_value_opt-collect_value-requires g t c =
-    λ κs within. (omega (arith, c.decreases), (within, (rw c.get.ensures (rw c.in-Some.is at c.requires.part), c.requires.done)))
+    λ κs within. (omega (arith, c.decreases), (within.0, (within.1, (rw c.get.ensures (rw c.in-Some.is at c.requires.part), c.requires.done))))
 
 pub collect_value_opt-returns-in-None-clause-steps : goal.collect_value_opt-returns-in-None-clause-steps
 collect_value_opt-returns-in-None-clause-steps g t c =

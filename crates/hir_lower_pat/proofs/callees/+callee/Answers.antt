@@ -51,7 +51,7 @@ called_callee-callee-requires g t c κs within =
     (sym c.expr_of.ensures ∙ ap expr_lent c.in-Some.is) in
     let same = ap (λ s. count_expr (answered s node)) c.moved.ensures.spot in
     let here = ap (λ s. s.place) c.moved.ensures.spot in
-    (omega (arith, c.decreases, may.1, same), (within, rw here (c.moved.ensures.can.target place node may.0)))
+    (omega (arith, c.decreases, may.1, same), (within.0, (within.1, rw here (c.moved.ensures.can.target place node may.0))))
 
 pub callee-called_callee-requires : goal.callee-called_callee-requires
 callee-called_callee-requires g t c κs within =
@@ -60,7 +60,7 @@ callee-called_callee-requires g t c κs within =
     let is = opened (kind.rolls-MacroExpr _ ∙ sym c.in-MacroExpr.is) ∙ ap (λ o. ExprKind-F.MacroExpr o) c.in-Some.is in
     let may = rw is at (g.met.P.LowerParts.target_kids parts at.place c.args.node.now c.requires) in
     let size = call_size at c.in-Some.written c.args.node.now is in
-    (omega (arith, c.decreases, size), (within, may))
+    (omega (arith, c.decreases, size), (within.0, (within.1, may)))
 
 pub callee-returns-in-Some : goal.callee-returns-in-Some
 callee-returns-in-Some g t c =

@@ -23,7 +23,7 @@ each_type_pat-type_pat-requires g t c =
     let here = at_place (g.P.LowerParts.spot c.args.lowerer.now.parts) c.args.place in
     let size = first_size here l.left.now c.one-item.result c.one-item.is c.in-len1-up.len_at_least in
     let may = rw (first_of l.left.now c.one-item.result c.one-item.is c.in-len1-up.len_at_least) at l.invariant.may in
-    λ κs within. (omega (arith, c.decreases, l.invariant.size, size), (within, may.0))
+    λ κs within. (omega (arith, c.decreases, l.invariant.size, size), (within.0, (within.1, may.0)))
 
 pub each_type_pat-loop-left-preserved : goal.each_type_pat-loop-left-preserved
 each_type_pat-loop-left-preserved g t c =
@@ -56,7 +56,7 @@ pub alternatives_form-each_type_pat-requires : goal.alternatives_form-each_type_
 alternatives_form-each_type_pat-requires g t c =
     let here = at_place (g.P.LowerParts.spot c.args.lowerer.now.parts) c.args.place in
     let same = ap (λ xs. count_pats (pats_part here xs)) c.as_slice.ensures in
-    λ κs within. (omega (arith, c.decreases, same), (within, rw c.as_slice.ensures c.requires))
+    λ κs within. (omega (arith, c.decreases, same), (within.0, (within.1, rw c.as_slice.ensures c.requires)))
 
 pub type_pat-alternatives_form-requires : goal.type_pat-alternatives_form-requires
 type_pat-alternatives_form-requires g t c =
@@ -65,7 +65,7 @@ type_pat-alternatives_form-requires g t c =
     let is = opened (kind.rolls-OrPat _ ∙ sym c.in-OrPat.is) in
     let may = rw is at (g.met.P.LowerParts.pat_kids parts c.args.place c.args.node.now c.requires) in
     let size = or_size here c.args.node.now _ is in
-    λ κs within. (omega (arith, c.decreases, size), (within, may))
+    λ κs within. (omega (arith, c.decreases, size), (within.0, (within.1, may)))
 
 pub type_pat-range_form-requires : goal.type_pat-range_form-requires
 type_pat-range_form-requires g t c =
@@ -104,7 +104,7 @@ type_pat-called_form-requires g t c =
     let may = rw is at (g.met.P.LowerParts.pat_kids parts c.args.place c.args.node.now c.requires) in
     let size = ap count_pat (call_is here c.args.node.now call is) in
     let same = ap (λ s. count_pat (written_call here s call)) c.pointer_in-at.ensures in
-    λ κs within. (omega (arith, c.decreases, size, same), (within, may))
+    λ κs within. (omega (arith, c.decreases, size, same), (within.0, (within.1, may)))
 
 pub type_pat-returns-in-Some : goal.type_pat-returns-in-Some
 type_pat-returns-in-Some g t c =
@@ -136,7 +136,7 @@ called_form-type_pat-requires g t c =
     c.args.state.now c.enter.new.state (found_of c.in_ok-entered.entered) c.in_ok-entered.ensures.0
     c.in-Some.place c.in-Some.node.now (sym c.pat_of.ensures ∙ ap pat_lent c.in-Some.is) in
     let same = ap (λ a. count_pat (written_call a c.args.at call)) c.moved-there.ensures.spot in
-    λ κs within. (omega (arith, c.decreases, may.1, same), (within, may.0))
+    λ κs within. (omega (arith, c.decreases, may.1, same), (within.0, (within.1, may.0)))
 
 pub called_form-returns-in_err-entered : goal.called_form-returns-in_err-entered
 called_form-returns-in_err-entered g t c =
