@@ -21,5 +21,5 @@ bare_call-bare_form-requires g t c κs within =
     let here = ap (λ x. x.place) c.moved.ensures.spot in
     let left = ap (λ p. p.left) here in (
       omega (arith, less, left, c.decreases),
-      (within, (rw here (c.moved.ensures.can.pat c.in-Some.place c.in-Some.node.now may), grind (arith, common_steps))),
+      (within.0, (within.1, (rw here (c.moved.ensures.can.pat c.in-Some.place c.in-Some.node.now may), grind (arith, common_steps)))),
     )
