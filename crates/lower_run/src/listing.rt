@@ -75,7 +75,11 @@ pub fn path_listing<'a>(
     path: Option<&'a Path>,
     written: &'a ast::Path,
 ) -> Result<String, AllocError> {
-    listing(alloc, listed, Shown::Path(path, written))
+    let mut printer = Printer::new(alloc, listed);
+    let printed = printer.path_listing(path, written);
+    let text = printer.finish();
+    printed?;
+    Ok(text)
 }
 
 /// The listing of a type: a line with it, then as for a body. Only memory can fail.

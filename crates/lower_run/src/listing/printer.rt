@@ -75,10 +75,29 @@ impl<'a> Printer<'a> {
 
     /// Prints the whole listing: the lines of what is shown, then its bindings and labels by number, then what calls were
     /// expanded to, then the diagnostics.
-    ///
-    /// Where bindings in it have owners, the owners' numbers are put into the lines when all of them are printed.
     pub fn listing(&mut self, shown: Shown<'a>) -> Result<(), AllocError> {
         self.shown(shown)?;
+        self.rest()
+    }
+
+    /// Prints the whole listing of a path: a line for it, or that it is refused, then one for the name of each of its segments, then
+    /// the rest.
+    pub fn path_listing(
+        &mut self,
+        path: Option<&'a Path>,
+        written: &ast::Path,
+    ) -> Result<(), AllocError> {
+        self.path(path)?;
+        if path.is_some() {
+            lines::segments(&mut self.writer, written)?;
+        }
+        self.rest()
+    }
+
+    /// Prints what stands behind the lines of what is shown.
+    ///
+    /// Where bindings in these have owners, the owners' numbers are put into the lines when all of them are printed.
+    fn rest(&mut self) -> Result<(), AllocError> {
         if self.owners.are_any() {
             let text = self.owners.marked(self.writer.text())?;
             self.writer.replace(text);
@@ -94,7 +113,6 @@ impl<'a> Printer<'a> {
                 self.body()
             }
             Shown::Params(params) => self.params(params),
-            Shown::Path(path, written) => self.path(path, written),
             Shown::Type_(ty) => {
                 self.writer.word("type ")?;
                 self.line(Piece::Type_(ty))
@@ -112,14 +130,11 @@ impl<'a> Printer<'a> {
         Ok(())
     }
 
-    /// Prints a line for a path, then one for the name of each of its segments.
-    fn path(&mut self, path: Option<&'a Path>, written: &ast::Path) -> Result<(), AllocError> {
+    /// Prints a line for a path, or that it is refused.
+    fn path(&mut self, path: Option<&'a Path>) -> Result<(), AllocError> {
         self.writer.word("path ")?;
         match path {
-            Some(path) => {
-                self.line(Piece::Path(path, HygieneId::ROOT))?;
-                lines::segments(&mut self.writer, written)
-            }
+            Some(path) => self.line(Piece::Path(path, HygieneId::ROOT)),
             None => self.writer.word("None\n"),
         }
     }

@@ -1,10 +1,8 @@
-//! What a listing begins with.
+//! What a listing begins with, but for a path's, which holds a tree and so is handed on by itself.
 
 use super::signatures::Signature;
 use hir_lower::Param;
 use hir_store::ids::{BindingId, PatId, TypeRefId};
-use hir_store::path::Path;
-use hir_syntax::ast;
 
 /// What the first lines of a listing show.
 #[derive(Clone, Copy)]
@@ -13,8 +11,6 @@ pub enum Shown<'a> {
     Body(Option<BindingId>, &'a [Param<PatId>]),
     /// Parameters without their body.
     Params(&'a [Param<PatId>]),
-    /// A path, or that it is refused, and the names of the written segments.
-    Path(Option<&'a Path>, &'a ast::Path),
     Type_(TypeRefId),
     /// The types of a function, with its generic parameters.
     Function(Signature<'a>),
