@@ -358,7 +358,10 @@ impl<
     ) -> Result<PatId, StoreFault> {
         let lowerer = Lowerer {
             alloc: self.alloc,
-            parts: *self,
+            parts: Handlers {
+                place: self.place,
+                ..*self
+            },
         };
         top_pat(&lowerer, state, part)
     }
@@ -370,7 +373,10 @@ impl<
     ) -> Result<PatId, StoreFault> {
         let lowerer = Lowerer {
             alloc: self.alloc,
-            parts: *self,
+            parts: Handlers {
+                place: self.place,
+                ..*self
+            },
         };
         lower_target(&lowerer, state, part)
     }
