@@ -1,13 +1,17 @@
 #!/usr/bin/env python3
 """Measures how much stack lowering takes a level, for each form that nests.
 
-    bench/levels.py [--program PATH] [--form NAME] [--within KILOBYTES]
+    bench/levels.py [--program PATH] [--form NAME] [--reading | --within KILOBYTES]
 
 A document holds one tree in which a form nests as deep as a tree may be, and at
 the end a call of a macro that stands for another such tree, and so on. Of two
 documents with more and fewer such trees the least limit of stack is sought under
 which the program lowers them; what lies between, by the levels between, is what
 a level takes. What reading takes doesn't count so: one tree is read at a time.
+
+With --reading it is what reading takes: of two documents with one tree each, in
+which the form nests on fewer and more levels. Reading takes more a level than
+lowering, so the least limit of stack is the one under which they are read.
 
 With --within nothing is measured. Of each form a tree of 256 levels, in which 64
 calls of macros stand one in the other at the end, has to be lowered under that
@@ -205,6 +209,18 @@ def depth(tree):
     return 1 + max(map(depth, tree.values()), default=0) if isinstance(tree, dict) else 0
 
 
+def read(sort, form, most):
+    """A document with one tree of so many levels at most in which the form nests, and how many levels of it these are."""
+    forms, _, leaf, whole = sort
+    levels, around = forms[form]
+    tree, count = leaf, 0
+    while depth(whole(around(tree))) < most:
+        tree, count = around(tree), count + levels
+    document = Document()
+    document.put({"k": "Fn", "body": whole(tree)})
+    return json.dumps({"owner": "const", "nodes": document.nodes, "env": {}}).encode(), count
+
+
 def deepest(sort, form):
     """A document with the form in as many levels as a tree may have, and at the end of it as many calls as may be entered."""
     forms, place, leaf, whole = sort
@@ -258,6 +274,7 @@ def main():
     parser = argparse.ArgumentParser(description=__doc__, formatter_class=argparse.RawDescriptionHelpFormatter)
     parser.add_argument("--program", default=BUILT)
     parser.add_argument("--form", help="one form alone")
+    parser.add_argument("--reading", action="store_true", help="what reading takes, not lowering")
     parser.add_argument("--within", type=int, help="try this limit of stack alone, in kilobytes")
     options = parser.parse_args()
     # Trees are as deep as documents.
@@ -274,8 +291,10 @@ def main():
                     failed += 1
                     print(f"FAILED {form}: {MOST_LEVELS} levels aren't lowered in {options.within} kilobytes of stack")
                 continue
-            few, few_levels = nested(sort, form, FEW)
-            many, many_levels = nested(sort, form, MANY)
+            if options.reading:
+                (few, few_levels), (many, many_levels) = (read(sort, form, most) for most in (LEVELS // 2, LEVELS))
+            else:
+                (few, few_levels), (many, many_levels) = (nested(sort, form, trees) for trees in (FEW, MANY))
             taken = (least(program, many) - least(program, few)) * 1024 / (many_levels - few_levels)
             print(f"{form:24} {taken:6.0f} bytes a level", flush=True)
     if options.within is not None:

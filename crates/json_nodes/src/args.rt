@@ -13,6 +13,7 @@ use crate::type_parts::{Bounds, Types};
 use hir_syntax::ast::{AssocTypeArg, GenericArg, LifetimeArg};
 use json_kinds::kind::PathNode;
 
+#[inline(never)]
 #[tactic(auto, unfolding(crate::specs::Args::assoc_arg))]
 fn assoc_arg<F: Fields>(node: &F, refused: &mut bool) -> AssocTypeArg
     requires { F.can node.now }

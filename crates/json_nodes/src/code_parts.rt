@@ -362,6 +362,7 @@ impl KindGroup for Exprs {
 }
 
 /// A block in a box. Where memory is refused it sets `refused` and answers none.
+#[inline(never)]
 pub fn block_in_box(alloc: Global, refused: &mut bool, block: BlockExpr) -> Option<Boxed<BlockExpr>>
     ensures { Kept refused.old refused.new (result ≡ Some block) }
 {

@@ -9,7 +9,7 @@ ghost use Rattle.json_nodes.specs.Nodes.{here, node_at};
 
 use crate::field::{number_or, own_text, range};
 use crate::name_parts::NamePart;
-use crate::part::{AnyPart, BoxedGroup, Group, ReadParts, in_box, served};
+use crate::part::{AnyPart, BoxedGroup, Group, LetsGo, ReadParts, in_box, served};
 use hir_base::node::{NodeId, TextRange};
 use hir_base::{Boxed, Seq, Text};
 use json_faults::members::Own;
@@ -116,8 +116,17 @@ impl<G: Group<AnyPart>> Item for OrNull<G> {
     }
 }
 
+/// What was read, as a part of the group. It has a frame of its own, since no level stands on it.
+#[inline(never)]
+fn told<A, G: Group<A>, P: LetsGo<A>>(parts: &P, read: Option<A>) -> Option<G::Part>
+    ensures { result ≡ option_and_then G.as_group read }
+{
+    served::<A, G, P>(parts, read?)
+}
+
 impl<P: ReadParts> Node<'_, P> {
-    /// A text as a part.
+    /// A text as a part. It has a frame of its own, since no level stands on it.
+    #[inline(never)]
     fn written<G: Group<AnyPart>>(&self, refused: &mut bool, text: &str) -> Option<G::Part>
         ensures { Kept refused.old refused.new
             (result ≡ option_and_then G.as_group (spec.text_part (here P.parts self.now) text.now)) }
@@ -140,17 +149,11 @@ impl<P: ReadParts> Node<'_, P> {
         ensures { Kept refused.old refused.new
             (result ≡ option_and_then G.as_group ((here P.parts self.now).part at)) }
     {
-        match self.parts.part_at(self.alloc, at) {
-            Ok(Some(part)) => served::<AnyPart, G, P>(self.parts, part),
-            Ok(None) => None,
-            Err(_) => {
-                *refused = true;
-                None
-            }
-        }
+        told::<AnyPart, G, P>(self.parts, self.parts.part_at(self.alloc, refused, at))
     }
 
-    /// The part that a value is, as a text, or names, by its index.
+    /// The part that a value is, as a text, or names, by its index. A function that reads many parts has one of these frames at a time.
+    #[inline(never)]
     pub fn child<G: Group<AnyPart>>(&self, refused: &mut bool, value: &Value) -> Option<G::Part>
         requires { P.can self.now.parts.now }
         ensures { Kept refused.old refused.new (result ≡ spec.child (here P.parts self.now) G.as_group (view value.now)) }
@@ -194,6 +197,7 @@ impl<P: ReadParts> Node<'_, P> {
     }
 
     /// What values say.
+    #[inline(never)]
     fn items<I: Item>(&self, refused: &mut bool, values: &[Value]) -> Seq<I::Held>
         requires { P.can self.now.parts.now }
         ensures { Kept refused.old refused.new (result ≡ all_read (I.said (here P.parts self.now)) (items_view values.now)) }

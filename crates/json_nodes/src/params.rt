@@ -12,6 +12,7 @@ use crate::type_parts::Types;
 use hir_syntax::ast::{Param, ParamList, SelfParam};
 use json_kinds::kind::PartNode;
 
+#[inline(never)]
 #[tactic(auto, unfolding(crate::specs::Params::self_param))]
 fn self_param<F: Fields>(node: &F, refused: &mut bool) -> SelfParam
     requires { F.can node.now }

@@ -1,6 +1,6 @@
 //! The parts of trees, by their group.
 
-ghost use Rattle.std.specs.Prelude.{◌≡◌, ℕ, IfOk, Option, Some, option_and_then};
+ghost use Rattle.std.specs.Prelude.{◌≡◌, ℕ, Option, Some, option_and_then};
 ghost use Rattle.std.specs.Result.{result_ok};
 ghost use Rattle.json_nodes.specs.Kept.{Kept};
 ghost use Rattle.json_nodes.specs.Any.{AnyPart};
@@ -13,7 +13,7 @@ use crate::path_parts::PathPart;
 use crate::type_parts::TypePart;
 use hir_base::Boxed;
 use hir_base::node::{NodeId, TextRange};
-use std::alloc::{AllocError, Global};
+use std::alloc::Global;
 
 /// A part of a tree, by its sort, whichever types the sorts have.
 ///
@@ -46,10 +46,10 @@ pub trait ReadParts: LetsGo<AnyPart> {
     /// What stands at each node.
     ghost parts: { Self → ℕ → Option AnyPart };
 
-    /// The part that stands at a node, if one does.
-    fn part_at(&self, alloc: Global, at: u32) -> Result<Option<AnyPart>, AllocError>
+    /// The part that stands at a node, if one does. Where memory is refused it sets `refused`.
+    fn part_at(&self, alloc: Global, refused: &mut bool, at: u32) -> Option<AnyPart>
         requires { can self.now }
-        ensures { IfOk result (λ part. part ≡ parts self.now at) };
+        ensures { Kept refused.old refused.new (result ≡ parts self.now at) };
 }
 
 /// A group of parts: what a field for one may hold.

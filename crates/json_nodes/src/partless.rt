@@ -23,6 +23,7 @@ pub fn pred(node: &Own<'_>) -> Option<PredId>
 }
 
 /// Predicates of conditions, `_`, and what the compiler's own macros write.
+#[inline(never)]
 #[tactic(auto, unfolding(crate::specs::Exprs::partless))]
 pub fn partless<F: Fields>(node: &F, refused: &mut bool, kind: ExprNode) -> Option<ExprPart>
     ensures { Kept refused.old refused.new (result ≡ spec.partless (F.here node.now) kind) }

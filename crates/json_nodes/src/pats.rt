@@ -154,6 +154,7 @@ fn values<F: Fields>(node: &F, refused: &mut bool, kind: PatNode) -> Option<PatP
 }
 
 /// Predicates of conditions, `_`, `..`, `!null`, and blocks of constants.
+#[inline(never)]
 #[tactic(auto, unfolding(crate::specs::Pats::partless_pat))]
 fn partless_pat<F: Fields>(node: &F, refused: &mut bool, kind: PatNode) -> Option<PatPart>
     ensures { Kept refused.old refused.new (result ≡ spec.partless_pat (F.here node.now) kind) }

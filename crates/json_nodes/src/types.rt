@@ -43,6 +43,7 @@ fn over_types<F: Fields>(node: &F, refused: &mut bool, kind: TypeNode) -> Option
     }
 }
 
+#[inline(never)]
 #[tactic(auto, unfolding(crate::specs::Types::function_pointer))]
 fn function_pointer<F: Fields>(node: &F, refused: &mut bool) -> TypeKind
     requires { F.can node.now }

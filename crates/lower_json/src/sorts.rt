@@ -2,10 +2,15 @@
 
 ghost use Rattle.std.specs.Prelude.{◌≡◌, option_map};
 ghost use Rattle.json_nodes.specs.declared.part.AnyOf.TheVariants as part;
+ghost use Rattle.json_nodes.specs.Bounds as bounds;
+ghost use Rattle.json_nodes.specs.Branches as branches;
 ghost use Rattle.json_nodes.specs.Exprs as exprs;
 ghost use Rattle.json_nodes.specs.Kept.{Kept};
+ghost use Rattle.json_nodes.specs.Macros as macros;
 ghost use Rattle.json_nodes.specs.Others as others;
+ghost use Rattle.json_nodes.specs.Params as params;
 ghost use Rattle.json_nodes.specs.Pats as pats;
+ghost use Rattle.json_nodes.specs.Typed as typed_parts;
 ghost use Rattle.json_nodes.specs.Types as types;
 ghost use Rattle.lower_json.specs.Reading as spec;
 ghost use Rattle.lower_json.specs.Reading.{of_kind};
@@ -83,6 +88,69 @@ fn of_path_part<F: Fields>(node: &F, refused: &mut bool, kind: PathNode) -> Opti
     }
 }
 
+/// A bound, or what else stands beside types, as a part.
+#[inline(never)]
+fn bound_part<F: Fields>(node: &F, refused: &mut bool, kind: PartNode) -> Option<AnyPart>
+    requires { F.can node.now }
+    ensures { Kept refused.old refused.new (result ≡ option_map part.Type_ (bounds.of_bound (F.here node.now) kind)) }
+{
+    Some(AnyPart::Type_(of_bound(node, refused, kind)?))
+}
+
+/// An arm, a condition of one, or what follows the `else` of a `let`, as a part.
+#[inline(never)]
+fn branch_part<F: Fields>(node: &F, refused: &mut bool, kind: PartNode) -> Option<AnyPart>
+    requires { F.can node.now }
+    ensures { Kept refused.old refused.new (result ≡ option_map part.Code (branches.of_branch (F.here node.now) kind)) }
+{
+    Some(AnyPart::Code(of_branch(node, refused, kind)?))
+}
+
+/// The fields of a record, or one of them, as a part.
+#[inline(never)]
+fn record_part<F: Fields>(node: &F, refused: &mut bool, kind: PartNode) -> Option<AnyPart>
+    requires { F.can node.now }
+    ensures { Kept refused.old refused.new (result ≡ option_map part.Code (typed_parts.of_record (F.here node.now) kind)) }
+{
+    Some(AnyPart::Code(of_record(node, refused, kind)?))
+}
+
+/// A call of a macro, or what one is expanded to, as a part.
+#[inline(never)]
+fn macro_part<F: Fields>(node: &F, refused: &mut bool, kind: PartNode) -> Option<AnyPart>
+    requires { F.can node.now }
+    ensures { Kept refused.old refused.new (result ≡ option_map part.Code (macros.of_macro (F.here node.now) kind)) }
+{
+    Some(AnyPart::Code(of_macro(node, refused, kind)?))
+}
+
+/// A field of a pattern, as a part.
+#[inline(never)]
+fn pat_field_part<F: Fields>(node: &F, refused: &mut bool, kind: PartNode) -> Option<AnyPart>
+    requires { F.can node.now }
+    ensures { Kept refused.old refused.new (result ≡ option_map part.Pat (typed_parts.of_pat_field (F.here node.now) kind)) }
+{
+    Some(AnyPart::Pat(of_pat_field(node, refused, kind)?))
+}
+
+/// A parameter, or all of a function, as a part.
+#[inline(never)]
+fn param_part<F: Fields>(node: &F, refused: &mut bool, kind: PartNode) -> Option<AnyPart>
+    requires { F.can node.now }
+    ensures { Kept refused.old refused.new (result ≡ option_map part.Param (params.of_param (F.here node.now) kind)) }
+{
+    Some(AnyPart::Param(of_param(node, refused, kind)?))
+}
+
+/// A name or what bears one, as a part.
+#[inline(never)]
+fn name_part<F: Fields>(node: &F, refused: &mut bool, kind: PartNode) -> Option<AnyPart>
+    requires { F.can node.now }
+    ensures { Kept refused.old refused.new (result ≡ option_map part.Name (others.other (F.here node.now) kind)) }
+{
+    Some(AnyPart::Name(other(node, refused, kind)?))
+}
+
 /// A part of anything else.
 #[inline(never)]
 fn of_part<F: Fields>(node: &F, refused: &mut bool, kind: PartNode) -> Option<AnyPart>
@@ -90,25 +158,21 @@ fn of_part<F: Fields>(node: &F, refused: &mut bool, kind: PartNode) -> Option<An
     ensures { Kept refused.old refused.new (result ≡ spec.of_part (F.here node.now) kind) }
 {
     match kind {
-        PartNode::TypeBound | PartNode::ForBinder | PartNode::RetType => Some(AnyPart::Type_(
-            of_bound(node, refused, kind)?,
-        )),
-        PartNode::MatchArm | PartNode::Guard | PartNode::LetElse => Some(AnyPart::Code(of_branch(
+        PartNode::TypeBound | PartNode::ForBinder | PartNode::RetType => bound_part(
             node, refused, kind,
-        )?)),
-        PartNode::RecordExprFieldList | PartNode::RecordExprField => Some(AnyPart::Code(of_record(
+        ),
+        PartNode::MatchArm | PartNode::Guard | PartNode::LetElse => branch_part(
             node, refused, kind,
-        )?)),
-        PartNode::MacroCall | PartNode::MacroStmts => Some(AnyPart::Code(of_macro(
+        ),
+        PartNode::RecordExprFieldList | PartNode::RecordExprField => record_part(
             node, refused, kind,
-        )?)),
-        PartNode::RecordPatField => Some(AnyPart::Pat(of_pat_field(node, refused, kind)?)),
-        PartNode::Param | PartNode::SelfParam | PartNode::ParamList => Some(AnyPart::Param(of_param(
+        ),
+        PartNode::MacroCall | PartNode::MacroStmts => macro_part(node, refused, kind),
+        PartNode::RecordPatField => pat_field_part(node, refused, kind),
+        PartNode::Param | PartNode::SelfParam | PartNode::ParamList => param_part(
             node, refused, kind,
-        )?)),
-        PartNode::Label | PartNode::Lifetime | PartNode::Name => Some(AnyPart::Name(other(
-            node, refused, kind,
-        )?)),
+        ),
+        PartNode::Label | PartNode::Lifetime | PartNode::Name => name_part(node, refused, kind),
     }
 }
 
@@ -128,6 +192,14 @@ fn block_part<F: Fields>(node: &F, refused: &mut bool) -> Option<AnyPart>
     ensures { Kept refused.old refused.new (result ≡ option_map part.Expr (others.of_block (F.here node.now))) }
 {
     Some(AnyPart::Expr(of_block(node, refused)?))
+}
+
+/// A literal, as a part.
+#[inline(never)]
+fn literal_part<F: Fields>(node: &F, refused: &mut bool) -> Option<AnyPart>
+    ensures { Kept refused.old refused.new (result ≡ option_map part.Expr (exprs.of_literal (F.here node.now))) }
+{
+    Some(AnyPart::Expr(of_literal(node, refused)?))
 }
 
 /// A path as a type, as a part.
@@ -184,7 +256,9 @@ fn path_part<F: Fields>(node: &F, refused: &mut bool, kind: PathNode) -> Option<
     Some(AnyPart::Path(of_path_part(node, refused, kind)?))
 }
 
-/// What stands at a node of a kind. Each sort has a frame of its own, so that a level takes no more than its own sort needs.
+/// What stands at a node of a kind. Each sort has a frame of its own, so that a level takes no more than its own sort needs; this
+/// function has none, since each level goes through it.
+#[inline(always)]
 #[tactic(auto, unfolding(crate::specs::Reading::of_kind))]
 pub fn of_kind<F: Fields>(node: &F, refused: &mut bool, kind: Kind) -> Option<AnyPart>
     requires { F.can node.now }
@@ -193,7 +267,7 @@ pub fn of_kind<F: Fields>(node: &F, refused: &mut bool, kind: Kind) -> Option<An
     match kind {
         Kind::IfExpr => if_part(node, refused),
         Kind::BlockExpr => block_part(node, refused),
-        Kind::Literal => Some(AnyPart::Expr(of_literal(node, refused)?)),
+        Kind::Literal => literal_part(node, refused),
         Kind::PathType => path_type_part(node, refused),
         Kind::Expr(kind) => expr_part(node, refused, kind),
         Kind::Stmt(kind) => stmt_part(node, refused, kind),

@@ -56,22 +56,14 @@ pub struct Level<'k, 'n, F> {
 
 impl<F> ReadParts for Level<'_, '_, F>
 where
-    F: Fn(Global, &[Option<Kind>], &NodeList<'_>, u32, u32) -> Result<Option<AnyPart>, AllocError>,
+    F: Fn(Global, &[Option<Kind>], &NodeList<'_>, u32, &mut bool, u32) -> Option<AnyPart>,
 {
     ghost can = { λ it. Reads (F.pre it.read) (F.post it.read) it.kinds.now it.nodes.now it.levels };
 
     ghost parts = { λ it. spec.part_at it.levels it.kinds.now (items_view it.nodes.now.nodes.now) };
 
-    fn part_at(&self, alloc: Global, at: u32) -> Result<Option<AnyPart>, AllocError> {
-        (self.read)(alloc, self.kinds, self.nodes, self.levels, at)
-    }
-}
-
-/// Lets go of what was read where memory was refused. It has a frame of its own, since few levels come here.
-#[inline(never)]
-fn let_go_if_there<P: ReadParts>(parts: &P, part: Option<AnyPart>) {
-    if let Some(part) = part {
-        parts.let_go(part);
+    fn part_at(&self, alloc: Global, refused: &mut bool, at: u32) -> Option<AnyPart> {
+        (self.read)(alloc, self.kinds, self.nodes, self.levels, refused, at)
     }
 }
 
@@ -79,20 +71,16 @@ fn let_go_if_there<P: ReadParts>(parts: &P, part: Option<AnyPart>) {
 pub fn part_at<P: ReadParts>(
     alloc: Global,
     parts: &P,
+    refused: &mut bool,
     value: Own<'_>,
     at: u32,
     kind: Kind,
-) -> Result<Option<AnyPart>, AllocError>
+) -> Option<AnyPart>
     requires { P.can parts.now }
-    ensures { IfOk result (λ part. part ≡ of_kind (node_at (P.parts parts.now) at (view value.entry.node.now)) kind) }
+    ensures { Kept refused.old refused.new
+        (result ≡ of_kind (node_at (P.parts parts.now) at (view value.entry.node.now)) kind) }
 {
-    let mut refused = false;
-    let part = of_kind(&node_at(alloc, parts, value, at), &mut refused, kind);
-    if refused {
-        let_go_if_there(parts, part);
-        return Err(AllocError);
-    }
-    Ok(part)
+    of_kind(&node_at(alloc, parts, value, at), refused, kind)
 }
 
 fn read_part(
@@ -100,18 +88,19 @@ fn read_part(
     kinds: &[Option<Kind>],
     nodes: &NodeList<'_>,
     levels: u32,
+    refused: &mut bool,
     at: u32,
-) -> Result<Option<AnyPart>, AllocError>
-    ensures { IfOk result (λ part. part ≡ spec.part_at levels kinds.now (items_view nodes.now.nodes.now) at) }
+) -> Option<AnyPart>
+    ensures { Kept refused.old refused.new (result ≡ spec.part_at levels kinds.now (items_view nodes.now.nodes.now) at) }
 {
     if levels == 0 {
-        return Ok(None);
+        return None;
     }
     let Some(value) = (&*nodes).at(at as usize) else {
-        return Ok(None);
+        return None;
     };
     let Some(kind) = kind_at(kinds, at as usize) else {
-        return Ok(None);
+        return None;
     };
     let inside = Level {
         kinds,
@@ -119,7 +108,7 @@ fn read_part(
         levels: levels - 1,
         read: read_part,
     };
-    part_at(alloc, &inside, value, at, kind)
+    part_at(alloc, &inside, refused, value, at, kind)
 }
 
 /// What of a group stands at a node, if anything does.

@@ -1,16 +1,9 @@
-use Rattle.json_nodes.specs.declared.part.AnyOf.TheVariants as part
 use Rattle.lower_json.specs.Reading.{of_kind}
-use Rattle.lower_json.proofs.Firsts.{made}
 use Rattle.lower_json.proofs.sorts.of_kind.Goals as goal
 
-pub returns-in_ok-of_literal-in-Literal : goal.returns-in_ok-of_literal-in-Literal
+pub returns-in-Literal : goal.returns-in-Literal
 unfolding of_kind
-returns-in_ok-of_literal-in-Literal g c = rw c.in-Literal.is (made part.Expr c.in_ok-of_literal-in-Literal.ensures)
-
-pub returns-in_err-of_literal-in-Literal : goal.returns-in_err-of_literal-in-Literal
-unfolding of_kind
-returns-in_err-of_literal-in-Literal g c =
-    rw (c.in-Literal.is, c.from_residual.ensures) (made part.Expr c.in_err-of_literal-in-Literal.ensures)
+returns-in-Literal g c = rw c.in-Literal.is c.literal_part.ensures
 
 pub returns-in-IfExpr : goal.returns-in-IfExpr
 unfolding of_kind

@@ -4,18 +4,18 @@ use Rattle.lower_json.proofs.Levels.{no_level, no_item, no_kind, one_level}
 use Rattle.lower_json.proofs.tree.+read_part.Goals as goal
 
 pub returns-then-levels-eq0 : goal.returns-then-levels-eq0
-returns-then-levels-eq0 t c = no_level _ _ _ _ (omega arith)
+returns-then-levels-eq0 t c = λ e. (e, no_level _ _ _ _ (omega arith))
 
 pub returns-in_default : goal.returns-in_default
-returns-in_default t c = no_item _ _ _ _ (search rules)
+returns-in_default t c = λ e. (e, no_item _ _ _ _ (search rules))
 
 pub returns-in_default-kind_at : goal.returns-in_default-kind_at
-returns-in_default-kind_at t c = no_kind _ _ _ _ (search rules)
+returns-in_default-kind_at t c = λ e. (e, no_kind _ _ _ _ (search rules))
 
 pub part_at-requires : goal.part_at-requires
 part_at-requires t c = record {
-  callable = λ alloc ks vs at same_kinds same_nodes. let d = c.decreases in omega (arith, d);
-  told = λ alloc ks vs at r same_kinds same_nodes p. rw (← same_kinds) (rw (← same_nodes) p.1);
+  callable = λ alloc ks vs old at same_kinds same_nodes. let d = c.decreases in omega (arith, d);
+  told = λ alloc ks vs old new at r same_kinds same_nodes p. rw (← same_kinds) (rw (← same_nodes) p.1);
 }
 
 pub returns : goal.returns

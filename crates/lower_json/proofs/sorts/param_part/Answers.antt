@@ -1,0 +1,9 @@
+use Rattle.json_nodes.specs.declared.part.AnyOf.TheVariants as part
+use Rattle.lower_json.proofs.Firsts.{made}
+use Rattle.lower_json.proofs.sorts.param_part.Goals as goal
+
+pub returns : goal.returns
+returns g c = made part.Param c.in_ok-of_param.ensures
+
+pub returns-in_err-of_param : goal.returns-in_err-of_param
+returns-in_err-of_param g c = rw c.from_residual.ensures (made part.Param c.in_err-of_param.ensures)

@@ -1,0 +1,9 @@
+use Rattle.json_nodes.specs.declared.part.AnyOf.TheVariants as part
+use Rattle.lower_json.proofs.Firsts.{made}
+use Rattle.lower_json.proofs.sorts.pat_field_part.Goals as goal
+
+pub returns : goal.returns
+returns g c = made part.Pat c.in_ok-of_pat_field.ensures
+
+pub returns-in_err-of_pat_field : goal.returns-in_err-of_pat_field
+returns-in_err-of_pat_field g c = rw c.from_residual.ensures (made part.Pat c.in_err-of_pat_field.ensures)
