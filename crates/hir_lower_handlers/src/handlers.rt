@@ -8,6 +8,7 @@ ghost use Rattle.hir_lower_handlers.specs.Spots.{complete, spot_at};
 
 use crate::aliases::alias_named;
 use crate::constant::constant_form;
+use crate::handling::Handling;
 use hir_alias::signature::AliasSignature;
 use hir_base::node::{InFile, NodeId, PredId};
 use hir_env::env::LowerEnv;
@@ -16,15 +17,12 @@ use hir_env::lang::LangItems;
 use hir_env::place::{Place, inside_constant};
 use hir_env::resolved::{Resolved, Shadow};
 use hir_lower_form::builder::StoredBody;
-use hir_lower_form::parts::{BlockRole, LowerInto, LowerParts, LowerPieces, Lowerer};
+use hir_lower_form::parts::BlockRole;
 use hir_lower_form::walk::{PathWalk, Reading};
-use hir_lower_pat::targets::lower_target;
-use hir_lower_pat::top::top_pat;
 use hir_lower_scope::labels::NoTarget;
 use hir_lower_scope::stacks::LabelStacks;
-use hir_store::builder::ExpressionStoreBuilder;
 use hir_store::fault::StoreFault;
-use hir_store::ids::{CfgId, CrateId, ExprId, HygieneId, LabelId, MacroDefId, PatId, TypeRefId};
+use hir_store::ids::{CfgId, CrateId, ExprId, HygieneId, LabelId, MacroDefId, TypeRefId};
 use hir_store::name::Name;
 use hir_store::path::{GenericArgs, ModPath};
 use hir_store::type_ref::ConstRef;
@@ -84,7 +82,7 @@ impl<
             &mut StoredBody,
             &ast::GenericArgList,
         ) -> Result<Option<GenericArgs>, StoreFault>,
-> LowerParts for Handlers<'e, E, F, B, Q, T, G> {
+> Handling for Handlers<'e, E, F, B, Q, T, G> {
     ghost can = { λ it. Handled E.answers (F.pre it.expr) (F.post it.expr) (B.pre it.block) (B.post it.block)
         (Q.pre it.path) (Q.post it.path) (T.pre it.type_ref) (T.post it.type_ref) (G.pre it.args) (G.post it.args) it.env.now it.place };
 
@@ -194,49 +192,7 @@ impl<
     ) -> Result<LabelId, NoTarget> {
         scopes.find(self.env, name, hygiene)
     }
-}
 
-impl<
-    'e,
-    E: LowerEnv,
-    F: Copy
-        + Fn(Global, &E, Place, &mut StoredBody, &ast::Expr) -> Result<Option<ExprId>, StoreFault>,
-    B: Copy
-        + Fn(
-            Global,
-            &E,
-            Place,
-            &mut StoredBody,
-            BlockRole,
-            &ast::BlockExpr,
-        ) -> Result<ExprId, StoreFault>,
-    Q: Copy
-        + Fn(
-            Global,
-            &E,
-            Place,
-            &mut StoredBody,
-            PathWalk,
-            &ast::Path,
-        ) -> Result<Reading, StoreFault>,
-    T: Copy
-        + Fn(
-            Global,
-            &E,
-            Place,
-            &mut StoredBody,
-            &Option<Seq<Name>>,
-            &ast::Type_,
-        ) -> Result<TypeRefId, StoreFault>,
-    G: Copy
-        + Fn(
-            Global,
-            &E,
-            Place,
-            &mut StoredBody,
-            &ast::GenericArgList,
-        ) -> Result<Option<GenericArgs>, StoreFault>,
-> LowerPieces<ExpressionStoreBuilder> for Handlers<'e, E, F, B, Q, T, G> {
     fn maybe_collect_expr(
         &self,
         state: &mut StoredBody,
@@ -307,77 +263,5 @@ impl<
             &self.expr,
             expr,
         )
-    }
-}
-
-impl<
-    'e,
-    E: LowerEnv,
-    F: Copy
-        + Fn(Global, &E, Place, &mut StoredBody, &ast::Expr) -> Result<Option<ExprId>, StoreFault>,
-    B: Copy
-        + Fn(
-            Global,
-            &E,
-            Place,
-            &mut StoredBody,
-            BlockRole,
-            &ast::BlockExpr,
-        ) -> Result<ExprId, StoreFault>,
-    Q: Copy
-        + Fn(
-            Global,
-            &E,
-            Place,
-            &mut StoredBody,
-            PathWalk,
-            &ast::Path,
-        ) -> Result<Reading, StoreFault>,
-    T: Copy
-        + Fn(
-            Global,
-            &E,
-            Place,
-            &mut StoredBody,
-            &Option<Seq<Name>>,
-            &ast::Type_,
-        ) -> Result<TypeRefId, StoreFault>,
-    G: Copy
-        + Fn(
-            Global,
-            &E,
-            Place,
-            &mut StoredBody,
-            &ast::GenericArgList,
-        ) -> Result<Option<GenericArgs>, StoreFault>,
-> LowerInto<ExpressionStoreBuilder> for Handlers<'e, E, F, B, Q, T, G> {
-    fn top_pat(
-        &self,
-        state: &mut StoredBody,
-        part: &Option<Boxed<ast::Pat>>,
-    ) -> Result<PatId, StoreFault> {
-        let lowerer = Lowerer {
-            alloc: self.alloc,
-            parts: Handlers {
-                place: self.place,
-                ..*self
-            },
-        };
-        top_pat(&lowerer, state, part)
-    }
-
-    fn lower_target(
-        &self,
-        state: &mut StoredBody,
-        part: &Option<Boxed<ast::Expr>>,
-    ) -> Result<PatId, StoreFault> {
-        let lowerer = Lowerer {
-            alloc: self.alloc,
-            parts: Handlers {
-                place: self.place,
-                ..*self
-            },
-        };
-        lower_target(&lowerer, state, part)
     }
 }

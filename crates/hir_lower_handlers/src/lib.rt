@@ -3,6 +3,8 @@
 #![tactic(auto)]
 
 pub mod aliases;
+pub mod by;
 mod constant;
 pub mod handlers;
+pub mod handling;
 pub mod numbers;

@@ -10,12 +10,12 @@ ghost use Rattle.hir_lower_handlers.specs.Spots.{spot_at};
 use crate::knot::{
     collect_block_inside, lower_arg_list, lower_type_node, maybe_collect_expr, read_path_segments,
 };
+use crate::nodes;
 use hir_env::env::LowerEnv;
 use hir_env::place::Place;
 use hir_lower_form::builder::StoredBody;
-use hir_lower_form::parts::{LowerPieces, Lowerer};
 use hir_lower_handlers::handlers::Handlers;
-use hir_lower_type::bounds::bound_node;
+use hir_lower_handlers::handling::Handling;
 use hir_store::fault::StoreFault;
 use hir_store::type_ref::{ConstRef, TypeBound};
 use hir_syntax::{Boxed, ast};
@@ -31,20 +31,17 @@ pub fn lower_bound<E: LowerEnv>(
 ) -> Result<TypeBound, StoreFault>
     ensures { Lowers HasBound (bound_steps (answered_bound (spot_at (E.answers env.now) place) node.now)) state.old result state.new }
 {
-    let lowerer = Lowerer {
+    let handlers = Handlers {
         alloc,
-        parts: Handlers {
-            alloc,
-            env,
-            place,
-            expr: maybe_collect_expr::<E>,
-            block: collect_block_inside::<E>,
-            path: read_path_segments::<E>,
-            type_ref: lower_type_node::<E>,
-            args: lower_arg_list::<E>,
-        },
+        env,
+        place,
+        expr: maybe_collect_expr::<E>,
+        block: collect_block_inside::<E>,
+        path: read_path_segments::<E>,
+        type_ref: lower_type_node::<E>,
+        args: lower_arg_list::<E>,
     };
-    bound_node(&lowerer, state, place, node)
+    nodes::bound_node(alloc, &handlers, state, place, node)
 }
 
 /// The constant with this expression, which is missing where it is absent or a condition disables it.

@@ -7,19 +7,14 @@ ghost use Rattle.hir_lower_form.specs.Methods.{HasRole, HasWalk, LowersArgs, Low
 ghost use Rattle.hir_lower_form.specs.Methods.{LowersTop, LowersType, MaybeLowersExpr, ReadsPath};
 ghost use Rattle.hir_lower_handlers.specs.Spots.{spot_at};
 
+use crate::nodes;
 use hir_env::env::LowerEnv;
 use hir_env::place::Place;
-use hir_lower_expr::blocks::block_node;
 use hir_lower_form::builder::StoredBody;
-use hir_lower_form::parts::{BlockRole, Lowerer};
+use hir_lower_form::parts::BlockRole;
 use hir_lower_form::walk::{PathWalk, Reading};
 use hir_lower_handlers::handlers::Handlers;
 use hir_lower_handlers::numbers::enter;
-use hir_lower_kinds::exprs::expr_node;
-use hir_lower_pat::{bare, top as patterns};
-use hir_lower_path::path::path_node;
-use hir_lower_type::args::args_node;
-use hir_lower_type::types::type_node;
 use hir_store::fault::StoreFault;
 use hir_store::ids::{ExprId, PatId, TypeRefId};
 use hir_store::name::Name;
@@ -38,20 +33,17 @@ pub fn maybe_collect_expr<E: LowerEnv>(
 ) -> Result<Option<ExprId>, StoreFault>
     ensures { MaybeLowersExpr (answered (spot_at (E.answers env.now) place) node.now) state.old result state.new }
 {
-    let lowerer = Lowerer {
+    let handlers = Handlers {
         alloc,
-        parts: Handlers {
-            alloc,
-            env,
-            place,
-            expr: maybe_collect_expr::<E>,
-            block: collect_block_inside::<E>,
-            path: read_path_segments::<E>,
-            type_ref: lower_type_node::<E>,
-            args: lower_arg_list::<E>,
-        },
+        env,
+        place,
+        expr: maybe_collect_expr::<E>,
+        block: collect_block_inside::<E>,
+        path: read_path_segments::<E>,
+        type_ref: lower_type_node::<E>,
+        args: lower_arg_list::<E>,
     };
-    expr_node(&lowerer, state, node)
+    nodes::expr_node(alloc, &handlers, state, node)
 }
 
 /// The block, as one of this role.
@@ -67,21 +59,18 @@ pub fn collect_block_inside<E: LowerEnv>(
     requires { HasRole state.old.stored role }
     ensures { LowersInside role (answered_plain (spot_at (E.answers env.now) place) node.now) state.old result state.new }
 {
-    let mut lowerer = Lowerer {
+    let mut handlers = Handlers {
         alloc,
-        parts: Handlers {
-            alloc,
-            env,
-            place,
-            expr: maybe_collect_expr::<E>,
-            block: collect_block_inside::<E>,
-            path: read_path_segments::<E>,
-            type_ref: lower_type_node::<E>,
-            args: lower_arg_list::<E>,
-        },
+        env,
+        place,
+        expr: maybe_collect_expr::<E>,
+        block: collect_block_inside::<E>,
+        path: read_path_segments::<E>,
+        type_ref: lower_type_node::<E>,
+        args: lower_arg_list::<E>,
     };
-    let block = enter(env, &mut lowerer.parts.place, node.id);
-    block_node(&lowerer, state, role, block, node)
+    let block = enter(env, &mut handlers.place, node.id);
+    nodes::block_node(alloc, &handlers, state, role, block, node)
 }
 
 /// Goes on with the segments of the path, and then with those of the use tree around it.
@@ -97,20 +86,17 @@ pub fn read_path_segments<E: LowerEnv>(
     requires { HasWalk state.old.stored walk }
     ensures { ReadsPath (answered_path (spot_at (E.answers env.now) place) node.now) walk state.old result state.new }
 {
-    let lowerer = Lowerer {
+    let handlers = Handlers {
         alloc,
-        parts: Handlers {
-            alloc,
-            env,
-            place,
-            expr: maybe_collect_expr::<E>,
-            block: collect_block_inside::<E>,
-            path: read_path_segments::<E>,
-            type_ref: lower_type_node::<E>,
-            args: lower_arg_list::<E>,
-        },
+        env,
+        place,
+        expr: maybe_collect_expr::<E>,
+        block: collect_block_inside::<E>,
+        path: read_path_segments::<E>,
+        type_ref: lower_type_node::<E>,
+        args: lower_arg_list::<E>,
     };
-    path_node(&lowerer, state, walk, node)
+    nodes::path_node(alloc, &handlers, state, walk, node)
 }
 
 /// The type, with the binder of a `for` that stands directly around it.
@@ -125,20 +111,17 @@ pub fn lower_type_node<E: LowerEnv>(
 ) -> Result<TypeRefId, StoreFault>
     ensures { LowersType binder.now (answered_type (spot_at (E.answers env.now) place) node.now) state.old result state.new }
 {
-    let lowerer = Lowerer {
+    let handlers = Handlers {
         alloc,
-        parts: Handlers {
-            alloc,
-            env,
-            place,
-            expr: maybe_collect_expr::<E>,
-            block: collect_block_inside::<E>,
-            path: read_path_segments::<E>,
-            type_ref: lower_type_node::<E>,
-            args: lower_arg_list::<E>,
-        },
+        env,
+        place,
+        expr: maybe_collect_expr::<E>,
+        block: collect_block_inside::<E>,
+        path: read_path_segments::<E>,
+        type_ref: lower_type_node::<E>,
+        args: lower_arg_list::<E>,
     };
-    type_node(&lowerer, state, binder, node)
+    nodes::type_node(alloc, &handlers, state, binder, node)
 }
 
 /// The list of arguments, or none where it has neither an argument nor a binding.
@@ -153,20 +136,17 @@ pub fn lower_arg_list<E: LowerEnv>(
     ensures { let at = spot_at (E.answers env.now) place in
         LowersArgs (some_arg_list (answered_arg_list at node.now)) state.old result state.new }
 {
-    let lowerer = Lowerer {
+    let handlers = Handlers {
         alloc,
-        parts: Handlers {
-            alloc,
-            env,
-            place,
-            expr: maybe_collect_expr::<E>,
-            block: collect_block_inside::<E>,
-            path: read_path_segments::<E>,
-            type_ref: lower_type_node::<E>,
-            args: lower_arg_list::<E>,
-        },
+        env,
+        place,
+        expr: maybe_collect_expr::<E>,
+        block: collect_block_inside::<E>,
+        path: read_path_segments::<E>,
+        type_ref: lower_type_node::<E>,
+        args: lower_arg_list::<E>,
     };
-    args_node(&lowerer, state, node)
+    nodes::args_node(alloc, &handlers, state, node)
 }
 
 /// The path, or none where it is refused.
@@ -179,20 +159,17 @@ pub fn lower_path<E: LowerEnv>(
 ) -> Result<Option<Path>, StoreFault>
     ensures { LowersPath (some_path (answered_path (spot_at (E.answers env.now) place) node.now)) state.old result state.new }
 {
-    let lowerer = Lowerer {
+    let handlers = Handlers {
         alloc,
-        parts: Handlers {
-            alloc,
-            env,
-            place,
-            expr: maybe_collect_expr::<E>,
-            block: collect_block_inside::<E>,
-            path: read_path_segments::<E>,
-            type_ref: lower_type_node::<E>,
-            args: lower_arg_list::<E>,
-        },
+        env,
+        place,
+        expr: maybe_collect_expr::<E>,
+        block: collect_block_inside::<E>,
+        path: read_path_segments::<E>,
+        type_ref: lower_type_node::<E>,
+        args: lower_arg_list::<E>,
     };
-    lowerer.lower_path(state, place, node)
+    nodes::lower_path(alloc, &handlers, state, place, node)
 }
 
 /// The expression, missing where a condition disables it.
@@ -222,20 +199,17 @@ pub fn top_pat<E: LowerEnv>(
 ) -> Result<PatId, StoreFault>
     ensures { LowersTop (pat_part (spot_at (E.answers env.now) place) part.now) state.old result state.new }
 {
-    let lowerer = Lowerer {
+    let handlers = Handlers {
         alloc,
-        parts: Handlers {
-            alloc,
-            env,
-            place,
-            expr: maybe_collect_expr::<E>,
-            block: collect_block_inside::<E>,
-            path: read_path_segments::<E>,
-            type_ref: lower_type_node::<E>,
-            args: lower_arg_list::<E>,
-        },
+        env,
+        place,
+        expr: maybe_collect_expr::<E>,
+        block: collect_block_inside::<E>,
+        path: read_path_segments::<E>,
+        type_ref: lower_type_node::<E>,
+        args: lower_arg_list::<E>,
     };
-    patterns::top_pat(&lowerer, state, part)
+    nodes::top_pat(alloc, &handlers, state, part)
 }
 
 /// The pattern of a parameter that may only be a plain name, which binds whatever it stands for elsewhere, or `_`: missing where it is
@@ -249,18 +223,15 @@ pub fn bare_top<E: LowerEnv>(
 ) -> Result<PatId, StoreFault>
     ensures { LowersTop (bare_part (pat_part (spot_at (E.answers env.now) place) part.now)) state.old result state.new }
 {
-    let lowerer = Lowerer {
+    let handlers = Handlers {
         alloc,
-        parts: Handlers {
-            alloc,
-            env,
-            place,
-            expr: maybe_collect_expr::<E>,
-            block: collect_block_inside::<E>,
-            path: read_path_segments::<E>,
-            type_ref: lower_type_node::<E>,
-            args: lower_arg_list::<E>,
-        },
+        env,
+        place,
+        expr: maybe_collect_expr::<E>,
+        block: collect_block_inside::<E>,
+        path: read_path_segments::<E>,
+        type_ref: lower_type_node::<E>,
+        args: lower_arg_list::<E>,
     };
-    bare::bare_top(&lowerer, state, part)
+    nodes::bare_top(alloc, &handlers, state, part)
 }
