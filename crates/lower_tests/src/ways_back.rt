@@ -29,22 +29,23 @@ pub const ARGUMENTS: &str = r#"{"nodes": [
     {"k": "Literal", "lit": "int", "t": "3"}
 ]}"#;
 
-/// The nodes of arguments, by their numbers and whether `Self` stands in front, and of bindings.
+/// The nodes of arguments, by their numbers, of the first one behind `Self`, and of bindings.
 #[derive(Clone, Copy)]
 pub struct Lent {
-    args: &'static [(u32, bool, Option<NodeId>)],
+    args: &'static [(u32, Option<NodeId>)],
+    first_behind_self: Option<NodeId>,
     bindings: &'static [(u32, Option<NodeId>)],
 }
 
 /// What is lent of the path above.
 pub const LENT: Lent = Lent {
     args: &[
-        (0, false, Some(NodeId(4))),
-        (1, false, Some(NodeId(7))),
-        (2, false, Some(NodeId(13))),
-        (3, false, None),
-        (1, true, Some(NodeId(4))),
+        (0, Some(NodeId(4))),
+        (1, Some(NodeId(7))),
+        (2, Some(NodeId(13))),
+        (3, None),
     ],
+    first_behind_self: Some(NodeId(4)),
     bindings: &[(0, Some(NodeId(8))), (1, None)],
 };
 
@@ -58,16 +59,23 @@ fn node_of(arg: &GenericArg) -> Option<NodeId> {
     }
 }
 
+fn arg_node(list: &GenericArgList, at: u32) -> Option<NodeId> {
+    node_of(hir_generic_arg_to_ast(list, at, false)?)
+}
+
+fn first_node_behind_self(list: &GenericArgList) -> Option<NodeId> {
+    node_of(hir_generic_arg_to_ast(list, 1, true)?)
+}
+
 fn is_lent(list: &GenericArgList, own: Lent) -> bool {
     for lent in own.args {
-        let (at, has_self, own) = *lent;
-        let node = match hir_generic_arg_to_ast(list, at, has_self) {
-            Some(arg) => node_of(arg),
-            None => None,
-        };
-        if node != own {
+        let (at, own) = *lent;
+        if arg_node(list, at) != own {
             return false;
         }
+    }
+    if first_node_behind_self(list) != own.first_behind_self {
+        return false;
     }
     for lent in own.bindings {
         let (at, own) = *lent;
