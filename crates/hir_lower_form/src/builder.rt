@@ -31,9 +31,7 @@ use std::alloc::Global;
 use std::marker::Model;
 
 /// What is stored so far, and the labels that are open, over what it is stored into. Each number in it is in range, whatever happens.
-///
-/// Each call answers `Full` exactly where the arena that it adds to has reached its limit, or the counter its end, and
-/// `Memory` where a growth was refused.
+/// Each call answers `Full` exactly where its arena has reached its limit, or its counter the end, and `Memory` where a growth was refused.
 pub struct BodyBuilder<I: Storing> {
     pub(crate) store: I,
     scopes: LabelStacks,
@@ -430,8 +428,7 @@ impl<I: Storing> BodyBuilder<I> {
         hygiene: HygieneId,
         source: InFile<AstPtr>,
     ) -> Result<LabelId, StoreFault>
-        ensures { Lowers HasLabel (spec.open_label
-            (record { pointer = source; name = name; hygiene = hygiene })) self.old result self.new }
+        ensures { Lowers HasLabel (spec.open_label (record { pointer = source; name = name; hygiene = hygiene })) self.old result self.new }
     {
         let copy = name.clone()?;
         let label = self.store.alloc_label(Label { name }, Some(source))?;

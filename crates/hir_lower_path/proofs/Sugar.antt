@@ -22,7 +22,8 @@ sugared_has s t o h k =
     subst (Has s) (sym all) (omega arith, omega (arith, h, k), omega arith, omega arith)
 
 -- the types, their tuple, and then what is answered
-pub parens_lower : (types : Lowering (List TypeRefId)) (output : Lowering TypeRefId) (b1 b2 b3 b4 : Builder) (ts : List TypeRefId) (t o : TypeRefId)
+pub parens_lower : (types : Lowering (List TypeRefId)) (output : Lowering TypeRefId) (b1 b2 b3 b4 : Builder)
+    (ts : List TypeRefId) (t o : TypeRefId)
     → Lowers HasTypes types b1 (Ok ts) b2 → Lowers HasType (alloc_type (ty.Tuple ts) None) b2 (Ok t) b3 → Lowers HasType output b3 (Ok o) b4
     → Lowers HasArgsOption (parens_form types output) b1 (Ok (Some (sugared_args t o))) b4
 unfolding parens_form
