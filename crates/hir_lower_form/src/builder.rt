@@ -30,7 +30,7 @@ use hir_store::type_ref::{LifetimeRef, TypeRef};
 use std::alloc::Global;
 use std::marker::Model;
 
-/// What is stored so far, and the labels that are open, over what it is stored into. Each number in it is in range, whatever happens.
+/// What is stored so far, and the labels that are open, over what it is stored into.
 /// Each call answers `Full` exactly where its arena has reached its limit, or its counter the end, and `Memory` where a growth was refused.
 pub struct BodyBuilder<I: Storing> {
     pub(crate) store: I,
@@ -44,7 +44,7 @@ pub struct BodyBuilder<I: Storing> {
     pub(crate) notes: Notes,
 }
 
-/// A builder over the store that there is.
+/// A builder over the store that there is. Each number in it is in range, whatever happens.
 pub type StoredBody = BodyBuilder<ExpressionStoreBuilder>;
 
 impl<I: Storing + Drop> Drop for BodyBuilder<I> {
