@@ -1,4 +1,4 @@
-//! The whole run.
+//! The whole run. A process has no other work, so what a run read and lowered isn't let go of, which would take a fifth of it.
 
 ghost use Rattle.std.specs.Prelude.{◌≡◌, ◌⊎◌, IfErr, None, List, ℕ};
 ghost use Rattle.lower_run.specs.Words.{called};
@@ -27,10 +27,11 @@ use hir_store::store::ExpressionStore;
 use hir_syntax::ast::{self, ParamList};
 use hir_tables::table::TableEnv;
 use lower_json::document::{Alias, Document, Tree};
-use lower_json::read::read_tree;
+use lower_json::read::read_tree_leaking;
 use std::alloc::{AllocError, Global};
 use std::convert::AsStr;
 use std::io::{Read, Write};
+use std::mem::forget;
 
 /// What is listed of a document.
 fn listed_in<'a>(
@@ -77,8 +78,8 @@ fn listed_body(alloc: Global, document: &Document, item: &Fn) -> Result<String, 
         None => None,
     };
     let text = body_listing(alloc, listed, self_param, body.params.as_slice());
-    drop(body);
-    drop(source_map);
+    forget(body);
+    forget(source_map);
     text.map_err(|_| Failure::Memory)
 }
 
@@ -104,8 +105,8 @@ fn listed_pat(alloc: Global, document: &Document, params: &ParamList) -> Result<
     )?;
     let listed = listed_in(document, &body.store, &source_map.store);
     let text = params_listing(alloc, listed, body.params.as_slice());
-    drop(body);
-    drop(source_map);
+    forget(body);
+    forget(source_map);
     text.map_err(|_| Failure::Memory)
 }
 
@@ -134,9 +135,9 @@ fn listed_path(alloc: Global, document: &Document, path: &ast::Path) -> Result<S
     let (lowered, store, source_map) = lowered_path(alloc, document, path)?;
     let listed = listed_in(document, &store, &source_map);
     let text = path_listing(alloc, listed, lowered.as_ref(), path);
-    drop(lowered);
-    drop(store);
-    drop(source_map);
+    forget(lowered);
+    forget(store);
+    forget(source_map);
     text.map_err(|_| Failure::Memory)
 }
 
@@ -155,8 +156,8 @@ fn listed_type(
     let (store, source_map, lowered) = lower_type_ref(alloc, &document.env, ModuleId(0), written)?;
     let listed = listed_in(document, &store, &source_map);
     let text = type_listing(alloc, listed, lowered);
-    drop(store);
-    drop(source_map);
+    forget(store);
+    forget(source_map);
     text.map_err(|_| Failure::Memory)
 }
 
@@ -202,10 +203,10 @@ fn listed_function(alloc: Global, document: &Document, item: &Fn) -> Result<Stri
     let listed = listed_in(document, &store, &source_map);
     let types = args.as_slice();
     let text = signature_listing(alloc, listed, &params, types, ret, has_self, has_variadic);
-    drop(store);
-    drop(source_map);
-    drop(params);
-    drop(args);
+    forget(store);
+    forget(source_map);
+    forget(params);
+    forget(args);
     text.map_err(|_| Failure::Memory)
 }
 
@@ -277,9 +278,9 @@ fn lowered_listing(alloc: Global, mode: Mode, document: &mut Document) -> Result
 fn listing(alloc: Global, mode: Mode, text: &[u8]) -> Result<String, Failure>
     ensures { CameOf mode text.now result }
 {
-    let mut document = read_tree(alloc, mode.root(), text)?;
+    let mut document = read_tree_leaking(alloc, mode.root(), text)?;
     let listed = lowered_listing(alloc, mode, &mut document);
-    drop(document);
+    forget(document);
     listed
 }
 
@@ -312,7 +313,8 @@ fn written<O: Write, X: Write>(out: &mut O, errors: &mut X, text: &str) -> u8
 /// document are wrong or a read or a write failed, or 3 where memory was refused or an arena was full.
 ///
 /// A run that doesn't end with status 0 says on `errors` why. Nothing is written to `out` before the whole listing is there; how much of
-/// it went out before a write failed is left open. A failing write to `errors` changes nothing.
+/// it went out before a write failed is left open. A failing write to `errors` changes nothing. What was read and lowered is never let go
+/// of, since a process ends with its run.
 pub fn run<W: AsStr, R: Read, O: Write, X: Write>(
     alloc: Global,
     words: &[W],
