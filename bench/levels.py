@@ -24,6 +24,7 @@ import os
 import resource
 import subprocess
 import sys
+from typing import Callable, NamedTuple
 
 TOP = os.path.dirname(os.path.dirname(os.path.abspath(__file__)))
 BUILT = os.path.join(TOP, "crates", "lower_tool", "out", "lower_tool")
@@ -65,20 +66,23 @@ def block(tail):
     return {"k": "BlockExpr", "tail": tail}
 
 
-def record(kind, path_of, fields):
-    return {"k": kind, "path": path_of, **fields}
+def record(value):
+    field = {"k": "RecordExprField", "name": "f", "expr": value}
+    return {"k": "RecordExpr", "path": path("A"), "list": {"k": "RecordExprFieldList", "fields": [field]}}
 
 
 ONE = {"k": "Literal", "lit": "int", "t": "1"}
 NAME = {"k": "IdentPat", "name": "x"}
 WILD = {"k": "WildcardPat"}
 PARAM = {"k": "Param", "pat": NAME}
+ARM = {"k": "MatchArm", "pat": WILD, "expr": ONE}
 TYPE = path_type(path("T"))
 
 # Each form by the levels that it takes, and what it is around a part.
 EXPRS = {
     "parentheses": (1, lambda e: {"k": "ParenExpr", "expr": e}),
     "block": (1, block),
+    "unsafe block": (1, lambda e: {**block(e), "mod": "unsafe"}),
     "statement": (2, lambda e: {"k": "BlockExpr", "stmts": [{"k": "ExprStmt", "expr": e, "semi": True}]}),
     "let": (2, lambda e: {"k": "BlockExpr", "stmts": [{"k": "LetStmt", "pat": NAME, "init": e}]}),
     "let else": (
@@ -90,36 +94,53 @@ EXPRS = {
     ),
     "const block": (1, lambda e: {**block(e), "mod": "const"}),
     "async block": (1, lambda e: {**block(e), "mod": "async"}),
+    "gen block": (1, lambda e: {**block(e), "mod": "gen"}),
+    "async gen block": (1, lambda e: {**block(e), "mod": "asyncgen"}),
     "try block": (1, lambda e: {**block(e), "mod": "try"}),
     "labelled block": (1, lambda e: {**block(e), "label": {"k": "Label", "lifetime": "'a"}}),
     "call": (1, lambda e: {"k": "CallExpr", "expr": ONE, "args": [e]}),
+    "callee": (1, lambda e: {"k": "CallExpr", "expr": e, "args": []}),
     "method": (1, lambda e: {"k": "MethodCallExpr", "receiver": e, "name": "m"}),
+    "argument of a method": (1, lambda e: {"k": "MethodCallExpr", "receiver": ONE, "name": "m", "args": [e]}),
+    "field": (1, lambda e: {"k": "FieldExpr", "expr": e, "name": "f"}),
+    "index": (1, lambda e: {"k": "IndexExpr", "base": ONE, "index": e}),
+    "base of an index": (1, lambda e: {"k": "IndexExpr", "base": e, "index": ONE}),
     "match": (2, lambda e: {"k": "MatchExpr", "expr": ONE, "arms": [{"k": "MatchArm", "pat": WILD, "expr": e}]}),
+    "head of a match": (1, lambda e: {"k": "MatchExpr", "expr": e, "arms": []}),
+    "guard": (3, lambda e: {"k": "MatchExpr", "expr": ONE, "arms": [{**ARM, "guard": {"k": "Guard", "condition": e}}]}),
     "if": (2, lambda e: {"k": "IfExpr", "condition": ONE, "then": block(e)}),
+    "else": (2, lambda e: {"k": "IfExpr", "condition": ONE, "then": block(ONE), "else": block(e)}),
     "condition": (1, lambda e: {"k": "IfExpr", "condition": e, "then": block(ONE)}),
+    "let as a condition": (1, lambda e: {"k": "LetExpr", "pat": WILD, "expr": e}),
     "loop": (2, lambda e: {"k": "LoopExpr", "body": block(e)}),
     "while": (2, lambda e: {"k": "WhileExpr", "condition": ONE, "body": block(e)}),
     "condition of a while": (1, lambda e: {"k": "WhileExpr", "condition": e, "body": block(ONE)}),
     "for": (2, lambda e: {"k": "ForExpr", "pat": NAME, "iterable": ONE, "body": block(e)}),
     "head of a for": (1, lambda e: {"k": "ForExpr", "pat": NAME, "iterable": e, "body": block(ONE)}),
     "question": (1, lambda e: {"k": "TryExpr", "expr": e}),
+    "await": (1, lambda e: {"k": "AwaitExpr", "expr": e}),
     "closure": (1, lambda e: {"k": "ClosureExpr", "params": [PARAM], "body": e}),
     "async closure": (1, lambda e: {"k": "ClosureExpr", "async": True, "params": [PARAM], "body": e}),
+    "prefix": (1, lambda e: {"k": "PrefixExpr", "op": "!", "expr": e}),
+    "borrow": (1, lambda e: {"k": "RefExpr", "expr": e}),
     "operator": (1, lambda e: {"k": "BinExpr", "op": "+", "lhs": e, "rhs": ONE}),
+    "and": (1, lambda e: {"k": "BinExpr", "op": "&&", "lhs": ONE, "rhs": e}),
     "assignment": (1, lambda e: {"k": "BinExpr", "op": "=", "lhs": ONE, "rhs": e}),
     "range": (1, lambda e: {"k": "RangeExpr", "op": "..=", "start": ONE, "end": e}),
     "tuple": (1, lambda e: {"k": "TupleExpr", "fields": [e]}),
     "array": (1, lambda e: {"k": "ArrayExpr", "elems": [e]}),
     "length": (1, lambda e: {"k": "ArrayExpr", "semi": True, "init": ONE, "len": e}),
     "return": (1, lambda e: {"k": "ReturnExpr", "expr": e}),
+    "break": (1, lambda e: {"k": "BreakExpr", "expr": e}),
+    "yield": (1, lambda e: {"k": "YieldExpr", "expr": e}),
+    "yeet": (1, lambda e: {"k": "YeetExpr", "expr": e}),
+    "become": (1, lambda e: {"k": "BecomeExpr", "expr": e}),
     "cast": (1, lambda e: {"k": "CastExpr", "expr": e, "ty": TYPE}),
-    "record": (
+    "record": (3, record),
+    "rest of a record": (2, lambda e: {"k": "RecordExpr", "path": path("A"), "list": {"k": "RecordExprFieldList", "spread": e}}),
+    "length of a type": (
         3,
-        lambda e: {
-            "k": "RecordExpr",
-            "path": path("A"),
-            "list": {"k": "RecordExprFieldList", "fields": [{"k": "RecordExprField", "name": "f", "expr": e}]},
-        },
+        lambda e: {"k": "CastExpr", "expr": ONE, "ty": {"k": "ArrayType", "ty": TYPE, "len": {"k": "ConstArg", "expr": e}}},
     ),
     "constant argument": (5, lambda e: {"k": "PathExpr", "path": generic({"k": "ConstArg", "expr": e})}),
 }
@@ -128,7 +149,10 @@ PATS = {
     "reference pattern": (1, lambda p: {"k": "RefPat", "pat": p}),
     "tuple pattern": (1, lambda p: {"k": "TuplePat", "fields": [p]}),
     "call pattern": (1, lambda p: {"k": "TupleStructPat", "path": path("A"), "fields": [p]}),
+    "box pattern": (1, lambda p: {"k": "BoxPat", "pat": p}),
+    "deref pattern": (1, lambda p: {"k": "DerefPat", "pat": p}),
     "slice pattern": (1, lambda p: {"k": "SlicePat", "prefix": [p]}),
+    "middle of a slice": (1, lambda p: {"k": "SlicePat", "slice": p}),
     "or-pattern": (1, lambda p: {"k": "OrPat", "pats": [p, WILD]}),
     "binding": (1, lambda p: {**NAME, "pat": p}),
     "record pattern": (
@@ -136,7 +160,16 @@ PATS = {
         lambda p: {"k": "RecordPat", "path": path("A"), "fields": [{"k": "RecordPatField", "name": "f", "pat": p}]},
     ),
 }
+TARGETS = {
+    "parentheses assigned to": (1, lambda t: {"k": "ParenExpr", "expr": t}),
+    "tuple assigned to": (1, lambda t: {"k": "TupleExpr", "fields": [t]}),
+    "array assigned to": (1, lambda t: {"k": "ArrayExpr", "elems": [t]}),
+    "call of a path assigned to": (1, lambda t: {"k": "CallExpr", "expr": {"k": "PathExpr", "path": path("A")}, "args": [t]}),
+    "record assigned to": (3, record),
+}
 TYPES = {
+    "type in parentheses": (1, lambda t: {"k": "ParenType", "ty": t}),
+    "pointer": (1, lambda t: {"k": "PtrType", "ty": t}),
     "reference": (1, lambda t: {"k": "RefType", "ty": t}),
     "tuple type": (1, lambda t: {"k": "TupleType", "fields": [t]}),
     "array type": (1, lambda t: {"k": "ArrayType", "ty": t, "len": {"k": "ConstArg", "expr": ONE}}),
@@ -146,8 +179,22 @@ TYPES = {
     "result of a pointer": (2, lambda t: {"k": "FnPtrType", "ret": {"k": "RetType", "ty": t}}),
     "pattern type": (1, lambda t: {"k": "PatternType", "ty": t, "pat": WILD}),
     "bound": (7, lambda t: {"k": "DynTraitType", "bounds": [{"k": "TypeBound", "b": "path", "ty": path_type(of_type(t))}]}),
+    # An impl stands in another one under a binding alone.
+    "impl": (
+        7,
+        lambda t: {
+            "k": "ImplTraitType",
+            "bounds": [{"k": "TypeBound", "b": "path", "ty": path_type(generic({"k": "AssocTypeArg", "name": "B", "ty": t}))}],
+        },
+    ),
     "argument of a path": (5, lambda t: path_type(of_type(t))),
     "binding of a path": (5, lambda t: path_type(generic({"k": "AssocTypeArg", "name": "B", "ty": t}))),
+    "argument of a binding": (
+        7,
+        lambda t: path_type(
+            generic({"k": "AssocTypeArg", "name": "B", "generics": {"k": "GenericArgList", "args": [{"k": "TypeArg", "ty": t}]}})
+        ),
+    ),
     "path directly in a call": (5, lambda t: path_type({**of_type(t), "in_macro": True})),
     "path of a use tree": (6, lambda t: path_type({**path("b"), "use": of_type(t)})),
     "argument of Fn": (5, lambda t: path_type(one_segment(parens={"k": "ParenArgs", "args": [{"k": "TypeArg", "ty": t}]}))),
@@ -155,11 +202,63 @@ TYPES = {
     "qualified path": (3, lambda t: qualified(ty=t)),
     "trait of a qualified path": (8, lambda t: qualified(ty=TYPE, trait=path_type(of_type(t)))),
 }
-# The place of a call, what stands at the end, and what the outermost tree stands in.
+# What a call stands for, which is another call. Of these a level is a call.
+CALLS = {
+    "call as a statement": (1, lambda c: {"k": "MacroStmts", "stmts": [{"k": "ExprStmt", "expr": c, "semi": True}]}),
+    "call behind statements": (1, lambda c: {"k": "MacroStmts", "expr": c}),
+}
+
+
+class Sort(NamedTuple):
+    """Forms that nest in one another."""
+
+    forms: dict
+    # The call that stands at the end, what stands there where there is none, and what the outermost tree stands in.
+    call: dict
+    leaf: dict
+    whole: Callable
+    # The levels that are nested in a tree.
+    levels: int
+
+
+def in_block(made):
+    """A block with the statements that a call would stand for."""
+    return {"k": "BlockExpr", "stmts": made.get("stmts", []), "tail": made.get("expr", ONE)}
+
+
+def let(pat):
+    return {"k": "LetExpr", "pat": pat, "expr": ONE}
+
+
+def assigned(target):
+    return {"k": "BinExpr", "op": "=", "lhs": target, "rhs": ONE}
+
+
+def cast(ty):
+    return {"k": "CastExpr", "expr": ONE, "ty": ty}
+
+
+def itself(tree):
+    return tree
+
+
+def call_as(kind):
+    return {"k": kind, "call": {"k": "MacroCall"}}
+
+
+# A call behind parentheses is an expression, wherever they stand.
+CALL = {"k": "ParenExpr", "expr": call_as("MacroExpr")}
+UNDERSCORE = {"k": "UnderscoreExpr"}
 SORTS = [
-    (EXPRS, "MacroExpr", ONE, lambda e: e),
-    (PATS, "MacroPat", WILD, lambda p: {"k": "LetExpr", "pat": p, "expr": ONE}),
-    (TYPES, "MacroType", TYPE, lambda t: {"k": "CastExpr", "expr": ONE, "ty": t}),
+    Sort(EXPRS, CALL, ONE, itself, LEVELS),
+    Sort(TARGETS, call_as("MacroExpr"), UNDERSCORE, assigned, LEVELS),
+    Sort(PATS, call_as("MacroPat"), WILD, let, LEVELS),
+    Sort(TYPES, call_as("MacroType"), TYPE, cast, LEVELS),
+    Sort(CALLS, call_as("MacroExpr"), ONE, in_block, 1),
+    Sort({"call as an expression": (1, itself)}, CALL, ONE, itself, 1),
+    Sort({"call assigned to": (1, itself)}, call_as("MacroExpr"), UNDERSCORE, assigned, 1),
+    Sort({"call as a pattern": (1, itself)}, call_as("MacroPat"), WILD, let, 1),
+    Sort({"call as a type": (1, itself)}, call_as("MacroType"), TYPE, cast, 1),
 ]
 
 
@@ -182,24 +281,19 @@ class Document:
 
 def nested(sort, form, trees):
     """A document with so many trees of the form, each called by the one before it, and how many levels they have."""
-    forms, place, leaf, whole = sort
-    levels, around = forms[form]
+    levels, around = sort.forms[form]
     document, macros, called = Document(), [], None
     for number in range(trees):
-        last = number + 1 == trees
-        # A call behind parentheses is an expression, wherever they stand.
-        tree = leaf if last else {"k": place, "call": {"k": "MacroCall"}}
-        if not last and place == "MacroExpr":
-            tree = {"k": "ParenExpr", "expr": tree}
-        for _ in range(LEVELS // levels):
+        tree = sort.call if number + 1 < trees else sort.leaf
+        for _ in range(sort.levels // levels):
             tree = around(tree)
         first = len(document.nodes)
-        root = document.put(tree if number else {"k": "Fn", "body": whole(tree)})
+        root = document.put(tree if number else {"k": "Fn", "body": sort.whole(tree)})
         if called is not None:
             macros.append([number - 1, called, "file", number, root])
         called = next((i for i in range(first, len(document.nodes)) if document.nodes[i]["k"] == "MacroCall"), None)
     text = json.dumps({"owner": "const", "nodes": document.nodes, "env": {"limit": 64, "macros": macros}})
-    return text.encode(), trees * (LEVELS // levels) * levels
+    return text.encode(), trees * (sort.levels // levels) * levels
 
 
 def depth(tree):
@@ -211,57 +305,53 @@ def depth(tree):
 
 def read(sort, form, most):
     """A document with one tree of so many levels at most in which the form nests, and how many levels of it these are."""
-    forms, _, leaf, whole = sort
-    levels, around = forms[form]
-    tree, count = leaf, 0
-    while depth(whole(around(tree))) < most:
+    levels, around = sort.forms[form]
+    tree, count = sort.leaf, 0
+    while depth(sort.whole(around(tree))) < most:
         tree, count = around(tree), count + levels
     document = Document()
-    document.put({"k": "Fn", "body": whole(tree)})
+    document.put({"k": "Fn", "body": sort.whole(tree)})
     return json.dumps({"owner": "const", "nodes": document.nodes, "env": {}}).encode(), count
 
 
 def deepest(sort, form):
     """A document with the form in as many levels as a tree may have, and at the end of it as many calls as may be entered."""
-    forms, place, leaf, whole = sort
-    around = forms[form][1]
-    call = {"k": place, "call": {"k": "MacroCall"}}
-    if place == "MacroExpr":
-        call = {"k": "ParenExpr", "expr": call}
-    tree = call
+    around = sort.forms[form][1]
+    is_call = sort.levels == 1
+    tree = made = around(sort.call) if is_call else sort.call
     # The function is a level, too.
-    while depth(whole(around(tree))) < MOST_LEVELS:
+    while not is_call and depth(sort.whole(around(tree))) < MOST_LEVELS:
         tree = around(tree)
-    body = whole(tree)
+    body = sort.whole(tree)
     for _ in range(MOST_LEVELS - 1 - depth(body)):
         body = {"k": "ParenExpr", "expr": body}
     document, macros = Document(), []
     document.put({"k": "Fn", "body": body})
     for number in range(MOST_CALLS):
         called = next(i for i in reversed(range(len(document.nodes))) if document.nodes[i]["k"] == "MacroCall")
-        root = document.put(call if number + 1 < MOST_CALLS else leaf)
+        root = document.put(made if number + 1 < MOST_CALLS else sort.leaf)
         macros.append([number, called, "file", number + 1, root])
     return json.dumps({"owner": "const", "nodes": document.nodes, "env": {"limit": MOST_CALLS, "macros": macros}}).encode()
 
 
 def is_enough(program, document, kilobytes):
-    """Whether the program lowers the document under the limit of stack."""
+    """Whether the program lowers the document under the limit of stack, and enters each call of it."""
     # The hard limit too, since ./run raises the soft one as far as that.
     limit = (kilobytes << 10, kilobytes << 10)
     ran = subprocess.run(
         [program, "body"], input=document, capture_output=True, preexec_fn=lambda: resource.setrlimit(resource.RLIMIT_STACK, limit)
     )
-    return ran.returncode == 0
+    return ran.returncode == 0 and ran.stdout.count(b"\nexpansion ") == document.count(b'"MacroCall"')
 
 
 def least(program, document):
-    """The least limit in kilobytes, to a hundredth."""
+    """The least limit in kilobytes, to a hundredth or to one."""
     low, high = 64, 128
     while not is_enough(program, document, high):
         low, high = high, 2 * high
         if high > 1 << 20:
-            raise SystemExit("a document isn't lowered under any limit")
-    while high - low > high // 100:
+            raise SystemExit("a document isn't lowered under any limit, or a call in it isn't entered")
+    while high - low > max(1, high // 100):
         middle = (low + high) // 2
         if is_enough(program, document, middle):
             high = middle
@@ -282,8 +372,9 @@ def main():
     program = os.path.abspath(options.program)
     tried, failed = 0, 0
     for sort in SORTS:
-        for form in sort[0]:
-            if options.form not in (None, form):
+        for form in sort.forms:
+            # Reading goes through each tree by itself.
+            if options.form not in (None, form) or (options.reading and sort.levels == 1):
                 continue
             if options.within is not None:
                 tried += 1
