@@ -117,8 +117,7 @@ fn has_pat_parts(store: &ExpressionStoreBuilder, pat: &Pat) -> bool {
     }
 }
 
-/// Whether each expression and each pattern names entries that are there. Types and labels aren't lent by a store that is being filled.
-pub fn in_range(store: &ExpressionStoreBuilder) -> bool {
+fn has_exprs_in_range(store: &ExpressionStoreBuilder) -> bool {
     for number in 0..store.exprs_len() {
         match store.expr(ExprId(number)) {
             Some(expr) => if !has_parts(store, expr) {
@@ -127,6 +126,10 @@ pub fn in_range(store: &ExpressionStoreBuilder) -> bool {
             None => return false,
         }
     }
+    true
+}
+
+fn has_pats_in_range(store: &ExpressionStoreBuilder) -> bool {
     for number in 0..store.pats_len() {
         match store.pat(PatId(number)) {
             Some(pat) => if !has_pat_parts(store, pat) {
@@ -135,10 +138,19 @@ pub fn in_range(store: &ExpressionStoreBuilder) -> bool {
             None => return false,
         }
     }
+    true
+}
+
+fn has_bindings(store: &ExpressionStoreBuilder) -> bool {
     for number in 0..store.bindings_len() {
         if store.binding(BindingId(number)).is_none() {
             return false;
         }
     }
     true
+}
+
+/// Whether each expression and each pattern names entries that are there. Types and labels aren't lent by a store that is being filled.
+pub fn in_range(store: &ExpressionStoreBuilder) -> bool {
+    has_exprs_in_range(store) && has_pats_in_range(store) && has_bindings(store)
 }

@@ -32,6 +32,8 @@ mod inner;
 #[cfg(test)]
 mod items;
 #[cfg(test)]
+mod lacking;
+#[cfg(test)]
 mod limits;
 #[cfg(test)]
 mod listings;

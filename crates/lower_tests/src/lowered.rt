@@ -9,7 +9,7 @@ use hir_odd_envs::cyclic::Cyclic;
 use hir_odd_envs::endless::Endless;
 use hir_odd_envs::lacking::Lacking;
 use hir_odd_envs::one_module::OneModule;
-use hir_store::ids::{MacroDefId, ModuleId};
+use hir_store::ids::{LangItemId, MacroDefId, ModuleId};
 use hir_tables::table::TableEnv;
 use lower_json::document::{Document, Root, Tree};
 use std::alloc::Global;
@@ -26,8 +26,8 @@ pub enum By {
     Circles,
     /// What is known in this module alone.
     Module(ModuleId),
-    /// The item of ranges isn't there.
-    WithoutRange,
+    /// This item of the language isn't there.
+    Without(LangItemId),
     /// The item of newer ranges with an included end is that of those with an excluded one.
     EqualItems,
 }
@@ -81,6 +81,40 @@ fn lowered_with<'a, I: Item>(
     lowered_by_object(alloc, &Lacking { behind, items }, item)
 }
 
+fn other_than(absent: LangItemId, item: Option<LangItemId>) -> Option<LangItemId> {
+    if item == Some(absent) { None } else { item }
+}
+
+/// All items of the language but for one.
+fn items_without(absent: LangItemId) -> LangItems {
+    let all = LangItems::numbered();
+    LangItems {
+        range_full: other_than(absent, all.range_full),
+        range_from: other_than(absent, all.range_from),
+        range_from_copy: other_than(absent, all.range_from_copy),
+        range_to: other_than(absent, all.range_to),
+        range_copy: other_than(absent, all.range_copy),
+        range: other_than(absent, all.range),
+        range_to_inclusive_copy: other_than(absent, all.range_to_inclusive_copy),
+        range_to_inclusive: other_than(absent, all.range_to_inclusive),
+        range_inclusive_copy: other_than(absent, all.range_inclusive_copy),
+        range_inclusive_new: other_than(absent, all.range_inclusive_new),
+        try_trait_from_output: other_than(absent, all.try_trait_from_output),
+        try_trait_branch: other_than(absent, all.try_trait_branch),
+        control_flow_continue: other_than(absent, all.control_flow_continue),
+        control_flow_break: other_than(absent, all.control_flow_break),
+        residual_into_try_type: other_than(absent, all.residual_into_try_type),
+        try_trait_from_residual: other_than(absent, all.try_trait_from_residual),
+        into_iter_into_iter: other_than(absent, all.into_iter_into_iter),
+        iterator_next: other_than(absent, all.iterator_next),
+        option_some: other_than(absent, all.option_some),
+        option_none: other_than(absent, all.option_none),
+        range_min: other_than(absent, all.range_min),
+        range_max: other_than(absent, all.range_max),
+        range_sub: other_than(absent, all.range_sub),
+    }
+}
+
 fn lowered_by<I: Item>(alloc: Global, by: By, behind: &TableEnv, item: &I) -> Lowered {
     let numbered = LangItems::numbered();
     match by {
@@ -92,13 +126,7 @@ fn lowered_by<I: Item>(alloc: Global, by: By, behind: &TableEnv, item: &I) -> Lo
             lowered_by_object(alloc, &Cyclic { behind, outer }, item)
         }
         By::Module(module) => lowered_by_object(alloc, &OneModule { behind, module }, item),
-        By::WithoutRange => {
-            let items = LangItems {
-                range: None,
-                ..numbered
-            };
-            lowered_with(alloc, behind, &items, item)
-        }
+        By::Without(absent) => lowered_with(alloc, behind, &items_without(absent), item),
         By::EqualItems => {
             let items = LangItems {
                 range_inclusive_copy: numbered.range_copy,

@@ -58,7 +58,7 @@ const NAMES_AND_RANGES: &str = r#"{
 
 /// The listing of a body.
 #[derive(Clone, Copy)]
-struct Text(&'static str);
+pub struct Text(pub &'static str);
 
 impl AskOfBody for Text {
     fn is_so(&self, alloc: Global, body: &Body, source_map: &BodySourceMap) -> bool {

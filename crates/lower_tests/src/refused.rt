@@ -18,7 +18,8 @@ use crate::items::{
 use crate::lowered::{By, said_of_body};
 use crate::objects::{BLOCK_IN_BLOCK, ENTERED};
 use crate::odd::{
-    ALIASED, ItemOfRecord, LIFETIMES, LabelledUnsafe, NEWER_RANGE, OWN_PARENTS, RANGE, RANGE_INSIDE,
+    ALIASED, ItemOfRecord, LIFETIMES, LabelledUnsafe, NEITHER, NEWER_RANGE, OUTER, OWN_PARENTS,
+    RANGE, RANGE_INSIDE,
 };
 use crate::paths::EMPTY;
 use crate::small::{CALL, FOR, NESTED, ONE, ends, said_of_full, said_of_whole};
@@ -26,7 +27,7 @@ use crate::stacks::FIRST;
 use crate::types::IMPL_IN_A_PATH;
 use crate::ways_back::{ARGUMENTS, FIELD_NODE, LENT, RECORD};
 use hir_env::lang::LangItems;
-use hir_store::ids::ModuleId;
+use hir_store::ids::{LangItemId, ModuleId};
 use lower_json::document::Root;
 use std::alloc::Global;
 
@@ -85,6 +86,15 @@ fn bodies_where_objects_answer(rt: HostRuntime) {
 }
 
 #[test]
+fn bodies_where_one_module_answers(rt: HostRuntime) {
+    let alloc = rt.alloc();
+    let root = By::Module(ModuleId(0));
+    assert!(rt; said_of_body(alloc, BLOCK_IN_BLOCK, root, &OUTER) != Said::Other);
+    let other = By::Module(ModuleId(1));
+    assert!(rt; said_of_body(alloc, BLOCK_IN_BLOCK, other, &NEITHER) != Said::Other);
+}
+
+#[test]
 fn bodies_with_ranges(rt: HostRuntime) {
     let alloc = rt.alloc();
     let items = LangItems::numbered();
@@ -92,35 +102,50 @@ fn bodies_with_ranges(rt: HostRuntime) {
     let root = By::Module(ModuleId(0));
     assert!(rt; said_of_body(alloc, RANGE_INSIDE, root, &older) != Said::Other);
     let absent = ItemOfRecord(None);
-    assert!(rt; said_of_body(alloc, RANGE, By::WithoutRange, &absent) != Said::Other);
+    let without = By::Without(LangItemId(5));
+    assert!(rt; said_of_body(alloc, RANGE, without, &absent) != Said::Other);
     let equal = ItemOfRecord(items.range_copy);
     assert!(rt; said_of_body(alloc, NEWER_RANGE, By::EqualItems, &equal) != Said::Other);
 }
 
 #[test]
-fn items(rt: HostRuntime) {
-    let alloc = rt.alloc();
+fn traits(rt: HostRuntime) {
     for row in TRAITS.iter() {
-        assert!(rt; said_of_item(alloc, Item::Trait, *row) != Said::Other);
+        assert!(rt; said_of_item(rt.alloc(), Item::Trait, *row) != Said::Other);
     }
+}
+
+#[test]
+fn impls(rt: HostRuntime) {
     for row in IMPLS.iter() {
-        assert!(rt; said_of_item(alloc, Item::Impl, *row) != Said::Other);
+        assert!(rt; said_of_item(rt.alloc(), Item::Impl, *row) != Said::Other);
     }
+}
+
+#[test]
+fn generic_params(rt: HostRuntime) {
     for params in PARAMS.iter() {
-        assert!(rt; said_of(alloc, Root::Fn, BOUNDED, params) != Said::Other);
+        assert!(rt; said_of(rt.alloc(), Root::Fn, BOUNDED, params) != Said::Other);
     }
 }
 
 #[test]
 fn aliases(rt: HostRuntime) {
-    let alloc = rt.alloc();
     for row in ALIASES.iter() {
-        assert!(rt; said_of_item(alloc, Item::Alias(MODULE), *row) != Said::Other);
+        assert!(rt; said_of_item(rt.alloc(), Item::Alias(MODULE), *row) != Said::Other);
     }
+}
+
+#[test]
+fn aliases_without_their_types(rt: HostRuntime) {
     for (container, row) in BARE_ALIASES.iter() {
-        assert!(rt; said_of_item(alloc, Item::Alias(*container), *row) != Said::Other);
+        assert!(rt; said_of_item(rt.alloc(), Item::Alias(*container), *row) != Said::Other);
     }
-    assert!(rt; said_of(alloc, Root::Fn, ALIASED, &LIFETIMES) != Said::Other);
+}
+
+#[test]
+fn an_alias_without_an_answer(rt: HostRuntime) {
+    assert!(rt; said_of(rt.alloc(), Root::Fn, ALIASED, &LIFETIMES) != Said::Other);
 }
 
 #[test]

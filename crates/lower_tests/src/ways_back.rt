@@ -67,27 +67,37 @@ fn first_node_behind_self(list: &GenericArgList) -> Option<NodeId> {
     node_of(hir_generic_arg_to_ast(list, 1, true)?)
 }
 
-fn is_lent(list: &GenericArgList, own: Lent) -> bool {
-    for lent in own.args {
+fn binding_node(list: &GenericArgList, at: u32) -> Option<NodeId> {
+    match hir_assoc_type_binding_to_ast(list, at) {
+        Some(binding) => Some(binding.id),
+        None => None,
+    }
+}
+
+fn has_args(list: &GenericArgList, own: &[(u32, Option<NodeId>)]) -> bool {
+    for lent in own {
         let (at, own) = *lent;
         if arg_node(list, at) != own {
             return false;
         }
     }
-    if first_node_behind_self(list) != own.first_behind_self {
-        return false;
-    }
-    for lent in own.bindings {
+    true
+}
+
+fn has_bindings(list: &GenericArgList, own: &[(u32, Option<NodeId>)]) -> bool {
+    for lent in own {
         let (at, own) = *lent;
-        let node = match hir_assoc_type_binding_to_ast(list, at) {
-            Some(binding) => Some(binding.id),
-            None => None,
-        };
-        if node != own {
+        if binding_node(list, at) != own {
             return false;
         }
     }
     true
+}
+
+fn is_lent(list: &GenericArgList, own: Lent) -> bool {
+    has_args(list, own.args)
+        && first_node_behind_self(list) == own.first_behind_self
+        && has_bindings(list, own.bindings)
 }
 
 impl AskOfDocument for Lent {
