@@ -44,13 +44,11 @@ impl<'a> Printer<'a> {
             Expr::Let { .. } | Expr::Assignment { .. } | Expr::Closure { .. } => self.open_branch(
                 expr,
             ),
-            Expr::Call { .. }
-            | Expr::MethodCall { .. }
-            | Expr::Field { .. }
-            | Expr::Index { .. }
-            | Expr::If { .. }
-            | Expr::Loop { .. }
-            | Expr::Match { .. } => self.waiting.push_operation_parts(expr),
+            Expr::Call { .. } | Expr::MethodCall { .. } | Expr::Field { .. } | Expr::Index { .. } =>
+                self.waiting.push_operation_parts(expr),
+            Expr::If { .. } | Expr::Loop { .. } | Expr::Match { .. } => {
+                self.waiting.push_control_parts(expr)
+            }
             Expr::Cast { .. } | Expr::RecordLit { .. } | Expr::OffsetOf { .. } => {
                 self.waiting.push_typed_parts(expr)
             }

@@ -222,6 +222,13 @@ impl<'a> Waiting<'a> {
                 Piece::Expr(*base),
                 Piece::Expr(*index),
             ]),
+            _ => self.push_parts(&[]),
+        }
+    }
+
+    /// The same of what goes on in one of several ways, or again.
+    pub fn push_control_parts(&mut self, expr: &'a Expr) -> Result<(), AllocError> {
+        match expr {
             Expr::If {
                 condition,
                 then_branch,
