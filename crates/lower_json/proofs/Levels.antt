@@ -1,12 +1,14 @@
 -- One level of what stands at the nodes of a list.
-use Rattle.std.proofs.Common.{◌≡◌, ℕ, suc, zero, List, Option, Some, None, refl, arith}
+use Rattle.std.proofs.Common.{◌≡◌, ◌∙◌, ℕ, suc, zero, Bool, List, Option, Some, None, refl, ap, arith}
 use Rattle.std.specs.Prelude.{option_and_then}
 use Rattle.serde_json.specs.Data.{Data, Items}
 use Rattle.serde_json.specs.Find.{get_item}
 use Rattle.json_faults.specs.Kinds.{kind_at}
 use Rattle.json_kinds.specs.declared.kind.Kind.{Kind}
 use Rattle.lower_json.specs.Reading.{part_at, of_kind}
+use Rattle.json_nodes.specs.Kept.{Kept}
 use Rattle.json_nodes.specs.Nodes.{node_at}
+use Rattle.json_nodes.specs.Parts.{Here}
 use Rattle.json_nodes.specs.Any.{AnyPart}
 
 pub no_level : (n : ℕ) (kinds : List (Option Kind)) (ns : Items) (at : ℕ) → n ≡ 0 → None ≡ part_at n kinds ns at
@@ -36,3 +38,7 @@ pub one_level : (n m : ℕ) (kinds : List (Option Kind)) (ns : Items) (at : ℕ)
 unfolding part_at
 one_level zero m kinds ns at d k e i s = absurd (omega (arith, e))
 one_level (suc n) m kinds ns at d k e i s = rw i (rw s (let same : n ≡ m = omega (arith, e) in rw same refl))
+
+-- the same node says the same
+pub at_node : {a b : Bool} {h i : Here} {r : Option AnyPart} (k : Kind) → h ≡ i → Kept a b (r ≡ of_kind h k) → Kept a b (r ≡ of_kind i k)
+at_node k same read = λ e. let it = read e in (it.0, it.1 ∙ ap (λ x. of_kind x k) same)

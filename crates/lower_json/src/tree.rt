@@ -67,22 +67,6 @@ where
     }
 }
 
-/// What stands at a node of a kind, by its index and value.
-pub fn part_at<P: ReadParts>(
-    alloc: Global,
-    parts: &P,
-    refused: &mut bool,
-    value: Own<'_>,
-    at: u32,
-    kind: Kind,
-) -> Option<AnyPart>
-    requires { P.can parts.now }
-    ensures { Kept refused.old refused.new
-        (result ≡ of_kind (node_at (P.parts parts.now) at (view value.entry.node.now)) kind) }
-{
-    of_kind(&node_at(alloc, parts, value, at), refused, kind)
-}
-
 fn read_part(
     alloc: Global,
     kinds: &[Option<Kind>],
@@ -108,7 +92,7 @@ fn read_part(
         levels: levels - 1,
         read: read_part,
     };
-    part_at(alloc, &inside, refused, value, at, kind)
+    of_kind(&node_at(alloc, &inside, value, at), refused, kind)
 }
 
 /// What of a group stands at a node, if anything does.

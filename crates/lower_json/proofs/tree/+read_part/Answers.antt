@@ -1,6 +1,6 @@
 use Rattle.std.proofs.Common.{rules, arith, ◌-◌}
 use Rattle.serde_json.specs.View.{view, items_view}
-use Rattle.lower_json.proofs.Levels.{no_level, no_item, no_kind, one_level}
+use Rattle.lower_json.proofs.Levels.{at_node, no_level, no_item, no_kind, one_level}
 use Rattle.lower_json.proofs.tree.+read_part.Goals as goal
 
 pub returns-then-levels-eq0 : goal.returns-then-levels-eq0
@@ -12,11 +12,11 @@ returns-in_default t c = λ e. (e, no_item _ _ _ _ (search rules))
 pub returns-in_default-kind_at : goal.returns-in_default-kind_at
 returns-in_default-kind_at t c = λ e. (e, no_kind _ _ _ _ (search rules))
 
-pub part_at-requires : goal.part_at-requires
-part_at-requires t c = record {
+pub of_kind-requires : goal.of_kind-requires
+of_kind-requires t c = rw c.node_at.ensures.parts (record {
   callable = λ alloc ks vs old at same_kinds same_nodes. let d = c.decreases in omega (arith, d);
   told = λ alloc ks vs old new at r same_kinds same_nodes p. rw (← same_kinds) (rw (← same_nodes) p.1);
-}
+})
 
 pub returns : goal.returns
 returns t c =
@@ -25,4 +25,4 @@ returns t c =
     let kind = c.in-Some-kind_at.kind in
     let nodes = items_view a.nodes.now.nodes.now in
     rw (one_level a.levels (a.levels - 1) a.kinds.now nodes a.at value kind (omega arith) (search rules) (search rules))
-    c.part_at.ensures
+    (at_node kind c.node_at.ensures.here c.of_kind.ensures)
