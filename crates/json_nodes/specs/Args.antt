@@ -3,6 +3,7 @@ use Rattle.std.specs.Prelude.{codes, Option, Some, None}
 use Rattle.serde_json.specs.Find.{get}
 use Rattle.hir_syntax.specs.declared.types.AssocTypeArg.{AssocTypeArg, roll-AssocTypeArg}
 use Rattle.hir_syntax.specs.declared.types.GenericArg.TheVariants as arguments
+use Rattle.hir_syntax.specs.declared.types.LifetimeArg.{LifetimeArg}
 use Rattle.json_kinds.specs.ByWord.{or_else}
 use Rattle.json_kinds.specs.declared.kind.PathNode.{PathNode}
 use Rattle.json_kinds.specs.declared.kind.PathNode.TheVariants as kind
@@ -24,14 +25,17 @@ assoc_arg h = roll-AssocTypeArg (record {
   bounds = list_in h as_bound (codes "bounds");
 })
 
-unfoldable pub arg : Here → PathNode → Option PathPart
-arg h kind.TypeArg = Some (path_part.TypeArg (part_in h as_type (codes "ty")))
-arg h kind.AssocTypeArg = Some (path_part.GenericArg (arguments.AssocTypeArg (assoc_arg h)))
-arg h kind.LifetimeArg = Some (path_part.GenericArg (arguments.LifetimeArg (record {
+unfoldable pub lifetime_arg : Here → LifetimeArg
+lifetime_arg h = record {
   id = h.id;
   range = h.range;
   lifetime = part_in h as_lifetime (codes "lifetime");
-})))
+}
+
+unfoldable pub arg : Here → PathNode → Option PathPart
+arg h kind.TypeArg = Some (path_part.TypeArg (part_in h as_type (codes "ty")))
+arg h kind.AssocTypeArg = Some (path_part.GenericArg (arguments.AssocTypeArg (assoc_arg h)))
+arg h kind.LifetimeArg = Some (path_part.GenericArg (arguments.LifetimeArg (lifetime_arg h)))
 arg h kind.ConstArg = Some (path_part.ConstArg (part_in h as_expr (codes "expr")))
 arg h _ = None
 

@@ -3,6 +3,7 @@ use Rattle.std.specs.Prelude.{codes, Option, Some, None}
 use Rattle.serde_json.specs.Find.{get}
 use Rattle.hir_syntax.specs.declared.types.Param.{roll-Param}
 use Rattle.hir_syntax.specs.declared.params.SelfParam.{SelfParam}
+use Rattle.hir_syntax.specs.declared.params.ParamList.{ParamList}
 use Rattle.json_kinds.specs.declared.kind.PartNode.{PartNode}
 use Rattle.json_kinds.specs.declared.kind.PartNode.TheVariants as kind
 use Rattle.json_nodes.specs.Fields.{flag_of}
@@ -22,6 +23,14 @@ self_param h = record {
   ty = part_in h as_type (codes "ty");
 }
 
+unfoldable pub param_list : Here → ParamList
+param_list h = record {
+  id = h.id;
+  range = h.range;
+  self_ = part_in h as_self_param (codes "self");
+  params = list_in h as_param (codes "params");
+}
+
 -- a parameter, a `self`, or all of a function
 unfoldable pub of_param : Here → PartNode → Option ParamPart
 of_param h kind.Param = Some (param_part.Param (roll-Param (record {
@@ -32,10 +41,5 @@ of_param h kind.Param = Some (param_part.Param (roll-Param (record {
   variadic = flag_of (get (codes "variadic") h.value);
 })))
 of_param h kind.SelfParam = Some (param_part.SelfParam (self_param h))
-of_param h kind.ParamList = Some (param_part.ParamList (record {
-  id = h.id;
-  range = h.range;
-  self_ = part_in h as_self_param (codes "self");
-  params = list_in h as_param (codes "params");
-}))
+of_param h kind.ParamList = Some (param_part.ParamList (param_list h))
 of_param h _ = None

@@ -1,6 +1,7 @@
 //! Arguments of names.
 
-ghost use Rattle.std.specs.Prelude.{◌≡◌};
+ghost use Rattle.std.specs.Prelude.{◌≡◌, Some};
+ghost use Rattle.hir_syntax.specs.declared.types.GenericArg.TheVariants as generic_arg;
 ghost use Rattle.json_nodes.specs.Kept.{Kept};
 ghost use Rattle.json_nodes.specs.Args as spec;
 
@@ -8,22 +9,24 @@ use crate::code_parts::Exprs;
 use crate::field::flag;
 use crate::fields::{All, Fields, InBox, One};
 use crate::name_parts::{Lifetimes, Names};
+use crate::part::in_box;
 use crate::path_parts::{GenericArgLists, GenericArgs, PathPart, TypeArgs};
 use crate::type_parts::{Bounds, Types};
+use hir_base::Boxed;
 use hir_syntax::ast::{AssocTypeArg, GenericArg, LifetimeArg};
 use json_kinds::kind::PathNode;
 
 #[inline(never)]
 #[tactic(auto, unfolding(crate::specs::Args::assoc_arg))]
-fn assoc_arg<F: Fields>(node: &F, refused: &mut bool) -> AssocTypeArg
+fn assoc_arg<F: Fields>(node: &F, refused: &mut bool) -> Option<Boxed<GenericArg>>
     requires { F.can node.now }
-    ensures { Kept refused.old refused.new (result ≡ spec.assoc_arg (F.here node.now)) }
+    ensures { Kept refused.old refused.new (result ≡ Some (generic_arg.AssocTypeArg (spec.assoc_arg (F.here node.now)))) }
 {
     let name = node.field::<One<Names>>(refused, "name");
     let generics = node.field::<One<GenericArgLists>>(refused, "generics");
     let ty = node.field::<InBox<Types>>(refused, "ty");
     let bounds = node.field::<All<Bounds>>(refused, "bounds");
-    AssocTypeArg {
+    let arg = GenericArg::AssocTypeArg(AssocTypeArg {
         id: node.id(),
         range: node.range(),
         name,
@@ -32,7 +35,23 @@ fn assoc_arg<F: Fields>(node: &F, refused: &mut bool) -> AssocTypeArg
         rtn: flag(node.value(), "rtn"),
         ty,
         bounds,
-    }
+    });
+    in_box::<GenericArgs>(node.alloc(), refused, arg)
+}
+
+#[inline(never)]
+#[tactic(auto, unfolding(crate::specs::Args::lifetime_arg))]
+fn lifetime_arg<F: Fields>(node: &F, refused: &mut bool) -> Option<Boxed<GenericArg>>
+    requires { F.can node.now }
+    ensures { Kept refused.old refused.new (result ≡ Some (generic_arg.LifetimeArg (spec.lifetime_arg (F.here node.now)))) }
+{
+    let lifetime = node.field::<One<Lifetimes>>(refused, "lifetime");
+    let arg = GenericArg::LifetimeArg(LifetimeArg {
+        id: node.id(),
+        range: node.range(),
+        lifetime,
+    });
+    in_box::<GenericArgs>(node.alloc(), refused, arg)
 }
 
 #[inline(never)]
@@ -46,19 +65,8 @@ fn arg<F: Fields>(node: &F, refused: &mut bool, kind: PathNode) -> Option<PathPa
             let ty = node.field::<InBox<Types>>(refused, "ty");
             Some(PathPart::TypeArg(ty))
         }
-        PathNode::AssocTypeArg => {
-            let arg = GenericArg::AssocTypeArg(assoc_arg(node, refused));
-            Some(PathPart::GenericArg(arg))
-        }
-        PathNode::LifetimeArg => {
-            let lifetime = node.field::<One<Lifetimes>>(refused, "lifetime");
-            let arg = GenericArg::LifetimeArg(LifetimeArg {
-                id: node.id(),
-                range: node.range(),
-                lifetime,
-            });
-            Some(PathPart::GenericArg(arg))
-        }
+        PathNode::AssocTypeArg => Some(PathPart::GenericArg(assoc_arg(node, refused)?)),
+        PathNode::LifetimeArg => Some(PathPart::GenericArg(lifetime_arg(node, refused)?)),
         PathNode::ConstArg => {
             let expr = node.field::<InBox<Exprs>>(refused, "expr");
             Some(PathPart::ConstArg(expr))

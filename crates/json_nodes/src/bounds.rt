@@ -1,6 +1,6 @@
 //! Bounds, binders and return types.
 
-ghost use Rattle.std.specs.Prelude.{◌≡◌, codes, option_and_then};
+ghost use Rattle.std.specs.Prelude.{◌≡◌, Some, codes, option_and_then};
 ghost use Rattle.serde_json.specs.View.{view};
 ghost use Rattle.json_nodes.specs.Kept.{Kept};
 ghost use Rattle.json_nodes.specs.Bounds as spec;
@@ -9,7 +9,9 @@ ghost use Rattle.json_nodes.specs.Fields.{text_in};
 use crate::field::{flag, text};
 use crate::fields::{All, AllOrNulls, Fields, InBox, One};
 use crate::name_parts::{Lifetimes, UseArgs};
-use crate::type_parts::{Binders, PathTypes, TypePart, Types};
+use crate::part::in_box;
+use crate::type_parts::{Binders, Bounds, PathTypes, TypePart, Types};
+use hir_base::Boxed;
 use hir_syntax::ast::{BoundKind, ForBinder, TypeBound};
 use json_faults::members::Own;
 use json_kinds::kind::PartNode;
@@ -32,16 +34,17 @@ fn bound_kind(node: &Own<'_>) -> Option<BoundKind>
     bound_kind_of(text(node, "b")?)
 }
 
+#[inline(never)]
 #[tactic(auto, unfolding(crate::specs::Bounds::bound))]
-fn bound<F: Fields>(node: &F, refused: &mut bool) -> TypeBound
+fn bound<F: Fields>(node: &F, refused: &mut bool) -> Option<Boxed<TypeBound>>
     requires { F.can node.now }
-    ensures { Kept refused.old refused.new (result ≡ spec.bound (F.here node.now)) }
+    ensures { Kept refused.old refused.new (result ≡ Some (spec.bound (F.here node.now))) }
 {
     let ty = node.field::<One<PathTypes>>(refused, "ty");
     let binder = node.field::<One<Binders>>(refused, "binder");
     let lifetime = node.field::<One<Lifetimes>>(refused, "lifetime");
     let uses = node.field::<All<UseArgs>>(refused, "uses");
-    TypeBound {
+    let bound = TypeBound {
         id: node.id(),
         range: node.range(),
         b: bound_kind(node.value()),
@@ -50,7 +53,8 @@ fn bound<F: Fields>(node: &F, refused: &mut bool) -> TypeBound
         maybe: flag(node.value(), "maybe"),
         lifetime,
         uses,
-    }
+    };
+    in_box::<Bounds>(node.alloc(), refused, bound)
 }
 
 /// A bound, or what else stands beside types.
@@ -61,7 +65,7 @@ pub fn of_bound<F: Fields>(node: &F, refused: &mut bool, kind: PartNode) -> Opti
     ensures { Kept refused.old refused.new (result ≡ spec.of_bound (F.here node.now) kind) }
 {
     match kind {
-        PartNode::TypeBound => Some(TypePart::Bound(bound(node, refused))),
+        PartNode::TypeBound => Some(TypePart::Bound(bound(node, refused)?)),
         PartNode::ForBinder => {
             let params = node.field::<AllOrNulls<Lifetimes>>(refused, "params");
             Some(TypePart::Binder(ForBinder {

@@ -124,6 +124,22 @@ fn told<A, G: Group<A>, P: LetsGo<A>>(parts: &P, read: Option<A>) -> Option<G::P
     served::<A, G, P>(parts, read?)
 }
 
+/// The same in a box.
+#[inline(never)]
+fn told_in_box<G: BoxedGroup, P: LetsGo<AnyPart>>(
+    alloc: Global,
+    parts: &P,
+    refused: &mut bool,
+    read: Option<AnyPart>,
+) -> Option<Boxed<G::Part>>
+    ensures { Kept refused.old refused.new (result ≡ option_and_then G.as_group read) }
+{
+    match told::<AnyPart, G, P>(parts, read) {
+        Some(part) => in_box::<G>(alloc, refused, part),
+        None => None,
+    }
+}
+
 impl<P: ReadParts> Node<'_, P> {
     /// A text as a part. It has a frame of its own, since no level stands on it.
     #[inline(never)]
@@ -143,13 +159,20 @@ impl<P: ReadParts> Node<'_, P> {
         }
     }
 
-    /// The part that stands at an index.
-    fn part_at<G: Group<AnyPart>>(&self, refused: &mut bool, at: u32) -> Option<G::Part>
-        requires { P.can self.now.parts.now }
+    /// The same in a box.
+    #[inline(never)]
+    fn written_in_box<G: BoxedGroup>(
+        &self,
+        refused: &mut bool,
+        text: &str,
+    ) -> Option<Boxed<G::Part>>
         ensures { Kept refused.old refused.new
-            (result ≡ option_and_then G.as_group ((here P.parts self.now).part at)) }
+            (result ≡ option_and_then G.as_group (spec.text_part (here P.parts self.now) text.now)) }
     {
-        told::<AnyPart, G, P>(self.parts, self.parts.part_at(self.alloc, refused, at))
+        match self.written::<G>(refused, text) {
+            Some(part) => in_box::<G>(self.alloc, refused, part),
+            None => None,
+        }
     }
 
     /// The part that a value is, as a text, or names, by its index. A function that reads many parts has one of these frames at a time.
@@ -161,10 +184,30 @@ impl<P: ReadParts> Node<'_, P> {
         if let Some(text) = value.as_str() {
             return self.written::<G>(refused, text);
         }
-        match small(value) {
-            Some(at) => self.part_at::<G>(refused, at),
-            None => None,
+        let Some(at) = small(value) else {
+            return None;
+        };
+        told::<AnyPart, G, P>(self.parts, self.parts.part_at(self.alloc, refused, at))
+    }
+
+    /// The same in a box. Only the box stands in the frames below a level.
+    #[inline(never)]
+    fn child_in_box<G: BoxedGroup>(
+        &self,
+        refused: &mut bool,
+        value: &Value,
+    ) -> Option<Boxed<G::Part>>
+        requires { P.can self.now.parts.now }
+        ensures { Kept refused.old refused.new (result ≡ spec.child (here P.parts self.now) G.as_group (view value.now)) }
+    {
+        if let Some(text) = value.as_str() {
+            return self.written_in_box::<G>(refused, text);
         }
+        let Some(at) = small(value) else {
+            return None;
+        };
+        let read = self.parts.part_at(self.alloc, refused, at);
+        told_in_box::<G, P>(self.alloc, self.parts, refused, read)
     }
 
     /// The part in a field.
@@ -172,10 +215,10 @@ impl<P: ReadParts> Node<'_, P> {
         requires { P.can self.now.parts.now }
         ensures { Kept refused.old refused.new (result ≡ spec.part_in (here P.parts self.now) G.as_group field.now) }
     {
-        match self.value.get(field) {
-            Some(value) => self.child::<G>(refused, value),
-            None => None,
-        }
+        let Some(value) = self.value.get(field) else {
+            return None;
+        };
+        self.child::<G>(refused, value)
     }
 
     /// The same in a box.
@@ -183,8 +226,8 @@ impl<P: ReadParts> Node<'_, P> {
         requires { P.can self.now.parts.now }
         ensures { Kept refused.old refused.new (result ≡ spec.part_in (here P.parts self.now) G.as_group field.now) }
     {
-        match self.part::<G>(refused, field) {
-            Some(part) => in_box::<G>(self.alloc, refused, part),
+        match self.value.get(field) {
+            Some(value) => self.child_in_box::<G>(refused, value),
             None => None,
         }
     }

@@ -24,7 +24,7 @@ pub enum ParamOf<P, S, L> {
 }
 
 /// What parameters are made of.
-pub type ParamPart = ParamOf<Param, SelfParam, ParamList>;
+pub type ParamPart = ParamOf<Param, Boxed<SelfParam>, Boxed<ParamList>>;
 
 /// Patterns.
 pub struct Pats;
@@ -108,15 +108,29 @@ impl Sorted for SelfParams {
     type Sort = ParamSort;
 }
 
-impl<P, S, L> SortGroup<ParamOf<P, S, L>> for SelfParams {
-    type Part = S;
+impl<P, L> SortGroup<ParamOf<P, Boxed<SelfParam>, L>> for SelfParams {
+    type Part = SelfParam;
 
     ghost of_sort = { self_param_of };
 
-    fn from_sort(part: ParamOf<P, S, L>) -> Result<S, ParamOf<P, S, L>> {
+    fn from_sort(
+        part: ParamOf<P, Boxed<SelfParam>, L>,
+    ) -> Result<SelfParam, ParamOf<P, Boxed<SelfParam>, L>> {
         match part {
-            ParamOf::SelfParam(param) => Ok(param),
+            ParamOf::SelfParam(param) => Ok(param.into_inner()),
             other => Err(other),
+        }
+    }
+}
+
+impl BoxedGroup for SelfParams {
+    fn boxed(alloc: Global, refused: &mut bool, part: SelfParam) -> Option<Boxed<SelfParam>> {
+        match Boxed::new(alloc, part) {
+            Ok(part) => Some(part),
+            Err(_) => {
+                *refused = true;
+                None
+            }
         }
     }
 }
@@ -125,15 +139,29 @@ impl Sorted for ParamLists {
     type Sort = ParamSort;
 }
 
-impl<P, S, L> SortGroup<ParamOf<P, S, L>> for ParamLists {
-    type Part = L;
+impl<P, S> SortGroup<ParamOf<P, S, Boxed<ParamList>>> for ParamLists {
+    type Part = ParamList;
 
     ghost of_sort = { param_list_of };
 
-    fn from_sort(part: ParamOf<P, S, L>) -> Result<L, ParamOf<P, S, L>> {
+    fn from_sort(
+        part: ParamOf<P, S, Boxed<ParamList>>,
+    ) -> Result<ParamList, ParamOf<P, S, Boxed<ParamList>>> {
         match part {
-            ParamOf::ParamList(params) => Ok(params),
+            ParamOf::ParamList(params) => Ok(params.into_inner()),
             other => Err(other),
+        }
+    }
+}
+
+impl BoxedGroup for ParamLists {
+    fn boxed(alloc: Global, refused: &mut bool, part: ParamList) -> Option<Boxed<ParamList>> {
+        match Boxed::new(alloc, part) {
+            Ok(part) => Some(part),
+            Err(_) => {
+                *refused = true;
+                None
+            }
         }
     }
 }

@@ -27,11 +27,11 @@ pub enum PathOf<P, S, A, T, C, G, R> {
 /// A path, or what stands beside a name.
 pub type PathPart = PathOf<
     Path,
-    PathSegment,
+    Boxed<PathSegment>,
     GenericArgList,
     TypeArg,
     ConstArg,
-    GenericArg,
+    Boxed<GenericArg>,
     ParenArgs,
 >;
 
@@ -89,15 +89,29 @@ impl Sorted for Segments {
     type Sort = PathSort;
 }
 
-impl<P, S, A, T, C, G, R> SortGroup<PathOf<P, S, A, T, C, G, R>> for Segments {
-    type Part = S;
+impl<P, A, T, C, G, R> SortGroup<PathOf<P, Boxed<PathSegment>, A, T, C, G, R>> for Segments {
+    type Part = PathSegment;
 
     ghost of_sort = { segment_of };
 
-    fn from_sort(part: PathOf<P, S, A, T, C, G, R>) -> Result<S, PathOf<P, S, A, T, C, G, R>> {
+    fn from_sort(
+        part: PathOf<P, Boxed<PathSegment>, A, T, C, G, R>,
+    ) -> Result<PathSegment, PathOf<P, Boxed<PathSegment>, A, T, C, G, R>> {
         match part {
-            PathOf::Segment(segment) => Ok(segment),
+            PathOf::Segment(segment) => Ok(segment.into_inner()),
             other => Err(other),
+        }
+    }
+}
+
+impl BoxedGroup for Segments {
+    fn boxed(alloc: Global, refused: &mut bool, part: PathSegment) -> Option<Boxed<PathSegment>> {
+        match Boxed::new(alloc, part) {
+            Ok(part) => Some(part),
+            Err(_) => {
+                *refused = true;
+                None
+            }
         }
     }
 }
@@ -174,19 +188,32 @@ impl Sorted for GenericArgs {
     type Sort = PathSort;
 }
 
-impl<P, S, A, R> SortGroup<PathOf<P, S, A, TypeArg, ConstArg, GenericArg, R>> for GenericArgs {
+impl<P, S, A, R> SortGroup<PathOf<P, S, A, TypeArg, ConstArg, Boxed<GenericArg>, R>>
+    for GenericArgs {
     type Part = GenericArg;
 
     ghost of_sort = { generic_arg_of };
 
     fn from_sort(
-        part: PathOf<P, S, A, TypeArg, ConstArg, GenericArg, R>,
-    ) -> Result<GenericArg, PathOf<P, S, A, TypeArg, ConstArg, GenericArg, R>> {
+        part: PathOf<P, S, A, TypeArg, ConstArg, Boxed<GenericArg>, R>,
+    ) -> Result<GenericArg, PathOf<P, S, A, TypeArg, ConstArg, Boxed<GenericArg>, R>> {
         match part {
-            PathOf::GenericArg(arg) => Ok(arg),
+            PathOf::GenericArg(arg) => Ok(arg.into_inner()),
             PathOf::TypeArg(arg) => Ok(GenericArg::TypeArg(arg)),
             PathOf::ConstArg(arg) => Ok(GenericArg::ConstArg(arg)),
             other => Err(other),
+        }
+    }
+}
+
+impl BoxedGroup for GenericArgs {
+    fn boxed(alloc: Global, refused: &mut bool, part: GenericArg) -> Option<Boxed<GenericArg>> {
+        match Boxed::new(alloc, part) {
+            Ok(part) => Some(part),
+            Err(_) => {
+                *refused = true;
+                None
+            }
         }
     }
 }

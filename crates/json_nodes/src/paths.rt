@@ -1,6 +1,6 @@
 //! Paths and their segments.
 
-ghost use Rattle.std.specs.Prelude.{◌≡◌, codes, option_and_then};
+ghost use Rattle.std.specs.Prelude.{◌≡◌, Some, codes, option_and_then};
 ghost use Rattle.serde_json.specs.View.{view};
 ghost use Rattle.json_nodes.specs.Kept.{Kept};
 ghost use Rattle.json_nodes.specs.Fields.{text_in};
@@ -9,8 +9,10 @@ ghost use Rattle.json_nodes.specs.Paths as spec;
 use crate::field::{flag, text};
 use crate::fields::{AllOrNulls, Fields, InBox, One};
 use crate::name_parts::Names;
+use crate::part::in_box;
 use crate::path_parts::{GenericArgLists, ParenArgLists, PathPart, Paths, Segments};
 use crate::type_parts::{PathTypes, Rets, Types};
+use hir_base::Boxed;
 use hir_syntax::ast::{Path, PathSegment, SegmentKind};
 use json_faults::members::Own;
 use json_kinds::kind::PathNode;
@@ -38,9 +40,9 @@ fn segment_kind(node: &Own<'_>) -> Option<SegmentKind>
 
 #[inline(never)]
 #[tactic(auto, unfolding(crate::specs::Paths::segment))]
-fn segment<F: Fields>(node: &F, refused: &mut bool) -> PathSegment
+fn segment<F: Fields>(node: &F, refused: &mut bool) -> Option<Boxed<PathSegment>>
     requires { F.can node.now }
-    ensures { Kept refused.old refused.new (result ≡ spec.segment (F.here node.now)) }
+    ensures { Kept refused.old refused.new (result ≡ Some (spec.segment (F.here node.now))) }
 {
     let name = node.field::<One<Names>>(refused, "name");
     let generics = node.field::<One<GenericArgLists>>(refused, "generics");
@@ -48,7 +50,7 @@ fn segment<F: Fields>(node: &F, refused: &mut bool) -> PathSegment
     let ret = node.field::<One<Rets>>(refused, "ret");
     let ty = node.field::<InBox<Types>>(refused, "ty");
     let trait_ = node.field::<One<PathTypes>>(refused, "trait");
-    PathSegment {
+    let segment = PathSegment {
         id: node.id(),
         range: node.range(),
         seg: segment_kind(node.value()),
@@ -59,7 +61,8 @@ fn segment<F: Fields>(node: &F, refused: &mut bool) -> PathSegment
         rtn: flag(node.value(), "rtn"),
         ty,
         trait_,
-    }
+    };
+    in_box::<Segments>(node.alloc(), refused, segment)
 }
 
 /// A path.
@@ -88,7 +91,7 @@ pub fn of_path<F: Fields>(node: &F, refused: &mut bool, kind: PathNode) -> Optio
 {
     match kind {
         PathNode::Path => Some(PathPart::Path(path(node, refused))),
-        PathNode::PathSegment => Some(PathPart::Segment(segment(node, refused))),
+        PathNode::PathSegment => Some(PathPart::Segment(segment(node, refused)?)),
         _ => None,
     }
 }

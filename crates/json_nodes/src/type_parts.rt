@@ -21,7 +21,7 @@ pub enum TypeOf<T, P, B, F, R> {
 }
 
 /// A type, or what stands beside one.
-pub type TypePart = TypeOf<Boxed<Type_>, PathType, TypeBound, ForBinder, RetType>;
+pub type TypePart = TypeOf<Boxed<Type_>, PathType, Boxed<TypeBound>, ForBinder, RetType>;
 
 /// Types.
 pub struct Types;
@@ -95,15 +95,29 @@ impl Sorted for Bounds {
     type Sort = TypeSort;
 }
 
-impl<T, P, B, F, R> SortGroup<TypeOf<T, P, B, F, R>> for Bounds {
-    type Part = B;
+impl<T, P, F, R> SortGroup<TypeOf<T, P, Boxed<TypeBound>, F, R>> for Bounds {
+    type Part = TypeBound;
 
     ghost of_sort = { bound_of };
 
-    fn from_sort(part: TypeOf<T, P, B, F, R>) -> Result<B, TypeOf<T, P, B, F, R>> {
+    fn from_sort(
+        part: TypeOf<T, P, Boxed<TypeBound>, F, R>,
+    ) -> Result<TypeBound, TypeOf<T, P, Boxed<TypeBound>, F, R>> {
         match part {
-            TypeOf::Bound(bound) => Ok(bound),
+            TypeOf::Bound(bound) => Ok(bound.into_inner()),
             other => Err(other),
+        }
+    }
+}
+
+impl BoxedGroup for Bounds {
+    fn boxed(alloc: Global, refused: &mut bool, part: TypeBound) -> Option<Boxed<TypeBound>> {
+        match Boxed::new(alloc, part) {
+            Ok(part) => Some(part),
+            Err(_) => {
+                *refused = true;
+                None
+            }
         }
     }
 }

@@ -1,4 +1,6 @@
-use Rattle.std.proofs.Common.{refl}
+use Rattle.std.proofs.Common.{refl, ap}
+use Rattle.std.specs.Prelude.{option_map}
+use Rattle.json_nodes.specs.declared.path_parts.PathOf.TheVariants as path_part
 use Rattle.json_nodes.specs.Args.{arg}
 use Rattle.json_nodes.proofs.args.arg.Goals as goal
 
@@ -14,14 +16,24 @@ returns-in-ConstArg g c = λ e.
     let expr = c.field-expr.ensures e in
     (expr.0, rw c.in-ConstArg.is (rw expr.1 refl))
 
-pub returns-in-AssocTypeArg : goal.returns-in-AssocTypeArg
+pub returns-in_ok-assoc_arg-in-AssocTypeArg : goal.returns-in_ok-assoc_arg-in-AssocTypeArg
 unfolding arg
-returns-in-AssocTypeArg g c = λ e.
-    let made = c.assoc_arg.ensures e in
-    (made.0, rw (c.in-AssocTypeArg.is, made.1))
+returns-in_ok-assoc_arg-in-AssocTypeArg g c = λ e.
+    let made = c.in_ok-assoc_arg-in-AssocTypeArg.ensures e in
+    (made.0, rw c.in-AssocTypeArg.is (ap (option_map path_part.GenericArg) made.1))
 
-pub returns-in-LifetimeArg : goal.returns-in-LifetimeArg
+pub returns-in_err-assoc_arg-in-AssocTypeArg : goal.returns-in_err-assoc_arg-in-AssocTypeArg
+returns-in_err-assoc_arg-in-AssocTypeArg g c = λ e.
+    let made = c.in_err-assoc_arg-in-AssocTypeArg.ensures e in
+    absurd (cc made.1)
+
+pub returns-in_ok-lifetime_arg-in-LifetimeArg : goal.returns-in_ok-lifetime_arg-in-LifetimeArg
 unfolding arg
-returns-in-LifetimeArg g c = λ e.
-    let lifetime = c.field-lifetime.ensures e in
-    (lifetime.0, rw (c.in-LifetimeArg.is, c.id.ensures, c.range.ensures, lifetime.1))
+returns-in_ok-lifetime_arg-in-LifetimeArg g c = λ e.
+    let made = c.in_ok-lifetime_arg-in-LifetimeArg.ensures e in
+    (made.0, rw c.in-LifetimeArg.is (ap (option_map path_part.GenericArg) made.1))
+
+pub returns-in_err-lifetime_arg-in-LifetimeArg : goal.returns-in_err-lifetime_arg-in-LifetimeArg
+returns-in_err-lifetime_arg-in-LifetimeArg g c = λ e.
+    let made = c.in_err-lifetime_arg-in-LifetimeArg.ensures e in
+    absurd (cc made.1)

@@ -4,12 +4,14 @@ use Rattle.json_nodes.proofs.args.assoc_arg.Goals as goal
 pub returns : goal.returns
 unfolding assoc_arg
 returns g c = λ e.
-    let bounds = c.field-bounds.ensures e in
+    let made = c.in_box.ensures e in
+    let bounds = c.field-bounds.ensures made.0 in
     let ty = c.field-ty.ensures bounds.0 in
     let generics = c.field-generics.ensures ty.0 in
     let name = c.field-name.ensures generics.0 in (
       name.0,
       rw (
+        made.1,
         c.id.ensures,
         c.range.ensures,
         name.1,

@@ -4,12 +4,14 @@ use Rattle.json_nodes.proofs.bounds.bound.Goals as goal
 pub returns : goal.returns
 unfolding bound
 returns g c = λ e.
-    let uses = c.field-uses.ensures e in
+    let made = c.in_box.ensures e in
+    let uses = c.field-uses.ensures made.0 in
     let lifetime = c.field-lifetime.ensures uses.0 in
     let binder = c.field-binder.ensures lifetime.0 in
     let ty = c.field-ty.ensures binder.0 in (
       ty.0,
       rw (
+        made.1,
         c.id.ensures,
         c.range.ensures,
         c.bound_kind.ensures,

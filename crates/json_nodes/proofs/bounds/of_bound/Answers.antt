@@ -1,4 +1,6 @@
-use Rattle.std.proofs.Common.{refl}
+use Rattle.std.proofs.Common.{refl, ap}
+use Rattle.std.specs.Prelude.{option_map}
+use Rattle.json_nodes.specs.declared.type_parts.TypeOf.TheVariants as type_part
 use Rattle.json_nodes.specs.Bounds.{of_bound}
 use Rattle.json_nodes.proofs.bounds.of_bound.Goals as goal
 
@@ -8,11 +10,16 @@ returns-in-RetType g c = λ e.
     let ty = c.field-ty.ensures e in
     (ty.0, rw c.in-RetType.is (rw ty.1 refl))
 
-pub returns-in-TypeBound : goal.returns-in-TypeBound
+pub returns-in_ok-bound-in-TypeBound : goal.returns-in_ok-bound-in-TypeBound
 unfolding of_bound
-returns-in-TypeBound g c = λ e.
-    let made = c.bound.ensures e in
-    (made.0, rw (c.in-TypeBound.is, made.1))
+returns-in_ok-bound-in-TypeBound g c = λ e.
+    let made = c.in_ok-bound-in-TypeBound.ensures e in
+    (made.0, rw c.in-TypeBound.is (ap (option_map type_part.Bound) made.1))
+
+pub returns-in_err-bound-in-TypeBound : goal.returns-in_err-bound-in-TypeBound
+returns-in_err-bound-in-TypeBound g c = λ e.
+    let made = c.in_err-bound-in-TypeBound.ensures e in
+    absurd (cc made.1)
 
 pub returns-in-ForBinder : goal.returns-in-ForBinder
 unfolding of_bound

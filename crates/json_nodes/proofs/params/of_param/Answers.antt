@@ -1,3 +1,6 @@
+use Rattle.std.proofs.Common.{ap}
+use Rattle.std.specs.Prelude.{option_map}
+use Rattle.json_nodes.specs.declared.param_parts.ParamOf.TheVariants as param_part
 use Rattle.json_nodes.specs.Params.{of_param}
 use Rattle.json_nodes.proofs.params.of_param.Goals as goal
 
@@ -8,15 +11,24 @@ returns-in-Param g c = λ e.
     let pat = c.field-pat.ensures ty.0 in
     (pat.0, rw (c.in-Param.is, c.id.ensures, c.range.ensures, pat.1, ty.1, c.flag.ensures, c.value.ensures))
 
-pub returns-in-SelfParam : goal.returns-in-SelfParam
+pub returns-in_ok-self_param-in-SelfParam : goal.returns-in_ok-self_param-in-SelfParam
 unfolding of_param
-returns-in-SelfParam g c = λ e.
-    let made = c.self_param.ensures e in
-    (made.0, rw (c.in-SelfParam.is, made.1))
+returns-in_ok-self_param-in-SelfParam g c = λ e.
+    let made = c.in_ok-self_param-in-SelfParam.ensures e in
+    (made.0, rw c.in-SelfParam.is (ap (option_map param_part.SelfParam) made.1))
 
-pub returns-in-ParamList : goal.returns-in-ParamList
+pub returns-in_err-self_param-in-SelfParam : goal.returns-in_err-self_param-in-SelfParam
+returns-in_err-self_param-in-SelfParam g c = λ e.
+    let made = c.in_err-self_param-in-SelfParam.ensures e in
+    absurd (cc made.1)
+
+pub returns-in_ok-param_list-in-ParamList : goal.returns-in_ok-param_list-in-ParamList
 unfolding of_param
-returns-in-ParamList g c = λ e.
-    let params = c.field-params.ensures e in
-    let first = c.field-self_.ensures params.0 in
-    (first.0, rw (c.in-ParamList.is, c.id-in-ParamList.ensures, c.range-in-ParamList.ensures, first.1, params.1))
+returns-in_ok-param_list-in-ParamList g c = λ e.
+    let made = c.in_ok-param_list-in-ParamList.ensures e in
+    (made.0, rw c.in-ParamList.is (ap (option_map param_part.ParamList) made.1))
+
+pub returns-in_err-param_list-in-ParamList : goal.returns-in_err-param_list-in-ParamList
+returns-in_err-param_list-in-ParamList g c = λ e.
+    let made = c.in_err-param_list-in-ParamList.ensures e in
+    absurd (cc made.1)

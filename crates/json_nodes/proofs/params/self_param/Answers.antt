@@ -4,11 +4,13 @@ use Rattle.json_nodes.proofs.params.self_param.Goals as goal
 pub returns : goal.returns
 unfolding self_param
 returns g c = λ e.
-    let ty = c.field-ty.ensures e in
+    let made = c.in_box.ensures e in
+    let ty = c.field-ty.ensures made.0 in
     let lifetime = c.field-lifetime.ensures ty.0 in
     let name = c.field-name.ensures lifetime.0 in (
       name.0,
       rw (
+        made.1,
         c.id.ensures,
         c.range.ensures,
         name.1,

@@ -4,7 +4,8 @@ use Rattle.json_nodes.proofs.paths.segment.Goals as goal
 pub returns : goal.returns
 unfolding segment
 returns g c = λ e.
-    let of = c.field-trait_.ensures e in
+    let made = c.in_box.ensures e in
+    let of = c.field-trait_.ensures made.0 in
     let ty = c.field-ty.ensures of.0 in
     let ret = c.field-ret.ensures ty.0 in
     let parens = c.field-parens.ensures ret.0 in
@@ -12,6 +13,7 @@ returns g c = λ e.
     let name = c.field-name.ensures generics.0 in (
       name.0,
       rw (
+        made.1,
         c.id.ensures,
         c.range.ensures,
         c.segment_kind.ensures,
