@@ -278,7 +278,8 @@ module _ (at : Spot) (c : AstMacroCall) (Inner : Place → AstPat → Type 0)
     where
       by : (l : ℕ) → at.place.left ≡ l → enter_left at.answers kind.Pat c l at.place b ≡ (Ok found, d) → Inner q e
       by zero h m =
-          let apart : nowhere ≡ Some (q, e) = ap (λ z. pat_there (found_or found z.0)) m ∙ is in absurd (true≢false (sym (ap is_some apart)))
+          let apart : nowhere ≡ Some (q, e) = ap (λ z. pat_there (found_or found z.0)) m ∙ is in
+          absurd (true≢false (sym (ap is_some apart)))
       by (suc n) h m =
           let t = told (called (call_pointer at.place c) (asked_call at.answers kind.Pat c at.place)) b in
           told_there n h t.0 t.1 d found m q e is

@@ -1,5 +1,8 @@
 pub mod NameLemmas
 pub mod KindLemmas
+pub mod LaterPats
+pub mod AtNodes
+pub mod BareForms
 pub mod Elements
 pub mod CallLemmas
 pub mod Kids

@@ -1,4 +1,5 @@
 use Rattle.std.proofs.Common.{arith, rules, ◌∙◌, ◌+◌, ◌*◌, ◌<◌, ap, sym, []}
+use Rattle.std.proofs.lemmas.Grind.{common_steps}
 use Rattle.hir_syntax.specs.declared.ast.ElseBranch.TheOpen.{PatKind-F}
 use Rattle.hir_syntax.specs.declared.pats.PatKind.TheVariants as kind
 use Rattle.hir_store.specs.Range.{HasPat, HasPats}
@@ -14,7 +15,7 @@ use Rattle.hir_lower_form.proofs.Inside.{pat_call_less}
 use Rattle.hir_lower_pat.specs.Calls.{pat_lent, written_call}
 use Rattle.hir_lower_pat.proofs.CallLemmas.{call_is, lacking_is, was_entered}
 use Rattle.hir_lower_pat.proofs.TypeCalls.{type_led, type_missing, type_refused, type_unasked}
-use Rattle.hir_lower_pat.proofs.TypePats.{first_size, handed_on, one_more, opened, or_size, refused}
+use Rattle.hir_lower_pat.proofs.TypePats.{first_size, handed_on, one_more, opened, or_size, others_left, refused}
 use Rattle.hir_lower_pat.proofs.type_pats.+type_pat.Goals as goal
 
 pub each_type_pat-type_pat-requires : goal.each_type_pat-type_pat-requires
@@ -176,3 +177,23 @@ called_form-returns-in_ok-id-in-Some g t c =
     c.in-Some.place c.in-Some.node.now (rw c.moved-there.ensures.spot at c.in_ok-entered.ensures.0)
     (sym c.pat_of.ensures ∙ ap pat_lent c.in-Some.is) c.in_ok-id-in-Some.id c.type_pat.new.state c.pointed_form.new.state
     c.pointed_form.result c.in_ok-entered.ensures.1 (rw c.moved-there.ensures.spot at c.in_ok-id-in-Some.ensures) c.pointed_form.ensures
+
+pub each_type_pat-push_pat-requires : goal.each_type_pat-push_pat-requires
+each_type_pat-push_pat-requires g t c = grind (arith, common_steps)
+
+pub each_type_pat-returns : goal.each_type_pat-returns
+each_type_pat-returns g t c = grind (arith, common_steps)
+
+pub each_type_pat-returns-in_err-push_pat : goal.each_type_pat-returns-in_err-push_pat
+each_type_pat-returns-in_err-push_pat g t c = grind (arith, common_steps)
+
+pub each_type_pat-loop-left-init : goal.each_type_pat-loop-left-init
+each_type_pat-loop-left-init g t c = grind (arith, common_steps)
+
+pub each_type_pat-loop-left-smaller : goal.each_type_pat-loop-left-smaller
+each_type_pat-loop-left-smaller g t c = grind (arith, common_steps)
+
+pub type_pat-other_form-requires : goal.type_pat-other_form-requires
+type_pat-other_form-requires g t c =
+    let no = c.in_default in
+    others_left c.args.node.now.kind no.not-NotNullPat no.not-OrPat no.not-RangePat no.not-MacroPat
