@@ -4,8 +4,9 @@ What is proved stands in twins of functions, which nobody calls: a function's te
 or with nothing wrong. Functions that can't have twins keep their bodies and proof files under their own names. A function that these name
 keeps its contract, and has an endless loop for a body and a hole for a proof: what rests on it rests on its contract, and so can't tell.
 Any other one is left out, since a check lays out the types of each function that it finds, which in a large crate costs more than the
-proofs of a few. What can be neither emptied nor left out stays as it is, with its proof: methods of traits, constant functions, and what
-`rt fmt` would write otherwise.
+proofs of a few. Methods of traits can't be left out, and what their proofs are called isn't known: in a bare shell, without controls, those
+that no twin can call have an endless loop for a body too, and no proof, so that what only they name is left out. What can be neither
+emptied nor left out stays as it is, with its proof: constant functions, what macros write, and what `rt fmt` would write otherwise.
 """
 import glob
 import os
@@ -23,6 +24,10 @@ USE = re.compile(r"^(?:pub(?:\(\w+\))? )?use [^;]*;\n", re.M)
 GHOST = re.compile(r"^[ \t]*ghost use [^;]*;\n|//.*", re.M)
 CITED = re.compile(r"\bRattle\.\w+\.(?:proofs|specs\.contracts)\.([\w.]+)|\bproofs::([\w:]+)")
 MODULE = re.compile(r"^(?:pub(?:\(\w+\))? )?mod (\w+)", re.M)
+# Methods that are called where their names don't stand.
+UNWRITTEN = "drop clone eq ne partial_cmp cmp lt le gt ge deref deref_mut index index_mut from into_iter next add sub not neg".split()
+# What is taken as met: the theorem of a function, and a goal of one.
+HOLES = [("taken_as_met", 2), ("taken_goal", 0)]
 
 
 def body_of(text, head):
@@ -84,7 +89,10 @@ class Function:
         return [*path_of(file), owner[1], self.word] if file else []
 
     def can_be_emptied(self):
-        return bool(self.name) and self.begin < self.end and not self.head[3] and "test" not in self.head[1]
+        return bool(self.name) and self.has_plain_body()
+
+    def has_plain_body(self):
+        return self.begin < self.end and not self.head[3] and "test" not in self.head[1]
 
 
 class Functions:
@@ -138,23 +146,45 @@ class Functions:
 class Shell:
     """Makes a shell of the copy of a crate in the folder `room`, with these twins, and where the functions of these slips stay."""
 
-    def __init__(self, crate, room, functions, slips, twins):
+    def __init__(self, crate, room, functions, slips, twins, is_bare):
         self.crate, self.room, self.twins = crate, room, twins
         tried = functions.tried(slips)
         kept = {it.proof for it in tried if it.name}
         others = [it for it in functions.all if it not in tried and it.can_be_emptied() and it.proof not in kept]
         for it in others:
             shutil.rmtree(f"{room}/proofs/{it.proof}", ignore_errors=True)
+        if is_bare:
+            others += sorted(self.methods(functions, tried, slips), key=lambda it: (it.file, it.begin))
         for slip in twins:
             self.copy_proof(slip, f"{functions.folder}/proofs/{slip.proof}")
         proved = [it for it in functions.all if it not in others or it in {slip.within for slip in twins}]
-        left_out = {it.word for it in others} - functions.named(proved, [*slips, *twins]) - self.cited(functions)
+        left_out = {it.word for it in others if it.name} - functions.named(proved, [*slips, *twins]) - self.cited(functions)
         for file, text in functions.texts.items():
             self.write_source(file, text, [it for it in others if it.file == file], left_out)
         os.makedirs(f"{room}/proofs", exist_ok=True)
         with open(f"{room}/proofs/Lib.antt", "a", encoding="utf-8") as lib:
             lib.write("\nmod TakenAsMet\n")
-        self.write("TakenAsMet", "pub taken_as_met : {A : Type 2} → A\ntaken_as_met = ?\n")
+        self.write("TakenAsMet", "".join(f"pub {name} : {{A : Type {level}}} → A\n{name} = ?\n\n" for name, level in HOLES))
+
+    def methods(self, functions, tried, slips):
+        """The methods of traits whose bodies can go as well, and have no proof then: no function that is proved can call them."""
+        whole = {it for it in functions.all if "macro_rules!" in functions.texts[it.file] or CYCLE.search(it.head[1])}
+        found = {it for it in functions.all if not it.name and it.has_plain_body() and it not in tried | whole}
+        proved = tried | {it.within for it in self.twins}
+        texts = [*(it.body for it in proved), *(new for slip in [*slips, *self.twins] for *_, new in slip.pairs)]
+        words = {*UNWRITTEN, *(word for text in texts for word in WORD.findall(text))}
+        while called := {it for it in found if it.word in words}:
+            found -= called
+            words |= {word for it in called for word in WORD.findall(it.body)}
+        self.drop_proofs(found, {it.proof for it in functions.all if it.name} | {it.proof for it in slips})
+        return found
+
+    def drop_proofs(self, methods, others):
+        """Removes the proofs that methods of traits may have, but none of these others."""
+        for path in {path for it in methods for path in glob.glob(f"{self.room}/proofs/**/{it.word}/", recursive=True)}:
+            is_proof = os.path.isfile(f"{path}Answers.antt") or os.path.isfile(f"{path}Invariants.antt")
+            if is_proof and os.path.relpath(path, f"{self.room}/proofs") not in others:
+                shutil.rmtree(path)
 
     def cited(self, functions):
         """The words of the functions that proofs and definitions cite, and of modules."""
@@ -170,12 +200,13 @@ class Shell:
         with twins in their places or beside them."""
         for it in sorted(functions, key=lambda it: -it.begin):
             twins = "".join(self.twin(slip, text[it.start : it.close]) for slip in self.twins if slip.within is it)
-            if it.word in left_out:
+            if it.name and it.word in left_out:
                 text = text[: it.start] + twins + text[it.close :]
                 continue
             text = f"{text[: it.begin]}{it.head[2]}    loop {{}}\n{text[it.end : it.close]}{twins}{text[it.close :]}"
             text = text[: it.head.start()] + CYCLE.sub("", it.head[1]) + text[it.head.end(1) :]
-            self.take(it.name.split("::"))
+            if it.name:
+                self.take(it.name.split("::"))
         with open(f"{self.room}/src/{file}", "w", encoding="utf-8") as whole:
             whole.write(USE.sub(lambda found: without(found[0], left_out), text))
 
@@ -185,16 +216,31 @@ class Shell:
 
     def copy_proof(self, slip, own):
         """Writes the proof files of a slip's twin, given where those of its function are."""
-        if not os.path.isdir(own):
-            return
         there = f"{self.room}/proofs/{slip.proof}{slip.twin}"
-        shutil.copytree(own, there)
+        if os.path.isdir(own):
+            shutil.copytree(own, there)
         name = re.compile(rf"\bRattle\.{self.crate}\.(proofs|specs\.contracts)\.{re.escape(slip.function.replace('::', '.'))}(?=\.)")
         for path in glob.glob(f"{there}/**/*.antt", recursive=True):
             with open(path, encoding="utf-8") as file:
                 answers = file.read()
             with open(path, "w", encoding="utf-8") as file:
                 file.write(name.sub(lambda found: found[0] + slip.twin, answers))
+        if not os.path.isfile(f"{own}/Proof.antt"):
+            self.take_goals(slip, f"{slip.proof}{slip.twin}")
+
+    def take_goals(self, slip, proof):
+        """Takes all goals but the first as met that a slip is known to be refused at and that have no answer: one is enough, and what is
+        refused costs most."""
+        path, answers = f"{self.room}/proofs/{proof}/Answers.antt", ""
+        if os.path.isfile(path):
+            with open(path, encoding="utf-8") as file:
+                answers = file.read()
+        taken = [it for it in slip.goals[1:] if it[0] != "+" and f"\n{it} " not in f"\n{answers}"]
+        if taken:
+            library = f"Rattle.{self.crate}.proofs"
+            uses = f"use {library}.TakenAsMet.{{taken_goal}}\nuse {library}.{proof.replace('/', '.')}.Goals as taken\n"
+            goals = "".join(f"\npub {it} : taken.{it}\n{it} = taken_goal\n" for it in taken)
+            self.write(f"{proof}/Answers", f"{uses}{answers}{goals}")
 
     def take(self, path):
         """Writes the proof of a function that is taken as met."""
