@@ -1,4 +1,5 @@
 pub mod Here
+pub mod AtNodes
 pub mod BoundsExist
 pub mod CallLemmas
 pub mod Params
