@@ -18,6 +18,3 @@ returns-in_err-entered g c = grind (arith, common_steps, call_on)
 
 pub returns-in_err-id-in-None : goal.returns-in_err-id-in-None
 returns-in_err-id-in-None g c = grind (arith, common_steps, call_on)
-
-pub returns : goal.returns
-returns g c = grind (arith, common_steps, call_on)
