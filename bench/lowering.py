@@ -108,7 +108,7 @@ def built(out):
     """Makes the program in a copy of the repository."""
     with tempfile.TemporaryDirectory() as room:
         copy = os.path.join(room, "copy")
-        shutil.copytree(TOP, copy, ignore=shutil.ignore_patterns("out", ".git", "must-fail", "slips", "rows"), symlinks=True)
+        shutil.copytree(TOP, copy, ignore=shutil.ignore_patterns("out", ".git", "slips", "rows"), symlinks=True)
         source = os.path.join(copy, "crates", CRATE, "src")
         os.makedirs(source)
         with open(os.path.join(source, "main.rt"), "w", encoding="utf-8") as text:
