@@ -26,8 +26,6 @@ CITED = re.compile(r"\bRattle\.\w+\.(?:proofs|specs\.contracts)\.([\w.]+)|\bproo
 MODULE = re.compile(r"^(?:pub(?:\(\w+\))? )?mod (\w+)", re.M)
 # Methods that are called where their names don't stand.
 UNWRITTEN = "drop clone eq ne partial_cmp cmp lt le gt ge deref deref_mut index index_mut from into_iter next add sub not neg".split()
-# What is taken as met: the theorem of a function, and a goal of one.
-HOLES = [("taken_as_met", 2), ("taken_goal", 0)]
 
 
 def body_of(text, head):
@@ -164,7 +162,7 @@ class Shell:
         os.makedirs(f"{room}/proofs", exist_ok=True)
         with open(f"{room}/proofs/Lib.antt", "a", encoding="utf-8") as lib:
             lib.write("\nmod TakenAsMet\n")
-        self.write("TakenAsMet", "".join(f"pub {name} : {{A : Type {level}}} → A\n{name} = ?\n\n" for name, level in HOLES))
+        self.write("TakenAsMet", "pub taken_as_met : {A : Type 2} → A\ntaken_as_met = ?\n")
 
     def methods(self, functions, tried, slips):
         """The methods of traits whose bodies can go as well, and have no proof then: no function that is proved can call them."""
@@ -216,31 +214,16 @@ class Shell:
 
     def copy_proof(self, slip, own):
         """Writes the proof files of a slip's twin, given where those of its function are."""
+        if not os.path.isdir(own):
+            return
         there = f"{self.room}/proofs/{slip.proof}{slip.twin}"
-        if os.path.isdir(own):
-            shutil.copytree(own, there)
+        shutil.copytree(own, there)
         name = re.compile(rf"\bRattle\.{self.crate}\.(proofs|specs\.contracts)\.{re.escape(slip.function.replace('::', '.'))}(?=\.)")
         for path in glob.glob(f"{there}/**/*.antt", recursive=True):
             with open(path, encoding="utf-8") as file:
                 answers = file.read()
             with open(path, "w", encoding="utf-8") as file:
                 file.write(name.sub(lambda found: found[0] + slip.twin, answers))
-        if not os.path.isfile(f"{own}/Proof.antt"):
-            self.take_goals(slip, f"{slip.proof}{slip.twin}")
-
-    def take_goals(self, slip, proof):
-        """Takes all goals but the first as met that a slip is known to be refused at and that have no answer: one is enough, and what is
-        refused costs most."""
-        path, answers = f"{self.room}/proofs/{proof}/Answers.antt", ""
-        if os.path.isfile(path):
-            with open(path, encoding="utf-8") as file:
-                answers = file.read()
-        taken = [it for it in slip.goals[1:] if it[0] != "+" and f"\n{it} " not in f"\n{answers}"]
-        if taken:
-            library = f"Rattle.{self.crate}.proofs"
-            uses = f"use {library}.TakenAsMet.{{taken_goal}}\nuse {library}.{proof.replace('/', '.')}.Goals as taken\n"
-            goals = "".join(f"\npub {it} : taken.{it}\n{it} = taken_goal\n" for it in taken)
-            self.write(f"{proof}/Answers", f"{uses}{answers}{goals}")
 
     def take(self, path):
         """Writes the proof of a function that is taken as met."""
