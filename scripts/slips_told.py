@@ -3,8 +3,12 @@ import re
 from functools import cache
 
 REFUSED, PROVED, WAITS, UNREAD = "refused", "proved", "waits", "unread"
-# What an error says that tells only of a name which an answer cites, or of what it rests on.
-OF_NAMES = re.compile(r"is not in scope|has no |is not admitted|was not admitted|not checked: ")
+# What an error says that tells only of a name which an answer cites, or of what it rests on. Long ones go on in a further line.
+OF_NAMES = re.compile(
+    r"is not in scope|has no |is not admitted|was not admitted|not checked: |: module `[^`]*`$|: record `[^`]*`(?: \(nearest: [^)]*\))?$"
+)
+# That of an answer to a goal which there isn't.
+NO_GOAL = re.compile(r"`(\S+)`: `goal\.(\S+)`: module `")
 NO_LONGER = "an answer no longer fits: "
 
 
@@ -36,12 +40,19 @@ def judged(crate, function, proof, said):
 
 def refused_goals(crate, function, proof, said):
     """The names of what a check refuses of a function's proof, those goals first for which it finds no proof by itself. Of many it names
-    some and counts the others: they are one name, `+N`."""
+    some and counts the others: they are one name, `+N`. What is no goal isn't refused."""
     how, errors = told(crate, function, proof, said)
+    errors = [it for it in errors if not NO_GOAL.match(it)]
     searched = "".join(re.findall(r"`search` did not prove ([^;]*)", how))
     answers = re.findall(rf"`Rattle\.{crate}\.proofs\.{re.escape(proof.replace('/', '.'))}\.\w+\.([^\s`]+)`", how)
     names = [*re.findall(r"`([^\s`]+)`", searched), *answers, *(it[1] for it in map(re.compile(r"`(\S+)`: ").match, errors) if it)]
     return list(dict.fromkeys([*names, *(f"+{it}" for it in re.findall(r"and (\d+) more", searched))]))
+
+
+def lacks_goal(crate, function, proof, said, goals):
+    """Whether one of these is no goal of a function's proof, for which there is an answer."""
+    errors = map(NO_GOAL.match, told(crate, function, proof, said)[1])
+    return any(it and it[1] in goals for it in errors)
 
 
 def broken(crate, law, said):
