@@ -4,7 +4,9 @@ from functools import cache
 
 REFUSED, PROVED, WAITS, UNREAD = "refused", "proved", "waits", "unread"
 # What an error says that tells only of a name which an answer cites, or of what it rests on.
-OF_NAMES = re.compile(r"is not in scope|has no |is not admitted|was not admitted|not checked: ")
+OF_NAMES = re.compile(
+    r"is not in scope|has no |is not admitted|was not admitted|not checked: |: module `[^`]*`$|: record `[^`]*`(?: \(nearest: [^)]*\))?$"
+)
 # That of an answer to a goal which there isn't.
 NO_GOAL = re.compile(r"`(\S+)`: `goal\.(\S+)`: module `")
 NO_LONGER = "an answer no longer fits: "
