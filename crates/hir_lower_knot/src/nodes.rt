@@ -24,7 +24,7 @@ use hir_lower_form::walk::{PathWalk, Reading};
 use hir_lower_handlers::by::By;
 use hir_lower_handlers::handling::Handling;
 use hir_lower_kinds::exprs;
-use hir_lower_pat::{bare, top};
+use hir_lower_bind::{bare, top};
 use hir_lower_path::path;
 use hir_lower_type::{args, bounds, types};
 use hir_store::fault::StoreFault;

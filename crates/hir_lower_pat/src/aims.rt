@@ -42,7 +42,7 @@ pub enum Aim {
 }
 
 /// The outermost of some calls, the inner of which stands here.
-pub(crate) fn outermost(call: Option<InFile<AstPtr>>, at: InFile<AstPtr>) -> InFile<AstPtr>
+pub fn outermost(call: Option<InFile<AstPtr>>, at: InFile<AstPtr>) -> InFile<AstPtr>
     ensures { result ≡ of.outermost call at }
 {
     match call {
@@ -52,7 +52,7 @@ pub(crate) fn outermost(call: Option<InFile<AstPtr>>, at: InFile<AstPtr>) -> InF
 }
 
 /// Stores a pattern, to which its node leads, and which comes from the outermost call, where it is an element that comes out of calls.
-pub(crate) fn alloc_target<I: Storing>(
+pub fn alloc_target<I: Storing>(
     state: &mut BodyBuilder<I>,
     at: InFile<AstPtr>,
     call: Option<InFile<AstPtr>>,
@@ -65,7 +65,7 @@ pub(crate) fn alloc_target<I: Storing>(
 }
 
 /// What is missing, from no node but the outermost call, where it is an element that comes out of calls.
-pub(crate) fn missing_target<I: Storing>(
+pub fn missing_target<I: Storing>(
     state: &mut BodyBuilder<I>,
     call: Option<InFile<AstPtr>>,
 ) -> Result<PatId, StoreFault>
@@ -175,7 +175,7 @@ fn read_path<I: Storing, H: HerePaths<I>, W: PathPart>(
 }
 
 /// A path, by what it stands for.
-pub(crate) fn path_aim<I: Storing, H: HerePaths<I>, W: PathPart>(
+pub fn path_aim<I: Storing, H: HerePaths<I>, W: PathPart>(
     parts: &H,
     state: &mut BodyBuilder<I>,
     at: InFile<AstPtr>,
@@ -204,7 +204,7 @@ fn through_place<I: Storing>(
 }
 
 /// Parentheses lead to the expression of a place, which is missing where nothing is left of it.
-pub(crate) fn parens<I: Storing>(
+pub fn parens<I: Storing>(
     state: &mut BodyBuilder<I>,
     at: InFile<AstPtr>,
     inner: Aim,
@@ -246,7 +246,7 @@ fn gone_place<I: Storing>(
 }
 
 /// The pattern, which a place becomes with the node of its outermost parentheses.
-pub(crate) fn land<I: Storing>(
+pub fn land<I: Storing>(
     state: &mut BodyBuilder<I>,
     at: InFile<AstPtr>,
     aim: Aim,
@@ -276,7 +276,7 @@ fn led<I: Storing>(
 
 /// What comes of a call, by what comes of what it stands for, which as a place comes from the other node. Where nothing is left of
 /// that, nothing is left of the call.
-pub(crate) fn called_aim<I: Storing>(
+pub fn called_aim<I: Storing>(
     state: &mut BodyBuilder<I>,
     at: InFile<AstPtr>,
     source: InFile<AstPtr>,
@@ -296,7 +296,7 @@ pub(crate) fn called_aim<I: Storing>(
 }
 
 /// What comes of a call that stands for no expression.
-pub(crate) fn uncalled_aim<I: Storing>(
+pub fn uncalled_aim<I: Storing>(
     state: &mut BodyBuilder<I>,
     at: InFile<AstPtr>,
     call: Option<InFile<AstPtr>>,
@@ -308,7 +308,7 @@ pub(crate) fn uncalled_aim<I: Storing>(
 }
 
 /// The node of an expression, which of a block is the block's.
-pub(crate) fn pointer_of<H: Here>(parts: &H, node: &ast::Expr) -> InFile<AstPtr>
+pub fn pointer_of<H: Here>(parts: &H, node: &ast::Expr) -> InFile<AstPtr>
     ensures { result ≡ own_pointer (H.spot parts.now) node.now }
 {
     match &node.kind {
@@ -331,7 +331,7 @@ fn has_no_ends(start: &Option<Boxed<ast::Expr>>, end: &Option<Boxed<ast::Expr>>)
 }
 
 /// Whether it is `..` as it stands.
-pub(crate) fn is_dots_kind(node: &ast::Expr) -> bool
+pub fn is_dots_kind(node: &ast::Expr) -> bool
     ensures { result ≡ dots_kind (out-ExprKind node.now.kind) }
 {
     match &node.kind {
@@ -424,7 +424,7 @@ fn landed_target<I: Storing, T: TargetParts<I>, N: TargetNode>(
 }
 
 /// The pattern of an expression, around which nothing else stands.
-pub(crate) fn target<I: Storing, T: TargetParts<I>, N: TargetNode>(
+pub fn target<I: Storing, T: TargetParts<I>, N: TargetNode>(
     parts: &T,
     state: &mut BodyBuilder<I>,
     node: &N,

@@ -17,7 +17,7 @@ use hir_store::ids::PatId;
 use hir_syntax::ast::{self, Fragment};
 
 /// The expression that a call stands for, and where it is read.
-pub(crate) fn expr_of<'a>(entered: Entered<'a>) -> Option<(Place, &'a ast::Expr)>
+pub fn expr_of<'a>(entered: Entered<'a>) -> Option<(Place, &'a ast::Expr)>
     ensures { spec.expr_lent result ≡ spec.expr_there (found_of entered.entry) }
 {
     match entered {
@@ -27,7 +27,7 @@ pub(crate) fn expr_of<'a>(entered: Entered<'a>) -> Option<(Place, &'a ast::Expr)
 }
 
 /// The pattern that a call stands for, and where it is read.
-pub(crate) fn pat_of<'a>(entered: Entered<'a>) -> Option<(Place, &'a ast::Pat)>
+pub fn pat_of<'a>(entered: Entered<'a>) -> Option<(Place, &'a ast::Pat)>
     ensures { spec.pat_lent result ≡ spec.pat_there (found_of entered.entry) }
 {
     match entered {
@@ -37,7 +37,7 @@ pub(crate) fn pat_of<'a>(entered: Entered<'a>) -> Option<(Place, &'a ast::Pat)>
 }
 
 /// What stands for no pattern is missing, and its node leads there.
-pub(crate) fn missing_form<I: Storing>(
+pub fn missing_form<I: Storing>(
     state: &mut BodyBuilder<I>,
     at: InFile<AstPtr>,
 ) -> Result<PatId, StoreFault>
@@ -49,7 +49,7 @@ pub(crate) fn missing_form<I: Storing>(
 }
 
 /// The node of a call leads to what it stands for.
-pub(crate) fn pointed_form<I: Storing>(
+pub fn pointed_form<I: Storing>(
     state: &mut BodyBuilder<I>,
     at: InFile<AstPtr>,
     id: PatId,
@@ -62,7 +62,7 @@ pub(crate) fn pointed_form<I: Storing>(
 }
 
 /// The node of a call leads to the element that it stands for, unless that is two dots.
-pub(crate) fn point_element<I: Storing>(
+pub fn point_element<I: Storing>(
     state: &mut BodyBuilder<I>,
     at: InFile<AstPtr>,
     found: Option<PatId>,

@@ -298,7 +298,7 @@ impl<
 }
 
 /// An expression as a place, of which nothing may be left.
-pub(crate) fn place<I: Storing, P: LowerPieces<I>>(
+pub fn place<I: Storing, P: LowerPieces<I>>(
     lowerer: &Lowerer<P>,
     state: &mut BodyBuilder<I>,
     node: &ast::Expr,

@@ -1,7 +1,9 @@
-//! A path as a part of a form.
+//! A path as a part of a form, and one of a name.
 
+ghost use Rattle.std.specs.Prelude.{◌≡◌, IfOk};
 ghost use Rattle.hir_syntax.specs.declared.ast.Path.{Path as AstPath};
 ghost use Rattle.hir_env.specs.Answered.{OptionPath};
+ghost use Rattle.hir_env.specs.Pats.{plain_path};
 ghost use Rattle.hir_env.specs.Spot.{Spot};
 ghost use Rattle.hir_env.specs.Whole.{path_part};
 ghost use Rattle.hir_lower_form.specs.Methods.{LowersPath, at_place};
@@ -12,8 +14,10 @@ use hir_lower_form::builder::BodyBuilder;
 use hir_lower_form::parts::{LowerPieces, Lowerer};
 use hir_lower_form::storing::Storing;
 use hir_store::fault::StoreFault;
-use hir_store::path::Path;
-use hir_syntax::{Boxed, ast};
+use hir_store::name::Name;
+use hir_store::path::{ModPath, Path, PathKind};
+use hir_syntax::{Boxed, Seq, ast};
+use std::alloc::{AllocError, Global};
 
 /// A path that is there or isn't. A form that hands one on has it as a type parameter, so that no tree is among the form's types,
 /// each of which a check would lay out with all that it leads to.
@@ -46,4 +50,16 @@ impl PathPart for Option<Boxed<ast::Path>> {
     ) -> Result<Option<Path>, StoreFault> {
         lowerer.path_if_present(state, place, self)
     }
+}
+
+/// A path of one name.
+pub fn path_of_name(alloc: Global, name: Name) -> Result<ModPath, AllocError>
+    ensures { IfOk result (λ path. path ≡ plain_path name) }
+{
+    let mut segments = Seq::new(alloc);
+    segments.push(name)?;
+    Ok(ModPath {
+        kind: PathKind::Plain,
+        segments,
+    })
 }

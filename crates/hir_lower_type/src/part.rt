@@ -17,7 +17,7 @@ use hir_env::place::inside_constant;
 use hir_lower_form::builder::BodyBuilder;
 use hir_lower_form::parts::{LowerPieces, Lowerer};
 use hir_lower_form::storing::Storing;
-use hir_lower_pat::type_pats::lower_type_pat;
+use hir_lower_type_pat::type_pats::lower_type_pat;
 use hir_store::fault::StoreFault;
 use hir_store::ids::{PatId, TypeRefId};
 use hir_store::lists::push_type;

@@ -1,0 +1,16 @@
+use Rattle.std.proofs.Common.{arith}
+use Rattle.std.proofs.lemmas.Grind.{common_steps}
+use Rattle.hir_lower_form.specs.Pats.{bind_form}
+use Rattle.hir_lower_bind.proofs.bare.plain_name.Goals as goal
+
+pub returns-in_err-pat : goal.returns-in_err-pat
+unfolding bind_form
+returns-in_err-pat g c = grind (arith, common_steps)
+
+pub returns-in_err-define : goal.returns-in_err-define
+unfolding bind_form
+returns-in_err-define g c = grind (arith, common_steps)
+
+pub returns : goal.returns
+unfolding bind_form
+returns g c = grind (arith, common_steps)

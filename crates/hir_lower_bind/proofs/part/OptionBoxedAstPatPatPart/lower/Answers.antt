@@ -1,0 +1,12 @@
+use Rattle.std.proofs.Common.{arith}
+use Rattle.std.proofs.lemmas.Grind.{common_steps}
+use Rattle.hir_lower_bind.proofs.part.OptionBoxedAstPatPatPart.lower.Goals as goal
+
+pub returns-in-Some : goal.returns-in-Some
+returns-in-Some g c = grind (arith, common_steps)
+
+pub lower_pat-requires-clause-part : goal.lower_pat-requires-clause-part
+lower_pat-requires-clause-part g c = grind (arith, common_steps)
+
+pub returns-in-None : goal.returns-in-None
+returns-in-None g c = grind (arith, common_steps)

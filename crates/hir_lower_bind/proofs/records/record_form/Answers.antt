@@ -1,0 +1,12 @@
+use Rattle.std.proofs.Common.{arith}
+use Rattle.std.proofs.lemmas.Grind.{common_steps}
+use Rattle.hir_lower_form.specs.Pats.{record_pat_form}
+use Rattle.hir_lower_bind.proofs.records.record_form.Goals as goal
+
+pub returns-in-Some : goal.returns-in-Some
+unfolding record_pat_form
+returns-in-Some g c = grind (arith, common_steps)
+
+pub returns-in-None : goal.returns-in-None
+unfolding record_pat_form
+returns-in-None g c = grind (arith, common_steps)

@@ -1,8 +1,0 @@
-use Rattle.std.proofs.Common.{arith}
-use Rattle.std.proofs.lemmas.Grind.{common_steps}
-use Rattle.hir_lower_form.specs.Pats.{over_pat_form}
-use Rattle.hir_lower_pat.proofs.pats.deref_form.Goals as goal
-
-pub returns : goal.returns
-unfolding over_pat_form
-returns g c = grind (arith, common_steps)

@@ -1,5 +1,0 @@
-use Rattle.hir_env.proofs.PatLevels.{pat_field_is_level}
-use Rattle.hir_lower_pat.proofs.records.field.Goals as goal
-
-pub returns : goal.returns
-returns g c = rw (pat_field_is_level (g.S.Here.spot c.args.parts.now) c.args.node.now) c.field_form.ensures

@@ -1,8 +1,0 @@
-use Rattle.std.proofs.Common.{arith}
-use Rattle.std.proofs.lemmas.Grind.{common_steps}
-use Rattle.hir_lower_form.specs.Pats.{literal_pat_form}
-use Rattle.hir_lower_pat.proofs.sides.literal_form.Goals as goal
-
-pub returns-in_ok-expr-in-Some : goal.returns-in_ok-expr-in-Some
-unfolding literal_pat_form
-returns-in_ok-expr-in-Some g c = grind (arith, common_steps)

@@ -1,5 +1,0 @@
-use Rattle.hir_env.proofs.PatLevels.{pat_is_level}
-use Rattle.hir_lower_pat.proofs.sides.present_side.Goals as goal
-
-pub returns : goal.returns
-returns g c = rw (pat_is_level (g.H.Here.spot c.args.parts.now) c.args.node.now) c.side_form.ensures

@@ -1,8 +1,0 @@
-use Rattle.std.proofs.Common.{arith}
-use Rattle.std.proofs.lemmas.Grind.{common_steps}
-use Rattle.hir_lower_form.specs.Targets.{tuple_target_form}
-use Rattle.hir_lower_pat.proofs.target_elements.tuple_form.Goals as goal
-
-pub returns : goal.returns
-unfolding tuple_target_form
-returns g c = grind (arith, common_steps)

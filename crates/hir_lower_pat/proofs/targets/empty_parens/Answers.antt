@@ -1,8 +1,0 @@
-use Rattle.std.proofs.Common.{arith}
-use Rattle.std.proofs.lemmas.Grind.{common_steps}
-use Rattle.hir_lower_form.specs.Forms.{paren_form}
-use Rattle.hir_lower_pat.proofs.targets.empty_parens.Goals as goal
-
-pub returns : goal.returns
-unfolding paren_form
-returns g c = grind (arith, common_steps)
