@@ -1,4 +1,5 @@
 //! From what was lowered to its listing.
+#![tactic(auto)]
 
 mod expansions;
 mod lines;
