@@ -61,7 +61,7 @@ use Rattle.hir_told.specs.Expanded as told
 use Rattle.hir_told.specs.StoredData.{DataAdded}
 use Rattle.hir_steps.specs.Grades.{grade_expr_part, grade_part, grade_whole}
 use Rattle.hir_item_result.specs.Answers.{parameter_type}
-use Rattle.hir_lower.specs.declared.body.Param.{Param}
+use Rattle.hir_param.specs.declared.Param.{Param}
 use Rattle.hir_lower.specs.Data.{data_in, data_in_path}
 use Rattle.hir_lower.specs.Formals.{formals_read}
 use Rattle.hir_type_result.specs.Unrun.{unrun_in, unrun_in_path, unrun_in_pats}

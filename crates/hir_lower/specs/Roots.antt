@@ -35,7 +35,7 @@ use Rattle.hir_lower_form.specs.Lowering.{enter_root, outside_root}
 use Rattle.hir_lower_form.specs.Lower.{ExprSteps, lower_part}
 use Rattle.hir_lower_handlers.specs.Spots.{spot_at}
 use Rattle.hir_lower.specs.declared.body.Body.{Body}
-use Rattle.hir_lower.specs.declared.body.Param.{Param}
+use Rattle.hir_param.specs.declared.Param.{Param}
 use Rattle.hir_store.specs.declared.hir.CoroutineKind.{CoroutineKind}
 use Rattle.hir_one_result.specs.Formals.{lower_body}
 use Rattle.hir_lower.specs.Formals.{Given, HasGiven, Received, item_formals}

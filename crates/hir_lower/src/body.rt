@@ -30,6 +30,7 @@ use hir_base::node::{AstPtr, HirFileId, InFile};
 use hir_env::env::LowerEnv;
 use hir_env::place::{ImplTrait, LifetimeScope, LoweringMode, Place};
 use hir_lower_form::builder::StoredBody;
+use hir_param::Param;
 use hir_store::diagnostics::{AwaitLocation, ExpressionStoreDiagnostics, MissingBodyItemKind};
 use hir_store::fault::StoreFault;
 use hir_store::hir::CoroutineKind;
@@ -38,14 +39,6 @@ use hir_store::source_map::ExpressionStoreSourceMap;
 use hir_store::store::ExpressionStore;
 use hir_syntax::ast;
 use std::alloc::{AllocError, Global};
-
-/// A parameter: what the caller hands its argument to, and what was written for it. The two differ where the body begins with
-/// `let`s of its parameters.
-#[derive_where(Clone, Copy; T)]
-pub struct Param<T> {
-    pub formal: T,
-    pub user_written: T,
-}
 
 /// A lowered body. Its one recorded root is the body's expression. The binding of `self` stands apart from the patterns of the
 /// other parameters that no condition disables.

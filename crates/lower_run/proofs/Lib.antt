@@ -1,3 +1,2 @@
 mod Calls
-mod Numbers
 pub mod Listed

@@ -1,4 +1,3 @@
-pub mod Numbering
 pub mod Statuses
 pub mod Words
 pub mod Answers

@@ -3,6 +3,5 @@
 
 pub mod failure;
 mod input;
-pub mod listing;
 pub mod mode;
 pub mod run;

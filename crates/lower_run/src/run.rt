@@ -7,9 +7,6 @@ ghost use Rattle.std.specs.Io.KnownBytes.{Appends};
 
 use crate::failure::Failure;
 use crate::input::read_all;
-use crate::listing::{
-    Listed, Signature, body_listing, function_listing, params_listing, path_listing, type_listing,
-};
 use crate::mode::Mode;
 use hir_alias::signature::AliasSignature;
 use hir_base::node::{AstPtr, HirFileId, InFile};
@@ -28,6 +25,9 @@ use hir_syntax::ast::{self, ParamList};
 use hir_tables::table::TableEnv;
 use lower_json::document::{Alias, Document, Tree};
 use lower_json::read::read_tree_leaking;
+use lower_listing::{
+    Listed, Signature, body_listing, function_listing, params_listing, path_listing, type_listing,
+};
 use std::alloc::{AllocError, Global};
 use std::convert::AsStr;
 use std::io::{Read, Write};

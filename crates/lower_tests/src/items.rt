@@ -18,7 +18,7 @@ use hir_store::store::ExpressionStore;
 use hir_syntax::ast::Type_;
 use hir_syntax::{Boxed, Seq};
 use lower_json::document::{Document, Root, Tree};
-use lower_run::listing::{Listed, Signature, function_listing};
+use lower_listing::{Listed, Signature, function_listing};
 use std::alloc::{AllocError, Global};
 use std::mem;
 

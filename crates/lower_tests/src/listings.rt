@@ -18,7 +18,7 @@ use hir_store::source_map::ExpressionStoreSourceMap;
 use hir_store::store::ExpressionStore;
 use hir_syntax::ast::LiteralKind;
 use lower_json::document::Root;
-use lower_run::listing::{Listed, body_listing, type_listing};
+use lower_listing::{Listed, body_listing, type_listing};
 use std::alloc::{AllocError, Global};
 use std::test::Fail;
 

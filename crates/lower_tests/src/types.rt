@@ -9,7 +9,7 @@ use hir_env::lang::LangItems;
 use hir_lower::{LowerError, OpaqueImplTrait, lower_type_ref};
 use hir_store::ids::ModuleId;
 use lower_json::document::{Document, Root};
-use lower_run::listing::path_listing;
+use lower_listing::path_listing;
 use std::alloc::Global;
 
 /// `A<impl B>`.

@@ -1,4 +1,5 @@
 //! From what was lowered to its listing.
+#![tactic(auto)]
 
 mod expansions;
 mod lines;
@@ -15,7 +16,7 @@ mod words;
 mod writer;
 
 use hir_env::lang::LangItems;
-use hir_lower::Param;
+use hir_param::Param;
 use hir_store::generics::GenericParams;
 use hir_store::ids::{BindingId, PatId, TypeRefId};
 use hir_store::path::Path;

@@ -3,7 +3,7 @@
 ghost use Rattle.std.specs.Prelude.{◌≡◌, ◌<◌, [], ℕ, OnOk, OnErr, IfOk, None, Some, cond, length, nat_eq, slice_index_or};
 ghost use Rattle.std.specs.List.{list_any, position};
 ghost use Rattle.indexmap.specs.IndexSet.{insert_key};
-ghost use Rattle.lower_run.specs.Numbering.{place_of};
+ghost use Rattle.lower_listing.specs.Numbering.{place_of};
 
 use std::alloc::{AllocError, Global};
 use std::marker::Model;
@@ -22,7 +22,7 @@ pub struct Numbering {
 impl Model for Numbering {
     ghost use Rattle.std.specs.Prelude.{List, ℕ};
     ghost use Rattle.std.specs.Coded.{coded_list, coded_ℕ};
-    ghost use Rattle.lower_run.specs.Numbering.{Placed};
+    ghost use Rattle.lower_listing.specs.Numbering.{Placed};
 
     ghost Value = { List ℕ };
 

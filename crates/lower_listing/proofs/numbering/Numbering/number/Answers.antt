@@ -1,8 +1,8 @@
 use Rattle.std.proofs.Common.{◌≡◌, ◌∙◌, ◌∷◌, ◌++◌, [], ap, sym, arith, cond, get_or, length, ℕ, None, Some}
 use Rattle.std.specs.Prelude.{nat_eq}
 use Rattle.std.specs.List.{position}
-use Rattle.lower_run.proofs.Numbers.{comes, missing, placed_more, stays}
-use Rattle.lower_run.proofs.listing.numbering.Numbering.number.Goals as goal
+use Rattle.lower_listing.proofs.Numbers.{comes, missing, placed_more, stays}
+use Rattle.lower_listing.proofs.numbering.Numbering.number.Goals as goal
 
 pub returns-in-Some-clause-printed : goal.returns-in-Some-clause-printed
 returns-in-Some-clause-printed c = stays c.args.self.now c.args.item c.in-Some.number (sym c.find.ensures ∙ c.in-Some.is)

@@ -1,6 +1,6 @@
 use Rattle.std.proofs.Common.{◌+◌, refl, arith}
-use Rattle.lower_run.proofs.Numbers.{reaches}
-use Rattle.lower_run.proofs.listing.numbering.reach.Goals as goal
+use Rattle.lower_listing.proofs.Numbers.{reaches}
+use Rattle.lower_listing.proofs.numbering.reach.Goals as goal
 
 pub returns-clause-same : goal.returns-clause-same
 returns-clause-same c =

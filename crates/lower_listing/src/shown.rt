@@ -1,7 +1,7 @@
 //! What a listing begins with, but for a path's, which holds a tree and so is handed on by itself.
 
 use super::signatures::Signature;
-use hir_lower::Param;
+use hir_param::Param;
 use hir_store::ids::{BindingId, PatId, TypeRefId};
 
 /// What the first lines of a listing show.

@@ -1,7 +1,7 @@
 use Rattle.std.proofs.Common.{◌∙◌, ap, cond, Some}
 use Rattle.std.specs.Prelude.{nat_eq}
-use Rattle.lower_run.proofs.Numbers.{noted_at}
-use Rattle.lower_run.proofs.listing.numbering.note.Goals as goal
+use Rattle.lower_listing.proofs.Numbers.{noted_at}
+use Rattle.lower_listing.proofs.numbering.note.Goals as goal
 
 pub returns-clause-ok : goal.returns-clause-ok
 returns-clause-ok c = λ x. noted_at c.reach.new.places.items c.args.item x (Some c.args.place) c.in_ok-reach.ensures.within

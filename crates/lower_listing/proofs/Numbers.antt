@@ -7,7 +7,7 @@ use Rattle.std.proofs.lemmas.Grind.{common_steps}
 use Rattle.std.proofs.lemmas.List.Folds.{position_or_len_push}
 use Rattle.std.proofs.lemmas.Option.{cond_some, none-some}
 use Rattle.indexmap.specs.IndexSet.{insert_key}
-use Rattle.lower_run.specs.Numbering.{Placed}
+use Rattle.lower_listing.specs.Numbering.{Placed}
 
 -- ---- the first place at which a test passes
 

@@ -8,7 +8,7 @@ use super::waiting::{Piece, Waiting, arg_piece};
 use super::words::lang_word;
 use super::writer::Writer;
 use super::{Listed, expansions, lines};
-use hir_lower::Param;
+use hir_param::Param;
 use hir_store::hir::{MatchArm, RecordFieldPat, RecordLitField, Statement};
 use hir_store::ids::{BindingId, ExprId, HygieneId, LabelId, LifetimeRefId, PatId, TypeRefId};
 use hir_store::name::Name;

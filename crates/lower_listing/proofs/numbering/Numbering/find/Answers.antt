@@ -2,7 +2,7 @@ use Rattle.std.proofs.Common.{◌≡◌, ◌∙◌, ap, sym, arith, get_or, None
 use Rattle.std.specs.Prelude.{nat_eq}
 use Rattle.std.specs.List.{position}
 use Rattle.std.proofs.lemmas.Grind.{common_steps}
-use Rattle.lower_run.proofs.listing.numbering.Numbering.find.Goals as goal
+use Rattle.lower_listing.proofs.numbering.Numbering.find.Goals as goal
 
 pub returns-in_err-get : goal.returns-in_err-get
 returns-in_err-get c =
