@@ -59,6 +59,7 @@ fn note(places: &mut Vec<Option<usize>>, item: u32, place: usize) -> Result<(), 
 }
 
 impl Numbering {
+    /// A numbering in which nothing was printed.
     pub fn new(alloc: Global) -> Numbering
         ensures { result ≡ [] }
     {

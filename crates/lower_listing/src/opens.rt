@@ -320,6 +320,7 @@ impl<'a> Printer<'a> {
         }
     }
 
+    /// Prints how an arm begins, and what stands first in it; the rest waits.
     pub fn open_arm(&mut self, arm: &'a MatchArm) -> Result<(), AllocError> {
         self.writer.open("(Arm", None)?;
         self.waiting
@@ -327,6 +328,7 @@ impl<'a> Printer<'a> {
         self.first_pat(arm.pat)
     }
 
+    /// Prints how a statement begins, and what stands first in it; the rest waits.
     pub fn open_statement(&mut self, statement: &'a Statement) -> Result<(), AllocError> {
         self.writer.open(statement_word(statement), None)?;
         match statement {

@@ -6,6 +6,7 @@ use hir_store::ids::{PatId, TypeRefId};
 use hir_store::path::Path;
 use std::alloc::AllocError;
 
+/// A pattern that is there or isn't, as what waits.
 pub fn pat_or_absent(pat: Option<PatId>) -> Piece<'static> {
     match pat {
         Some(id) => Piece::Pat(id),
@@ -13,6 +14,7 @@ pub fn pat_or_absent(pat: Option<PatId>) -> Piece<'static> {
     }
 }
 
+/// A type that is there or isn't, as what waits.
 pub fn type_or_absent(ty: Option<TypeRefId>) -> Piece<'static> {
     match ty {
         Some(id) => Piece::Type_(id),

@@ -77,6 +77,7 @@ pub enum Piece<'a> {
 
 pub const ABSENT: Piece<'static> = Piece::Word("-");
 
+/// An expression that is there or isn't, as what waits.
 pub fn expr_or_absent(expr: Option<ExprId>) -> Piece<'static> {
     match expr {
         Some(id) => Piece::Expr(id),
@@ -129,6 +130,7 @@ pub struct Waiting<'a> {
 }
 
 impl<'a> Waiting<'a> {
+    /// Nothing waits.
     pub fn new(alloc: Global) -> Waiting<'a> {
         Waiting {
             pieces: Vec::new(alloc),

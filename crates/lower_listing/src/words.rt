@@ -83,6 +83,7 @@ pub fn statement_word(statement: &Statement) -> &'static str {
     }
 }
 
+/// What a loop was written as.
 pub fn loop_word(source: LoopSource) -> &'static str {
     match source {
         LoopSource::Loop => "loop",
@@ -91,6 +92,7 @@ pub fn loop_word(source: LoopSource) -> &'static str {
     }
 }
 
+/// What a closure is: one that is called, or a coroutine.
 pub fn closure_word(kind: ClosureKind) -> &'static str {
     match kind {
         ClosureKind::Closure => "closure",
@@ -117,6 +119,7 @@ fn coroutine_word(kind: CoroutineKind, source: CoroutineSource) -> &'static str 
     }
 }
 
+/// How a closure captures.
 pub fn capture_word(capture: CaptureBy) -> &'static str {
     match capture {
         CaptureBy::Ref => "ref",
@@ -124,10 +127,12 @@ pub fn capture_word(capture: CaptureBy) -> &'static str {
     }
 }
 
+/// Whether a block is unsafe.
 pub fn unsafe_word(is_unsafe: bool) -> &'static str {
     if is_unsafe { "unsafe" } else { "-" }
 }
 
+/// Whether a reference is raw.
 pub fn rawness_word(rawness: Rawness) -> &'static str {
     match rawness {
         Rawness::RawPtr => "raw",
@@ -135,6 +140,7 @@ pub fn rawness_word(rawness: Rawness) -> &'static str {
     }
 }
 
+/// Whether what is referred to may be changed.
 pub fn mutability_word(mutability: Mutability) -> &'static str {
     match mutability {
         Mutability::Mut => "mut",
@@ -142,6 +148,7 @@ pub fn mutability_word(mutability: Mutability) -> &'static str {
     }
 }
 
+/// A unary operator, as it is written.
 pub fn unary_word(op: UnaryOp) -> &'static str {
     match op {
         UnaryOp::Deref => "*",
@@ -162,6 +169,7 @@ pub fn binary_word(op: Option<BinaryOp>) -> &'static str {
     }
 }
 
+/// The operator of a range, as it is written.
 pub fn range_word(op: RangeOp) -> &'static str {
     match op {
         RangeOp::Exclusive => "..",
@@ -278,6 +286,7 @@ fn assignment_word(op: ArithOp) -> &'static str {
     }
 }
 
+/// The fault of an `await` that stands here.
 pub fn await_word(location: AwaitLocation) -> &'static str {
     match location {
         AwaitLocation::NonAsyncFunction => "diag AwaitOutsideOfAsync non-async function",
@@ -291,6 +300,7 @@ pub fn await_word(location: AwaitLocation) -> &'static str {
     }
 }
 
+/// The fault of an item of this kind that has no body.
 pub fn missing_body_word(kind: MissingBodyItemKind) -> &'static str {
     match kind {
         MissingBodyItemKind::Static => "diag MissingBody Static",

@@ -84,6 +84,7 @@ const POINTER: AstPtr = AstPtr {
     range: TextRange { start: 4, end: 5 },
 };
 
+/// A collector of the first module and file, for analysis, whose arenas have this limit.
 pub fn collector<E: LowerEnv>(alloc: Global, env: &E, limit: u32) -> ExprCollector<'_, E> {
     ExprCollector::with_limit(
         alloc,

@@ -15,6 +15,7 @@ pub enum Said {
     Other,
 }
 
+/// That a call gave its own answer, if it did.
 pub fn own_if(is_so: bool) -> Said {
     if is_so { Said::Own } else { Said::Other }
 }

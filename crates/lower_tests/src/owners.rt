@@ -80,6 +80,7 @@ const ARGUMENT: &str = r#"{"nodes": [
 /// What owns each of the first four bindings. A binding that isn't stored has no owner either.
 pub type Owners = [Option<ExprId>; 4];
 
+/// Whether these own the first four bindings.
 pub fn are_owners(store: &ExpressionStore, own: Owners) -> bool {
     let owners = [
         store.binding_owner(BindingId(0)),

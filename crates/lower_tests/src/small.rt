@@ -96,6 +96,7 @@ pub fn said_of_whole(
     said_of_calls(alloc, Root::Path, text, &script)
 }
 
+/// The ends of arenas with so many expressions, patterns and bindings.
 pub fn ends(exprs: u32, pats: u32, bindings: u32) -> Option<Ends> {
     Some((ExprId(exprs), PatId(pats), BindingId(bindings)))
 }

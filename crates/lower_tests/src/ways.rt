@@ -150,6 +150,7 @@ fn are_ways_back(source_map: &BodySourceMap, back: &[(Part, u32)]) -> bool {
     true
 }
 
+/// Whether a body and its source map have so many of each.
 pub fn are_counts(body: &Body, source_map: &BodySourceMap, counts: &[(Count, usize)]) -> bool {
     for count in counts {
         let (what, own) = *count;
