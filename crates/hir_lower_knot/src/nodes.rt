@@ -17,6 +17,7 @@ ghost use Rattle.hir_lower_form.specs.Methods.{ReadsPath, at_place, block_steps_
 ghost use Rattle.hir_lower_form.specs.Nests.{IfPresent, KidsArgs, KidsBlock, KidsBound, KidsExpr, KidsPath, KidsType};
 
 use hir_env::place::Place;
+use hir_lower_bind::{bare, top};
 use hir_lower_expr::blocks;
 use hir_lower_form::builder::StoredBody;
 use hir_lower_form::parts::{BlockRole, Lowerer};
@@ -24,7 +25,6 @@ use hir_lower_form::walk::{PathWalk, Reading};
 use hir_lower_handlers::by::By;
 use hir_lower_handlers::handling::Handling;
 use hir_lower_kinds::exprs;
-use hir_lower_bind::{bare, top};
 use hir_lower_path::path;
 use hir_lower_type::{args, bounds, types};
 use hir_store::fault::StoreFault;
