@@ -3,6 +3,7 @@
 What `rt ci` says is read in a file. A library is there once it says that the crate is proved, or kept from an earlier run. The longest
 chain of crates decides how long it takes, so near its end most processors have nothing else to do.
 """
+import os
 import re
 import time
 from concurrent.futures import ThreadPoolExecutor
@@ -19,13 +20,20 @@ def look(path):
     return set(PROVED.findall(said)), bool(ENDED.search(said))
 
 
-def try_behind(path, names, below, attempt, jobs, pause=5):
-    """What an attempt answers of each of these crates, in their order. So many are tried at once, and half of them beside `rt ci`."""
+def processors_left():
+    """How many processors had nothing to do in the last minute."""
+    return len(os.sched_getaffinity(0)) - round(os.getloadavg()[0])
+
+
+def try_behind(path, names, below, attempt, jobs, left=processors_left, pause=5):
+    """What an attempt answers of each of these crates, in their order. So many are tried at once, and beside `rt ci` half of them, where
+    processors are left: what waits for one makes all else dearer."""
     waiting, tried = [*names], {}
     with ThreadPoolExecutor(jobs) as pool:
         while waiting:
             proved, has_ended = look(path)
-            room = (jobs if has_ended else (jobs + 1) // 2) - sum(not it.done() for it in tried.values())
+            running = sum(not it.done() for it in tried.values())
+            room = jobs - running if has_ended else min((jobs + 1) // 2 - running, left())
             ready = [it for it in waiting if has_ended or below(it) <= proved][: max(room, 0)]
             tried |= {it: pool.submit(attempt, it) for it in ready}
             waiting = [it for it in waiting if it not in tried]
