@@ -1,13 +1,13 @@
 //! Literals of patterns, and the sides of ranges.
 
-ghost use Rattle.std.specs.Prelude.{◌≡◌, None};
+ghost use Rattle.std.specs.Prelude.{None};
 ghost use Rattle.hir_syntax.specs.declared.ast.Path.{Path as AstPath};
 ghost use Rattle.hir_syntax.specs.declared.pats.PatKind.{out-PatKind};
 ghost use Rattle.hir_store.specs.Range.{HasExprOption, HasPat};
 ghost use Rattle.hir_env.specs.Answered as tree;
 ghost use Rattle.hir_env.specs.Answered.{Side};
 ghost use Rattle.hir_env.specs.Answering.{name_or_missing, name_written};
-ghost use Rattle.hir_env.specs.Pats.{ident_pat, literal_or_broken, minus_fits, side_of};
+ghost use Rattle.hir_env.specs.Pats.{ident_pat, literal_or_broken, side_of};
 ghost use Rattle.hir_env.specs.Spot.{Spot};
 ghost use Rattle.hir_env.specs.Whole.{answered_pat, pat_level, pat_part};
 ghost use Rattle.hir_lower_form.specs.Lower.{lower_side};

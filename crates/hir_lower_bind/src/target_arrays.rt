@@ -136,6 +136,7 @@ fn array_form<I: Storing, T: TargetParts<I>, L: TargetsPart>(
     array_of(parts, state, at, call, elems)
 }
 
+/// An array that is assigned to is a pattern.
 pub(crate) fn array_aim<I: Storing, T: TargetParts<I>, L: TargetsPart>(
     parts: &T,
     state: &mut BodyBuilder<I>,

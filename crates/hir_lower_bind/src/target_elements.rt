@@ -171,6 +171,7 @@ pub(crate) fn dots_alone<I: Storing>(
     alloc_target(state, at, call, pat)
 }
 
+/// A tuple that is assigned to is a pattern.
 pub(crate) fn tuple_aim<I: Storing, T: TargetParts<I>, L: TargetsPart>(
     parts: &T,
     state: &mut BodyBuilder<I>,

@@ -35,7 +35,7 @@ pub fn inside(place: Place, number: Option<(BlockId, ModuleId)>) -> Place
     }
 }
 
-/// The block of a number and its module, none where there is none.
+/// The number of a block without its module, none where there is none.
 pub fn block_number(number: Option<(BlockId, ModuleId)>) -> Option<BlockId>
     ensures { result ≡ option_map (λ n. n.0) number }
 {

@@ -21,12 +21,12 @@ pub fn before_first_name(kind: PathKind) -> &'static str {
 
 /// What is let wait here waits before all others.
 impl<'a> Waiting<'a> {
-    /// A tuple waits, with its types between parentheses.
+    /// Lets a tuple wait, with its types between parentheses.
     pub fn push_tuple(&mut self, types: &'a [TypeRefId]) -> Result<(), AllocError> {
         self.push_all(&[Piece::Word("("), Piece::Types("", types), Piece::Word(")")])
     }
 
-    /// A slice waits, with its type between brackets.
+    /// Lets a slice wait, with its type between brackets.
     pub fn push_slice(&mut self, ty: TypeRefId) -> Result<(), AllocError> {
         self.push_all(&[Piece::Word("["), Piece::Type_(ty), Piece::Word("]")])
     }

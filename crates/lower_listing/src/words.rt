@@ -92,7 +92,7 @@ pub fn loop_word(source: LoopSource) -> &'static str {
     }
 }
 
-/// What a closure is: one that is called, or a coroutine.
+/// What a closure is: one that is called, a coroutine, or one that makes a coroutine.
 pub fn closure_word(kind: ClosureKind) -> &'static str {
     match kind {
         ClosureKind::Closure => "closure",
@@ -286,7 +286,7 @@ fn assignment_word(op: ArithOp) -> &'static str {
     }
 }
 
-/// The fault of an `await` that stands here.
+/// The line of an `await` outside of `async`, by where it stands.
 pub fn await_word(location: AwaitLocation) -> &'static str {
     match location {
         AwaitLocation::NonAsyncFunction => "diag AwaitOutsideOfAsync non-async function",

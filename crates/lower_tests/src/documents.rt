@@ -15,7 +15,7 @@ pub enum Said {
     Other,
 }
 
-/// That a call gave its own answer, if it did.
+/// `Own` where this is so, else `Other`.
 pub fn own_if(is_so: bool) -> Said {
     if is_so { Said::Own } else { Said::Other }
 }
