@@ -4,6 +4,7 @@ What `rt ci` says stands in a file, and behind it what it ended with. Once it sa
 crate's library is there. It is taken then: when `rt ci` ends, it puts back what an earlier run left in its place. The longest chain of
 crates decides how long it takes, so near its end most processors have nothing else to do.
 """
+import contextlib
 import os
 import re
 import time
@@ -11,6 +12,15 @@ from concurrent.futures import ThreadPoolExecutor
 
 PROVED = re.compile(r"^rt: (\w+) (?:proved|is kept)\b", re.M)
 ENDED = re.compile(r"^the gate has ended with status (\d+)$", re.M)
+
+
+def give_way():
+    """Lets all else go first. What a system weighs by sessions it weighs by this one, which a process of its own group can have."""
+    os.nice(10)
+    with contextlib.suppress(OSError):
+        os.setsid()
+        with open("/proc/self/autogroup", "w", encoding="utf-8") as file:
+            file.write("10")
 
 
 def look(path):
