@@ -4,6 +4,7 @@ use Rattle.json_faults.specs.Members.{all_pairs, pairs, pairs_of}
 use Rattle.json_faults.specs.Nodes as spec
 use Rattle.json_faults.specs.Nodes.{node_in}
 use Rattle.json_faults.proofs.Sides.{behind, enough, node_next, pairs_next}
+use Rattle.std.proofs.lemmas.Grind.{common_steps}
 use Rattle.json_faults.proofs.nodes.check_each.Goals as goal
 
 pub loop-node-preserved : goal.loop-node-preserved
@@ -28,3 +29,15 @@ loop-node-preserved c =
       so_far = l.invariant.so_far ∙ node_next c.args.kinds.now l.at nodes l.node-index node l.levels c.check_one.new.levels
           c.loop-node-test.true c.node-item.is ok;
     }
+
+pub returns-clause-walks : goal.returns-clause-walks
+returns-clause-walks c = grind (arith, common_steps)
+
+pub returns-in_err-check_one-clause-walks : goal.returns-in_err-check_one-clause-walks
+returns-in_err-check_one-clause-walks c = grind (arith, common_steps)
+
+pub check_one-requires-clause-members : goal.check_one-requires-clause-members
+check_one-requires-clause-members c = grind (arith, common_steps)
+
+pub overflow_add-start : goal.overflow_add-start
+overflow_add-start c = grind (arith, common_steps)

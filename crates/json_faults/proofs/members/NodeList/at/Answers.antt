@@ -4,6 +4,7 @@ use Rattle.std.proofs.Math.Logic.{∥∥₁_elim, ∥∥₁_map}
 use Rattle.serde_json.specs.View.{view}
 use Rattle.json_faults.specs.Members.{pairs, pairs_of}
 use Rattle.json_faults.proofs.Sides.{from_start, many_starts, start_among}
+use Rattle.json_faults.proofs.Items.{found_at, past_items}
 use Rattle.json_faults.proofs.members.NodeList.at.Goals as goal
 
 pub bounds-self-at : goal.bounds-self-at
@@ -25,3 +26,6 @@ own_of-requires c =
     c.index-self-at.is all list.begun in
     let same = ap (λ v. pairs_of (view v) ++ found.0) c.index-self-at.is in
     (found.0, ap pairs c.split_at.ensures.back ∙ found.1 ∙ same))
+
+pub returns : goal.returns
+returns c = grind (arith, found_at, past_items)
