@@ -1,4 +1,5 @@
-use Rattle.std.proofs.Common.{refl, ap}
+use Rattle.std.proofs.lemmas.Grind.{common_steps}
+use Rattle.std.proofs.Common.{refl, ap, arith}
 use Rattle.std.specs.Prelude.{option_map}
 use Rattle.json_nodes.specs.declared.path_parts.PathOf.TheVariants as path_part
 use Rattle.json_nodes.specs.Args.{arg}
@@ -37,3 +38,19 @@ pub returns-in_err-lifetime_arg-in-LifetimeArg : goal.returns-in_err-lifetime_ar
 returns-in_err-lifetime_arg-in-LifetimeArg g c = λ e.
     let made = c.in_err-lifetime_arg-in-LifetimeArg.ensures e in
     absurd (cc made.1)
+
+pub field-expr-requires : goal.field-expr-requires
+field-expr-requires g c = c.requires
+
+pub field-ty-requires : goal.field-ty-requires
+field-ty-requires g c = c.requires
+
+pub lifetime_arg-requires : goal.lifetime_arg-requires
+lifetime_arg-requires g c = c.requires
+
+pub assoc_arg-requires : goal.assoc_arg-requires
+assoc_arg-requires g c = c.requires
+
+pub returns-in_default : goal.returns-in_default
+unfolding arg
+returns-in_default g c = grind (arith, common_steps)

@@ -24,3 +24,15 @@ returns g c = λ e.
         bounds.1,
       ),
     )
+
+pub field-ty-requires : goal.field-ty-requires
+field-ty-requires g c = c.requires
+
+pub field-name-requires : goal.field-name-requires
+field-name-requires g c = c.requires
+
+pub field-generics-requires : goal.field-generics-requires
+field-generics-requires g c = c.requires
+
+pub field-bounds-requires : goal.field-bounds-requires
+field-bounds-requires g c = c.requires

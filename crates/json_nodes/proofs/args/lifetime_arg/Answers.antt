@@ -7,3 +7,6 @@ returns g c = λ e.
     let made = c.in_box.ensures e in
     let lifetime = c.field-lifetime.ensures made.0 in
     (lifetime.0, rw (made.1, c.id.ensures, c.range.ensures, lifetime.1))
+
+pub field-lifetime-requires : goal.field-lifetime-requires
+field-lifetime-requires g c = c.requires

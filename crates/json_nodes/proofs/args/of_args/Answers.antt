@@ -9,3 +9,9 @@ pub returns-in_default : goal.returns-in_default
 returns-in_default g c = λ e.
     let it = c.arg.ensures e in
     (it.0, it.1 ∙ sym (is_single _ _ c.in_default.not-GenericArgList c.in_default.not-ParenArgs))
+
+pub arg-requires : goal.arg-requires
+arg-requires g c = c.requires
+
+pub arg_list-requires : goal.arg_list-requires
+arg_list-requires g c = c.requires

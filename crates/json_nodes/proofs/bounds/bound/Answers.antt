@@ -24,3 +24,15 @@ returns g c = λ e.
         uses.1,
       ),
     )
+
+pub field-binder-requires : goal.field-binder-requires
+field-binder-requires g c = c.requires
+
+pub field-ty-requires : goal.field-ty-requires
+field-ty-requires g c = c.requires
+
+pub field-lifetime-requires : goal.field-lifetime-requires
+field-lifetime-requires g c = c.requires
+
+pub field-uses-requires : goal.field-uses-requires
+field-uses-requires g c = c.requires

@@ -1,4 +1,5 @@
-use Rattle.std.proofs.Common.{refl, ap}
+use Rattle.std.proofs.lemmas.Grind.{common_steps}
+use Rattle.std.proofs.Common.{refl, ap, arith}
 use Rattle.std.specs.Prelude.{option_map}
 use Rattle.json_nodes.specs.declared.type_parts.TypeOf.TheVariants as type_part
 use Rattle.json_nodes.specs.Bounds.{of_bound}
@@ -26,3 +27,16 @@ unfolding of_bound
 returns-in-ForBinder g c = λ e.
     let params = c.field-params.ensures e in
     (params.0, rw (c.in-ForBinder.is, c.id.ensures, c.range.ensures, params.1))
+
+pub field-ty-requires : goal.field-ty-requires
+field-ty-requires g c = c.requires
+
+pub bound-requires : goal.bound-requires
+bound-requires g c = c.requires
+
+pub returns-in_default : goal.returns-in_default
+unfolding of_bound
+returns-in_default g c = grind (arith, common_steps)
+
+pub field-params-requires : goal.field-params-requires
+field-params-requires g c = c.requires

@@ -1,4 +1,5 @@
-use Rattle.std.proofs.Common.{refl}
+use Rattle.std.proofs.lemmas.Grind.{common_steps}
+use Rattle.std.proofs.Common.{refl, arith}
 use Rattle.json_nodes.specs.Exprs.{flow}
 use Rattle.json_nodes.proofs.exprs.flow.Goals as goal
 
@@ -50,3 +51,46 @@ returns-in-BreakExpr g c = λ e.
     let expr = c.field-expr-in-BreakExpr.ensures made.0 in
     let lifetime = c.field-lifetime-in-BreakExpr.ensures expr.0 in
     (lifetime.0, rw c.in-BreakExpr.is (rw made.1 (rw expr.1 (rw lifetime.1 refl))))
+
+pub field-expr-requires-in-BreakExpr : goal.field-expr-requires-in-BreakExpr
+field-expr-requires-in-BreakExpr g c = c.requires
+
+pub field-pat-requires : goal.field-pat-requires
+field-pat-requires g c = c.requires
+
+pub field-label-requires-in-WhileExpr : goal.field-label-requires-in-WhileExpr
+field-label-requires-in-WhileExpr g c = c.requires
+
+pub field-label-requires : goal.field-label-requires
+field-label-requires g c = c.requires
+
+pub field-lifetime-requires : goal.field-lifetime-requires
+field-lifetime-requires g c = c.requires
+
+pub returns-in_default : goal.returns-in_default
+unfolding flow
+returns-in_default g c = grind (arith, common_steps)
+
+pub field-expr-requires : goal.field-expr-requires
+field-expr-requires g c = c.requires
+
+pub field-body-requires : goal.field-body-requires
+field-body-requires g c = c.requires
+
+pub field-iterable-requires : goal.field-iterable-requires
+field-iterable-requires g c = c.requires
+
+pub field-body-requires-in-WhileExpr : goal.field-body-requires-in-WhileExpr
+field-body-requires-in-WhileExpr g c = c.requires
+
+pub field-lifetime-requires-in-BreakExpr : goal.field-lifetime-requires-in-BreakExpr
+field-lifetime-requires-in-BreakExpr g c = c.requires
+
+pub field-label-requires-in-ForExpr : goal.field-label-requires-in-ForExpr
+field-label-requires-in-ForExpr g c = c.requires
+
+pub field-body-requires-in-ForExpr : goal.field-body-requires-in-ForExpr
+field-body-requires-in-ForExpr g c = c.requires
+
+pub field-condition-requires : goal.field-condition-requires
+field-condition-requires g c = c.requires

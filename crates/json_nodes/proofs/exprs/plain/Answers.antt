@@ -1,4 +1,5 @@
-use Rattle.std.proofs.Common.{refl}
+use Rattle.std.proofs.lemmas.Grind.{common_steps}
+use Rattle.std.proofs.Common.{refl, arith}
 use Rattle.json_nodes.specs.Exprs.{plain}
 use Rattle.json_nodes.proofs.exprs.plain.Goals as goal
 
@@ -38,3 +39,28 @@ returns-in-MacroExpr g c = λ e.
     let made = c.whole-in-MacroExpr.ensures e in
     let call = c.field-call.ensures made.0 in
     (call.0, rw c.in-MacroExpr.is (rw made.1 (rw call.1 refl)))
+
+pub field-expr-requires : goal.field-expr-requires
+field-expr-requires g c = c.requires
+
+pub field-start-requires : goal.field-start-requires
+field-start-requires g c = c.requires
+
+pub field-expr-requires-in-ParenExpr : goal.field-expr-requires-in-ParenExpr
+field-expr-requires-in-ParenExpr g c = c.requires
+
+pub field-args-requires : goal.field-args-requires
+field-args-requires g c = c.requires
+
+pub returns-in_default : goal.returns-in_default
+unfolding plain
+returns-in_default g c = grind (arith, common_steps)
+
+pub field-call-requires : goal.field-call-requires
+field-call-requires g c = c.requires
+
+pub field-path-requires : goal.field-path-requires
+field-path-requires g c = c.requires
+
+pub field-end-requires : goal.field-end-requires
+field-end-requires g c = c.requires

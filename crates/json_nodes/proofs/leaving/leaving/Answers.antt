@@ -1,4 +1,5 @@
-use Rattle.std.proofs.Common.{refl}
+use Rattle.std.proofs.lemmas.Grind.{common_steps}
+use Rattle.std.proofs.Common.{refl, arith}
 use Rattle.json_nodes.specs.Exprs.{leaving}
 use Rattle.json_nodes.proofs.leaving.leaving.Goals as goal
 
@@ -36,3 +37,22 @@ returns-in-AwaitExpr g c = λ e.
     let made = c.whole-in-AwaitExpr.ensures e in
     let expr = c.field-expr-in-AwaitExpr.ensures made.0 in
     (expr.0, rw c.in-AwaitExpr.is (rw made.1 (rw expr.1 refl)))
+
+pub field-expr-requires-in-AwaitExpr : goal.field-expr-requires-in-AwaitExpr
+field-expr-requires-in-AwaitExpr g c = c.requires
+
+pub field-expr-requires : goal.field-expr-requires
+field-expr-requires g c = c.requires
+
+pub field-expr-requires-in-YeetExpr : goal.field-expr-requires-in-YeetExpr
+field-expr-requires-in-YeetExpr g c = c.requires
+
+pub returns-in_default : goal.returns-in_default
+unfolding leaving
+returns-in_default g c = grind (arith, common_steps)
+
+pub field-expr-requires-in-YieldExpr : goal.field-expr-requires-in-YieldExpr
+field-expr-requires-in-YieldExpr g c = c.requires
+
+pub field-expr-requires-in-BecomeExpr : goal.field-expr-requires-in-BecomeExpr
+field-expr-requires-in-BecomeExpr g c = c.requires

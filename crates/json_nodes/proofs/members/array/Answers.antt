@@ -13,3 +13,12 @@ unfolding array
 returns-else-flag g c = λ e.
     let elems = c.field-elems.ensures e in
     (elems.0, rw (elems.1, ← c.value.ensures, ← c.flag.ensures, c.if-flag.false))
+
+pub field-len-requires : goal.field-len-requires
+field-len-requires g c = c.requires
+
+pub field-elems-requires : goal.field-elems-requires
+field-elems-requires g c = c.requires
+
+pub field-init-requires : goal.field-init-requires
+field-init-requires g c = c.requires

@@ -1,4 +1,5 @@
-use Rattle.std.proofs.Common.{refl}
+use Rattle.std.proofs.lemmas.Grind.{common_steps}
+use Rattle.std.proofs.Common.{refl, arith}
 use Rattle.json_nodes.specs.Exprs.{member}
 use Rattle.json_nodes.proofs.members.member.Goals as goal
 
@@ -33,3 +34,31 @@ returns-in-ArrayExpr g c = λ e.
     let made = c.whole-in-ArrayExpr.ensures e in
     let kind = c.array-kind.ensures made.0 in
     (kind.0, rw (c.in-ArrayExpr.is, made.1, kind.1))
+
+pub field-args-requires : goal.field-args-requires
+field-args-requires g c = c.requires
+
+pub array-kind-requires : goal.array-kind-requires
+array-kind-requires g c = c.requires
+
+pub field-expr-requires : goal.field-expr-requires
+field-expr-requires g c = c.requires
+
+pub field-name-requires : goal.field-name-requires
+field-name-requires g c = c.requires
+
+pub field-generics-requires : goal.field-generics-requires
+field-generics-requires g c = c.requires
+
+pub field-fields-requires : goal.field-fields-requires
+field-fields-requires g c = c.requires
+
+pub field-receiver-requires : goal.field-receiver-requires
+field-receiver-requires g c = c.requires
+
+pub field-name-requires-in-FieldExpr : goal.field-name-requires-in-FieldExpr
+field-name-requires-in-FieldExpr g c = c.requires
+
+pub returns-in_default : goal.returns-in_default
+unfolding member
+returns-in_default g c = grind (arith, common_steps)

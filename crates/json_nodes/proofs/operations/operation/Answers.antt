@@ -1,4 +1,5 @@
-use Rattle.std.proofs.Common.{refl}
+use Rattle.std.proofs.lemmas.Grind.{common_steps}
+use Rattle.std.proofs.Common.{refl, arith}
 use Rattle.json_nodes.specs.Exprs.{operation}
 use Rattle.json_nodes.proofs.operations.operation.Goals as goal
 
@@ -41,3 +42,25 @@ returns-in-RefExpr g c = λ e.
         expr.1,
       ),
     )
+
+pub returns-in_default : goal.returns-in_default
+unfolding operation
+returns-in_default g c = grind (arith, common_steps)
+
+pub field-base-requires : goal.field-base-requires
+field-base-requires g c = c.requires
+
+pub field-expr-requires-in-RefExpr : goal.field-expr-requires-in-RefExpr
+field-expr-requires-in-RefExpr g c = c.requires
+
+pub field-index-requires : goal.field-index-requires
+field-index-requires g c = c.requires
+
+pub field-expr-requires : goal.field-expr-requires
+field-expr-requires g c = c.requires
+
+pub field-rhs-requires : goal.field-rhs-requires
+field-rhs-requires g c = c.requires
+
+pub field-lhs-requires : goal.field-lhs-requires
+field-lhs-requires g c = c.requires

@@ -31,3 +31,15 @@ pub returns-in_err-block : goal.returns-in_err-block
 returns-in_err-block g c = λ e.
     let made = c.in_err-block.ensures e in
     absurd (cc made.1)
+
+pub field-stmts-requires : goal.field-stmts-requires
+field-stmts-requires g c = c.requires
+
+pub field-label-requires : goal.field-label-requires
+field-label-requires g c = c.requires
+
+pub field-tail-requires : goal.field-tail-requires
+field-tail-requires g c = c.requires
+
+pub field-ty-requires : goal.field-ty-requires
+field-ty-requires g c = c.requires

@@ -1,4 +1,5 @@
-use Rattle.std.proofs.Common.{refl}
+use Rattle.std.proofs.lemmas.Grind.{common_steps}
+use Rattle.std.proofs.Common.{refl, arith}
 use Rattle.json_nodes.specs.Others.{statement}
 use Rattle.json_nodes.proofs.others.statement.Goals as goal
 
@@ -28,3 +29,28 @@ unfolding statement
 returns-in-MacroDef g c = λ e.
     let name = c.field-name-in-MacroDef.ensures e in
     (name.0, rw c.in-MacroDef.is (rw name.1 refl))
+
+pub field-pat-requires : goal.field-pat-requires
+field-pat-requires g c = c.requires
+
+pub field-name-requires-in-MacroDef : goal.field-name-requires-in-MacroDef
+field-name-requires-in-MacroDef g c = c.requires
+
+pub field-ty-requires : goal.field-ty-requires
+field-ty-requires g c = c.requires
+
+pub field-expr-requires : goal.field-expr-requires
+field-expr-requires g c = c.requires
+
+pub returns-in-Item : goal.returns-in-Item
+unfolding statement
+returns-in-Item g c = grind (arith, common_steps)
+
+pub field-init-requires : goal.field-init-requires
+field-init-requires g c = c.requires
+
+pub field-name-requires : goal.field-name-requires
+field-name-requires g c = c.requires
+
+pub field-else_-requires : goal.field-else_-requires
+field-else_-requires g c = c.requires

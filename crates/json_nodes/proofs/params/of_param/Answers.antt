@@ -1,4 +1,5 @@
-use Rattle.std.proofs.Common.{ap}
+use Rattle.std.proofs.lemmas.Grind.{common_steps}
+use Rattle.std.proofs.Common.{ap, arith}
 use Rattle.std.specs.Prelude.{option_map}
 use Rattle.json_nodes.specs.declared.param_parts.ParamOf.TheVariants as param_part
 use Rattle.json_nodes.specs.Params.{of_param}
@@ -32,3 +33,19 @@ pub returns-in_err-param_list-in-ParamList : goal.returns-in_err-param_list-in-P
 returns-in_err-param_list-in-ParamList g c = λ e.
     let made = c.in_err-param_list-in-ParamList.ensures e in
     absurd (cc made.1)
+
+pub field-ty-requires : goal.field-ty-requires
+field-ty-requires g c = c.requires
+
+pub self_param-requires : goal.self_param-requires
+self_param-requires g c = c.requires
+
+pub param_list-requires : goal.param_list-requires
+param_list-requires g c = c.requires
+
+pub field-pat-requires : goal.field-pat-requires
+field-pat-requires g c = c.requires
+
+pub returns-in_default : goal.returns-in_default
+unfolding of_param
+returns-in_default g c = grind (arith, common_steps)

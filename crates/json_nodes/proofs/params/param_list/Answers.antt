@@ -8,3 +8,9 @@ returns g c = λ e.
     let params = c.field-params.ensures made.0 in
     let first = c.field-self_.ensures params.0 in
     (first.0, rw (made.1, c.id.ensures, c.range.ensures, first.1, params.1))
+
+pub field-self_-requires : goal.field-self_-requires
+field-self_-requires g c = c.requires
+
+pub field-params-requires : goal.field-params-requires
+field-params-requires g c = c.requires

@@ -22,3 +22,12 @@ returns g c = λ e.
         ty.1,
       ),
     )
+
+pub field-name-requires : goal.field-name-requires
+field-name-requires g c = c.requires
+
+pub field-ty-requires : goal.field-ty-requires
+field-ty-requires g c = c.requires
+
+pub field-lifetime-requires : goal.field-lifetime-requires
+field-lifetime-requires g c = c.requires

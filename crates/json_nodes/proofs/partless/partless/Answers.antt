@@ -1,4 +1,5 @@
-use Rattle.std.proofs.Common.{refl}
+use Rattle.std.proofs.lemmas.Grind.{common_steps}
+use Rattle.std.proofs.Common.{refl, arith}
 use Rattle.json_nodes.specs.Exprs.{partless}
 use Rattle.json_nodes.proofs.partless.partless.Goals as goal
 
@@ -31,3 +32,7 @@ unfolding partless
 returns-in-CfgPredExpr g c = λ e.
     let made = c.whole.ensures e in
     (made.0, rw (c.in-CfgPredExpr.is, made.1, c.pred.ensures, c.value.ensures))
+
+pub returns-in_default : goal.returns-in_default
+unfolding partless
+returns-in_default g c = grind (arith, common_steps)

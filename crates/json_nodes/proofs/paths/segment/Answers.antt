@@ -28,3 +28,21 @@ returns g c = λ e.
         of.1,
       ),
     )
+
+pub field-ret-requires : goal.field-ret-requires
+field-ret-requires g c = c.requires
+
+pub field-parens-requires : goal.field-parens-requires
+field-parens-requires g c = c.requires
+
+pub field-ty-requires : goal.field-ty-requires
+field-ty-requires g c = c.requires
+
+pub field-generics-requires : goal.field-generics-requires
+field-generics-requires g c = c.requires
+
+pub field-name-requires : goal.field-name-requires
+field-name-requires g c = c.requires
+
+pub field-trait_-requires : goal.field-trait_-requires
+field-trait_-requires g c = c.requires

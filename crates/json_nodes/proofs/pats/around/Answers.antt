@@ -1,4 +1,5 @@
-use Rattle.std.proofs.Common.{refl}
+use Rattle.std.proofs.lemmas.Grind.{common_steps}
+use Rattle.std.proofs.Common.{refl, arith}
 use Rattle.json_nodes.specs.Pats.{around}
 use Rattle.json_nodes.proofs.pats.around.Goals as goal
 
@@ -36,3 +37,22 @@ returns-in-RefPat g c = λ e.
     let made = c.whole.ensures e in
     let pat = c.field-pat.ensures made.0 in
     (pat.0, rw (c.in-RefPat.is, made.1, c.flag-mut_.ensures, c.value.ensures, pat.1))
+
+pub field-pat-requires : goal.field-pat-requires
+field-pat-requires g c = c.requires
+
+pub field-pats-requires : goal.field-pats-requires
+field-pats-requires g c = c.requires
+
+pub field-pat-requires-in-DerefPat : goal.field-pat-requires-in-DerefPat
+field-pat-requires-in-DerefPat g c = c.requires
+
+pub field-pat-requires-in-ParenPat : goal.field-pat-requires-in-ParenPat
+field-pat-requires-in-ParenPat g c = c.requires
+
+pub returns-in_default : goal.returns-in_default
+unfolding around
+returns-in_default g c = grind (arith, common_steps)
+
+pub field-pat-requires-in-BoxPat : goal.field-pat-requires-in-BoxPat
+field-pat-requires-in-BoxPat g c = c.requires

@@ -1,4 +1,5 @@
-use Rattle.std.proofs.Common.{refl}
+use Rattle.std.proofs.lemmas.Grind.{common_steps}
+use Rattle.std.proofs.Common.{refl, arith}
 use Rattle.json_nodes.specs.Pats.{named}
 use Rattle.json_nodes.proofs.pats.named.Goals as goal
 
@@ -42,3 +43,25 @@ returns-in-TuplePat g c = λ e.
     let made = c.whole-in-TuplePat.ensures e in
     let fields = c.field-fields-in-TuplePat.ensures made.0 in
     (fields.0, rw (c.in-TuplePat.is, made.1, c.flag-in-TuplePat.ensures, c.value-in-TuplePat.ensures, fields.1))
+
+pub field-fields-requires-in-TuplePat : goal.field-fields-requires-in-TuplePat
+field-fields-requires-in-TuplePat g c = c.requires
+
+pub field-pat-requires : goal.field-pat-requires
+field-pat-requires g c = c.requires
+
+pub field-path-requires : goal.field-path-requires
+field-path-requires g c = c.requires
+
+pub field-name-requires : goal.field-name-requires
+field-name-requires g c = c.requires
+
+pub returns-in_default : goal.returns-in_default
+unfolding named
+returns-in_default g c = grind (arith, common_steps)
+
+pub field-fields-requires : goal.field-fields-requires
+field-fields-requires g c = c.requires
+
+pub field-path-requires-in-PathPat : goal.field-path-requires-in-PathPat
+field-path-requires-in-PathPat g c = c.requires

@@ -16,3 +16,15 @@ returns-in-LiteralPat g c = λ e. let it = c.values.ensures e in (it.0, it.1 ∙
 
 pub returns-in-CfgPredPat : goal.returns-in-CfgPredPat
 returns-in-CfgPredPat g c = λ e. let it = c.partless_pat.ensures e in (it.0, it.1 ∙ sym (is_partless _ _ c.in-CfgPredPat.is))
+
+pub around-requires : goal.around-requires
+around-requires g c = c.requires
+
+pub values-requires : goal.values-requires
+values-requires g c = c.requires
+
+pub named-requires : goal.named-requires
+named-requires g c = c.requires
+
+pub pieces-requires : goal.pieces-requires
+pieces-requires g c = c.requires

@@ -1,4 +1,5 @@
-use Rattle.std.proofs.Common.{refl}
+use Rattle.std.proofs.lemmas.Grind.{common_steps}
+use Rattle.std.proofs.Common.{refl, arith}
 use Rattle.json_nodes.specs.Pats.{partless_pat}
 use Rattle.json_nodes.proofs.pats.partless_pat.Goals as goal
 
@@ -31,3 +32,7 @@ unfolding partless_pat
 returns-in-CfgPredPat g c = λ e.
     let made = c.whole.ensures e in
     (made.0, rw (c.in-CfgPredPat.is, made.1, c.pred.ensures, c.value.ensures))
+
+pub returns-in_default : goal.returns-in_default
+unfolding partless_pat
+returns-in_default g c = grind (arith, common_steps)

@@ -1,3 +1,5 @@
+use Rattle.std.proofs.lemmas.Grind.{common_steps}
+use Rattle.std.proofs.Common.{arith}
 use Rattle.json_nodes.specs.Pats.{values}
 use Rattle.json_nodes.proofs.pats.values.Goals as goal
 
@@ -22,3 +24,19 @@ returns-in-MacroPat g c = λ e.
     let made = c.whole-in-MacroPat.ensures e in
     let call = c.field-call.ensures made.0 in
     (call.0, rw (c.in-MacroPat.is, made.1, call.1))
+
+pub field-end-requires : goal.field-end-requires
+field-end-requires g c = c.requires
+
+pub field-lit-requires : goal.field-lit-requires
+field-lit-requires g c = c.requires
+
+pub field-start-requires : goal.field-start-requires
+field-start-requires g c = c.requires
+
+pub returns-in_default : goal.returns-in_default
+unfolding values
+returns-in_default g c = grind (arith, common_steps)
+
+pub field-call-requires : goal.field-call-requires
+field-call-requires g c = c.requires

@@ -22,3 +22,12 @@ returns g c = λ e.
         c.value-4.ensures,
       ),
     )
+
+pub field-params-requires : goal.field-params-requires
+field-params-requires g c = c.requires
+
+pub field-ret-requires : goal.field-ret-requires
+field-ret-requires g c = c.requires
+
+pub field-body-requires : goal.field-body-requires
+field-body-requires g c = c.requires

@@ -1,4 +1,5 @@
-use Rattle.std.proofs.Common.{refl}
+use Rattle.std.proofs.lemmas.Grind.{common_steps}
+use Rattle.std.proofs.Common.{refl, arith}
 use Rattle.json_nodes.specs.Typed.{typed}
 use Rattle.json_nodes.proofs.typed.typed.Goals as goal
 
@@ -32,3 +33,28 @@ returns-in-ClosureExpr g c = λ e.
     let made = c.whole-in-ClosureExpr.ensures e in
     let kind = c.closure-kind.ensures made.0 in
     (kind.0, rw (c.in-ClosureExpr.is, made.1, kind.1))
+
+pub field-ty-requires : goal.field-ty-requires
+field-ty-requires g c = c.requires
+
+pub field-fields-requires : goal.field-fields-requires
+field-fields-requires g c = c.requires
+
+pub field-list-requires : goal.field-list-requires
+field-list-requires g c = c.requires
+
+pub returns-in_default : goal.returns-in_default
+unfolding typed
+returns-in_default g c = grind (arith, common_steps)
+
+pub field-expr-requires : goal.field-expr-requires
+field-expr-requires g c = c.requires
+
+pub field-ty-requires-in-OffsetOfExpr : goal.field-ty-requires-in-OffsetOfExpr
+field-ty-requires-in-OffsetOfExpr g c = c.requires
+
+pub field-path-requires : goal.field-path-requires
+field-path-requires g c = c.requires
+
+pub closure-kind-requires : goal.closure-kind-requires
+closure-kind-requires g c = c.requires

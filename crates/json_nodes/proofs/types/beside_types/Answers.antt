@@ -1,4 +1,5 @@
-use Rattle.std.proofs.Common.{refl}
+use Rattle.std.proofs.lemmas.Grind.{common_steps}
+use Rattle.std.proofs.Common.{refl, arith}
 use Rattle.json_nodes.specs.Types.{beside_types}
 use Rattle.json_nodes.proofs.types.beside_types.Goals as goal
 
@@ -47,3 +48,37 @@ returns-in-MacroType g c = λ e.
     let made = c.whole-in-MacroType.ensures e in
     let call = c.field-call.ensures made.0 in
     (call.0, rw c.in-MacroType.is (rw made.1 (rw call.1 refl)))
+
+pub field-lifetime-requires : goal.field-lifetime-requires
+field-lifetime-requires g c = c.requires
+
+pub field-ty-requires-in-ArrayType : goal.field-ty-requires-in-ArrayType
+field-ty-requires-in-ArrayType g c = c.requires
+
+pub field-call-requires : goal.field-call-requires
+field-call-requires g c = c.requires
+
+pub field-binder-requires : goal.field-binder-requires
+field-binder-requires g c = c.requires
+
+pub function_pointer-kind-requires : goal.function_pointer-kind-requires
+function_pointer-kind-requires g c = c.requires
+
+pub field-ty-requires-in-ForType : goal.field-ty-requires-in-ForType
+field-ty-requires-in-ForType g c = c.requires
+
+pub field-len-requires : goal.field-len-requires
+field-len-requires g c = c.requires
+
+pub field-ty-requires : goal.field-ty-requires
+field-ty-requires g c = c.requires
+
+pub field-ty-requires-in-PatternType : goal.field-ty-requires-in-PatternType
+field-ty-requires-in-PatternType g c = c.requires
+
+pub returns-in_default : goal.returns-in_default
+unfolding beside_types
+returns-in_default g c = grind (arith, common_steps)
+
+pub field-pat-requires : goal.field-pat-requires
+field-pat-requires g c = c.requires

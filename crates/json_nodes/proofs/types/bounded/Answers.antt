@@ -1,4 +1,5 @@
-use Rattle.std.proofs.Common.{refl}
+use Rattle.std.proofs.lemmas.Grind.{common_steps}
+use Rattle.std.proofs.Common.{refl, arith}
 use Rattle.json_nodes.specs.Types.{bounded}
 use Rattle.json_nodes.proofs.types.bounded.Goals as goal
 
@@ -27,3 +28,13 @@ unfolding bounded
 returns-in-InferType g c = λ e.
     let made = c.whole-in-InferType.ensures e in
     (made.0, rw c.in-InferType.is (rw made.1 refl))
+
+pub field-bounds-requires-in-DynTraitType : goal.field-bounds-requires-in-DynTraitType
+field-bounds-requires-in-DynTraitType g c = c.requires
+
+pub returns-in_default : goal.returns-in_default
+unfolding bounded
+returns-in_default g c = grind (arith, common_steps)
+
+pub field-bounds-requires : goal.field-bounds-requires
+field-bounds-requires g c = c.requires

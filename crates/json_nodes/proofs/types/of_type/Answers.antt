@@ -10,3 +10,12 @@ returns-in-RefType g c = λ e. let it = c.beside_types.ensures e in (it.0, it.1 
 
 pub returns-in-ImplTraitType : goal.returns-in-ImplTraitType
 returns-in-ImplTraitType g c = λ e. let it = c.bounded.ensures e in (it.0, it.1 ∙ sym (is_bounded _ _ c.in-ImplTraitType.is))
+
+pub beside_types-requires : goal.beside_types-requires
+beside_types-requires g c = c.requires
+
+pub over_types-requires : goal.over_types-requires
+over_types-requires g c = c.requires
+
+pub bounded-requires : goal.bounded-requires
+bounded-requires g c = c.requires

@@ -1,4 +1,5 @@
-use Rattle.std.proofs.Common.{refl}
+use Rattle.std.proofs.lemmas.Grind.{common_steps}
+use Rattle.std.proofs.Common.{refl, arith}
 use Rattle.json_nodes.specs.Types.{over_types}
 use Rattle.json_nodes.proofs.types.over_types.Goals as goal
 
@@ -29,3 +30,19 @@ returns-in-PtrType g c = λ e.
     let made = c.whole-in-PtrType.ensures e in
     let ty = c.field-ty-in-PtrType.ensures made.0 in
     (ty.0, rw (c.in-PtrType.is, made.1, c.flag-mut_.ensures, c.value.ensures, ty.1))
+
+pub returns-in_default : goal.returns-in_default
+unfolding over_types
+returns-in_default g c = grind (arith, common_steps)
+
+pub field-ty-requires-in-SliceType : goal.field-ty-requires-in-SliceType
+field-ty-requires-in-SliceType g c = c.requires
+
+pub field-ty-requires-in-PtrType : goal.field-ty-requires-in-PtrType
+field-ty-requires-in-PtrType g c = c.requires
+
+pub field-ty-requires : goal.field-ty-requires
+field-ty-requires g c = c.requires
+
+pub field-fields-requires : goal.field-fields-requires
+field-fields-requires g c = c.requires

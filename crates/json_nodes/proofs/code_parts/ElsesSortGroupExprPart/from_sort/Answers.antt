@@ -1,0 +1,12 @@
+use Rattle.std.proofs.lemmas.Grind.{common_steps}
+use Rattle.std.proofs.Common.{arith}
+use Rattle.json_nodes.proofs.code_parts.ElsesSortGroupExprPart.from_sort.Goals as goal
+
+pub returns-in_default : goal.returns-in_default
+returns-in_default c = grind (arith, common_steps)
+
+pub returns-in-Block : goal.returns-in-Block
+returns-in-Block c = grind (arith, common_steps)
+
+pub returns-in-If : goal.returns-in-If
+returns-in-If c = grind (arith, common_steps)

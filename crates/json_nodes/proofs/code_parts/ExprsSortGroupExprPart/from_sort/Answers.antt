@@ -1,0 +1,15 @@
+use Rattle.std.proofs.lemmas.Grind.{common_steps}
+use Rattle.std.proofs.Common.{arith}
+use Rattle.json_nodes.proofs.code_parts.ExprsSortGroupExprPart.from_sort.Goals as goal
+
+pub returns-in-Literal : goal.returns-in-Literal
+returns-in-Literal c = grind (arith, common_steps)
+
+pub returns-in-Expr : goal.returns-in-Expr
+returns-in-Expr c = grind (arith, common_steps)
+
+pub returns-in-Block : goal.returns-in-Block
+returns-in-Block c = grind (arith, common_steps)
+
+pub returns-in-If : goal.returns-in-If
+returns-in-If c = grind (arith, common_steps)
