@@ -28,10 +28,15 @@ def reason(how, errors):
     return tried[0] if tried else f"{NO_LONGER}{own[0]}" if own else ""
 
 
+def is_proved(crate, how, errors):
+    """Whether a check says so of a function. In a shell it may rest on the hole of what is taken as met."""
+    return how == "proved" or not errors and how in ("no holes", f"depends on a hole in `Rattle.{crate}.proofs.TakenAsMet.taken_as_met`")
+
+
 def judged(crate, function, proof, said):
-    """What a check says of the function of a slip in a body, and why. In a shell it rests on a hole."""
+    """What a check says of the function of a slip in a body, and why."""
     how, errors = told(crate, function, proof, said)
-    if how == "proved" or not errors and how in ("no holes", f"depends on a hole in `Rattle.{crate}.proofs.TakenAsMet.taken_as_met`"):
+    if is_proved(crate, how, errors):
         return PROVED, "proved"
     if cause := reason(how, errors):
         return REFUSED, cause
@@ -59,7 +64,7 @@ def broken(crate, law, said):
     """What a check refuses of a law, each with its reason: the law, or those of its clauses that it names; and what can't be read of it
     with a question mark. A law rests on lemmas, too, which a definition can break."""
     how, errors = told(crate, law, law.replace("::", "/"), said)
-    if how == "proved":
+    if is_proved(crate, how, errors):
         return {}
     words = " ".join([how, *errors])
     lemmas = (it for it in re.findall(r"^(?:\./)?proofs/[A-Z]\w*\.antt:\d+:\d+: error: (.*)$", said, re.M) if not OF_NAMES.search(it))
