@@ -1,4 +1,5 @@
-use Rattle.std.proofs.Common.{None, Err, subst}
+use Rattle.std.proofs.lemmas.Grind.{common_steps}
+use Rattle.std.proofs.Common.{None, Err, subst, arith}
 use Rattle.hir_store.specs.Range.{HasType}
 use Rattle.hir_store.specs.declared.path.GenericArg.TheVariants as arg
 use Rattle.hir_env.specs.Whole as of
@@ -21,3 +22,6 @@ returns-in-Err g c =
     c.place-place.ensures
     (subst (λ r. Lowers HasType (type_part None (of.type_part (at_place spot c.place-place.result) node)) old r new) c.in-Err.is
     c.type_or_error.ensures))
+
+pub returns-in-Ok : goal.returns-in-Ok
+returns-in-Ok g c = grind (arith, common_steps)

@@ -1,3 +1,4 @@
+use Rattle.std.proofs.lemmas.Grind.{common_steps}
 use Rattle.std.proofs.Common.{arith, ◌∙◌, []}
 use Rattle.hir_store.specs.Range.{HasTypes}
 use Rattle.hir_env.specs.Whole.{into, read_param}
@@ -38,3 +39,12 @@ param-requires g c = grind (arith, params_more)
 
 pub bounds-left-0 : goal.bounds-left-0
 bounds-left-0 g c = c.in-len1-up.len_at_least
+
+pub loop-left-preserved : goal.loop-left-preserved
+loop-left-preserved g c = grind (arith, common_steps)
+
+pub returns : goal.returns
+returns g c = grind (arith, common_steps)
+
+pub loop-left-preserved-in_ok-push_type : goal.loop-left-preserved-in_ok-push_type
+loop-left-preserved-in_ok-push_type g c = grind (arith, common_steps)

@@ -1,4 +1,5 @@
-use Rattle.std.proofs.Common.{◌∙◌, sym}
+use Rattle.std.proofs.lemmas.Grind.{common_steps}
+use Rattle.std.proofs.Common.{◌∙◌, sym, arith}
 use Rattle.hir_syntax.specs.declared.types.TypeKind.TheVariants as kind
 use Rattle.hir_lower_type.proofs.AtNodes.{opened, type_as}
 use Rattle.hir_lower_type.proofs.types.type_node.Goals as goal
@@ -113,3 +114,9 @@ returns-in-InferType g c =
     let is = opened (kind.rolls-InferType ∙ sym c.in-InferType.is) in
     type_as (g.P.LowerParts.spot c.args.lowerer.now.parts) c.args.binder.now c.args.node.now _ c.pointer-at.result _ _ _
     c.pointer-at.ensures is c.infer_form.ensures
+
+pub returns-in-MacroType-Some : goal.returns-in-MacroType-Some
+returns-in-MacroType-Some g c = grind (arith, common_steps)
+
+pub returns-in-MacroType-None : goal.returns-in-MacroType-None
+returns-in-MacroType-None g c = grind (arith, common_steps)
