@@ -1,0 +1,125 @@
+#!/usr/bin/env python3
+"""Answers dear goals of a crate by `grind`: bench/answers.py CRATE DIR [--least N], and then bench/answers.py CRATE --refused FILE
+
+DIR is what `rattle check --incremental DIR` wrote for the crate, from nothing. Each goal that took N steps or more, half a million if it
+isn't said, and has no answer gets `grind (arith, common_steps)` for one, in the `Answers.antt` of its function, but the first goal of a
+slip's file. Check the crate again over DIR; FILE holds what that check says, and the answers that it refuses are taken out. Then `rt fmt`.
+"""
+import argparse
+import glob
+import os
+import re
+import sys
+
+sys.path.insert(0, os.path.dirname(os.path.abspath(__file__)))
+from goals import goals_in  # noqa: E402
+
+CRATES = os.path.join(os.path.dirname(os.path.dirname(os.path.abspath(__file__))), "crates")
+USED = {"arith": "Rattle.std.proofs.Common", "common_steps": "Rattle.std.proofs.lemmas.Grind"}
+REFUSED = re.compile(r"^(?:\./)?proofs/(\S+)/Answers\.antt:\d+:\d+: error: `([^`]+)`", re.M)
+
+
+def read(path):
+    if not os.path.exists(path):
+        return ""
+    with open(path, encoding="utf-8") as file:
+        return file.read()
+
+
+def write(path, text):
+    os.makedirs(os.path.dirname(path), exist_ok=True)
+    with open(path, "w", encoding="utf-8") as file:
+        file.write(text)
+
+
+def first_goals(folder):
+    """The goals that slips are tried at, each with its function."""
+    texts = map(read, glob.glob(f"{folder}/slips/*.edit"))
+    found = ((re.search(r"^function: (.*)", it, re.M), re.search(r"^goals: (\S+)", it, re.M)) for it in texts)
+    return {(function[1].replace("::", "."), goal[1]) for function, goal in found if goal}
+
+
+def attribute(folder, function):
+    """What is written above a function, and whether it, or its block, has type parameters."""
+    module, word = function.split(".")[0], function.split(".")[-1].lstrip("+")
+    text = read(f"{folder}/src/{module}.rt") or read(f"{folder}/src/lib.rt")
+    head = re.search(rf"^( *)(?:pub(?:\(\w+\))? )?fn {re.escape(word)}\b(<[^>(]*\b[A-Z])?", text, re.M)
+    if not head:
+        return "", False
+    before = text[: head.start()]
+    block = [*re.finditer(r"^(?:impl(<[^>]*\b[A-Z])?|(?:pub )?(trait))\b", before, re.M)] if head[1] else []
+    return before[before.rfind("\n\n") + 1 :], bool(head[2] or block and (block[-1][1] or block[-1][2]))
+
+
+def binders(answers, function, is_generic):
+    """What an answer takes: as in the function's other answers, if it has some."""
+    if found := re.search(r"^[\w-]+ ((?:g )?(?:t )?)c =", answers, re.M):
+        return found[1]
+    return ("g " if is_generic else "") + ("t " if "+" in function else "")
+
+
+def with_use(text, module, name):
+    """A text with an import."""
+    if found := re.search(rf"^use {re.escape(module)}\.\{{([^}}]*)\}}", text, re.M):
+        names = found[1].split(", ")
+        return text if name in names else text.replace(found[0], f"use {module}.{{{', '.join([*names, name])}}}")
+    return f"use {module}.{{{name}}}\n{text}"
+
+
+def answer(crate, function, names):
+    """Adds answers to the file of a function, and tells how many."""
+    folder = f"{CRATES}/{crate}"
+    path = f"{folder}/proofs/{function.replace('.', '/')}/Answers.antt"
+    above, is_generic = attribute(folder, function)
+    opened = [it.strip() for found in re.findall(r"unfolding\(([^()]*)\)", above) for it in found.split(",") if it.strip()]
+    text = read(path) or f"use Rattle.{crate}.proofs.{function}.Goals as goal\n"
+    taken, unfolded = binders(text, function, is_generic), "".join(f"unfolding {it.rpartition('::')[2]}\n" for it in opened)
+    new = [it for it in names if not re.search(rf"^pub {re.escape(it)} ", text, re.M)]
+    text += "".join(f"\npub {it} : goal.{it}\n{unfolded}{it} {taken}c = grind (arith, common_steps)\n" for it in new)
+    for name in opened:
+        module, _, word = re.sub(r"^crate\b", crate, name).replace("::", ".").rpartition(".")
+        text = with_use(text, f"Rattle.{module}", word)
+    for name, module in USED.items():
+        text = with_use(text, module, name)
+    if new:
+        write(path, text)
+    return len(new)
+
+
+def take_out(crate, said):
+    """Takes out the answers that a check refuses, and imports that nothing needs then, and tells how many."""
+    refused = REFUSED.findall(said)
+    for function, name in refused:
+        path = f"{CRATES}/{crate}/proofs/{function}/Answers.antt"
+        own = rf"\npub {re.escape(name)} : .*\n(?:unfolding .*\n)*{re.escape(name)} .* = grind \(arith, common_steps\)\n"
+        text = re.sub(own, "", read(path))
+        for word, module in USED.items():
+            if not re.search(rf"\b{word}\b", re.sub(r"^use .*", "", text, flags=re.M)):
+                text = re.sub(rf"^(use {re.escape(module)}\.\{{.*?)(?:, )?\b{word}\b", r"\1", text, flags=re.M)
+                text = re.sub(rf"^use {re.escape(module)}\.\{{\}}\n", "", text, flags=re.M).replace("{, ", "{")
+        if re.search(r"^pub ", text, re.M):
+            write(path, text)
+        elif os.path.exists(path):
+            os.remove(path)
+    return len(refused)
+
+
+def main():
+    parser = argparse.ArgumentParser(description="Answers dear goals of a crate by `grind`.")
+    parser.add_argument("crate")
+    parser.add_argument("folder", nargs="?", help="what a check with --incremental wrote")
+    parser.add_argument("--least", type=int, default=500_000, help="how many steps a goal takes at least that is answered")
+    parser.add_argument("--refused", metavar="FILE", help="what a check says of these answers")
+    asked = parser.parse_args()
+    if asked.refused:
+        print(f"{take_out(asked.crate, read(asked.refused))} answers are refused")
+        return
+    tried, dear = first_goals(f"{CRATES}/{asked.crate}"), {}
+    for goal in goals_in(asked.folder):
+        if goal.steps >= asked.least and (goal.function, goal.name) not in tried and "++" not in goal.name:
+            dear.setdefault(goal.function, []).append(goal.name)
+    print(f"{sum(answer(asked.crate, *it) for it in dear.items())} answers for dear goals of {len(dear)} functions")
+
+
+if __name__ == "__main__":
+    main()
