@@ -1,3 +1,5 @@
+use Rattle.std.proofs.lemmas.Grind.{common_steps}
+use Rattle.std.proofs.Common.{arith}
 use Rattle.lower_json.proofs.ByKind.{is_flow, is_plain, is_branching, is_operation, is_member, is_leaving, is_typed, is_partless}
 use Rattle.lower_json.proofs.Firsts.{by_group}
 use Rattle.lower_json.proofs.sorts.of_expr.Goals as goal
@@ -25,3 +27,24 @@ returns-in-CastExpr g c = by_group (is_typed _ _ c.in-CastExpr.is) c.typed.ensur
 
 pub returns-in-CfgPredExpr : goal.returns-in-CfgPredExpr
 returns-in-CfgPredExpr g c = by_group (is_partless _ _ c.in-CfgPredExpr.is) c.partless.ensures
+
+pub leaving-requires : goal.leaving-requires
+leaving-requires g c = grind (arith, common_steps)
+
+pub branching-requires : goal.branching-requires
+branching-requires g c = grind (arith, common_steps)
+
+pub member-requires : goal.member-requires
+member-requires g c = grind (arith, common_steps)
+
+pub operation-requires : goal.operation-requires
+operation-requires g c = grind (arith, common_steps)
+
+pub flow-requires : goal.flow-requires
+flow-requires g c = grind (arith, common_steps)
+
+pub typed-requires : goal.typed-requires
+typed-requires g c = grind (arith, common_steps)
+
+pub plain-requires : goal.plain-requires
+plain-requires g c = grind (arith, common_steps)

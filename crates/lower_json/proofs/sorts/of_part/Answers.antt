@@ -1,3 +1,5 @@
+use Rattle.std.proofs.lemmas.Grind.{common_steps}
+use Rattle.std.proofs.Common.{arith}
 use Rattle.lower_json.proofs.ByKind.{is_bound, is_branch, is_record, is_macro, is_pat_field, is_param, is_other}
 use Rattle.lower_json.proofs.Firsts.{by_group}
 use Rattle.lower_json.proofs.sorts.of_part.Goals as goal
@@ -22,3 +24,24 @@ returns-in-Param g c = by_group (is_param _ _ c.in-Param.is) c.param_part.ensure
 
 pub returns-in-Label : goal.returns-in-Label
 returns-in-Label g c = by_group (is_other _ _ c.in-Label.is) c.name_part.ensures
+
+pub bound_part-requires : goal.bound_part-requires
+bound_part-requires g c = grind (arith, common_steps)
+
+pub record_part-requires : goal.record_part-requires
+record_part-requires g c = grind (arith, common_steps)
+
+pub name_part-requires : goal.name_part-requires
+name_part-requires g c = grind (arith, common_steps)
+
+pub branch_part-requires : goal.branch_part-requires
+branch_part-requires g c = grind (arith, common_steps)
+
+pub pat_field_part-requires : goal.pat_field_part-requires
+pat_field_part-requires g c = grind (arith, common_steps)
+
+pub param_part-requires : goal.param_part-requires
+param_part-requires g c = grind (arith, common_steps)
+
+pub macro_part-requires : goal.macro_part-requires
+macro_part-requires g c = grind (arith, common_steps)

@@ -1,3 +1,5 @@
+use Rattle.std.proofs.lemmas.Grind.{common_steps}
+use Rattle.std.proofs.Common.{arith}
 use Rattle.json_nodes.specs.declared.part.AnyOf.TheVariants as part
 use Rattle.lower_json.proofs.Firsts.{made}
 use Rattle.lower_json.proofs.sorts.pat_field_part.Goals as goal
@@ -7,3 +9,6 @@ returns g c = made part.Pat c.in_ok-of_pat_field.ensures
 
 pub returns-in_err-of_pat_field : goal.returns-in_err-of_pat_field
 returns-in_err-of_pat_field g c = rw c.from_residual.ensures (made part.Pat c.in_err-of_pat_field.ensures)
+
+pub of_pat_field-requires : goal.of_pat_field-requires
+of_pat_field-requires g c = grind (arith, common_steps)
