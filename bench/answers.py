@@ -1,9 +1,10 @@
 #!/usr/bin/env python3
 """Answers dear goals of a crate by `grind`: bench/answers.py CRATE DIR [--least N], and then bench/answers.py CRATE --refused FILE
 
-DIR is what `rattle check --incremental DIR` wrote for the crate, from nothing. Each goal that took N steps or more, half a million if it
-isn't said, and has no answer gets `grind (arith, common_steps)` for one, in the `Answers.antt` of its function, but the first goal of a
-slip's file. Check the crate again over DIR; FILE holds what that check says, and the answers that it refuses are taken out. Then `rt fmt`.
+DIR is what `rattle check --incremental DIR` wrote for the crate, from nothing. But for the goals that slips are tried at (`goals` in their
+files), each goal that took N steps or more, half a million if it isn't said, and has no answer is answered by `grind (arith, common_steps)`
+in the `Answers.antt` of its function. Check the crate again over DIR; FILE holds what that check says, and the answers of that form which
+it refuses are taken out. Then `rt fmt`. Of goals in cycles it isn't known which slips are tried at them: look at those.
 """
 import argparse
 import glob
@@ -11,7 +12,7 @@ import os
 import re
 import sys
 
-sys.path.insert(0, os.path.dirname(os.path.abspath(__file__)))
+sys.dont_write_bytecode = True
 from goals import goals_in  # noqa: E402
 
 CRATES = os.path.join(os.path.dirname(os.path.dirname(os.path.abspath(__file__))), "crates")
@@ -43,11 +44,11 @@ def attribute(folder, function):
     """What is written above a function, and whether it, or its block, has type parameters."""
     module, word = function.split(".")[0], function.split(".")[-1].lstrip("+")
     text = read(f"{folder}/src/{module}.rt") or read(f"{folder}/src/lib.rt")
-    head = re.search(rf"^( *)(?:pub(?:\(\w+\))? )?fn {re.escape(word)}\b(<[^>(]*\b[A-Z])?", text, re.M)
+    head = re.search(rf"^( *)(?:pub(?:\(\w+\))? )?(?:const )?(?:unsafe )?fn {re.escape(word)}\b(<[^>(]*\b[A-Z])?", text, re.M)
     if not head:
         return "", False
     before = text[: head.start()]
-    block = [*re.finditer(r"^(?:impl(<[^>]*\b[A-Z])?|(?:pub )?(trait))\b", before, re.M)] if head[1] else []
+    block = [*re.finditer(r"^(?:impl(<[^>]*\b[A-Z]\w*)?|(?:pub )?(trait))\b", before, re.M)] if head[1] else []
     return before[before.rfind("\n\n") + 1 :], bool(head[2] or block and (block[-1][1] or block[-1][2]))
 
 
@@ -87,21 +88,23 @@ def answer(crate, function, names):
 
 
 def take_out(crate, said):
-    """Takes out the answers that a check refuses, and imports that nothing needs then, and tells how many."""
-    refused = REFUSED.findall(said)
-    for function, name in refused:
+    """Takes out the answers that a check refuses, and the imports that nothing needs then, and tells how many answers."""
+    count = 0
+    for function, name in REFUSED.findall(said):
         path = f"{CRATES}/{crate}/proofs/{function}/Answers.antt"
-        own = rf"\npub {re.escape(name)} : .*\n(?:unfolding .*\n)*{re.escape(name)} .* = grind \(arith, common_steps\)\n"
-        text = re.sub(own, "", read(path))
-        for word, module in USED.items():
+        own = rf"\npub {re.escape(name)} : .*\n((?:unfolding .*\n)*){re.escape(name)} .* = grind \(arith, common_steps\)\n"
+        if not (found := re.search(own, read(path))):
+            continue
+        text, count = read(path).replace(found[0], ""), count + 1
+        for word in [*USED, *re.findall(r"unfolding (\w+)", found[1])]:
             if not re.search(rf"\b{word}\b", re.sub(r"^use .*", "", text, flags=re.M)):
-                text = re.sub(rf"^(use {re.escape(module)}\.\{{.*?)(?:, )?\b{word}\b", r"\1", text, flags=re.M)
-                text = re.sub(rf"^use {re.escape(module)}\.\{{\}}\n", "", text, flags=re.M).replace("{, ", "{")
+                text = re.sub(rf"^(use .*\{{.*?)(?:, )?\b{word}\b(?=[,}}])", r"\1", text, flags=re.M).replace("{, ", "{")
+        text = re.sub(r"^use \S+\.\{\}\n", "", text, flags=re.M)
         if re.search(r"^pub ", text, re.M):
             write(path, text)
-        elif os.path.exists(path):
+        else:
             os.remove(path)
-    return len(refused)
+    return count
 
 
 def main():
@@ -111,10 +114,13 @@ def main():
     parser.add_argument("--least", type=int, default=500_000, help="how many steps a goal takes at least that is answered")
     parser.add_argument("--refused", metavar="FILE", help="what a check says of these answers")
     asked = parser.parse_args()
+    if not (asked.folder or asked.refused and os.path.isfile(asked.refused)):
+        parser.error("neither a folder nor a file is there")
     if asked.refused:
-        print(f"{take_out(asked.crate, read(asked.refused))} answers are refused")
+        print(f"{take_out(asked.crate, read(asked.refused))} answers are taken out")
         return
     tried, dear = first_goals(f"{CRATES}/{asked.crate}"), {}
+    # What is said of the places of closures, with `++` in its name, has names that no answer can have.
     for goal in goals_in(asked.folder):
         if goal.steps >= asked.least and (goal.function, goal.name) not in tried and "++" not in goal.name:
             dear.setdefault(goal.function, []).append(goal.name)
