@@ -36,6 +36,7 @@ impl Model for Places {
 }
 
 impl Places {
+    /// No places yet. It takes no memory.
     pub fn new(alloc: Global) -> Places
         ensures { result ≡ [] }
     {

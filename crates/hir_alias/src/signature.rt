@@ -95,18 +95,21 @@ impl AliasSignature {
         })
     }
 
+    /// The store in which the alias is lowered.
     pub fn store(&self) -> &ExpressionStore
         ensures { result.now ≡ self.now.store }
     {
         &self.lowered.store
     }
 
+    /// What is generic in the alias, by numbers of its store.
     pub fn generic_params(&self) -> &GenericParams
         ensures { result.now ≡ self.now.generic_params }
     {
         &self.lowered.generic_params
     }
 
+    /// The type that the alias stands for, by its number in the store; none where none is written.
     pub fn ty(&self) -> Option<TypeRefId>
         ensures { result ≡ self.now.ty }
     {

@@ -1,5 +1,6 @@
 //! Operators, and the kinds of literals.
 
+/// The kind of a literal.
 #[derive(Clone, Copy, PartialEq, Eq)]
 pub enum LiteralKind {
     Str,
@@ -19,24 +20,28 @@ pub enum UnaryOp {
     Neg,
 }
 
+/// The operator of a lazy boolean expression.
 #[derive(Clone, Copy, PartialEq, Eq)]
 pub enum LogicOp {
     And,
     Or,
 }
 
+/// The side that an operator of order asks for.
 #[derive(Clone, Copy, PartialEq, Eq)]
 pub enum Ordering {
     Less,
     Greater,
 }
 
+/// The operator of a comparison: `Eq` of `==` and `!=`, `Ord` of the four of order, `<` and `>` of which are strict.
 #[derive(Clone, Copy, PartialEq, Eq)]
 pub enum CmpOp {
     Eq { negated: bool },
     Ord { ordering: Ordering, strict: bool },
 }
 
+/// The operator of arithmetic, of shifts or of bits.
 #[derive(Clone, Copy, PartialEq, Eq)]
 pub enum ArithOp {
     Add,

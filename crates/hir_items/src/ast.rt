@@ -140,6 +140,7 @@ impl Drop for Impl {
     }
 }
 
+/// A trait.
 pub struct Trait {
     pub id: NodeId,
     pub range: TextRange,

@@ -29,6 +29,7 @@ pub struct NamedLifetimes {
     pub output: Seq<Name>,
 }
 
+/// What lowering notes beside what it stores: what is generic, and the lifetimes that are named.
 #[derive(Drop)]
 pub struct Notes {
     pub generics: GenericLists,

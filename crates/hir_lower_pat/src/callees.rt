@@ -60,7 +60,7 @@ fn called_is_path<P: LowerParts>(lowerer: &Lowerer<P>, written: &ast::MacroCall)
 
 /// Whether a callee is a path, itself or through calls, whatever disables it.
 #[cycle(is_path)]
-pub fn is_path<P: LowerParts>(lowerer: &Lowerer<P>, node: &ast::Expr) -> bool
+pub(crate) fn is_path<P: LowerParts>(lowerer: &Lowerer<P>, node: &ast::Expr) -> bool
     ensures { result ≡ is_some (of.callee_path (answered (P.spot lowerer.now.parts) node.now)) }
 {
     match &node.kind {
@@ -94,7 +94,7 @@ fn called_callee<I: Storing, P: LowerPieces<I>>(
 /// The path of a callee, none where it is absent or refused. The calls are told from the outside in, and the path is read inside of
 /// them.
 #[cycle(callee)]
-pub fn callee<I: Storing, P: LowerPieces<I>>(
+pub(crate) fn callee<I: Storing, P: LowerPieces<I>>(
     lowerer: &Lowerer<P>,
     state: &mut BodyBuilder<I>,
     node: &ast::Expr,

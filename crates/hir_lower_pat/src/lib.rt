@@ -1,5 +1,5 @@
-//! What patterns and targets are lowered with: their parts, bindings and aims, paths and literals, and calls of macros that stand for
-//! them. Their definitions and lemmas stand here, too.
+//! What patterns and targets are lowered with: their parts, bindings and aims, paths and literals, items that the language names, and calls
+//! of macros that stand for them. Their definitions and lemmas stand here, too.
 #![tactic(auto)]
 
 pub mod aims;

@@ -241,12 +241,14 @@ impl BindingArena {
         }
     }
 
+    /// How many bindings there are.
     pub fn len(&self) -> u32
         ensures { result ≡ length self.now.entries }
     {
         self.pages.len
     }
 
+    /// The binding, where there is one of that number.
     pub fn get(&self, id: BindingId) -> Option<&Binding>
         ensures { option_copied result ≡ slice_get self.now.entries id.0 }
     {

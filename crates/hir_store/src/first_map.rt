@@ -30,6 +30,7 @@ impl<K: Copy + Ord, T> Model for FirstMap<K, T> {
 }
 
 impl<K: Copy + Ord, T: Copy> FirstMap<K, T> {
+    /// An empty map. It takes no memory.
     pub fn new(alloc: Global) -> FirstMap<K, T>
         ensures { result ≡ [] }
     {

@@ -196,6 +196,7 @@ impl Clone for LifetimeParamData {
 }
 
 impl LifetimeParamData {
+    /// Whether the parameter is bound early: where its item is named, and not at each call.
     pub fn is_early_bound(&self) -> bool
         ensures { IsTrue result ↔ (self.now.bound_type ≡ bound_kind.EarlyBound) }
     {

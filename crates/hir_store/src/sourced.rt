@@ -76,12 +76,14 @@ impl<T: Entry> SourcedArena<T> {
         }
     }
 
+    /// How many entries there are.
     pub fn len(&self) -> u32
         ensures { result ≡ length self.now.entries }
     {
         self.pages.len
     }
 
+    /// The entry, where there is one of that number.
     pub fn get(&self, id: T::Id) -> Option<&T>
         ensures value { option_copied result ≡ slice_get self.now.entries (T.place id) }
         ensures kept { Kept T.place self.now }

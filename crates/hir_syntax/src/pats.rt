@@ -42,6 +42,7 @@ impl Drop for Pat {
     }
 }
 
+/// The kind of a pattern, with its parts.
 #[derive(Drop)]
 #[cycle(ast)]
 pub enum PatKind {

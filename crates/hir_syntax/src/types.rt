@@ -25,6 +25,7 @@ impl Drop for Type_ {
     }
 }
 
+/// The kind of a type, with its parts.
 #[derive(Drop)]
 #[cycle(ast)]
 pub enum TypeKind {
@@ -187,6 +188,7 @@ pub struct PathType {
     pub path: Option<Boxed<Path>>,
 }
 
+/// An argument of a path's segment.
 #[cycle(ast)]
 pub enum GenericArg {
     TypeArg(TypeArg),

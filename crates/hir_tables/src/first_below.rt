@@ -36,6 +36,7 @@ impl<K: Ord, L: Copy + Ord, T> Model for FirstBelow<K, L, T> {
 }
 
 impl<K: Ord + Drop, L: Copy + Ord, T: Copy> FirstBelow<K, L, T> {
+    /// An empty map. It takes no memory.
     pub fn new(alloc: Global) -> FirstBelow<K, L, T>
         ensures { result ≡ [] }
     {

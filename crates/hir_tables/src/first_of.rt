@@ -31,6 +31,7 @@ impl<K: Copy + Ord, T> Model for FirstOf<K, T> {
 }
 
 impl<K: Copy + Ord, T> FirstOf<K, T> {
+    /// An empty map. It takes no memory.
     pub fn new(alloc: Global) -> FirstOf<K, T>
         ensures { result ≡ [] }
     {

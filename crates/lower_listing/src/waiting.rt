@@ -75,6 +75,7 @@ pub enum Piece<'a> {
     Binder(&'a [Name]),
 }
 
+/// What stands for a part that isn't there.
 pub const ABSENT: Piece<'static> = Piece::Word("-");
 
 /// An expression that is there or isn't, as what waits.
