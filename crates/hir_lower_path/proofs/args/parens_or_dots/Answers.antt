@@ -1,3 +1,5 @@
+use Rattle.std.proofs.lemmas.Grind.{common_steps}
+use Rattle.std.proofs.Common.{arith}
 use Rattle.hir_syntax.specs.declared.ast.PathSegment.{out-PathSegment}
 use Rattle.hir_env.specs.Whole.{parens_part}
 use Rattle.hir_lower_form.specs.Lower as spec
@@ -10,3 +12,9 @@ returns-in-Err g c =
     let level = out-PathSegment c.args.node.now in
     parens_fail (spec.parens_part (parens_part spot level.parens level.ret)) level.rtn c.args.state.now c.parens.new.state c.in-Err.fault
     (rw c.in-Err.is at c.parens.ensures)
+
+pub parens-requires : goal.parens-requires
+parens-requires g c = grind (arith, common_steps)
+
+pub returns-in-Ok : goal.returns-in-Ok
+returns-in-Ok g c = grind (arith, common_steps)

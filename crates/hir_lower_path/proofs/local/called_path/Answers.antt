@@ -26,3 +26,12 @@ returns-in-Some-first g c =
     reads_level spot c.args.node.now c.args.walk c.args.state.now c.only_segment.result c.only_segment.new.state
     (subst (λ y. ReadsPath y c.args.walk c.args.state.now c.only_segment.result c.only_segment.new.state)
     (sym (one_level spot c.args.node.now c.requires.called c.in-Some-first.segment c.requires.alone e)) c.only_segment.ensures)
+
+pub returns-in_default : goal.returns-in_default
+returns-in_default g c = grind (arith, common_steps)
+
+pub own_segments-requires-clause-parts : goal.own_segments-requires-clause-parts
+own_segments-requires-clause-parts g c = grind (arith, common_steps)
+
+pub only_segment-requires-clause-parts : goal.only_segment-requires-clause-parts
+only_segment-requires-clause-parts g c = grind (arith, common_steps)

@@ -1,4 +1,5 @@
-use Rattle.std.proofs.Common.{sym}
+use Rattle.std.proofs.lemmas.Grind.{common_steps}
+use Rattle.std.proofs.Common.{sym, arith}
 use Rattle.hir_lower_path.proofs.Rooted.{other_segment_lowers, trait_segment_lowers, traitless_segment_lowers}
 use Rattle.hir_lower_path.proofs.local.local_segment.Goals as goal
 
@@ -19,3 +20,21 @@ returns-else-is_qualified g c =
     other_segment_lowers (g.P.LowerParts.spot c.args.lowerer.now.parts) c.args.node.now c.args.leading c.args.walk _
     c.at_first-walk.ensures.value c.args.root c.args.state.now _ _ _ _ (sym c.if-is_qualified.ensures)
     c.is_bare_segment-bare.ensures c.segment_form-else-is_qualified.ensures c.if_read-else-is_qualified.ensures
+
+pub local_qualified-requires-clause-parts : goal.local_qualified-requires-clause-parts
+local_qualified-requires-clause-parts g c = grind (arith, common_steps)
+
+pub segment_form-requires-clause-parts : goal.segment_form-requires-clause-parts
+segment_form-requires-clause-parts g c = grind (arith, common_steps)
+
+pub local_qualified-requires-clause-walk : goal.local_qualified-requires-clause-walk
+local_qualified-requires-clause-walk g c = grind (arith, common_steps)
+
+pub segment_form-requires-else-is_qualified-clause-walk : goal.segment_form-requires-else-is_qualified-clause-walk
+segment_form-requires-else-is_qualified-clause-walk g c = grind (arith, common_steps)
+
+pub segment_form-requires-else-is_qualified-clause-parts : goal.segment_form-requires-else-is_qualified-clause-parts
+segment_form-requires-else-is_qualified-clause-parts g c = grind (arith, common_steps)
+
+pub segment_form-requires-clause-walk : goal.segment_form-requires-clause-walk
+segment_form-requires-clause-walk g c = grind (arith, common_steps)

@@ -10,3 +10,9 @@ segment_args-requires g c = grind (arith, common_steps)
 
 pub returns-then-eq : goal.returns-then-eq
 returns-then-eq g c = grind (arith, common_steps)
+
+pub returns-in-Ok : goal.returns-in-Ok
+returns-in-Ok g c = grind (arith, common_steps)
+
+pub returns-in-Err : goal.returns-in-Err
+returns-in-Err g c = grind (arith, common_steps)

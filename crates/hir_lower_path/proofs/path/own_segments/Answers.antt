@@ -21,3 +21,6 @@ segment-requires-clause-parts g c = grind (arith, common_steps)
 
 pub segment-requires-clause-walk : goal.segment-requires-clause-walk
 segment-requires-clause-walk g c = grind (arith, common_steps)
+
+pub returns-in_default-segments : goal.returns-in_default-segments
+returns-in_default-segments g c = grind (arith, common_steps)

@@ -1,4 +1,5 @@
-use Rattle.std.proofs.Common.{subst, sym}
+use Rattle.std.proofs.lemmas.Grind.{common_steps}
+use Rattle.std.proofs.Common.{subst, sym, arith}
 use Rattle.hir_syntax.specs.declared.ast.Path.{out-Path}
 use Rattle.hir_env.specs.Whole.{first_part, rest_part}
 use Rattle.hir_lower_form.specs.Lower.{read_own}
@@ -24,3 +25,24 @@ returns-in-Some g c =
     (subst (λ y. ReadsPath y c.args.walk c.args.state.now c.whole_path.result c.whole_path.new.state)
     (sym (used_level spot c.args.node.now c.in-Some.field-0 c.in-Some.is))
     (rw c.as_slice-all.ensures at c.whole_path.ensures))
+
+pub whole_path-requires-clause-parts : goal.whole_path-requires-clause-parts
+whole_path-requires-clause-parts g c = grind (arith, common_steps)
+
+pub returns-then-node : goal.returns-then-node
+returns-then-node g c = grind (arith, common_steps)
+
+pub called_path-requires-clause-parts : goal.called_path-requires-clause-parts
+called_path-requires-clause-parts g c = grind (arith, common_steps)
+
+pub own_segments-requires-clause-parts : goal.own_segments-requires-clause-parts
+own_segments-requires-clause-parts g c = grind (arith, common_steps)
+
+pub called_path-requires-clause-alone : goal.called_path-requires-clause-alone
+called_path-requires-clause-alone g c = grind (arith, common_steps)
+
+pub whole_path-requires-clause-outer : goal.whole_path-requires-clause-outer
+whole_path-requires-clause-outer g c = grind (arith, common_steps)
+
+pub called_path-requires-clause-called : goal.called_path-requires-clause-called
+called_path-requires-clause-called g c = grind (arith, common_steps)

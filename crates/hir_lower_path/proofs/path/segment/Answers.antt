@@ -8,3 +8,6 @@ segment_form-requires-clause-parts g c = grind (arith, common_steps, segment_is_
 
 pub returns-in-Some : goal.returns-in-Some
 returns-in-Some g c = grind (arith, common_steps, segment_is_level)
+
+pub returns-in-None : goal.returns-in-None
+returns-in-None g c = grind (arith, common_steps)

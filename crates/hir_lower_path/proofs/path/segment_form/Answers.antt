@@ -13,3 +13,6 @@ name_form-requires-clause-parts g c = grind (arith, common_steps)
 
 pub qualified_form-requires-clause-parts : goal.qualified_form-requires-clause-parts
 qualified_form-requires-clause-parts g c = grind (arith, common_steps)
+
+pub returns-in_default : goal.returns-in_default
+returns-in_default g c = grind (arith, common_steps)

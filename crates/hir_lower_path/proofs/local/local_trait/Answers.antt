@@ -1,0 +1,24 @@
+use Rattle.std.proofs.lemmas.Grind.{common_steps}
+use Rattle.std.proofs.Common.{arith}
+use Rattle.hir_lower_form.specs.Paths.{with_trait}
+use Rattle.hir_lower_path.proofs.local.local_trait.Goals as goal
+
+pub projected_form-requires-clause-ty : goal.projected_form-requires-clause-ty
+unfolding with_trait
+projected_form-requires-clause-ty g c = grind (arith, common_steps)
+
+pub trait_path-requires : goal.trait_path-requires
+unfolding with_trait
+trait_path-requires g c = grind (arith, common_steps)
+
+pub returns-in_default : goal.returns-in_default
+unfolding with_trait
+returns-in_default g c = grind (arith, common_steps)
+
+pub projected_form-requires-clause-path : goal.projected_form-requires-clause-path
+unfolding with_trait
+projected_form-requires-clause-path g c = grind (arith, common_steps)
+
+pub returns-in_err-reading : goal.returns-in_err-reading
+unfolding with_trait
+returns-in_err-reading g c = grind (arith, common_steps)
