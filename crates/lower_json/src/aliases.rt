@@ -1,19 +1,16 @@
 //! The aliases of types that an environment names.
 
-ghost use Rattle.std.specs.Prelude.{◌≡◌, IfOk, Some, codes, option_and_then};
-ghost use Rattle.serde_json.specs.Find.{as_array, get};
+ghost use Rattle.std.specs.Prelude.{◌≡◌, IfOk, codes};
+ghost use Rattle.serde_json.specs.Find.{get};
 ghost use Rattle.serde_json.specs.View.{view, items_view};
-ghost use Rattle.json_faults.specs.Values.{small_of};
 ghost use Rattle.json_nodes.specs.Kept.{Kept};
 ghost use Rattle.json_nodes.specs.Parts.{all_read};
 ghost use Rattle.lower_json.specs.Aliases as spec;
-ghost use Rattle.lower_json.specs.Reading as reading;
 
 use crate::document::Alias;
 use crate::tables::entries_of;
 use crate::tree::alias_at;
 use hir_base::Seq;
-use hir_items::ast::TypeAlias;
 use hir_store::ids::TypeAliasId;
 use json_faults::members::NodeList;
 use json_faults::value::small;
@@ -21,45 +18,8 @@ use json_kinds::kind::Kind;
 use serde_json::Value;
 use std::alloc::{AllocError, Global};
 
-/// The alias that a value names, by its index.
-fn item(
-    alloc: Global,
-    kinds: &[Option<Kind>],
-    nodes: &NodeList<'_>,
-    refused: &mut bool,
-    root: &Value,
-) -> Option<TypeAlias>
-    ensures { Kept refused.old refused.new
-        (result ≡ option_and_then (reading.alias_at kinds.now (items_view nodes.now.nodes.now)) (small_of (view root.now))) }
-{
-    match small(root) {
-        Some(root) => alias_at(alloc, kinds, nodes, refused, root),
-        None => None,
-    }
-}
-
 /// What an entry names.
 #[tactic(auto, using(crate::proofs::Tuples::entry_under_two, crate::proofs::Tuples::entry_over_two))]
-fn pair(
-    alloc: Global,
-    kinds: &[Option<Kind>],
-    nodes: &NodeList<'_>,
-    refused: &mut bool,
-    entry: &[Value],
-) -> Option<Alias>
-    ensures { Kept refused.old refused.new
-        (result ≡ spec.pair_in kinds.now (items_view nodes.now.nodes.now) (Some (items_view entry.now))) }
-{
-    match entry {
-        [number, root] => {
-            let id = TypeAliasId(small(number)?);
-            let item = item(alloc, kinds, nodes, refused, root)?;
-            Some(Alias { id, item })
-        }
-        _ => None,
-    }
-}
-
 fn alias(
     alloc: Global,
     kinds: &[Option<Kind>],
@@ -69,9 +29,14 @@ fn alias(
 ) -> Option<Alias>
     ensures { Kept refused.old refused.new (result ≡ spec.alias_in kinds.now (items_view nodes.now.nodes.now) (view entry.now)) }
 {
-    match entry.as_array() {
-        Some(entry) => pair(alloc, kinds, nodes, refused, entry.as_slice()),
-        None => None,
+    match entry.as_array()?.as_slice() {
+        [number, root] => {
+            let id = TypeAliasId(small(number)?);
+            let root = small(root)?;
+            let item = alias_at(alloc, kinds, nodes, refused, root)?;
+            Some(Alias { id, item })
+        }
+        _ => None,
     }
 }
 

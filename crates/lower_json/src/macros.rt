@@ -2,7 +2,6 @@
 
 ghost use Rattle.std.specs.Prelude.{◌≡◌, IfOk, OnOk, Some, option_map};
 ghost use Rattle.serde_json.specs.View.{view, items_view};
-ghost use Rattle.serde_json.specs.Find.{as_array};
 ghost use Rattle.json_faults.specs.Values.{small_of};
 ghost use Rattle.hir_tables.specs.declared.table.MacroAnswer.TheVariants as answer;
 ghost use Rattle.lower_json.specs.Macros as spec;
@@ -16,7 +15,6 @@ use hir_base::node::{HirFileId, InFile, NodeId};
 use hir_base::{Seq, Text};
 use hir_store::ids::{MacroDefId, ModuleId};
 use hir_store::name::Name;
-use hir_syntax::ast::Fragment;
 use hir_tables::table::{MacroAnswer, TableEnv, TablesOf};
 use json_faults::members::NodeList;
 use json_faults::value::small;
@@ -35,21 +33,6 @@ fn call_in(entry: &[Value]) -> Option<InFile<NodeId>>
     }
 }
 
-/// The tree whose root is named. Null names none.
-fn tree(
-    alloc: Global,
-    kinds: &[Option<Kind>],
-    nodes: &NodeList<'_>,
-    root: &Value,
-) -> Result<Option<Fragment>, AllocError>
-    ensures { IfOk result (λ tree. tree ≡ spec.tree_in kinds.now (items_view nodes.now.nodes.now) (view root.now)) }
-{
-    match small(root) {
-        Some(root) => fragment_at(alloc, kinds, nodes, root),
-        None => Ok(None),
-    }
-}
-
 fn unresolved(alloc: Global, text: &Value) -> Result<Option<MacroAnswer>, AllocError>
     ensures { IfOk result (λ a. a ≡ option_map answer.Unresolved (path_in (view text.now))) }
 {
@@ -59,6 +42,7 @@ fn unresolved(alloc: Global, text: &Value) -> Result<Option<MacroAnswer>, AllocE
     }
 }
 
+/// The tree that a call is expanded to in a file. Null names none.
 fn expanded(
     alloc: Global,
     kinds: &[Option<Kind>],
@@ -72,9 +56,13 @@ fn expanded(
     let Some(file) = small(file) else {
         return Ok(None);
     };
+    let root = match small(root) {
+        Some(root) => fragment_at(alloc, kinds, nodes, root)?,
+        None => None,
+    };
     Ok(Some(MacroAnswer::Expanded {
         file: HirFileId(file),
-        root: tree(alloc, kinds, nodes, root)?,
+        root,
         eager: Seq::new(alloc),
     }))
 }

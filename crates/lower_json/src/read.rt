@@ -5,11 +5,11 @@ ghost use Rattle.serde_json.specs.Read.{read};
 ghost use Rattle.serde_json.specs.View.{view, items_view};
 ghost use Rattle.json_faults.specs.Documents.{nodes};
 ghost use Rattle.json_faults.specs.Kinds.{kinds_of};
-ghost use Rattle.lower_json.specs.Documents.{group_of, is_optional, document_of, first_fault, tree_of, IsDocument};
+ghost use Rattle.lower_json.specs.Documents.{group_of, is_optional, document_of, first_fault, IsDocument};
 ghost use Rattle.lower_json.specs.Faults.{IsErrorOf, IsTextError};
 
 use crate::aliases::aliases;
-use crate::document::{Document, Root, Tree};
+use crate::document::{Document, Root};
 use crate::fault::{Fault, ReadError};
 use crate::heading::{container, mode, owner, skip};
 use crate::tables::tables;
@@ -62,26 +62,6 @@ fn parse(alloc: Global, text: &[u8]) -> Result<Value, ReadError>
     }
 }
 
-fn tree(
-    alloc: Global,
-    want: Root,
-    kinds: &[Option<Kind>],
-    listed: &NodeList<'_>,
-    document: &Value,
-) -> Result<Tree, AllocError>
-    requires kinds { kinds.now ≡ kinds_of (nodes (view document.now)) }
-    requires nodes { items_view listed.now.nodes.now ≡ nodes (view document.now) }
-    ensures { IfOk result (λ tree. tree ≡ tree_of want (view document.now)) }
-{
-    read_tree_at(
-        alloc,
-        want,
-        kinds,
-        listed,
-        number_in(document.get("root"), 0),
-    )
-}
-
 /// What a document says, with the kinds of its nodes.
 fn read_document(
     alloc: Global,
@@ -98,8 +78,9 @@ fn read_document(
     let mut env = tables(alloc, kinds, listed, document, container(document))?;
     env.set_skip(skip(document));
     let aliases = aliases(alloc, kinds, listed, document)?;
+    let root = number_in(document.get("root"), 0);
     Ok(Document {
-        tree: tree(alloc, want, kinds, listed, document)?,
+        tree: read_tree_at(alloc, want, kinds, listed, root)?,
         owner: owner(document),
         sources: flag_in(document.get("sources")),
         mode: mode(document),

@@ -2,15 +2,10 @@
 
 ghost use Rattle.std.specs.Prelude.{◌≡◌, option_map};
 ghost use Rattle.json_nodes.specs.declared.part.AnyOf.TheVariants as part;
-ghost use Rattle.json_nodes.specs.Bounds as bounds;
-ghost use Rattle.json_nodes.specs.Branches as branches;
 ghost use Rattle.json_nodes.specs.Exprs as exprs;
 ghost use Rattle.json_nodes.specs.Kept.{Kept};
-ghost use Rattle.json_nodes.specs.Macros as macros;
 ghost use Rattle.json_nodes.specs.Others as others;
-ghost use Rattle.json_nodes.specs.Params as params;
 ghost use Rattle.json_nodes.specs.Pats as pats;
-ghost use Rattle.json_nodes.specs.Typed as typed_parts;
 ghost use Rattle.json_nodes.specs.Types as types;
 ghost use Rattle.lower_json.specs.Reading as spec;
 ghost use Rattle.lower_json.specs.Reading.{of_kind};
@@ -88,91 +83,32 @@ fn of_path_part<F: Fields>(node: &F, refused: &mut bool, kind: PathNode) -> Opti
     }
 }
 
-/// A bound, or what else stands beside types, as a part.
-#[inline(never)]
-fn bound_part<F: Fields>(node: &F, refused: &mut bool, kind: PartNode) -> Option<AnyPart>
-    requires { F.can node.now }
-    ensures { Kept refused.old refused.new (result ≡ option_map part.Type_ (bounds.of_bound (F.here node.now) kind)) }
-{
-    Some(AnyPart::Type_(of_bound(node, refused, kind)?))
-}
-
-/// An arm, a condition of one, or what follows the `else` of a `let`, as a part.
-#[inline(never)]
-fn branch_part<F: Fields>(node: &F, refused: &mut bool, kind: PartNode) -> Option<AnyPart>
-    requires { F.can node.now }
-    ensures { Kept refused.old refused.new (result ≡ option_map part.Code (branches.of_branch (F.here node.now) kind)) }
-{
-    Some(AnyPart::Code(of_branch(node, refused, kind)?))
-}
-
-/// The fields of a record, or one of them, as a part.
-#[inline(never)]
-fn record_part<F: Fields>(node: &F, refused: &mut bool, kind: PartNode) -> Option<AnyPart>
-    requires { F.can node.now }
-    ensures { Kept refused.old refused.new (result ≡ option_map part.Code (typed_parts.of_record (F.here node.now) kind)) }
-{
-    Some(AnyPart::Code(of_record(node, refused, kind)?))
-}
-
-/// A call of a macro, or what one is expanded to, as a part.
-#[inline(never)]
-fn macro_part<F: Fields>(node: &F, refused: &mut bool, kind: PartNode) -> Option<AnyPart>
-    requires { F.can node.now }
-    ensures { Kept refused.old refused.new (result ≡ option_map part.Code (macros.of_macro (F.here node.now) kind)) }
-{
-    Some(AnyPart::Code(of_macro(node, refused, kind)?))
-}
-
-/// A field of a pattern, as a part.
-#[inline(never)]
-fn pat_field_part<F: Fields>(node: &F, refused: &mut bool, kind: PartNode) -> Option<AnyPart>
-    requires { F.can node.now }
-    ensures { Kept refused.old refused.new (result ≡ option_map part.Pat (typed_parts.of_pat_field (F.here node.now) kind)) }
-{
-    Some(AnyPart::Pat(of_pat_field(node, refused, kind)?))
-}
-
-/// A parameter, or all of a function, as a part.
-#[inline(never)]
-fn param_part<F: Fields>(node: &F, refused: &mut bool, kind: PartNode) -> Option<AnyPart>
-    requires { F.can node.now }
-    ensures { Kept refused.old refused.new (result ≡ option_map part.Param (params.of_param (F.here node.now) kind)) }
-{
-    Some(AnyPart::Param(of_param(node, refused, kind)?))
-}
-
-/// A name or what bears one, as a part.
-#[inline(never)]
-fn name_part<F: Fields>(node: &F, refused: &mut bool, kind: PartNode) -> Option<AnyPart>
-    requires { F.can node.now }
-    ensures { Kept refused.old refused.new (result ≡ option_map part.Name (others.other (F.here node.now) kind)) }
-{
-    Some(AnyPart::Name(other(node, refused, kind)?))
-}
-
-/// A part of anything else.
+/// A part of anything else. These share a frame, which few levels go through.
 #[inline(never)]
 fn of_part<F: Fields>(node: &F, refused: &mut bool, kind: PartNode) -> Option<AnyPart>
     requires { F.can node.now }
     ensures { Kept refused.old refused.new (result ≡ spec.of_part (F.here node.now) kind) }
 {
     match kind {
-        PartNode::TypeBound | PartNode::ForBinder | PartNode::RetType => bound_part(
+        PartNode::TypeBound | PartNode::ForBinder | PartNode::RetType => Some(AnyPart::Type_(
+            of_bound(node, refused, kind)?,
+        )),
+        PartNode::MatchArm | PartNode::Guard | PartNode::LetElse => Some(AnyPart::Code(of_branch(
             node, refused, kind,
-        ),
-        PartNode::MatchArm | PartNode::Guard | PartNode::LetElse => branch_part(
+        )?)),
+        PartNode::RecordExprFieldList | PartNode::RecordExprField => Some(AnyPart::Code(of_record(
             node, refused, kind,
-        ),
-        PartNode::RecordExprFieldList | PartNode::RecordExprField => record_part(
+        )?)),
+        PartNode::MacroCall | PartNode::MacroStmts => Some(AnyPart::Code(of_macro(
             node, refused, kind,
-        ),
-        PartNode::MacroCall | PartNode::MacroStmts => macro_part(node, refused, kind),
-        PartNode::RecordPatField => pat_field_part(node, refused, kind),
-        PartNode::Param | PartNode::SelfParam | PartNode::ParamList => param_part(
+        )?)),
+        PartNode::RecordPatField => Some(AnyPart::Pat(of_pat_field(node, refused, kind)?)),
+        PartNode::Param | PartNode::SelfParam | PartNode::ParamList => Some(AnyPart::Param(of_param(
             node, refused, kind,
-        ),
-        PartNode::Label | PartNode::Lifetime | PartNode::Name => name_part(node, refused, kind),
+        )?)),
+        PartNode::Label | PartNode::Lifetime | PartNode::Name => Some(AnyPart::Name(other(
+            node, refused, kind,
+        )?)),
     }
 }
 

@@ -1,9 +1,7 @@
 //! The trees of a list of nodes.
 
-ghost use Rattle.std.specs.Prelude.{◌≡◌, IfOk, option_and_then, option_map};
+ghost use Rattle.std.specs.Prelude.{◌≡◌, IfOk, option_and_then};
 ghost use Rattle.serde_json.specs.View.{view, items_view};
-ghost use Rattle.hir_syntax.specs.declared.macros.Fragment.TheVariants as fragment;
-ghost use Rattle.json_nodes.specs.Groups.{as_expr, as_macro_stmts, as_pat, as_type};
 ghost use Rattle.json_nodes.specs.Kept.{Kept};
 ghost use Rattle.json_nodes.specs.Nodes.{here, node_at};
 ghost use Rattle.json_items.specs.Lists.{listed};
@@ -283,81 +281,24 @@ pub fn alias_at(
     Some(type_alias(&node, &items, refused))
 }
 
-/// A pattern as what a call of a macro is expanded to.
-fn pat_fragment<P: ReadParts>(
-    node: &Node<'_, P>,
-    refused: &mut bool,
-    kind: Kind,
-) -> Option<Fragment>
-    requires { P.can node.now.parts.now }
-    ensures { Kept refused.old refused.new
-        (result ≡ option_map fragment.Pat (option_and_then as_pat (of_kind (here P.parts node.now) kind))) }
-{
-    match boxed::<Pats, P>(node, refused, Some(kind)) {
-        Some(part) => Some(Fragment::Pat(part)),
-        None => None,
-    }
-}
-
-/// A type as what a call of a macro is expanded to.
-fn type_fragment<P: ReadParts>(
-    node: &Node<'_, P>,
-    refused: &mut bool,
-    kind: Kind,
-) -> Option<Fragment>
-    requires { P.can node.now.parts.now }
-    ensures { Kept refused.old refused.new
-        (result ≡ option_map fragment.Type_ (option_and_then as_type (of_kind (here P.parts node.now) kind))) }
-{
-    match boxed::<Types, P>(node, refused, Some(kind)) {
-        Some(part) => Some(Fragment::Type_(part)),
-        None => None,
-    }
-}
-
-/// Statements as what a call of a macro is expanded to.
-fn stmts_fragment<P: ReadParts>(
-    node: &Node<'_, P>,
-    refused: &mut bool,
-    kind: Kind,
-) -> Option<Fragment>
-    requires { P.can node.now.parts.now }
-    ensures { Kept refused.old refused.new
-        (result ≡ option_map fragment.Stmts (option_and_then as_macro_stmts (of_kind (here P.parts node.now) kind))) }
-{
-    match boxed::<MacroStmtLists, P>(node, refused, Some(kind)) {
-        Some(part) => Some(Fragment::Stmts(part)),
-        None => None,
-    }
-}
-
-/// An expression as what a call of a macro is expanded to.
-fn expr_fragment<P: ReadParts>(
-    node: &Node<'_, P>,
-    refused: &mut bool,
-    kind: Kind,
-) -> Option<Fragment>
-    requires { P.can node.now.parts.now }
-    ensures { Kept refused.old refused.new
-        (result ≡ option_map fragment.Expr (option_and_then as_expr (of_kind (here P.parts node.now) kind))) }
-{
-    match boxed::<Exprs, P>(node, refused, Some(kind)) {
-        Some(part) => Some(Fragment::Expr(part)),
-        None => None,
-    }
-}
-
 /// What stands at a node of a kind, as what a call of a macro is expanded to.
 fn fragment_of<P: ReadParts>(node: &Node<'_, P>, refused: &mut bool, kind: Kind) -> Option<Fragment>
     requires { P.can node.now.parts.now }
     ensures { Kept refused.old refused.new (result ≡ fragment_of (here P.parts node.now) kind) }
 {
     match kind {
-        Kind::Pat(_) => pat_fragment(node, refused, kind),
-        Kind::Type_(_) => type_fragment(node, refused, kind),
-        Kind::PathType => type_fragment(node, refused, kind),
-        Kind::Part(_) => stmts_fragment(node, refused, kind),
-        _ => expr_fragment(node, refused, kind),
+        Kind::Pat(_) => Some(Fragment::Pat(boxed::<Pats, P>(node, refused, Some(kind))?)),
+        Kind::Type_(_) | Kind::PathType => Some(Fragment::Type_(boxed::<Types, P>(
+            node,
+            refused,
+            Some(kind),
+        )?)),
+        Kind::Part(_) => Some(Fragment::Stmts(boxed::<MacroStmtLists, P>(
+            node,
+            refused,
+            Some(kind),
+        )?)),
+        _ => Some(Fragment::Expr(boxed::<Exprs, P>(node, refused, Some(kind))?)),
     }
 }
 

@@ -12,3 +12,6 @@ returns-in_err-first c =
 
 pub loop-byte-preserved : goal.loop-byte-preserved
 loop-byte-preserved c = grind (arith, common_steps)
+
+pub returns-then-first-byte : goal.returns-then-first-byte
+returns-then-first-byte c = grind (arith, common_steps)

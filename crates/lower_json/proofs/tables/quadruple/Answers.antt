@@ -7,3 +7,6 @@ returns-in_err-two-in-len4 c = grind (arith, common_steps)
 
 pub returns-in_ok-two-in-len4 : goal.returns-in_ok-two-in-len4
 returns-in_ok-two-in-len4 c = grind (arith, common_steps)
+
+pub returns-in_err-site-in-len4 : goal.returns-in_err-site-in-len4
+returns-in_err-site-in-len4 c = grind (arith, common_steps)

@@ -7,3 +7,6 @@ returns-in_err-small-in-len3 c = grind (arith, common_steps)
 
 pub returns-in_ok-small-in-len3 : goal.returns-in_ok-small-in-len3
 returns-in_ok-small-in-len3 c = grind (arith, common_steps)
+
+pub returns-in_err-site-in-len3 : goal.returns-in_err-site-in-len3
+returns-in_err-site-in-len3 c = grind (arith, common_steps)

@@ -1,3 +1,4 @@
+use Rattle.std.proofs.lemmas.Grind.{common_steps}
 use Rattle.std.proofs.Common.{rules, arith, ◌-◌}
 use Rattle.serde_json.specs.View.{view, items_view}
 use Rattle.lower_json.proofs.Levels.{at_node, no_level, no_item, no_kind, one_level}
@@ -26,3 +27,6 @@ returns t c =
     let nodes = items_view a.nodes.now.nodes.now in
     rw (one_level a.levels (a.levels - 1) a.kinds.now nodes a.at value kind (omega arith) (search rules) (search rules))
     (at_node kind c.node_at.ensures.here c.of_kind.ensures)
+
+pub overflow_sub-inside : goal.overflow_sub-inside
+overflow_sub-inside t c = grind (arith, common_steps)
