@@ -1,4 +1,5 @@
-use Rattle.std.proofs.Common.{◌≡◌, ◌∙◌, ap, refl, subst, sym, [], ◌∷◌, ◌++◌, List, Err, Ok}
+use Rattle.std.proofs.lemmas.Grind.{common_steps}
+use Rattle.std.proofs.Common.{◌≡◌, ◌∙◌, ap, refl, subst, sym, [], ◌∷◌, ◌++◌, List, Err, Ok, arith}
 use Rattle.std.specs.Prelude.{None, Option, Some}
 use Rattle.hir_syntax.specs.declared.types.Param.{Param as AstParam}
 use Rattle.hir_store.specs.Range.{HasNone, HasTypeOption, HasTypes}
@@ -66,3 +67,6 @@ returns g c =
     c.as_slice-params.ensures c.in_ok-report_each.ensures)
     (types_here at c.args.def _ (push_some [] o) _ c.args.list.now.params c.report_each.new.state c.argument_types.new.state
     c.argument_types.result taken c.as_slice-params.ensures c.argument_types.ensures))
+
+pub argument_types-requires : goal.argument_types-requires
+argument_types-requires g c = grind (arith, common_steps)

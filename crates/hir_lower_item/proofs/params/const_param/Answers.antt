@@ -1,4 +1,5 @@
-use Rattle.std.proofs.Common.{Err, Ok}
+use Rattle.std.proofs.lemmas.Grind.{common_steps}
+use Rattle.std.proofs.Common.{Err, Ok, arith}
 use Rattle.std.specs.Prelude.{None, Option, option_map}
 use Rattle.hir_store.specs.Range.{HasNone, HasType}
 use Rattle.hir_store.specs.declared.generics.TypeOrConstParamData.TheVariants as param
@@ -69,3 +70,6 @@ returns-in_err-add_param g c =
     (refused_first HasNumber HasNone (add_param x) (λ k. pure tt) c.constant_if_present.new.state c.add_param.new.self
     c.in_err-add_param.field-0.0 c.from_residual-in_err-add_param.result c.from_residual-in_err-add_param.ensures.1
     (rw c.in_ok-name.ensures at c.in_err-add_param.ensures)))
+
+pub returns : goal.returns
+returns g c = grind (arith, common_steps)

@@ -1,0 +1,24 @@
+use Rattle.std.proofs.lemmas.Grind.{common_steps}
+use Rattle.std.proofs.Common.{arith}
+use Rattle.hir_lower_item.proofs.function.any_variadic.Goals as goal
+
+pub bounds-left-0 : goal.bounds-left-0
+bounds-left-0 g c = grind (arith, common_steps)
+
+pub returns : goal.returns
+returns g c = grind (arith, common_steps)
+
+pub slice_bounds-rest-start : goal.slice_bounds-rest-start
+slice_bounds-rest-start g c = grind (arith, common_steps)
+
+pub slice_bounds-rest-count : goal.slice_bounds-rest-count
+slice_bounds-rest-count g c = grind (arith, common_steps)
+
+pub loop-left-smaller : goal.loop-left-smaller
+loop-left-smaller g c = grind (arith, common_steps)
+
+pub loop-left-preserved : goal.loop-left-preserved
+loop-left-preserved g c = grind (arith, common_steps)
+
+pub returns-then-is_variadic : goal.returns-then-is_variadic
+returns-then-is_variadic g c = grind (arith, common_steps)
