@@ -74,7 +74,7 @@ def answer(crate, function, names):
     above, is_generic = attribute(folder, function)
     opened = [it.strip() for found in re.findall(r"unfolding\(([^()]*)\)", above) for it in found.split(",") if it.strip()]
     text = read(path) or f"use Rattle.{crate}.proofs.{function}.Goals as goal\n"
-    taken, unfolded = binders(text, function, is_generic), "".join(f"unfolding {it.rpartition('::')[2]}\n" for it in opened)
+    taken, unfolded = binders(text, function, is_generic), f"unfolding {' '.join(it.rpartition('::')[2] for it in opened)}\n" if opened else ""
     new = [it for it in names if not re.search(rf"^pub {re.escape(it)} ", text, re.M)]
     text += "".join(f"\npub {it} : goal.{it}\n{unfolded}{it} {taken}c = grind (arith, common_steps)\n" for it in new)
     for name in opened:

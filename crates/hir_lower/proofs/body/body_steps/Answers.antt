@@ -1,4 +1,5 @@
-use Rattle.std.proofs.Common.{rules, ◌≡◌, ◌∙◌, ℕ, Bool, false, Option}
+use Rattle.std.proofs.lemmas.Grind.{common_steps}
+use Rattle.std.proofs.Common.{rules, ◌≡◌, ◌∙◌, ℕ, Bool, false, Option, arith}
 use Rattle.std.specs.Prelude.{is_some, option_copied}
 use Rattle.hir_base.specs.declared.node.HirFileId.{HirFileId}
 use Rattle.hir_syntax.specs.declared.params.ParamList.{ParamList}
@@ -67,3 +68,48 @@ returns-in-Ok-finished-clause-self_source g c =
     let same = same_self (g.E.LowerEnv.answers c.args.db.now) c.args.owner c.args.current_file_id c.args.inside c.args.is_async_fn
     (option_copied c.args.params) has_body _ _ c.await_location_of.ensures c.expansion_limit.ensures in
     c.in-Ok-finished.ensures.self_param ∙ (c.item_self-self_param.ensures has_body ∙ same)
+
+pub returns-in-Err-clause-in_range : goal.returns-in-Err-clause-in_range
+returns-in-Err-clause-in_range g c = grind (arith, common_steps)
+
+pub returns-in-Err-clause-stores : goal.returns-in-Err-clause-stores
+returns-in-Err-clause-stores g c = grind (arith, common_steps)
+
+pub returns-in-Err-finished-clause-full : goal.returns-in-Err-finished-clause-full
+returns-in-Err-finished-clause-full g c = grind (arith, common_steps)
+
+pub returns-in-Ok-finished-clause-full : goal.returns-in-Ok-finished-clause-full
+returns-in-Ok-finished-clause-full g c = grind (arith, common_steps)
+
+pub returns-in-Err-clause-given : goal.returns-in-Err-clause-given
+returns-in-Err-clause-given g c = grind (arith, common_steps)
+
+pub returns-in-Ok-finished-clause-own : goal.returns-in-Ok-finished-clause-own
+returns-in-Ok-finished-clause-own g c = grind (arith, common_steps)
+
+pub returns-in-Err-finished-clause-self_source : goal.returns-in-Err-finished-clause-self_source
+returns-in-Err-finished-clause-self_source g c = grind (arith, common_steps)
+
+pub returns-in-Err-finished-clause-given : goal.returns-in-Err-finished-clause-given
+returns-in-Err-finished-clause-given g c = grind (arith, common_steps)
+
+pub returns-in-Err-finished-clause-own : goal.returns-in-Err-finished-clause-own
+returns-in-Err-finished-clause-own g c = grind (arith, common_steps)
+
+pub returns-in-Ok-finished-clause-in_range : goal.returns-in-Ok-finished-clause-in_range
+returns-in-Ok-finished-clause-in_range g c = grind (arith, common_steps)
+
+pub returns-in-Err-clause-own : goal.returns-in-Err-clause-own
+returns-in-Err-clause-own g c = grind (arith, common_steps)
+
+pub returns-in-Err-clause-full : goal.returns-in-Err-clause-full
+returns-in-Err-clause-full g c = grind (arith, common_steps)
+
+pub returns-in-Err-finished-clause-in_range : goal.returns-in-Err-finished-clause-in_range
+returns-in-Err-finished-clause-in_range g c = grind (arith, common_steps)
+
+pub returns-in-Err-finished-clause-stores : goal.returns-in-Err-finished-clause-stores
+returns-in-Err-finished-clause-stores g c = grind (arith, common_steps)
+
+pub returns-in-Err-clause-self_source : goal.returns-in-Err-clause-self_source
+returns-in-Err-clause-self_source g c = grind (arith, common_steps)

@@ -1,3 +1,5 @@
+use Rattle.std.proofs.lemmas.Grind.{common_steps}
+use Rattle.std.proofs.Common.{arith}
 use Rattle.hir_lower.proofs.Collecting.{constant_collected}
 use Rattle.hir_lower.proofs.Meanings.{apart_if, defined_if, mapped_if, may_be_owned_if, names_if, outside_if, rooted_if, stays_unless}
 use Rattle.hir_lower.proofs.Meanings.{fits_if, too_large_if, within_if}
@@ -40,3 +42,6 @@ pub returns-clause-collected : goal.returns-clause-collected
 returns-clause-collected g c = λ d m k. constant_collected _ _ _ c.root_steps.result
     (rooted_if _ _ _ c.root_steps.result c.root_steps.ensures d m)
     (λ n. stays_unless _ _ _ c.root_steps.result c.root_steps.ensures m n) k
+
+pub returns-clause-lowers : goal.returns-clause-lowers
+returns-clause-lowers g c = grind (arith, common_steps)

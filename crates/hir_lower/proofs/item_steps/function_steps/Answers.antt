@@ -1,3 +1,5 @@
+use Rattle.std.proofs.lemmas.Grind.{common_steps}
+use Rattle.std.proofs.Common.{arith}
 use Rattle.hir_store.specs.declared.ids.GenericDefId.TheVariants as definition
 use Rattle.hir_env.specs.declared.place.Place.{Place}
 use Rattle.hir_lower_handlers.specs.Spots.{spot_at}
@@ -27,3 +29,15 @@ returns-in-Err-clause-full g c = λ is.
 pub returns-in_ok-params-in-Ok-clause-answer_in_range : goal.returns-in_ok-params-in-Ok-clause-answer_in_range
 returns-in_ok-params-in-Ok-clause-answer_in_range g c = answer_exists HasFunction (λ a. past_function a.0 a.1) function_exists _ _
     c.in-Ok.ensures.2 c.into_parts-stored.ensures.stored c.finish-store.ensures.store
+
+pub returns-in_ok-params-in-Ok-clause-own : goal.returns-in_ok-params-in-Ok-clause-own
+returns-in_ok-params-in-Ok-clause-own g c = grind (arith, common_steps)
+
+pub returns-in-Err-clause-own : goal.returns-in-Err-clause-own
+returns-in-Err-clause-own g c = grind (arith, common_steps)
+
+pub returns-in_ok-params-in-Ok-clause-in_range : goal.returns-in_ok-params-in-Ok-clause-in_range
+returns-in_ok-params-in-Ok-clause-in_range g c = grind (arith, common_steps)
+
+pub returns-in_ok-params-in-Ok-clause-full : goal.returns-in_ok-params-in-Ok-clause-full
+returns-in_ok-params-in-Ok-clause-full g c = grind (arith, common_steps)

@@ -1,3 +1,5 @@
+use Rattle.std.proofs.lemmas.Grind.{common_steps}
+use Rattle.std.proofs.Common.{arith}
 use Rattle.std.specs.Prelude.{option_copied}
 use Rattle.hir_env.specs.declared.place.Place.{Place}
 use Rattle.hir_lower_handlers.specs.Spots.{spot_at}
@@ -14,3 +16,15 @@ returns-in-Ok-clause-made g c =
     (answered_generics (spot_at env p) c.args.def (option_copied c.args.param_list) (option_copied c.args.where_clause)) in
     made_from steps as_noted c.item_place-place.ensures c.new-state.ensures c.in-Ok.ensures.0 c.into_parts-stored.ensures.stored
     c.into_parts-stored.ensures.notes c.early_params.ensures c.finish-store.ensures.store c.finish-store.ensures.source_map
+
+pub returns-in-Err-clause-own : goal.returns-in-Err-clause-own
+returns-in-Err-clause-own g c = grind (arith, common_steps)
+
+pub returns-in-Ok-clause-in_range : goal.returns-in-Ok-clause-in_range
+returns-in-Ok-clause-in_range g c = grind (arith, common_steps)
+
+pub returns-in-Ok-clause-full : goal.returns-in-Ok-clause-full
+returns-in-Ok-clause-full g c = grind (arith, common_steps)
+
+pub returns-in-Ok-clause-own : goal.returns-in-Ok-clause-own
+returns-in-Ok-clause-own g c = grind (arith, common_steps)

@@ -1,3 +1,5 @@
+use Rattle.std.proofs.lemmas.Grind.{common_steps}
+use Rattle.std.proofs.Common.{arith}
 use Rattle.hir_store.specs.declared.ids.GenericDefId.TheVariants as definition
 use Rattle.hir_env.specs.declared.place.Place.{Place}
 use Rattle.hir_lower_handlers.specs.Spots.{spot_at}
@@ -21,3 +23,15 @@ returns-in-Err-clause-full g c = λ is.
     let def = definition.TraitId c.args.id in
     let steps = λ (p : Place). lower_trait def (answered_trait (spot_at env p) def c.args.item.value.now) in
     refused_from steps c.in-Err.fault c.from.result c.item_place-place.ensures c.new-state.ensures c.in-Err.ensures c.from.ensures is
+
+pub returns-in-Ok-clause-in_range : goal.returns-in-Ok-clause-in_range
+returns-in-Ok-clause-in_range g c = grind (arith, common_steps)
+
+pub returns-in-Err-clause-own : goal.returns-in-Err-clause-own
+returns-in-Err-clause-own g c = grind (arith, common_steps)
+
+pub returns-in-Ok-clause-full : goal.returns-in-Ok-clause-full
+returns-in-Ok-clause-full g c = grind (arith, common_steps)
+
+pub returns-in-Ok-clause-own : goal.returns-in-Ok-clause-own
+returns-in-Ok-clause-own g c = grind (arith, common_steps)

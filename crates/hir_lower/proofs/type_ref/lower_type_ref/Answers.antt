@@ -1,3 +1,5 @@
+use Rattle.std.proofs.lemmas.Grind.{common_steps}
+use Rattle.std.proofs.Common.{arith}
 use Rattle.std.specs.Prelude.{option_copied}
 use Rattle.hir_lower.specs.Roots.{type_spot}
 use Rattle.hir_lower.proofs.MadeNames.{type_once_if}
@@ -28,3 +30,9 @@ returns-clause-made_once g c =
 pub returns-clause-fits : goal.returns-clause-fits
 returns-clause-fits g c =
     type_fits_if _ _ 4294967295 (λ r. r.0) (λ r. r.1) (λ r. r.2) c.type_steps.result c.type_steps.ensures.stores
+
+pub returns-clause-in_range : goal.returns-clause-in_range
+returns-clause-in_range g c = grind (arith, common_steps)
+
+pub returns-clause-own : goal.returns-clause-own
+returns-clause-own g c = grind (arith, common_steps)

@@ -1,4 +1,5 @@
-use Rattle.std.proofs.Common.{subst}
+use Rattle.std.proofs.lemmas.Grind.{common_steps}
+use Rattle.std.proofs.Common.{subst, arith}
 use Rattle.std.specs.Prelude.{◌≡◌, ◌+◌, option_copied}
 use Rattle.hir_env.specs.Whole.{expr_part}
 use Rattle.hir_env.specs.declared.place.Place.{Place}
@@ -35,3 +36,45 @@ returns-clause-fits g c =
     rw (← c.unboxed.ensures)
     (subst (λ p. FitsBehind (size_part (read p)) self.state) c.inside_constant.ensures
     (c.in_ok-expr.ensures.fits (self.paired c.if-self.false) (self.within c.if-self.false)))
+
+pub returns-then-self-clause-calls : goal.returns-then-self-clause-calls
+returns-then-self-clause-calls g c = grind (arith, common_steps)
+
+pub returns-then-self-clause-fits : goal.returns-then-self-clause-fits
+returns-then-self-clause-fits g c = grind (arith, common_steps)
+
+pub returns-then-self-clause-too_large : goal.returns-then-self-clause-too_large
+returns-then-self-clause-too_large g c = grind (arith, common_steps)
+
+pub returns-in_err-expr-clause-stays : goal.returns-in_err-expr-clause-stays
+returns-in_err-expr-clause-stays g c = grind (arith, common_steps)
+
+pub returns-then-self-clause-full : goal.returns-then-self-clause-full
+returns-then-self-clause-full g c = grind (arith, common_steps)
+
+pub returns-in_err-expr-clause-too_large : goal.returns-in_err-expr-clause-too_large
+returns-in_err-expr-clause-too_large g c = grind (arith, common_steps)
+
+pub returns-clause-too_large : goal.returns-clause-too_large
+returns-clause-too_large g c = grind (arith, common_steps)
+
+pub returns-clause-full : goal.returns-clause-full
+returns-clause-full g c = grind (arith, common_steps)
+
+pub invariant_of-self-2 : goal.invariant_of-self-2
+invariant_of-self-2 g c = grind (arith, common_steps)
+
+pub returns-clause-stays : goal.returns-clause-stays
+returns-clause-stays g c = grind (arith, common_steps)
+
+pub returns-clause-calls : goal.returns-clause-calls
+returns-clause-calls g c = grind (arith, common_steps)
+
+pub returns-in_err-expr-clause-full : goal.returns-in_err-expr-clause-full
+returns-in_err-expr-clause-full g c = grind (arith, common_steps)
+
+pub returns-then-self-clause-names : goal.returns-then-self-clause-names
+returns-then-self-clause-names g c = grind (arith, common_steps)
+
+pub returns-then-self-clause-rooted : goal.returns-then-self-clause-rooted
+returns-then-self-clause-rooted g c = grind (arith, common_steps)

@@ -1,4 +1,5 @@
-use Rattle.std.proofs.Common.{ap, Err}
+use Rattle.std.proofs.lemmas.Grind.{common_steps}
+use Rattle.std.proofs.Common.{ap, Err, arith}
 use Rattle.hir_lower.proofs.PathMeanings.{full_before}
 use Rattle.hir_lower.proofs.StaysOn.{stays_refl}
 use Rattle.hir_lower.proofs.collector.ExprCollector.lower_path.Goals as goal
@@ -30,3 +31,48 @@ pub returns-clause-fits : goal.returns-clause-fits
 returns-clause-fits g c =
     let self = c.args.self.now in
     rw (← c.mode.ensures) (c.in_ok-lowered.ensures.fits (self.paired c.if-self.false) (self.within c.if-self.false))
+
+pub returns-clause-full : goal.returns-clause-full
+returns-clause-full g c = grind (arith, common_steps)
+
+pub returns-clause-calls : goal.returns-clause-calls
+returns-clause-calls g c = grind (arith, common_steps)
+
+pub returns-clause-segments : goal.returns-clause-segments
+returns-clause-segments g c = grind (arith, common_steps)
+
+pub invariant_of-self : goal.invariant_of-self
+invariant_of-self g c = grind (arith, common_steps)
+
+pub returns-then-self-clause-data : goal.returns-then-self-clause-data
+returns-then-self-clause-data g c = grind (arith, common_steps)
+
+pub returns-then-self-clause-segments : goal.returns-then-self-clause-segments
+returns-then-self-clause-segments g c = grind (arith, common_steps)
+
+pub returns-then-self-clause-names : goal.returns-then-self-clause-names
+returns-then-self-clause-names g c = grind (arith, common_steps)
+
+pub returns-then-self-clause-fits : goal.returns-then-self-clause-fits
+returns-then-self-clause-fits g c = grind (arith, common_steps)
+
+pub returns-then-self-clause-arguments : goal.returns-then-self-clause-arguments
+returns-then-self-clause-arguments g c = grind (arith, common_steps)
+
+pub returns-clause-stays : goal.returns-clause-stays
+returns-clause-stays g c = grind (arith, common_steps)
+
+pub returns-clause-too_large : goal.returns-clause-too_large
+returns-clause-too_large g c = grind (arith, common_steps)
+
+pub returns-then-self-clause-full : goal.returns-then-self-clause-full
+returns-then-self-clause-full g c = grind (arith, common_steps)
+
+pub returns-then-self-clause-rooted : goal.returns-then-self-clause-rooted
+returns-then-self-clause-rooted g c = grind (arith, common_steps)
+
+pub returns-then-self-clause-calls : goal.returns-then-self-clause-calls
+returns-then-self-clause-calls g c = grind (arith, common_steps)
+
+pub returns-then-self-clause-too_large : goal.returns-then-self-clause-too_large
+returns-then-self-clause-too_large g c = grind (arith, common_steps)
