@@ -96,7 +96,7 @@ def take_out(crate, said):
         if not (found := re.search(own, read(path))):
             continue
         text, count = read(path).replace(found[0], ""), count + 1
-        for word in [*USED, *re.findall(r"unfolding (\w+)", found[1])]:
+        for word in [*USED, *re.findall(r"\w+", found[1].replace("unfolding ", ""))]:
             if not re.search(rf"\b{word}\b", re.sub(r"^use .*", "", text, flags=re.M)):
                 text = re.sub(rf"^(use .*\{{.*?)(?:, )?\b{word}\b(?=[,}}])", r"\1", text, flags=re.M).replace("{, ", "{")
         text = re.sub(r"^use \S+\.\{\}\n", "", text, flags=re.M)

@@ -42,7 +42,7 @@ fn unresolved(alloc: Global, text: &Value) -> Result<Option<MacroAnswer>, AllocE
     }
 }
 
-/// The tree that a call is expanded to in a file. Null names none.
+/// What is said of a call that is expanded in a file, nothing where the file is no number. A null root names no tree.
 fn expanded(
     alloc: Global,
     kinds: &[Option<Kind>],

@@ -83,7 +83,7 @@ fn of_path_part<F: Fields>(node: &F, refused: &mut bool, kind: PathNode) -> Opti
     }
 }
 
-/// A part of anything else. These share a frame, which few levels go through.
+/// A part of anything else. These share a frame, since most forms nest without it.
 #[inline(never)]
 fn of_part<F: Fields>(node: &F, refused: &mut bool, kind: PartNode) -> Option<AnyPart>
     requires { F.can node.now }
@@ -192,7 +192,7 @@ fn path_part<F: Fields>(node: &F, refused: &mut bool, kind: PathNode) -> Option<
     Some(AnyPart::Path(of_path_part(node, refused, kind)?))
 }
 
-/// What stands at a node of a kind. Each sort has a frame of its own, so that a level takes no more than its own sort needs; this
+/// What stands at a node of a kind. Each sort but those of `of_part` has a frame of its own, so that a level takes no more than it needs; this
 /// function has none, since each level goes through it.
 #[inline(always)]
 #[tactic(auto, unfolding(crate::specs::Reading::of_kind))]

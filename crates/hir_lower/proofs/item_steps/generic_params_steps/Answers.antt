@@ -20,9 +20,6 @@ returns-in-Ok-clause-made g c =
 pub returns-in-Err-clause-own : goal.returns-in-Err-clause-own
 returns-in-Err-clause-own g c = grind (arith, common_steps)
 
-pub returns-in-Ok-clause-in_range : goal.returns-in-Ok-clause-in_range
-returns-in-Ok-clause-in_range g c = grind (arith, common_steps)
-
 pub returns-in-Ok-clause-full : goal.returns-in-Ok-clause-full
 returns-in-Ok-clause-full g c = grind (arith, common_steps)
 

@@ -46,26 +46,14 @@ returns-then-self-clause-fits g c = grind (arith, common_steps)
 pub returns-then-self-clause-too_large : goal.returns-then-self-clause-too_large
 returns-then-self-clause-too_large g c = grind (arith, common_steps)
 
-pub returns-in_err-expr-clause-stays : goal.returns-in_err-expr-clause-stays
-returns-in_err-expr-clause-stays g c = grind (arith, common_steps)
-
 pub returns-then-self-clause-full : goal.returns-then-self-clause-full
 returns-then-self-clause-full g c = grind (arith, common_steps)
-
-pub returns-in_err-expr-clause-too_large : goal.returns-in_err-expr-clause-too_large
-returns-in_err-expr-clause-too_large g c = grind (arith, common_steps)
 
 pub returns-clause-too_large : goal.returns-clause-too_large
 returns-clause-too_large g c = grind (arith, common_steps)
 
 pub returns-clause-full : goal.returns-clause-full
 returns-clause-full g c = grind (arith, common_steps)
-
-pub invariant_of-self-2 : goal.invariant_of-self-2
-invariant_of-self-2 g c = grind (arith, common_steps)
-
-pub returns-clause-stays : goal.returns-clause-stays
-returns-clause-stays g c = grind (arith, common_steps)
 
 pub returns-clause-calls : goal.returns-clause-calls
 returns-clause-calls g c = grind (arith, common_steps)

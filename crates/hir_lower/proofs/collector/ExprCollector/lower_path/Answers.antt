@@ -38,9 +38,6 @@ returns-clause-full g c = grind (arith, common_steps)
 pub returns-clause-calls : goal.returns-clause-calls
 returns-clause-calls g c = grind (arith, common_steps)
 
-pub returns-clause-segments : goal.returns-clause-segments
-returns-clause-segments g c = grind (arith, common_steps)
-
 pub invariant_of-self : goal.invariant_of-self
 invariant_of-self g c = grind (arith, common_steps)
 
@@ -58,9 +55,6 @@ returns-then-self-clause-fits g c = grind (arith, common_steps)
 
 pub returns-then-self-clause-arguments : goal.returns-then-self-clause-arguments
 returns-then-self-clause-arguments g c = grind (arith, common_steps)
-
-pub returns-clause-stays : goal.returns-clause-stays
-returns-clause-stays g c = grind (arith, common_steps)
 
 pub returns-clause-too_large : goal.returns-clause-too_large
 returns-clause-too_large g c = grind (arith, common_steps)
