@@ -1,7 +1,9 @@
 //! What lowering an item notes: its parameters, those that `impl`s become among them, its lifetime parameters, and the names of lifetimes;
-//! and from these the kinds of the lifetime parameters. Laws, each the contract of a function.
+//! and from these the kinds of the lifetime parameters. And what it asks of types and lifetimes: its predicates, in their order, those of
+//! the parameters that `impl`s become among them, each with what it is of and its bound read back. Laws, each the contract of a function.
 #![tactic(auto)]
 
+ghost use Rattle.hir_item_noted.specs.AskedLaws.{ItemsAsk};
 ghost use Rattle.hir_item_noted.specs.Laws.{ItemsMake, ItemsNote};
 ghost use Rattle.hir_item_noted.specs.Words.{SameWords};
 
@@ -22,4 +24,11 @@ pub fn items_make()
 /// The name of a trait's `Self`, and the type that a parameter is, are those of the steps.
 pub fn same_words()
     ensures { SameWords }
+{}
+
+/// To the predicates of an item come as many as its parts ask, in the order in which these are read: of a parameter, which has the number
+/// that it has among all, of a written type, or of a lifetime; with the names of the `for<..>` in front of it and the bound as it is
+/// written. An error and a `use<..>` ask nothing, but of an `impl` that becomes a parameter, nor does a trait of a lifetime.
+pub fn items_ask()
+    ensures { ItemsAsk }
 {}

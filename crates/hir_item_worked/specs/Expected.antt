@@ -24,8 +24,8 @@ use Rattle.hir_data.specs.Data.{typed}
 use Rattle.hir_data.specs.Trees.{never_data, pointer}
 use Rattle.hir_meaning.specs.InnerWritten.{constant_body}
 use Rattle.hir_item_noted.specs.Fold.{Param, const_param, impl_param, type_param}
-use Rattle.hir_item_asked.specs.Fold as asked
-use Rattle.hir_item_asked.specs.Fold.{Asked, Asking, Target}
+use Rattle.hir_item_noted.specs.AskedFold as asked
+use Rattle.hir_item_noted.specs.AskedFold.{Asked, Asking, Target}
 use Rattle.hir_item_worked.specs.Read.{Read, Seen, a_fault, type_made}
 
 abbrev pub text : List ℕ → Name

@@ -20,7 +20,7 @@ use Rattle.hir_data.specs.Data as datum
 use Rattle.hir_data.specs.Data.{BoundData, TypeData}
 use Rattle.hir_data.specs.Trees.{bare, error_data, impl_at, never_at, never_data, no_range, node, pointer}
 use Rattle.hir_lower_item.specs.Answering.{answered_generics}
-use Rattle.hir_item_asked.specs.Fold.{Asking}
+use Rattle.hir_item_noted.specs.AskedFold.{Asking}
 use Rattle.hir_item_worked.specs.Trees.{enabled, disabling, lifetime_at, trait_at, maybe_at, for_trait_at, outlives_at, uses_at}
 use Rattle.hir_item_worked.specs.Trees.{broken_bound, binder_of, cast_at, impl_by, type_param_at, const_param_at, lifetime_param_at}
 use Rattle.hir_item_worked.specs.Trees.{where_of, impl_inside}

@@ -12,7 +12,8 @@ use Rattle.hir_lower_item.specs.Items.{Alias, Function, Generics, Impl, Trait}
 use Rattle.hir_item_noted.specs.Fold.{ItemNoting, Param, noted_in_alias, noted_in_function, noted_in_generics, noted_in_impl}
 use Rattle.hir_item_noted.specs.Fold.{noted_in_trait}
 use Rattle.hir_item_noted.specs.Noted.{all_early, by_kind}
-use Rattle.hir_item_asked.specs.Fold.{Asking, Asks, asked_in_alias, asked_in_function, asked_in_generics, asked_in_impl, asked_in_trait}
+use Rattle.hir_item_noted.specs.AskedFold.{Asking, Asks, asked_in_alias, asked_in_function, asked_in_generics, asked_in_impl}
+use Rattle.hir_item_noted.specs.AskedFold.{asked_in_trait}
 use Rattle.hir_item_result.specs.Answers.{arguments_data, keeps_self, keeps_variadic, output_data, receiver_data, trait_data}
 use Rattle.hir_item_result.specs.Parts as part
 use Rattle.hir_item_result.specs.Parts.{Part, alias_parts, function_parts, generics_parts, impl_parts, trait_parts}

@@ -13,8 +13,8 @@ use Rattle.hir_lower_form.specs.declared.generics.GenericLists.{GenericLists}
 use Rattle.hir_lower_form.specs.declared.generics.Notes.{Notes}
 use Rattle.hir_lower_item.specs.Kinds.{finished}
 use Rattle.hir_steps.specs.Keeps.{Paired}
-use Rattle.hir_item_asked.specs.Asked.{IsAsked, Stand}
-use Rattle.hir_item_asked.specs.Fold.{Asks}
+use Rattle.hir_item_noted.specs.Asked.{IsAsked, Stand}
+use Rattle.hir_item_noted.specs.AskedFold.{Asks}
 use Rattle.hir_item_noted.specs.Fold.{ItemNoting}
 use Rattle.hir_item_noted.specs.Laws.{Made}
 use Rattle.hir_item_result.specs.Answers.{Answers}

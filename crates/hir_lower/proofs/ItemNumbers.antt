@@ -31,8 +31,8 @@ use Rattle.hir_lower_form.specs.Builder.{Builder, fresh}
 use Rattle.hir_lower_form.specs.declared.generics.GenericLists.{GenericLists}
 use Rattle.hir_lower_item.specs.Has.{HasAlias, HasImpl, HasTraitOption}
 use Rattle.hir_lower_item.specs.Kinds.{finished}
-use Rattle.hir_item_asked.specs.Asked.{BoundIs, IsAsked, Stand, StandsFor, TypeIs}
-use Rattle.hir_item_asked.specs.Fold.{Asked, Asking, Asks, of_lifetime, of_type, parameter, written}
+use Rattle.hir_item_noted.specs.Asked.{BoundIs, IsAsked, Stand, StandsFor, TypeIs}
+use Rattle.hir_item_noted.specs.AskedFold.{Asked, Asking, Asks, of_lifetime, of_type, parameter, written}
 use Rattle.hir_item_noted.specs.Fold.{ItemNoting, Param, const_param, impl_param, type_param}
 use Rattle.hir_item_noted.specs.Laws.{Made}
 use Rattle.hir_item_noted.specs.Noted.{ParamIs, ParamsFrom}

@@ -6,8 +6,8 @@ use Rattle.hir_store.specs.declared.generics.GenericParams.{GenericParams}
 use Rattle.hir_store.specs.declared.generics.LifetimeParamData.{LifetimeParamData}
 use Rattle.hir_store.specs.declared.ids.GenericDefId.{GenericDefId}
 use Rattle.hir_lower_item.specs.Items.{Alias, Function, Generics, Impl, Trait}
-use Rattle.hir_item_asked.specs.Asked.{Stand}
-use Rattle.hir_item_asked.specs.Fold.{Asking, asked_in_alias, asked_in_function, asked_in_generics, asked_in_impl, asked_in_trait}
+use Rattle.hir_item_noted.specs.Asked.{Stand}
+use Rattle.hir_item_noted.specs.AskedFold.{Asking, asked_in_alias, asked_in_function, asked_in_generics, asked_in_impl, asked_in_trait}
 use Rattle.hir_item_noted.specs.Fold.{ItemNoting}
 use Rattle.hir_item_noted.specs.Fold.{noted_in_alias, noted_in_function, noted_in_generics, noted_in_impl, noted_in_trait}
 use Rattle.hir_item_noted.specs.Noted.{ParamsFrom, all_early, by_kind}

@@ -3,8 +3,8 @@ use Rattle.hir_store.specs.Past.{Within}
 use Rattle.hir_store.specs.declared.ids.GenericDefId.TheVariants as definition
 use Rattle.hir_lower_form.specs.Builder.{fresh}
 use Rattle.hir_lower_item.specs.Lower.{lower_impl}
-use Rattle.hir_item_asked.specs.Fold.{asked_in_impl}
-use Rattle.hir_item_asked.proofs.Laws.{items_ask}
+use Rattle.hir_item_noted.specs.AskedFold.{asked_in_impl}
+use Rattle.hir_item_noted.proofs.AskedLaws.{items_ask}
 use Rattle.hir_item_noted.specs.Fold.{noted_in_impl}
 use Rattle.hir_item_noted.specs.Noted.{all_early}
 use Rattle.hir_item_noted.proofs.Laws.{items_make}

@@ -12,7 +12,7 @@ use Rattle.hir_meaning.specs.Inner.{Bodies, all_inners, of_bound, type_inner_bod
 use Rattle.hir_meaning.specs.Same.{SameBodies}
 use Rattle.hir_lower_form.specs.Builder.{Builder}
 use Rattle.hir_item_noted.specs.Noted.{count, parameter_type}
-use Rattle.hir_item_asked.specs.Fold.{Asked, Asking, Asks, of_lifetime, of_type, parameter, written}
+use Rattle.hir_item_noted.specs.AskedFold.{Asked, Asking, Asks, of_lifetime, of_type, parameter, written}
 
 module _ (store : Store) (source_map : SourceMap) where
   -- a parameter is one, from that node; what is written is read back, and the bodies inside it do what the written ones do

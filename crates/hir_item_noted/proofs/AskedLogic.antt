@@ -29,8 +29,9 @@ use Rattle.hir_sets.specs.Noting.{Impl, Noting}
 use Rattle.hir_noted.specs.Lists.{BoundsHold, Fits, Noted, all_entries, unnamed}
 use Rattle.hir_noted.proofs.Logic as parts
 use Rattle.hir_item_noted.specs.Noted.{count}
-use Rattle.hir_item_asked.specs.Fold.{Asked, Asking, Asks, Reached, asking, each_of, nothing, of_impls, of_part, parameter, ◌⊟◌, one_param}
-use Rattle.hir_item_asked.specs.Asked.{IsAsked, Stand, StandsFor, TypeIs}
+use Rattle.hir_item_noted.specs.AskedFold.{Asked, Asking, Asks, Reached, asking, each_of, nothing, of_impls, of_part, parameter, ◌⊟◌}
+use Rattle.hir_item_noted.specs.AskedFold.{one_param}
+use Rattle.hir_item_noted.specs.Asked.{IsAsked, Stand, StandsFor, TypeIs}
 
 -- ---- what stands
 

@@ -60,16 +60,18 @@ use Rattle.hir_lower_item.specs.declared.predicates.Bounded.TheVariants as bound
 use Rattle.hir_lower_item.specs.Items as item
 use Rattle.hir_lower_item.specs.Items.{Alias, Argument, Function, Generics, Impl, Param, Predicate, Receiver, Trait}
 use Rattle.hir_lower_item.specs.Lower as steps
-use Rattle.hir_item_asked.specs.Fold.{Asked, Target, a_lifetime, a_type, asked_by, asked_in_alias, asked_in_argument, asked_in_arguments}
-use Rattle.hir_item_asked.specs.Fold.{asked_in_default, asked_in_each, asked_in_function, asked_in_generics, asked_in_impl, asked_in_param}
-use Rattle.hir_item_asked.specs.Fold.{asked_in_params, asked_in_predicate, asked_in_predicates, asked_in_receiver, asked_in_trait}
-use Rattle.hir_item_asked.specs.Fold.{asked_in_trait_path, asked_of_param, asking, nothing, of_part, of_type, of_lifetime as outlives}
-use Rattle.hir_item_asked.specs.Fold.{one_param, parameter, written, ◌⊟◌}
+use Rattle.hir_item_noted.specs.AskedFold.{Asked, Target, a_lifetime, a_type, asked_by, asked_in_alias, asked_in_argument}
+use Rattle.hir_item_noted.specs.AskedFold.{asked_in_arguments}
+use Rattle.hir_item_noted.specs.AskedFold.{asked_in_default, asked_in_each, asked_in_function, asked_in_generics, asked_in_impl}
+use Rattle.hir_item_noted.specs.AskedFold.{asked_in_param}
+use Rattle.hir_item_noted.specs.AskedFold.{asked_in_params, asked_in_predicate, asked_in_predicates, asked_in_receiver, asked_in_trait}
+use Rattle.hir_item_noted.specs.AskedFold.{asked_in_trait_path, asked_of_param, asking, nothing, of_part, of_type, of_lifetime as outlives}
+use Rattle.hir_item_noted.specs.AskedFold.{one_param, parameter, written, ◌⊟◌}
 use Rattle.hir_item_noted.specs.Noted.{count}
-use Rattle.hir_item_asked.specs.Asked.{BoundHolds, BoundIs, TypeIs}
-use Rattle.hir_item_asked.proofs.Logic.{AskTo, Later, Steps, asked_nothing, from_then, param_then, predicate_to, read_as, steps_begin}
-use Rattle.hir_item_asked.proofs.Logic.{steps_end, steps_lifetime_param, steps_param, steps_part, steps_pure, steps_quiet, steps_then}
-use Rattle.hir_item_asked.proofs.Logic.{ask_at, steps_by, still}
+use Rattle.hir_item_noted.specs.Asked.{BoundHolds, BoundIs, TypeIs}
+use Rattle.hir_item_noted.proofs.AskedLogic.{AskTo, Later, Steps, asked_nothing, from_then, param_then, predicate_to, read_as, steps_begin}
+use Rattle.hir_item_noted.proofs.AskedLogic.{steps_end, steps_lifetime_param, steps_param, steps_part, steps_pure, steps_quiet, steps_then}
+use Rattle.hir_item_noted.proofs.AskedLogic.{ask_at, steps_by, still}
 
 -- ---- steps that ask nothing
 

@@ -1,7 +1,7 @@
 -- The law, of the steps.
-use Rattle.hir_item_asked.specs.Laws.{ItemsAsk}
-use Rattle.hir_item_asked.proofs.Items.{alias_asks, function_asks, generics_ask, impl_asks, trait_asks}
-use Rattle.hir_item_asked.proofs.Logic.{asked_by_steps}
+use Rattle.hir_item_noted.specs.AskedLaws.{ItemsAsk}
+use Rattle.hir_item_noted.proofs.AskedItems.{alias_asks, function_asks, generics_ask, impl_asks, trait_asks}
+use Rattle.hir_item_noted.proofs.AskedLogic.{asked_by_steps}
 
 pub items_ask : ItemsAsk
 items_ask def = (

@@ -6,8 +6,8 @@ use Rattle.hir_lower_form.specs.Lowering.{Lowering}
 use Rattle.hir_lower_item.specs.Items.{Alias, Function, Generics, Impl, Trait}
 use Rattle.hir_lower_item.specs.Lower.{lower_alias, lower_function, lower_generics, lower_impl, lower_trait}
 use Rattle.hir_steps.specs.Keeps.{Paired}
-use Rattle.hir_item_asked.specs.Fold.{Asks, asked_in_alias, asked_in_function, asked_in_generics, asked_in_impl, asked_in_trait}
-use Rattle.hir_item_asked.specs.Asked.{IsAsked}
+use Rattle.hir_item_noted.specs.AskedFold.{Asks, asked_in_alias, asked_in_function, asked_in_generics, asked_in_impl, asked_in_trait}
+use Rattle.hir_item_noted.specs.Asked.{IsAsked}
 
 -- from any builder on in which each entry has its source
 

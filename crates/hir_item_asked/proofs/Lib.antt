@@ -1,3 +1,0 @@
-pub mod Logic
-pub mod Items
-pub mod Laws

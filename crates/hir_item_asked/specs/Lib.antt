@@ -1,3 +1,0 @@
-pub mod Fold
-pub mod Asked
-pub mod Laws
