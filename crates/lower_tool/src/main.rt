@@ -1,6 +1,9 @@
 //! Reads a document from standard input and prints what it is lowered to.
 #![tactic(auto)]
 
+#[cfg(test)]
+mod streams;
+
 use lower_run::failure::Failure;
 use lower_run::run::run;
 use std::env;

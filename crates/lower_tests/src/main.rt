@@ -62,8 +62,6 @@ mod small;
 #[cfg(test)]
 mod stacks;
 #[cfg(test)]
-mod streams;
-#[cfg(test)]
 mod targets;
 #[cfg(test)]
 mod types;
@@ -71,3 +69,6 @@ mod types;
 mod ways;
 #[cfg(test)]
 mod ways_back;
+
+/// A program, since nothing stands on it: the gate writes no library for it.
+fn main() {}
