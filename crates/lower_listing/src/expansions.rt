@@ -19,28 +19,34 @@ fn counts_no_more(entry: &ExpandedCall, rest: &[ExpandedCall]) -> bool {
     }
 }
 
-fn line(writer: &mut Writer, entry: &ExpandedCall) -> Result<(), AllocError> {
-    writer.word("expansion ")?;
-    writer.node(entry.call)?;
-    writer.numbered(" ", entry.file.0)?;
+fn line(writer: &mut Writer, entry: &ExpandedCall) {
+    writer.word("expansion ");
+    writer.node(entry.call);
+    writer.numbered(" ", entry.file.0);
     writer.word("\n")
+}
+
+fn sorted(alloc: Global, recorded: &[ExpandedCall]) -> Result<Vec<ExpandedCall>, AllocError> {
+    let mut entries = Vec::from_slice(alloc, recorded)?;
+    entries.sort_by_key(key)?;
+    Ok(entries)
+}
+
+fn lines(writer: &mut Writer, entries: &[ExpandedCall]) {
+    let mut left = entries;
+    while let [one, rest @ ..] = left {
+        if !counts_no_more(one, rest) {
+            line(writer, one);
+        }
+        left = rest;
+    }
 }
 
 /// Adds a line for each call that was expanded, by file, by node and by the place of its text. Of what is said of one call the last
 /// counts.
-pub fn expansions(
-    alloc: Global,
-    writer: &mut Writer,
-    recorded: &[ExpandedCall],
-) -> Result<(), AllocError> {
-    let mut entries = Vec::from_slice(alloc, recorded)?;
-    entries.sort_by_key(key)?;
-    let mut left = entries.as_slice();
-    while let [one, rest @ ..] = left {
-        if !counts_no_more(one, rest) {
-            line(writer, one)?;
-        }
-        left = rest;
+pub fn expansions(alloc: Global, writer: &mut Writer, recorded: &[ExpandedCall]) {
+    match sorted(alloc, recorded) {
+        Ok(entries) => lines(writer, entries.as_slice()),
+        Err(AllocError) => writer.refuse(),
     }
-    Ok(())
 }

@@ -42,10 +42,8 @@ pub struct Listed<'a> {
 
 fn listing<'a>(alloc: Global, listed: Listed<'a>, shown: Shown<'a>) -> Result<String, AllocError> {
     let mut printer = Printer::new(alloc, listed);
-    let printed = printer.listing(shown);
-    let text = printer.finish();
-    printed?;
-    Ok(text)
+    printer.listing(shown);
+    printer.finish()
 }
 
 /// The listing of a body: a line with its `self`, where it has one, one for each other parameter, one with itself, one for
@@ -77,10 +75,8 @@ pub fn path_listing<'a>(
     written: &'a ast::Path,
 ) -> Result<String, AllocError> {
     let mut printer = Printer::new(alloc, listed);
-    let printed = printer.path_listing(path, written);
-    let text = printer.finish();
-    printed?;
-    Ok(text)
+    printer.path_listing(path, written);
+    printer.finish()
 }
 
 /// The listing of a type: a line with it, then as for a body. Only memory can fail.

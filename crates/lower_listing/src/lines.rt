@@ -12,38 +12,34 @@ use hir_store::store::ExpressionStore;
 use hir_syntax::ast::{Path, PathSegment};
 use std::alloc::AllocError;
 
-fn segment_line(writer: &mut Writer, number: u32, name: &str) -> Result<(), AllocError> {
-    writer.numbered("segment ", number)?;
-    writer.word(" ")?;
-    writer.word(name)?;
+fn segment_line(writer: &mut Writer, number: u32, name: &str) {
+    writer.numbered("segment ", number);
+    writer.word(" ");
+    writer.word(name);
     writer.word("\n")
 }
 
 /// Adds a line for each of these segments that stands for a name, numbered from a number on, and answers the next one.
 /// A document has far fewer segments than there are numbers.
-fn segment_lines(
-    writer: &mut Writer,
-    first: u32,
-    segments: &[Option<PathSegment>],
-) -> Result<u32, AllocError> {
+fn segment_lines(writer: &mut Writer, first: u32, segments: &[Option<PathSegment>]) -> u32 {
     let mut number = first;
     for segment in segments {
         if let Some(segment) = segment
             && let Some(name) = segment_name(segment)
         {
-            segment_line(writer, number, name)?;
+            segment_line(writer, number, name);
             number = number.saturating_add(1);
         }
     }
-    Ok(number)
+    number
 }
 
 /// Adds a line for each written segment that bears a name, the k-th with the number k, and one that says that there
 /// are no more. The segments of a trait stand in place of the one that it qualifies.
-pub fn segments(writer: &mut Writer, path: &Path) -> Result<(), AllocError> {
+pub fn segments(writer: &mut Writer, path: &Path) {
     let (of_trait, rest) = named_parts(path);
-    let number = segment_lines(writer, 0, of_trait)?;
-    let number = segment_lines(writer, number, rest)?;
+    let number = segment_lines(writer, 0, of_trait);
+    let number = segment_lines(writer, number, rest);
     segment_line(writer, number, "None")
 }
 
@@ -53,33 +49,29 @@ pub fn bindings(
     owners: &mut Owners,
     bindings: &[u32],
     store: &ExpressionStore,
-) -> Result<(), AllocError> {
+) {
     for (number, stored) in bindings.iter().enumerate() {
         let id = BindingId(*stored);
-        writer.numbered("binding ", number)?;
+        writer.numbered("binding ", number);
         if let Some(binding) = store.binding(id) {
-            writer.named(" ", &binding.name)?;
-            writer.word(mode_word(binding.mode))?;
-            writer.word(problem_word(binding.problems))?;
+            writer.named(" ", &binding.name);
+            writer.word(mode_word(binding.mode));
+            writer.word(problem_word(binding.problems));
         }
-        owner(writer, owners, store.binding_owner(id))?;
-        writer.mark('\n')?;
+        owner(writer, owners, store.binding_owner(id));
+        writer.mark('\n');
     }
-    Ok(())
 }
 
-fn owner(
-    writer: &mut Writer,
-    owners: &mut Owners,
-    owner: Option<ExprId>,
-) -> Result<(), AllocError> {
+fn owner(writer: &mut Writer, owners: &mut Owners, owner: Option<ExprId>) {
     let number = match owner {
-        Some(id) => owners.number(id)?,
-        None => None,
+        Some(id) => owners.number(id),
+        None => Ok(None),
     };
     match number {
-        Some(number) => writer.numbered(" o", number),
-        None => writer.word(" -"),
+        Ok(Some(number)) => writer.numbered(" o", number),
+        Ok(None) => writer.word(" -"),
+        Err(AllocError) => writer.refuse(),
     }
 }
 
@@ -89,31 +81,26 @@ pub fn labels(
     labels: &[u32],
     store: &ExpressionStore,
     source_map: &ExpressionStoreSourceMap,
-) -> Result<(), AllocError> {
+) {
     for (number, stored) in labels.iter().enumerate() {
         let id = LabelId(*stored);
-        writer.numbered("label ", number)?;
+        writer.numbered("label ", number);
         if let Some(label) = store.label(id) {
-            writer.named(" ", &label.name)?;
+            writer.named(" ", &label.name);
         }
-        writer.end_line(source_map.label_syntax(id))?;
+        writer.end_line(source_map.label_syntax(id));
     }
-    Ok(())
 }
 
 /// Adds a line for each of these diagnostics: its kind, its detail, and the node that bears the fault.
-pub fn diagnostics(
-    writer: &mut Writer,
-    faults: &[ExpressionStoreDiagnostics],
-) -> Result<(), AllocError> {
+pub fn diagnostics(writer: &mut Writer, faults: &[ExpressionStoreDiagnostics]) {
     for fault in faults {
-        detail(writer, fault)?;
-        writer.end_line(Some(node(fault)))?;
+        detail(writer, fault);
+        writer.end_line(Some(node(fault)));
     }
-    Ok(())
 }
 
-fn detail(writer: &mut Writer, fault: &ExpressionStoreDiagnostics) -> Result<(), AllocError> {
+fn detail(writer: &mut Writer, fault: &ExpressionStoreDiagnostics) {
     match fault {
         ExpressionStoreDiagnostics::InactiveCode { cfg, .. } => writer.numbered(
             "diag InactiveCode ",
@@ -128,7 +115,7 @@ fn detail(writer: &mut Writer, fault: &ExpressionStoreDiagnostics) -> Result<(),
             name,
         ),
         ExpressionStoreDiagnostics::UnresolvedMacroCall { path, .. } => {
-            writer.word("diag UnresolvedMacroCall ")?;
+            writer.word("diag UnresolvedMacroCall ");
             writer.mod_path(path)
         }
         ExpressionStoreDiagnostics::AwaitOutsideOfAsync { location, .. } => {

@@ -4,7 +4,6 @@ use super::waiting::{ABSENT, Piece, Waiting};
 use hir_store::hir::RecordFieldPat;
 use hir_store::ids::{PatId, TypeRefId};
 use hir_store::path::Path;
-use std::alloc::AllocError;
 
 /// A pattern that is there or isn't, as what waits.
 pub fn pat_or_absent(pat: Option<PatId>) -> Piece<'static> {
@@ -38,12 +37,7 @@ pub fn dots_or_absent(ellipsis: bool) -> Piece<'static> {
 /// What is let wait here waits before all others, and the bracket after it.
 impl<'a> Waiting<'a> {
     /// Lets the parts of a pattern wait that begins with a path.
-    pub fn push_tuple_struct(
-        &mut self,
-        path: &'a Path,
-        ellipsis: Option<u32>,
-        args: &'a [PatId],
-    ) -> Result<(), AllocError> {
+    pub fn push_tuple_struct(&mut self, path: &'a Path, ellipsis: Option<u32>, args: &'a [PatId]) {
         self.push_parts(&[
             Piece::PlainPath(path),
             place_or_absent(ellipsis),
@@ -52,11 +46,7 @@ impl<'a> Waiting<'a> {
     }
 
     /// Lets a list of the parameters of a closure wait.
-    pub fn push_closure_param_list(
-        &mut self,
-        pats: &'a [PatId],
-        types: &'a [Option<TypeRefId>],
-    ) -> Result<(), AllocError> {
+    pub fn push_closure_param_list(&mut self, pats: &'a [PatId], types: &'a [Option<TypeRefId>]) {
         self.push_all(&[
             Piece::Word("["),
             Piece::ClosureParams("", pats, types),
@@ -65,7 +55,7 @@ impl<'a> Waiting<'a> {
     }
 
     /// Lets a list of the fields of a record pattern wait.
-    pub fn push_pat_field_list(&mut self, fields: &'a [RecordFieldPat]) -> Result<(), AllocError> {
+    pub fn push_pat_field_list(&mut self, fields: &'a [RecordFieldPat]) {
         self.push_all(&[
             Piece::Word("["),
             Piece::PatFields("", fields),

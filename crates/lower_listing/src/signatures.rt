@@ -9,7 +9,6 @@ use hir_store::generics::{
 };
 use hir_store::ids::{TypeParamId, TypeRefId};
 use hir_store::name::Name;
-use std::alloc::AllocError;
 
 /// What is listed of a function.
 #[derive(Clone, Copy)]
@@ -39,63 +38,59 @@ fn provenance_word(provenance: TypeParamProvenance) -> &'static str {
 
 impl<'a> Printer<'a> {
     /// Prints the lines of a function.
-    pub fn signature(&mut self, shown: Signature<'a>) -> Result<(), AllocError> {
-        self.lifetime_params(shown.params)?;
-        self.type_params(shown.params)?;
-        self.predicates(shown.params)?;
+    pub fn signature(&mut self, shown: Signature<'a>) {
+        self.lifetime_params(shown.params);
+        self.type_params(shown.params);
+        self.predicates(shown.params);
         if shown.has_self {
-            self.writer.word("self\n")?;
+            self.writer.word("self\n");
         }
-        self.arguments(shown.args)?;
+        self.arguments(shown.args);
         if shown.has_variadic {
-            self.writer.word("variadic\n")?;
+            self.writer.word("variadic\n");
         }
-        self.writer.word("ret ")?;
+        self.writer.word("ret ");
         self.line(type_or_absent(shown.ret))
     }
 
-    fn lifetime_params(&mut self, params: &'a GenericParams) -> Result<(), AllocError> {
+    fn lifetime_params(&mut self, params: &'a GenericParams) {
         for param in params.lifetimes() {
-            self.writer.named("lifetime ", &param.name)?;
-            self.writer.word(kind_word(param.bound_type))?;
+            self.writer.named("lifetime ", &param.name);
+            self.writer.word(kind_word(param.bound_type));
         }
-        Ok(())
     }
 
-    fn type_params(&mut self, params: &'a GenericParams) -> Result<(), AllocError> {
+    fn type_params(&mut self, params: &'a GenericParams) {
         for (number, param) in params.type_or_consts().iter().enumerate() {
-            self.param(number, param)?;
+            self.param(number, param);
         }
-        Ok(())
     }
 
-    fn predicates(&mut self, params: &'a GenericParams) -> Result<(), AllocError> {
+    fn predicates(&mut self, params: &'a GenericParams) {
         for predicate in params.where_predicates() {
-            self.predicate(predicate)?;
+            self.predicate(predicate);
         }
-        Ok(())
     }
 
-    fn arguments(&mut self, args: &'a [TypeRefId]) -> Result<(), AllocError> {
+    fn arguments(&mut self, args: &'a [TypeRefId]) {
         for arg in args {
-            self.writer.word("arg ")?;
-            self.line(Piece::Type_(*arg))?;
+            self.writer.word("arg ");
+            self.line(Piece::Type_(*arg));
         }
-        Ok(())
     }
 
     /// Prints the line of the parameter of a number.
-    fn param(&mut self, number: usize, param: &'a TypeOrConstParamData) -> Result<(), AllocError> {
+    fn param(&mut self, number: usize, param: &'a TypeOrConstParamData) {
         match param {
             TypeOrConstParamData::TypeParamData(param) => {
-                self.writer.numbered("type ", number)?;
+                self.writer.numbered("type ", number);
                 self.type_param_line(param)
             }
             TypeOrConstParamData::ConstParamData(param) => {
-                self.writer.numbered("const ", number)?;
-                self.writer.named(" ", &param.name)?;
-                self.writer.word(" ")?;
-                self.whole(Piece::Type_(param.ty))?;
+                self.writer.numbered("const ", number);
+                self.writer.named(" ", &param.name);
+                self.writer.word(" ");
+                self.whole(Piece::Type_(param.ty));
                 match param.default {
                     Some(constant) => self.default(Piece::Expr(constant.expr)),
                     None => self.writer.word("\n"),
@@ -105,12 +100,12 @@ impl<'a> Printer<'a> {
     }
 
     /// Prints what stands behind the number of a type parameter.
-    fn type_param_line(&mut self, param: &'a TypeParamData) -> Result<(), AllocError> {
+    fn type_param_line(&mut self, param: &'a TypeParamData) {
         match &param.name {
-            Some(name) => self.writer.named(" ", name)?,
-            None => self.writer.word(" -")?,
+            Some(name) => self.writer.named(" ", name),
+            None => self.writer.word(" -"),
         }
-        self.writer.word(provenance_word(param.provenance))?;
+        self.writer.word(provenance_word(param.provenance));
         match param.default {
             Some(ty) => self.default(Piece::Type_(ty)),
             None => self.writer.word("\n"),
@@ -118,14 +113,14 @@ impl<'a> Printer<'a> {
     }
 
     /// Prints a default, and ends the line.
-    fn default(&mut self, piece: Piece<'a>) -> Result<(), AllocError> {
-        self.writer.word(" = ")?;
+    fn default(&mut self, piece: Piece<'a>) {
+        self.writer.word(" = ");
         self.line(piece)
     }
 
     /// Prints the line of a predicate.
-    fn predicate(&mut self, predicate: &'a WherePredicate) -> Result<(), AllocError> {
-        self.writer.word("where ")?;
+    fn predicate(&mut self, predicate: &'a WherePredicate) {
+        self.writer.word("where ");
         match predicate {
             WherePredicate::TypeBound {
                 lifetimes,
@@ -133,7 +128,7 @@ impl<'a> Printer<'a> {
                 bound,
             } => {
                 if let Some(names) = lifetimes {
-                    self.writer.binder(names.as_slice())?;
+                    self.writer.binder(names.as_slice());
                 }
                 self.asked(Piece::Type_(*target), Piece::Bound(bound))
             }
@@ -144,9 +139,9 @@ impl<'a> Printer<'a> {
     }
 
     /// Prints what a predicate is of, and what is asked of it.
-    fn asked(&mut self, target: Piece<'a>, bound: Piece<'a>) -> Result<(), AllocError> {
-        self.whole(target)?;
-        self.writer.word(": ")?;
+    fn asked(&mut self, target: Piece<'a>, bound: Piece<'a>) {
+        self.whole(target);
+        self.writer.word(": ");
         self.line(bound)
     }
 
@@ -156,11 +151,11 @@ impl<'a> Printer<'a> {
     }
 
     /// Prints the name of a type parameter, and the number of one that has none, as one that an `impl` became.
-    pub fn type_param(&mut self, id: TypeParamId) -> Result<(), AllocError> {
+    pub fn type_param(&mut self, id: TypeParamId) {
         match self.param_name(id) {
             Some(name) => self.writer.name(name),
             None => {
-                self.writer.numbered("Param[", id.local_id.0)?;
+                self.writer.numbered("Param[", id.local_id.0);
                 self.writer.word("]")
             }
         }

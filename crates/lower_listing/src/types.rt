@@ -7,7 +7,6 @@ use hir_store::path::{
     AssociatedTypeBinding, GenericArgs, GenericArgsParentheses, NormalPath, Path, PathKind,
 };
 use hir_store::type_ref::{ArrayType, FnType, TraitBoundModifier, TypeBound};
-use std::alloc::AllocError;
 
 const NOTHING: Piece<'static> = Piece::Word("");
 
@@ -22,17 +21,17 @@ pub fn before_first_name(kind: PathKind) -> &'static str {
 /// What is let wait here waits before all others.
 impl<'a> Waiting<'a> {
     /// Lets a tuple wait, with its types between parentheses.
-    pub fn push_tuple(&mut self, types: &'a [TypeRefId]) -> Result<(), AllocError> {
+    pub fn push_tuple(&mut self, types: &'a [TypeRefId]) {
         self.push_all(&[Piece::Word("("), Piece::Types("", types), Piece::Word(")")])
     }
 
     /// Lets a slice wait, with its type between brackets.
-    pub fn push_slice(&mut self, ty: TypeRefId) -> Result<(), AllocError> {
+    pub fn push_slice(&mut self, ty: TypeRefId) {
         self.push_all(&[Piece::Word("["), Piece::Type_(ty), Piece::Word("]")])
     }
 
     /// The length is an expression of the same store.
-    pub fn push_array(&mut self, array: &ArrayType) -> Result<(), AllocError> {
+    pub fn push_array(&mut self, array: &ArrayType) {
         self.push_all(&[
             Piece::Word("["),
             Piece::Type_(array.ty),
@@ -43,9 +42,9 @@ impl<'a> Waiting<'a> {
     }
 
     /// The last of the types is what the function answers.
-    pub fn push_function(&mut self, pointer: &'a FnType) -> Result<(), AllocError> {
+    pub fn push_function(&mut self, pointer: &'a FnType) {
         let Some((answer, params)) = pointer.params.as_slice().split_last() else {
-            return Ok(());
+            return;
         };
         let binder = match &pointer.binder {
             Some(names) => Piece::Binder(names.as_slice()),
@@ -69,7 +68,7 @@ impl<'a> Waiting<'a> {
     }
 
     /// Lets the parts of a bound wait.
-    pub fn push_bound(&mut self, bound: &'a TypeBound) -> Result<(), AllocError> {
+    pub fn push_bound(&mut self, bound: &'a TypeBound) {
         match bound {
             TypeBound::Path(path, TraitBoundModifier::None) => self.push(Piece::Type_(*path)),
             TypeBound::Path(path, TraitBoundModifier::Maybe) => self.push_all(&[
@@ -91,7 +90,7 @@ impl<'a> Waiting<'a> {
     }
 
     /// Lets the parts of a path wait: its anchor or where it begins, then its names, each with its arguments.
-    pub fn push_path(&mut self, path: &'a Path) -> Result<(), AllocError> {
+    pub fn push_path(&mut self, path: &'a Path) {
         match path {
             Path::BarePath(path) => self.push(Piece::ModPath(path)),
             Path::Normal(path) => self.push_normal_path(path),
@@ -99,7 +98,7 @@ impl<'a> Waiting<'a> {
         }
     }
 
-    fn push_normal_path(&mut self, path: &'a NormalPath) -> Result<(), AllocError> {
+    fn push_normal_path(&mut self, path: &'a NormalPath) {
         let kind = path.mod_path.kind;
         let names = path.mod_path.segments.as_slice();
         let args = path.generic_args.as_slice();
@@ -118,7 +117,7 @@ impl<'a> Waiting<'a> {
     }
 
     /// Lets the parts of a list of arguments wait, as it stands behind a name.
-    pub fn push_generic_args(&mut self, args: &'a GenericArgs) -> Result<(), AllocError> {
+    pub fn push_generic_args(&mut self, args: &'a GenericArgs) {
         if let GenericArgsParentheses::ReturnTypeNotation = args.parenthesized {
             return self.push(Piece::Word("::(..)"));
         }
@@ -133,7 +132,7 @@ impl<'a> Waiting<'a> {
     }
 
     /// Lets the parts of a binding wait: its name and what it has of arguments, type and bounds.
-    pub fn push_binding(&mut self, binding: &'a AssociatedTypeBinding) -> Result<(), AllocError> {
+    pub fn push_binding(&mut self, binding: &'a AssociatedTypeBinding) {
         let args = match &binding.args {
             Some(args) => Piece::GenericArgs(args),
             None => NOTHING,

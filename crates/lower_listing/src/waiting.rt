@@ -10,7 +10,7 @@ use hir_store::ids::{
 use hir_store::name::Name;
 use hir_store::path::{AssociatedTypeBinding, GenericArg, GenericArgs, ModPath, Path, PathKind};
 use hir_store::type_ref::{TypeBound, UseArgRef};
-use std::alloc::{AllocError, Global};
+use std::alloc::Global;
 
 /// A piece of a listing.
 #[derive(Clone, Copy)]
@@ -124,10 +124,11 @@ pub struct Next<'a> {
     pub piece: Piece<'a>,
 }
 
-/// The pieces that wait. The next one stands last.
+/// The pieces that wait. The next one stands last. Where memory is refused some are lacking.
 #[derive(Drop)]
 pub struct Waiting<'a> {
     pieces: Vec<Next<'a>>,
+    is_refused: bool,
 }
 
 impl<'a> Waiting<'a> {
@@ -135,7 +136,13 @@ impl<'a> Waiting<'a> {
     pub fn new(alloc: Global) -> Waiting<'a> {
         Waiting {
             pieces: Vec::new(alloc),
+            is_refused: false,
         }
+    }
+
+    /// Whether memory was refused for a piece.
+    pub fn is_refused(&self) -> bool {
+        self.is_refused
     }
 
     /// Takes the next piece.
@@ -143,25 +150,29 @@ impl<'a> Waiting<'a> {
         self.pieces.pop()
     }
 
+    fn add(&mut self, next: Next<'a>) {
+        if self.pieces.push(next).is_err() {
+            self.is_refused = true;
+        }
+    }
+
     /// Lets a piece wait before all others.
-    pub fn push(&mut self, piece: Piece<'a>) -> Result<(), AllocError> {
-        self.pieces.push(Next {
+    pub fn push(&mut self, piece: Piece<'a>) {
+        self.add(Next {
             spaced: false,
             piece,
-        })?;
-        Ok(())
+        })
     }
 
     /// Lets these wait before all others, in their order.
-    pub fn push_all(&mut self, pieces: &[Piece<'a>]) -> Result<(), AllocError> {
+    pub fn push_all(&mut self, pieces: &[Piece<'a>]) {
         for piece in pieces.iter().rev() {
-            self.push(*piece)?;
+            self.push(*piece);
         }
-        Ok(())
     }
 
     /// Lets a list of the fields of a record wait.
-    pub fn push_field_list(&mut self, fields: &'a [RecordLitField]) -> Result<(), AllocError> {
+    pub fn push_field_list(&mut self, fields: &'a [RecordLitField]) {
         self.push_all(&[
             Piece::Word("["),
             Piece::Fields("", fields),
@@ -170,13 +181,13 @@ impl<'a> Waiting<'a> {
     }
 
     /// Lets a path of an expression wait, and its hygiene behind it.
-    pub fn push_path_of(&mut self, path: &'a Path, hygiene: HygieneId) -> Result<(), AllocError> {
-        self.push(Piece::Hygiene(hygiene))?;
+    pub fn push_path_of(&mut self, path: &'a Path, hygiene: HygieneId) {
+        self.push(Piece::Hygiene(hygiene));
         self.push_path(path)
     }
 
     /// Lets the parts of an expression wait, and the bracket after them: of one that has at most one, or many of one sort.
-    pub fn push_expr_parts(&mut self, expr: &'a Expr) -> Result<(), AllocError> {
+    pub fn push_expr_parts(&mut self, expr: &'a Expr) {
         match expr {
             Expr::Become { expr } | Expr::Await { expr } => self.push_parts(&[Piece::Expr(*expr)]),
             Expr::Return { expr } | Expr::Yield { expr } | Expr::Yeet { expr } => self.push_parts(&[
@@ -190,7 +201,7 @@ impl<'a> Waiting<'a> {
     }
 
     /// The same of an array.
-    fn push_array_parts(&mut self, array: &'a Array) -> Result<(), AllocError> {
+    fn push_array_parts(&mut self, array: &'a Array) {
         match array {
             Array::ElementList { elements } => self.push_parts(&[Piece::Exprs(
                 elements.as_slice(),
@@ -203,7 +214,7 @@ impl<'a> Waiting<'a> {
     }
 
     /// The same of what begins with an expression.
-    pub fn push_operation_parts(&mut self, expr: &'a Expr) -> Result<(), AllocError> {
+    pub fn push_operation_parts(&mut self, expr: &'a Expr) {
         match expr {
             Expr::Call { callee, args } => self.push_parts(&[
                 Piece::Expr(*callee),
@@ -230,7 +241,7 @@ impl<'a> Waiting<'a> {
     }
 
     /// The same of what goes on in one of several ways, or again.
-    pub fn push_control_parts(&mut self, expr: &'a Expr) -> Result<(), AllocError> {
+    pub fn push_control_parts(&mut self, expr: &'a Expr) {
         match expr {
             Expr::If {
                 condition,
@@ -259,7 +270,7 @@ impl<'a> Waiting<'a> {
     }
 
     /// The same of what holds a type or a path beside its operands.
-    pub fn push_typed_parts(&mut self, expr: &'a Expr) -> Result<(), AllocError> {
+    pub fn push_typed_parts(&mut self, expr: &'a Expr) {
         match expr {
             Expr::Cast { expr, type_ref } => self.push_parts(&[
                 Piece::Expr(*expr),
@@ -283,14 +294,13 @@ impl<'a> Waiting<'a> {
     }
 
     /// Lets these parts wait, each after a space, and then a bracket.
-    pub fn push_parts(&mut self, parts: &[Piece<'a>]) -> Result<(), AllocError> {
-        self.push(Piece::Close)?;
+    pub fn push_parts(&mut self, parts: &[Piece<'a>]) {
+        self.push(Piece::Close);
         for part in parts.iter().rev() {
-            self.pieces.push(Next {
+            self.add(Next {
                 spaced: true,
                 piece: *part,
-            })?;
+            });
         }
-        Ok(())
     }
 }
