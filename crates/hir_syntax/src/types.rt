@@ -188,7 +188,7 @@ pub struct PathType {
     pub path: Option<Boxed<Path>>,
 }
 
-/// An argument of a path's segment.
+/// An argument of a path's segment, of a called method, or of the name in `N = T` or `N: B`.
 #[cycle(ast)]
 pub enum GenericArg {
     TypeArg(TypeArg),

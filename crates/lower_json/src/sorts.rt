@@ -192,8 +192,8 @@ fn path_part<F: Fields>(node: &F, refused: &mut bool, kind: PathNode) -> Option<
     Some(AnyPart::Path(of_path_part(node, refused, kind)?))
 }
 
-/// What stands at a node of a kind. Each sort but those of `of_part` has a frame of its own, so that a level takes no more than it needs; this
-/// function has none, since each level goes through it.
+/// What stands at a node of a kind. Each sort but those of `of_part` has a frame of its own, so that a level takes no more than it needs;
+/// this function has none, since each level goes through it.
 #[inline(always)]
 #[tactic(auto, unfolding(crate::specs::Reading::of_kind))]
 pub fn of_kind<F: Fields>(node: &F, refused: &mut bool, kind: Kind) -> Option<AnyPart>
