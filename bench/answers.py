@@ -1,16 +1,20 @@
 #!/usr/bin/env python3
-"""Answers dear goals of a crate by `grind`: bench/answers.py CRATE DIR [--least N], and then bench/answers.py CRATE --refused FILE
+"""Answers dear goals of a crate by `grind`: bench/answers.py CRATE DIR [--least N] [--using N], and then
+bench/answers.py CRATE --refused FILE
 
 DIR is what `rattle check --incremental DIR` wrote for the crate, from nothing. But for the goals that slips are tried at (`goals` in their
-files), each goal that took N steps or more, half a million if it isn't said, and has no answer is answered by `grind (arith, common_steps)`
-in the `Answers.antt` of its function. Check the crate again over DIR; FILE holds what that check says, and the answers of that form which
-it refuses are taken out. Then `rt fmt`. Of goals in cycles it isn't known which slips are tried at them: look at those.
+files), each goal that took N steps or more and has no answer is answered by `grind (arith, common_steps)` in the `Answers.antt` of its
+function, with the lemmas that the function is `using` behind these. N is what --least says, half a million if it isn't said, and for goals
+of functions that are `using` lemmas what --using says, if it is said. Check the crate again over DIR; FILE holds what that check says, and
+the answers of that form which it refuses are taken out. Then `rt fmt`, and try the crate's slips again: one may take a goal away that is
+answered, or make `grind` fail at a further one. Of goals in cycles it isn't known which slips are tried at them.
 """
 import argparse
 import glob
 import os
 import re
 import sys
+from functools import cache
 
 sys.dont_write_bytecode = True
 from goals import goals_in  # noqa: E402
@@ -44,12 +48,30 @@ def attribute(folder, function):
     """What is written above a function, and whether it, or its block, has type parameters."""
     module, word = function.split(".")[0], function.split(".")[-1].lstrip("+")
     text = read(f"{folder}/src/{module}.rt") or read(f"{folder}/src/lib.rt")
-    head = re.search(rf"^( *)(?:pub(?:\(\w+\))? )?(?:const )?(?:unsafe )?fn {re.escape(word)}\b(<[^>(]*\b[A-Z])?", text, re.M)
-    if not head:
+    heads = [*re.finditer(rf"^( *)(?:pub(?:\(\w+\))? )?(?:const )?(?:unsafe )?fn {re.escape(word)}\b(<[^>(]*\b[A-Z])?", text, re.M)]
+    blocks = [*re.finditer(r"^(?:impl(<[^>]*\b[A-Z]\w*)?|(?:pub )?(trait))\b.*", text, re.M)]
+    around = {it: next((block for block in reversed(blocks) if it[1] and block.start() < it.start()), None) for it in heads}
+    owner = function.rpartition(".")[0].rpartition(".")[2]
+    if not (head := next((it for it in heads if around[it] and owner_of(around[it][0]) == owner), heads and heads[0])):
         return "", False
-    before = text[: head.start()]
-    block = [*re.finditer(r"^(?:impl(<[^>]*\b[A-Z]\w*)?|(?:pub )?(trait))\b", before, re.M)] if head[1] else []
-    return before[before.rfind("\n\n") + 1 :], bool(head[2] or block and (block[-1][1] or block[-1][2]))
+    before, block = text[: head.start()], around[head]
+    return before[before.rfind("\n\n") + 1 :], bool(head[2] or block and (block[1] or block[2]))
+
+
+def owner_of(block):
+    """What goals are named by that are of the methods in a block: its type, and behind it the trait."""
+    trait, _, type_ = re.sub(r"^impl(<.*?>(?= ))?|\{.*|'\w+", "", block).rpartition(" for ")
+    return "".join(it[0].upper() + it[1:] for it in re.findall(r"\w+", f"{type_} {trait}"))
+
+
+def words_of(key, attributes):
+    """What stands between the parentheses behind that word."""
+    return [it.strip() for found in re.findall(rf"\b{key}\(([^()]*)\)", attributes) for it in found.split(",") if it.strip()]
+
+
+@cache
+def uses_lemmas(crate, function):
+    return bool(words_of("using", attribute(f"{CRATES}/{crate}", function)[0]))
 
 
 def binders(answers, function, is_generic):
@@ -72,12 +94,14 @@ def answer(crate, function, names):
     folder = f"{CRATES}/{crate}"
     path = f"{folder}/proofs/{function.replace('.', '/')}/Answers.antt"
     above, is_generic = attribute(folder, function)
-    opened = [it.strip() for found in re.findall(r"unfolding\(([^()]*)\)", above) for it in found.split(",") if it.strip()]
+    opened, lemmas = words_of("unfolding", above), words_of("using", above)
     text = read(path) or f"use Rattle.{crate}.proofs.{function}.Goals as goal\n"
-    taken, unfolded = binders(text, function, is_generic), f"unfolding {' '.join(it.rpartition('::')[2] for it in opened)}\n" if opened else ""
+    taken = binders(text, function, is_generic)
+    unfolded = f"unfolding {' '.join(it.rpartition('::')[2] for it in opened)}\n" if opened else ""
     new = [it for it in names if not re.search(rf"^pub {re.escape(it)} ", text, re.M)]
-    text += "".join(f"\npub {it} : goal.{it}\n{unfolded}{it} {taken}c = grind (arith, common_steps)\n" for it in new)
-    for name in opened:
+    cited = ", ".join([*USED, *(it.rpartition("::")[2] for it in lemmas)])
+    text += "".join(f"\npub {it} : goal.{it}\n{unfolded}{it} {taken}c = grind ({cited})\n" for it in new)
+    for name in [*opened, *lemmas]:
         module, _, word = re.sub(r"^crate\b", crate, name).replace("::", ".").rpartition(".")
         text = with_use(text, f"Rattle.{module}", word)
     for name, module in USED.items():
@@ -92,11 +116,12 @@ def take_out(crate, said):
     count = 0
     for function, name in REFUSED.findall(said):
         path = f"{CRATES}/{crate}/proofs/{function}/Answers.antt"
-        own = rf"\npub {re.escape(name)} : .*\n((?:unfolding .*\n)*){re.escape(name)} .* = grind \(arith, common_steps\)\n"
+        own = rf"\npub {re.escape(name)} : .*\n((?:unfolding .*\n)*){re.escape(name)} .* = grind \((arith, common_steps[\w, -]*)\)\n"
         if not (found := re.search(own, read(path))):
             continue
         text, count = read(path).replace(found[0], ""), count + 1
-        for word in [*USED, *re.findall(r"\w+", found[1].replace("unfolding ", ""))]:
+        for word in [*found[2].split(", "), *re.findall(r"\w+", found[1].replace("unfolding ", ""))]:
+            word = re.escape(word)
             if not re.search(rf"\b{word}\b", re.sub(r"^use .*", "", text, flags=re.M)):
                 text = re.sub(rf"^(use .*\{{.*?)(?:, )?\b{word}\b(?=[,}}])", r"\1", text, flags=re.M).replace("{, ", "{")
         text = re.sub(r"^use \S+\.\{\}\n", "", text, flags=re.M)
@@ -112,6 +137,7 @@ def main():
     parser.add_argument("crate")
     parser.add_argument("folder", nargs="?", help="what a check with --incremental wrote")
     parser.add_argument("--least", type=int, default=500_000, help="how many steps a goal takes at least that is answered")
+    parser.add_argument("--using", type=int, help="the same of goals of functions that are `using` lemmas")
     parser.add_argument("--refused", metavar="FILE", help="what a check says of these answers")
     asked = parser.parse_args()
     if not (asked.folder or asked.refused and os.path.isfile(asked.refused)):
@@ -122,7 +148,8 @@ def main():
     tried, dear = first_goals(f"{CRATES}/{asked.crate}"), {}
     # What is said of the places of closures, with `++` in its name, has names that no answer can have.
     for goal in goals_in(asked.folder):
-        if goal.steps >= asked.least and (goal.function, goal.name) not in tried and "++" not in goal.name:
+        least = asked.using if asked.using is not None and uses_lemmas(asked.crate, goal.function) else asked.least
+        if goal.steps >= least and (goal.function, goal.name) not in tried and "++" not in goal.name:
             dear.setdefault(goal.function, []).append(goal.name)
     print(f"{sum(answer(asked.crate, *it) for it in dear.items())} answers for dear goals of {len(dear)} functions")
 

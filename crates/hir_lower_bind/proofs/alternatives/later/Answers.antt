@@ -35,3 +35,12 @@ returns-in_err-id g c =
     let is = later_refused at l.done l.left.now c.one-item.result (table_of l.bindings) l.state c.next.new.state _ c.one-item.is
     c.in-len1-up.len_at_least h.0 in
     (l.invariant.so_far ∙ is, h.1))
+
+pub slice_bounds-rest-count : goal.slice_bounds-rest-count
+slice_bounds-rest-count g c = grind (arith, common_steps)
+
+pub slice_bounds-rest-start : goal.slice_bounds-rest-start
+slice_bounds-rest-start g c = grind (arith, common_steps)
+
+pub bounds-left-0 : goal.bounds-left-0
+bounds-left-0 g c = grind (arith, common_steps)

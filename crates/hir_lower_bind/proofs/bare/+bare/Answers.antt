@@ -119,3 +119,21 @@ bare_kind_form-returns-in-WildcardPat g t c =
     let alone = alone_lowers steps names c.args.state.now c.alloc_pat.result c.alloc_pat.new.self c.requires.names c.alloc_pat.ensures in
     bare_lowers at node wild names names c.args.state.now c.alloc_pat.result c.alloc_pat.new.self
     (ap bare_kind (opened (kind.rolls-WildcardPat ∙ sym c.in-WildcardPat.is))) (rw c.pointer-at.ensures at alone)
+
+pub bare_kind_form-returns-in-MacroPat-Some : goal.bare_kind_form-returns-in-MacroPat-Some
+bare_kind_form-returns-in-MacroPat-Some g t c = grind (arith, common_steps)
+
+pub bare_kind_form-returns-in-MacroPat-None : goal.bare_kind_form-returns-in-MacroPat-None
+bare_kind_form-returns-in-MacroPat-None g t c = grind (arith, common_steps)
+
+pub bare_kind_form-returns-in_default : goal.bare_kind_form-returns-in_default
+bare_kind_form-returns-in_default g t c = grind (arith, common_steps)
+
+pub bare_call-point_pat-requires : goal.bare_call-point_pat-requires
+bare_call-point_pat-requires g t c = grind (arith, common_steps)
+
+pub bare_kind_form-bare_call-requires : goal.bare_kind_form-bare_call-requires
+bare_kind_form-bare_call-requires g t c = grind (arith, common_steps)
+
+pub bare_form-bare_kind_form-requires : goal.bare_form-bare_kind_form-requires
+bare_form-bare_kind_form-requires g t c = grind (arith, common_steps)

@@ -13,3 +13,6 @@ returns-in-Some g c =
     let at = g.P.LowerParts.spot c.args.lowerer.now.parts in
     subst (λ q. LowersTop (bare_part (pat_part at q)) c.args.state.now c.whole_bare.result c.whole_bare.new.state) (sym c.in-Some.is)
     (rw c.get.ensures at c.whole_bare.ensures)
+
+pub whole_bare-requires : goal.whole_bare-requires
+whole_bare-requires g c = grind (arith, common_steps)

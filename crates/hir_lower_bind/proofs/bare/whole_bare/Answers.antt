@@ -11,3 +11,6 @@ settle-requires g c = grind (arith, common_steps)
 
 pub returns : goal.returns
 returns g c = grind (arith, common_steps)
+
+pub bare_form-requires-clause-part : goal.bare_form-requires-clause-part
+bare_form-requires-clause-part g c = grind (arith, common_steps)

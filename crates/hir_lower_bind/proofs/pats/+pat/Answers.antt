@@ -269,3 +269,9 @@ lower_pat-returns-in_default g t c =
 
 pub lower_pat-pat_form-requires-clause-uncalled : goal.lower_pat-pat_form-requires-clause-uncalled
 lower_pat-pat_form-requires-clause-uncalled g t c = no_call_left c.args.node.now.kind c.in_default.not-MacroPat
+
+pub called_pat-point_pat-requires : goal.called_pat-point_pat-requires
+called_pat-point_pat-requires g t c = grind (arith, common_steps)
+
+pub lower_element-lower_pat-requires : goal.lower_element-lower_pat-requires
+lower_element-lower_pat-requires g t c = grind (arith, common_steps)

@@ -10,3 +10,7 @@ returns-in-Some g c = grind (arith, common_steps)
 pub returns-in-None : goal.returns-in-None
 unfolding path_pat_form
 returns-in-None g c = grind (arith, common_steps)
+
+pub alloc_pat-requires-in-Some : goal.alloc_pat-requires-in-Some
+unfolding path_pat_form
+alloc_pat-requires-in-Some g c = grind (arith, common_steps)

@@ -10,3 +10,7 @@ returns-in-Some g c = grind (arith, common_steps)
 pub returns-in-None : goal.returns-in-None
 unfolding record_pat_form
 returns-in-None g c = grind (arith, common_steps)
+
+pub record_of-requires-clause-path : goal.record_of-requires-clause-path
+unfolding record_pat_form
+record_of-requires-clause-path g c = grind (arith, common_steps)

@@ -1,4 +1,5 @@
-use Rattle.std.proofs.Common.{rules}
+use Rattle.std.proofs.lemmas.Grind.{common_steps}
+use Rattle.std.proofs.Common.{rules, arith}
 use Rattle.hir_lower_bind.proofs.sides.side_form.Goals as goal
 
 pub returns-in-TupleStructPat : goal.returns-in-TupleStructPat
@@ -45,3 +46,6 @@ returns-in-TupleStructPat-14 g c = search rules
 
 pub returns-in-TupleStructPat-15 : goal.returns-in-TupleStructPat-15
 returns-in-TupleStructPat-15 g c = search rules
+
+pub returns-in-TupleStructPat-16 : goal.returns-in-TupleStructPat-16
+returns-in-TupleStructPat-16 g c = grind (arith, common_steps)

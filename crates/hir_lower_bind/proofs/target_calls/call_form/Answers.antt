@@ -7,3 +7,6 @@ returns-in-Some g c = grind (arith, common_steps)
 
 pub returns-in-None : goal.returns-in-None
 returns-in-None g c = grind (arith, common_steps)
+
+pub call_of-requires-clause-path : goal.call_of-requires-clause-path
+call_of-requires-clause-path g c = grind (arith, common_steps)

@@ -35,3 +35,12 @@ loop-left-init g c = grind (arith, common_steps)
 
 pub loop-left-smaller : goal.loop-left-smaller
 loop-left-smaller g c = grind (arith, common_steps)
+
+pub bounds-left-0 : goal.bounds-left-0
+bounds-left-0 g c = grind (arith, common_steps)
+
+pub slice_bounds-rest-start : goal.slice_bounds-rest-start
+slice_bounds-rest-start g c = grind (arith, common_steps)
+
+pub slice_bounds-rest-count : goal.slice_bounds-rest-count
+slice_bounds-rest-count g c = grind (arith, common_steps)

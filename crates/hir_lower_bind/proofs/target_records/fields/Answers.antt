@@ -1,4 +1,5 @@
-use Rattle.std.proofs.Common.{◌∙◌, []}
+use Rattle.std.proofs.lemmas.Grind.{common_steps}
+use Rattle.std.proofs.Common.{◌∙◌, [], arith}
 use Rattle.hir_store.specs.Range.{HasPatFields}
 use Rattle.hir_env.specs.Targets.{target_fields}
 use Rattle.hir_env.specs.Whole.{fields_part}
@@ -59,3 +60,27 @@ loop-left-preserved g c =
         fields_stay l.state.stored new.stored l.done left_out.1 l.invariant.placed.1,
       );
     }
+
+pub loop-left-init : goal.loop-left-init
+loop-left-init g c = grind (arith, common_steps)
+
+pub field-requires : goal.field-requires
+field-requires g c = grind (arith, common_steps)
+
+pub slice_bounds-rest-count : goal.slice_bounds-rest-count
+slice_bounds-rest-count g c = grind (arith, common_steps)
+
+pub loop-left-smaller : goal.loop-left-smaller
+loop-left-smaller g c = grind (arith, common_steps)
+
+pub bounds-left-0 : goal.bounds-left-0
+bounds-left-0 g c = grind (arith, common_steps)
+
+pub slice_bounds-rest-start : goal.slice_bounds-rest-start
+slice_bounds-rest-start g c = grind (arith, common_steps)
+
+pub loop-left-smaller-in_ok-push_pat_field : goal.loop-left-smaller-in_ok-push_pat_field
+loop-left-smaller-in_ok-push_pat_field g c = grind (arith, common_steps)
+
+pub returns : goal.returns
+returns g c = grind (arith, common_steps)

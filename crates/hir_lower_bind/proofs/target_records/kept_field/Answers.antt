@@ -1,4 +1,5 @@
-use Rattle.std.proofs.Common.{rules, None, Ok}
+use Rattle.std.proofs.lemmas.Grind.{common_steps}
+use Rattle.std.proofs.Common.{rules, None, Ok, arith}
 use Rattle.hir_lower_pat.proofs.AimSteps.{part_lowers, partless_lowers}
 use Rattle.hir_lower_bind.proofs.target_records.kept_field.Goals as goal
 
@@ -11,3 +12,6 @@ pub returns-in-Some : goal.returns-in-Some
 returns-in-Some g c =
     part_lowers (g.T.Here.spot c.args.parts.now) c.args.at c.args.name.now c.args.expr.now _ _ c.args.state.now _ _
     c.in-Some.is c.get.ensures c.present_field.ensures
+
+pub present_field-requires : goal.present_field-requires
+present_field-requires g c = grind (arith, common_steps)

@@ -22,3 +22,7 @@ returns-in-Some g c =
 pub returns-in-None : goal.returns-in-None
 unfolding record_target_form
 returns-in-None g c = grind (arith, common_steps)
+
+pub record-requires-clause-path : goal.record-requires-clause-path
+unfolding record_target_form
+record-requires-clause-path g c = grind (arith, common_steps)

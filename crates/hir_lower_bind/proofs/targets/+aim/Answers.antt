@@ -330,3 +330,9 @@ called_element-returns-in-Some g t c =
     (found_of c.in_ok-entered.entered) (Some (c.in-Some.place, c.in-Some.node.now)) c.in_ok-entered.ensures.0
     (sym c.expr_of.ensures ∙ ap expr_lent c.in-Some.is) _ c.element.new.state c.in_ok-entered.ensures.1
     (rw c.moved.ensures.spot at c.element.ensures)
+
+pub element-land-requires : goal.element-land-requires
+element-land-requires g t c = grind (arith, common_steps)
+
+pub aim_called-called_aim-requires : goal.aim_called-called_aim-requires
+aim_called-called_aim-requires g t c = grind (arith, common_steps)

@@ -33,3 +33,6 @@ returns-in-Err g c =
     let asked = sym (c.cfg.ensures ∙ ap spot.answers.cfg (c.site.ensures ∙ ap site_of c.pointer-at.ensures)) ∙ c.in-Err.is in
     same_steps HasAim (aim_of (found_at spot) c.args.call read) (placed read) old _ _
     (ap (λ p. p old) (disabled_is spot c.args.call c.args.node.now _ asked)) c.place.ensures
+
+pub kept_aim-requires-clause-uncalled : goal.kept_aim-requires-clause-uncalled
+kept_aim-requires-clause-uncalled g c = grind (arith, common_steps, enabled_is, disabled_is)

@@ -10,3 +10,6 @@ returns-in-Some g c =
 
 pub returns-in-None : goal.returns-in-None
 returns-in-None g c = grind (arith, common_steps)
+
+pub whole_target-requires : goal.whole_target-requires
+whole_target-requires g c = grind (arith, common_steps)

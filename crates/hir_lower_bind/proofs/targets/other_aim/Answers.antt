@@ -1,4 +1,5 @@
-use Rattle.std.proofs.Common.{ap}
+use Rattle.std.proofs.lemmas.Grind.{common_steps}
+use Rattle.std.proofs.Common.{ap, arith}
 use Rattle.hir_env.specs.Whole.{answered}
 use Rattle.hir_lower_pat.specs.Aims.{HasAim, aim_of, found_at, placed}
 use Rattle.hir_lower_pat.proofs.AimLemmas.{other_is}
@@ -12,3 +13,6 @@ returns g c =
     let old = c.args.state.now in
     same_steps HasAim (aim_of (found_at spot) c.args.call read) (placed read) old _ _
     (ap (λ p. p old) (other_is spot c.args.call c.args.node.now c.requires.kind)) c.place.ensures
+
+pub place-requires : goal.place-requires
+place-requires g c = grind (arith, common_steps, other_is)

@@ -10,3 +10,6 @@ returns-in-Some g c =
 
 pub returns-in-None : goal.returns-in-None
 returns-in-None g c = grind (arith, common_steps)
+
+pub paren_around-requires : goal.paren_around-requires
+paren_around-requires g c = grind (arith, common_steps)

@@ -10,3 +10,6 @@ returns g c = grind (arith, common_steps)
 
 pub land-requires : goal.land-requires
 land-requires g c = grind (arith, common_steps)
+
+pub aim-requires : goal.aim-requires
+aim-requires g c = grind (arith, common_steps)

@@ -7,3 +7,6 @@ returns-in-None g c = grind (arith, common_steps)
 
 pub returns-in-Some : goal.returns-in-Some
 returns-in-Some g c = grind (arith, common_steps)
+
+pub whole_pat-requires : goal.whole_pat-requires
+whole_pat-requires g c = grind (arith, common_steps)

@@ -11,3 +11,6 @@ settle-requires g c = grind (arith, common_steps)
 
 pub returns : goal.returns
 returns g c = grind (arith, common_steps)
+
+pub lower_pat-requires-clause-part : goal.lower_pat-requires-clause-part
+lower_pat-requires-clause-part g c = grind (arith, common_steps)

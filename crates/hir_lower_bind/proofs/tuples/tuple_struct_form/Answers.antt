@@ -10,3 +10,7 @@ returns-in-Some g c = grind (arith, common_steps)
 pub returns-in-None : goal.returns-in-None
 unfolding tuple_struct_form
 returns-in-None g c = grind (arith, common_steps)
+
+pub tuple_struct_of-requires-clause-path : goal.tuple_struct_of-requires-clause-path
+unfolding tuple_struct_form
+tuple_struct_of-requires-clause-path g c = grind (arith, common_steps)

@@ -1,4 +1,5 @@
-use Rattle.std.proofs.Common.{◌∙◌, ap, sym, Ok}
+use Rattle.std.proofs.lemmas.Grind.{common_steps}
+use Rattle.std.proofs.Common.{◌∙◌, ap, sym, Ok, arith}
 use Rattle.hir_lower_form.specs.Methods.{HasContents, contents_at}
 use Rattle.hir_lower_expr.specs.Runs.{definitions}
 use Rattle.hir_lower_expr.specs.declared.runs.Run.{Run}
@@ -52,3 +53,6 @@ returns g c =
       placed.0,
       placed.1,
     )
+
+pub collect_run-requires-clause-done : goal.collect_run-requires-clause-done
+collect_run-requires-clause-done g c = grind (arith, common_steps)

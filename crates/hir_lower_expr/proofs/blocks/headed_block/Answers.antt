@@ -31,3 +31,18 @@ returns-in-Some-Unsafe g c = grind (arith, common_steps)
 
 pub const_form-requires : goal.const_form-requires
 const_form-requires g c = grind (arith, common_steps)
+
+pub labelled_block-requires : goal.labelled_block-requires
+labelled_block-requires g c = grind (arith, common_steps)
+
+pub unsafe_block-requires : goal.unsafe_block-requires
+unsafe_block-requires g c = grind (arith, common_steps)
+
+pub coroutine_form-requires : goal.coroutine_form-requires
+coroutine_form-requires g c = grind (arith, common_steps)
+
+pub coroutine_form-requires-in-Some-AsyncGen : goal.coroutine_form-requires-in-Some-AsyncGen
+coroutine_form-requires-in-Some-AsyncGen g c = grind (arith, common_steps)
+
+pub coroutine_form-requires-in-Some-Gen : goal.coroutine_form-requires-in-Some-Gen
+coroutine_form-requires-in-Some-Gen g c = grind (arith, common_steps)

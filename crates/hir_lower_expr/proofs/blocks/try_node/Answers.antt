@@ -30,3 +30,7 @@ returns g c = grind (arith, common_steps)
 pub returns-in_err-tail : goal.returns-in_err-tail
 unfolding try_block_form
 returns-in_err-tail g c = grind (arith, common_steps)
+
+pub store_block-requires-clause-label : goal.store_block-requires-clause-label
+unfolding try_block_form
+store_block-requires-clause-label g c = grind (arith, common_steps)

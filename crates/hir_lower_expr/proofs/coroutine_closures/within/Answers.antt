@@ -26,3 +26,7 @@ returns-in_err-body g c = grind (arith, common_steps)
 pub let_params-requires-clause-prelude : goal.let_params-requires-clause-prelude
 unfolding within_form
 let_params-requires-clause-prelude g c = grind (arith, common_steps)
+
+pub made_coroutine-requires-clause-body : goal.made_coroutine-requires-clause-body
+unfolding within_form
+made_coroutine-requires-clause-body g c = grind (arith, common_steps)

@@ -1,4 +1,5 @@
-use Rattle.std.proofs.Common.{◌∙◌, ap, sym}
+use Rattle.std.proofs.lemmas.Grind.{common_steps}
+use Rattle.std.proofs.Common.{◌∙◌, ap, sym, arith}
 use Rattle.hir_syntax.specs.declared.ast.BlockExpr.{out-BlockExpr}
 use Rattle.hir_env.specs.Answering.{asked, site_of}
 use Rattle.hir_env.specs.Spot.{Spot}
@@ -13,3 +14,6 @@ returns g c =
     let s = pointer_at at level.id level.range in
     let same = sym (ap (asked s (at.answers.cfg (site_of s))) (block_is_level at c.args.node.now)) in
     rw (body_is_level at c.args.node.now ∙ same) c.asked_body.ensures
+
+pub asked_body-requires : goal.asked_body-requires
+asked_body-requires g c = grind (arith, common_steps)

@@ -4,3 +4,6 @@ use Rattle.hir_lower_expr.proofs.lets.let_stmt.Goals as goal
 
 pub returns-in_ok-report-in-Err : goal.returns-in_ok-report-in-Err
 returns-in_ok-report-in-Err g c = grind (arith, common_steps)
+
+pub returns-in-Ok : goal.returns-in-Ok
+returns-in-Ok g c = grind (arith, common_steps)

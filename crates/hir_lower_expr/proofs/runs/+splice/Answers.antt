@@ -1,3 +1,4 @@
+use Rattle.std.proofs.lemmas.Grind.{common_steps}
 use Rattle.std.proofs.Common.{arith, ◌∙◌, ap, subst, sym, Some, None, Ok, Err}
 use Rattle.std.specs.Option.{option_copied}
 use Rattle.hir_syntax.specs.declared.ast.ElseBranch.TheOpen.{ExprKind-F}
@@ -63,7 +64,8 @@ collect_call-collect_run-requires g t c =
     let same = ap (λ x. x.place.left) c.moved-inner.ensures.spot in
     let done = still_has c.args.state.now.stored c.enter_splice.new.state.stored c.args.run.now.done c.in_ok-entered.ensures.1
     c.requires.done in
-    λ κs within. (omega (arith, c.decreases, less, same), (within.0, (within.1, (rw (c.moved-inner.ensures.spot, c.as_slice.ensures) moved.stmts, done))))
+    let spot = c.moved-inner.ensures.spot in
+    λ κs within. (omega (arith, c.decreases, less, same), (within.0, (within.1, (rw (spot, c.as_slice.ensures) moved.stmts, done))))
 
 pub collect_call-returns-in_err-collect_run-clause-steps : goal.collect_call-returns-in_err-collect_run-clause-steps
 collect_call-returns-in_err-collect_run-clause-steps g t c =
@@ -557,7 +559,8 @@ collect_value-returns-in-Some-call-clause-placed g t c =
 
 pub collect_value_opt-collect_value-requires : goal.collect_value_opt-collect_value-requires
 collect_value_opt-collect_value-requires g t c =
-    λ κs within. (omega (arith, c.decreases), (within.0, (within.1, (rw c.get.ensures (rw c.in-Some.is at c.requires.part), c.requires.done))))
+    let part = c.requires.part in
+    λ κs within. (omega (arith, c.decreases), (within.0, (within.1, (rw c.get.ensures (rw c.in-Some.is at part), c.requires.done))))
 
 pub collect_value_opt-returns-in-None-clause-steps : goal.collect_value_opt-returns-in-None-clause-steps
 collect_value_opt-returns-in-None-clause-steps g t c =
@@ -579,3 +582,15 @@ collect_value_opt-returns-in-Some-clause-steps g t c =
 
 pub collect_value_opt-returns-in-Some-clause-placed : goal.collect_value_opt-returns-in-Some-clause-placed
 collect_value_opt-returns-in-Some-clause-placed g t c = c.collect_value.ensures.placed
+
+pub collect_run-bounds-all-0 : goal.collect_run-bounds-all-0
+collect_run-bounds-all-0 g t c = grind (arith, common_steps)
+
+pub collect_run-slice_bounds-rest-start : goal.collect_run-slice_bounds-rest-start
+collect_run-slice_bounds-rest-start g t c = grind (arith, common_steps)
+
+pub collect_run-loop-all-smaller : goal.collect_run-loop-all-smaller
+collect_run-loop-all-smaller g t c = grind (arith, common_steps)
+
+pub collect_run-slice_bounds-rest-count : goal.collect_run-slice_bounds-rest-count
+collect_run-slice_bounds-rest-count g t c = grind (arith, common_steps)

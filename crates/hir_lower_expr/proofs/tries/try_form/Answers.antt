@@ -16,3 +16,6 @@ typed_try-requires-clause-ty g c = grind (arith, common_steps)
 
 pub returns-in-Some : goal.returns-in-Some
 returns-in-Some g c = grind (arith, common_steps)
+
+pub lower-requires-clause-role : goal.lower-requires-clause-role
+lower-requires-clause-role g c = grind (arith, common_steps)

@@ -46,3 +46,11 @@ bound_block-requires-clause-value g c = grind (arith, common_steps)
 pub bound_block-requires-clause-pat : goal.bound_block-requires-clause-pat
 unfolding typed_try_form
 bound_block-requires-clause-pat g c = grind (arith, common_steps)
+
+pub lower-requires-clause-part : goal.lower-requires-clause-part
+unfolding typed_try_form
+lower-requires-clause-part g c = grind (arith, common_steps)
+
+pub lower-requires-clause-role : goal.lower-requires-clause-role
+unfolding typed_try_form
+lower-requires-clause-role g c = grind (arith, common_steps)

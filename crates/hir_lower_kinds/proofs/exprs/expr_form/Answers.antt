@@ -1,3 +1,5 @@
+use Rattle.std.proofs.lemmas.Grind.{common_steps}
+use Rattle.std.proofs.Common.{arith}
 use Rattle.hir_lower_kinds.proofs.exprs.expr_form.Goals as goal
 
 pub leaf_kind-requires-clause-parts : goal.leaf_kind-requires-clause-parts
@@ -47,3 +49,30 @@ returns-in-CallExpr g c = rw c.pointer-at.ensures at c.listing_kind.ensures
 
 pub returns-in-IfExpr : goal.returns-in-IfExpr
 returns-in-IfExpr g c = rw c.pointer-at.ensures at c.control_kind.ensures
+
+pub leaving_kind-requires-clause-family : goal.leaving_kind-requires-clause-family
+leaving_kind-requires-clause-family g c = grind (arith, common_steps)
+
+pub access_kind-requires-clause-family : goal.access_kind-requires-clause-family
+access_kind-requires-clause-family g c = grind (arith, common_steps)
+
+pub leaf_kind-requires-clause-family : goal.leaf_kind-requires-clause-family
+leaf_kind-requires-clause-family g c = grind (arith, common_steps)
+
+pub control_kind-requires-clause-family : goal.control_kind-requires-clause-family
+control_kind-requires-clause-family g c = grind (arith, common_steps)
+
+pub matching_kind-requires-clause-family : goal.matching_kind-requires-clause-family
+matching_kind-requires-clause-family g c = grind (arith, common_steps)
+
+pub typed_kind-requires-clause-family : goal.typed_kind-requires-clause-family
+typed_kind-requires-clause-family g c = grind (arith, common_steps)
+
+pub listing_kind-requires-clause-family : goal.listing_kind-requires-clause-family
+listing_kind-requires-clause-family g c = grind (arith, common_steps)
+
+pub unreachable-requires : goal.unreachable-requires
+unreachable-requires g c = grind (arith, common_steps)
+
+pub operator_kind-requires-clause-family : goal.operator_kind-requires-clause-family
+operator_kind-requires-clause-family g c = grind (arith, common_steps)

@@ -1,3 +1,4 @@
+use Rattle.std.proofs.lemmas.Grind.{common_steps}
 use Rattle.std.proofs.Common.{arith, ◌∙◌, ap, subst, sym, Some}
 use Rattle.std.specs.Option.{option_copied}
 use Rattle.hir_syntax.specs.declared.ast.ExprKind.{out-ExprKind}
@@ -72,3 +73,6 @@ returns-in_err-report_inactive-in-Err g c =
     c.from_residual.ensures.1
     (λ other. let h = told other in
     (disabled_on at c.args.node.now _ c.args.state.now err ∙ ap (λ z. go_on z.0 z.1 nothing_kept) h.0, h.1))
+
+pub expr_form-requires-clause-parts : goal.expr_form-requires-clause-parts
+expr_form-requires-clause-parts g c = grind (arith, common_steps)

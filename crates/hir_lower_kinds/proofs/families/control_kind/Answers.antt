@@ -1,6 +1,7 @@
-use Rattle.std.proofs.Common.{◌∙◌, sym}
+use Rattle.std.proofs.lemmas.Grind.{common_steps}
+use Rattle.std.proofs.Common.{◌∙◌, sym, arith}
 use Rattle.hir_syntax.specs.declared.ast.ExprKind.TheVariants as kind
-use Rattle.hir_lower_kinds.proofs.OfFamily.{opened}
+use Rattle.hir_lower_kinds.proofs.OfFamily.{opened, only_control}
 use Rattle.hir_lower_kinds.proofs.families.control_kind.Goals as goal
 
 pub if_form-requires : goal.if_form-requires
@@ -43,3 +44,6 @@ returns-in-ContinueExpr g c = rw (opened (kind.rolls-ContinueExpr _ ∙ sym c.in
 
 pub returns-in-BreakExpr : goal.returns-in-BreakExpr
 returns-in-BreakExpr g c = rw (opened (kind.rolls-BreakExpr _ _ ∙ sym c.in-BreakExpr.is)) c.break_form.ensures
+
+pub unreachable-requires : goal.unreachable-requires
+unreachable-requires g c = grind (arith, common_steps, only_control)

@@ -1,6 +1,7 @@
-use Rattle.std.proofs.Common.{◌∙◌, sym}
+use Rattle.std.proofs.lemmas.Grind.{common_steps}
+use Rattle.std.proofs.Common.{◌∙◌, sym, arith}
 use Rattle.hir_syntax.specs.declared.ast.ExprKind.TheVariants as kind
-use Rattle.hir_lower_kinds.proofs.OfFamily.{opened}
+use Rattle.hir_lower_kinds.proofs.OfFamily.{opened, only_leaf}
 use Rattle.hir_lower_kinds.proofs.families.leaf_kind.Goals as goal
 
 pub returns-in-Literal : goal.returns-in-Literal
@@ -14,3 +15,9 @@ returns-in-UnderscoreExpr g c = rw (opened (kind.rolls-UnderscoreExpr ∙ sym c.
 
 pub returns-in-IncludeBytesExpr : goal.returns-in-IncludeBytesExpr
 returns-in-IncludeBytesExpr g c = rw (opened (kind.rolls-IncludeBytesExpr ∙ sym c.in-IncludeBytesExpr.is)) c.include_bytes_form.ensures
+
+pub returns-in-AsmExpr : goal.returns-in-AsmExpr
+returns-in-AsmExpr g c = grind (arith, common_steps, only_leaf)
+
+pub unreachable-requires : goal.unreachable-requires
+unreachable-requires g c = grind (arith, common_steps, only_leaf)

@@ -1,6 +1,7 @@
-use Rattle.std.proofs.Common.{◌∙◌, sym}
+use Rattle.std.proofs.lemmas.Grind.{common_steps}
+use Rattle.std.proofs.Common.{◌∙◌, sym, arith}
 use Rattle.hir_syntax.specs.declared.ast.ExprKind.TheVariants as kind
-use Rattle.hir_lower_kinds.proofs.OfFamily.{opened}
+use Rattle.hir_lower_kinds.proofs.OfFamily.{opened, only_leaving}
 use Rattle.hir_lower_kinds.proofs.families.leaving_kind.Goals as goal
 
 pub return_form-requires : goal.return_form-requires
@@ -26,3 +27,6 @@ returns-in-YieldExpr g c = rw (opened (kind.rolls-YieldExpr _ ∙ sym c.in-Yield
 
 pub returns-in-YeetExpr : goal.returns-in-YeetExpr
 returns-in-YeetExpr g c = rw (opened (kind.rolls-YeetExpr _ ∙ sym c.in-YeetExpr.is)) c.yeet_form.ensures
+
+pub unreachable-requires : goal.unreachable-requires
+unreachable-requires g c = grind (arith, common_steps, only_leaving)

@@ -1,6 +1,7 @@
-use Rattle.std.proofs.Common.{◌∙◌, sym}
+use Rattle.std.proofs.lemmas.Grind.{common_steps}
+use Rattle.std.proofs.Common.{◌∙◌, sym, arith}
 use Rattle.hir_syntax.specs.declared.ast.ExprKind.TheVariants as kind
-use Rattle.hir_lower_kinds.proofs.OfFamily.{opened}
+use Rattle.hir_lower_kinds.proofs.OfFamily.{opened, only_listing}
 use Rattle.hir_lower_kinds.proofs.families.listing_kind.Goals as goal
 
 pub call_form-requires : goal.call_form-requires
@@ -38,3 +39,6 @@ returns-in-ArrayExpr g c = rw (opened (kind.rolls-ArrayExpr _ ∙ sym c.in-Array
 
 pub returns-in-RepeatExpr : goal.returns-in-RepeatExpr
 returns-in-RepeatExpr g c = rw (opened (kind.rolls-RepeatExpr _ _ ∙ sym c.in-RepeatExpr.is)) c.repeat_form.ensures
+
+pub unreachable-requires : goal.unreachable-requires
+unreachable-requires g c = grind (arith, common_steps, only_listing)

@@ -1,6 +1,7 @@
-use Rattle.std.proofs.Common.{◌∙◌, sym}
+use Rattle.std.proofs.lemmas.Grind.{common_steps}
+use Rattle.std.proofs.Common.{◌∙◌, sym, arith}
 use Rattle.hir_syntax.specs.declared.ast.ExprKind.TheVariants as kind
-use Rattle.hir_lower_kinds.proofs.OfFamily.{opened}
+use Rattle.hir_lower_kinds.proofs.OfFamily.{opened, only_operator}
 use Rattle.hir_lower_kinds.proofs.families.operator_kind.Goals as goal
 
 pub prefix_form-requires : goal.prefix_form-requires
@@ -30,3 +31,6 @@ returns-in-AwaitExpr g c = rw (opened (kind.rolls-AwaitExpr _ ∙ sym c.in-Await
 
 pub returns-in-RangeExpr : goal.returns-in-RangeExpr
 returns-in-RangeExpr g c = rw (opened (kind.rolls-RangeExpr _ _ _ ∙ sym c.in-RangeExpr.is)) c.range_form.ensures
+
+pub unreachable-requires : goal.unreachable-requires
+unreachable-requires g c = grind (arith, common_steps, only_operator)

@@ -1,6 +1,7 @@
-use Rattle.std.proofs.Common.{◌∙◌, sym}
+use Rattle.std.proofs.lemmas.Grind.{common_steps}
+use Rattle.std.proofs.Common.{◌∙◌, sym, arith}
 use Rattle.hir_syntax.specs.declared.ast.ExprKind.TheVariants as kind
-use Rattle.hir_lower_kinds.proofs.OfFamily.{opened}
+use Rattle.hir_lower_kinds.proofs.OfFamily.{opened, only_typed}
 use Rattle.hir_lower_kinds.proofs.families.typed_kind.Goals as goal
 
 pub path_form-requires : goal.path_form-requires
@@ -30,3 +31,6 @@ returns-in-RecordExpr g c = rw (opened (kind.rolls-RecordExpr _ _ ∙ sym c.in-R
 
 pub returns-in-OffsetOfExpr : goal.returns-in-OffsetOfExpr
 returns-in-OffsetOfExpr g c = rw (opened (kind.rolls-OffsetOfExpr _ _ ∙ sym c.in-OffsetOfExpr.is)) c.offset_of_form.ensures
+
+pub unreachable-requires : goal.unreachable-requires
+unreachable-requires g c = grind (arith, common_steps, only_typed)

@@ -7,3 +7,6 @@ returns-in-Some g c = grind (arith, common_steps)
 
 pub returns-in_ok-id-in-None : goal.returns-in_ok-id-in-None
 returns-in_ok-id-in-None g c = grind (arith, common_steps)
+
+pub path_form-requires : goal.path_form-requires
+path_form-requires g c = grind (arith, common_steps)

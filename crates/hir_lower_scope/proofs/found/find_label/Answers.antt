@@ -1,3 +1,4 @@
+use Rattle.std.proofs.lemmas.Grind.{common_steps}
 use Rattle.std.proofs.Common.{arith, ◌≡◌, ◌∙◌, ap, sym}
 use Rattle.std.proofs.lemmas.Bool.Decides.{nat_tests}
 use Rattle.hir_env.specs.Answers.{Contexts}
@@ -42,3 +43,9 @@ returns-then-eq-clause-found g c =
       | then-label-border w ↦ w.result-is ∙ sym (ap answer (here ∙ hidden_there l.depth border l.label (omega (arith, w.if-label-border))))
       | else-label-border w ↦ w.result-is ∙ sym (ap answer (here ∙ seen_there l.depth border l.label (omega (arith, w.if-label-border))))
     ]
+
+pub loop-label-smaller : goal.loop-label-smaller
+loop-label-smaller g c = grind (arith, common_steps)
+
+pub loop-label-preserved : goal.loop-label-preserved
+loop-label-preserved g c = grind (arith, common_steps)

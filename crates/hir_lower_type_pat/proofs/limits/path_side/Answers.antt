@@ -10,3 +10,7 @@ returns-in-Some g c = grind (arith, common_steps)
 pub returns-in-None : goal.returns-in-None
 unfolding path_limit_form
 returns-in-None g c = grind (arith, common_steps)
+
+pub alloc_expr-requires-in-Some : goal.alloc_expr-requires-in-Some
+unfolding path_limit_form
+alloc_expr-requires-in-Some g c = grind (arith, common_steps)

@@ -6,3 +6,7 @@ use Rattle.hir_lower_type_pat.proofs.limits.side_limit.Goals as goal
 pub returns-in_err-around : goal.returns-in_err-around
 unfolding inner_form
 returns-in_err-around g c = grind (arith, common_steps)
+
+pub returns-in_err-id : goal.returns-in_err-id
+unfolding inner_form
+returns-in_err-id g c = grind (arith, common_steps)

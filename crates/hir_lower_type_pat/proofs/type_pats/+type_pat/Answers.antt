@@ -197,3 +197,15 @@ pub type_pat-other_form-requires : goal.type_pat-other_form-requires
 type_pat-other_form-requires g t c =
     let no = c.in_default in
     others_left c.args.node.now.kind no.not-NotNullPat no.not-OrPat no.not-RangePat no.not-MacroPat
+
+pub each_type_pat-slice_bounds-rest-count : goal.each_type_pat-slice_bounds-rest-count
+each_type_pat-slice_bounds-rest-count g t c = grind (arith, common_steps, others_left)
+
+pub each_type_pat-bounds-left-0 : goal.each_type_pat-bounds-left-0
+each_type_pat-bounds-left-0 g t c = grind (arith, common_steps, others_left)
+
+pub called_form-pointed_form-requires : goal.called_form-pointed_form-requires
+called_form-pointed_form-requires g t c = grind (arith, common_steps, others_left)
+
+pub each_type_pat-slice_bounds-rest-start : goal.each_type_pat-slice_bounds-rest-start
+each_type_pat-slice_bounds-rest-start g t c = grind (arith, common_steps, others_left)

@@ -7,3 +7,6 @@ returns-in-Some g c = grind (arith, common_steps)
 
 pub returns-in-None : goal.returns-in-None
 returns-in-None g c = grind (arith, common_steps)
+
+pub type_pat-requires : goal.type_pat-requires
+type_pat-requires g c = grind (arith, common_steps)

@@ -6,3 +6,7 @@ use Rattle.hir_lower_type_pat.proofs.type_pats.range_form.Goals as goal
 pub returns : goal.returns
 unfolding limits_form
 returns g c = grind (arith, common_steps)
+
+pub returns-in_err-end_limit : goal.returns-in_err-end_limit
+unfolding limits_form
+returns-in_err-end_limit g c = grind (arith, common_steps)

@@ -1,3 +1,4 @@
+use Rattle.std.proofs.lemmas.Grind.{common_steps}
 use Rattle.std.proofs.Common.{arith, ◌-◌, [], length, ◌<◌}
 use Rattle.hir_store.specs.Pages.{IsPageBefore}
 use Rattle.hir_store.proofs.PageLemmas.{last_page, joined_set, pages_set, some_page}
@@ -28,3 +29,9 @@ returns-clause-paged g c =
       omega (arith, c.push_reserved.ensures.capacity, r.1.2),
     ) in
     pages_set c.args.pages.now.items (c.len-last.result - 1) filled (omega arith) c.requires.pages h
+
+pub index_mut-page-requires : goal.index_mut-page-requires
+index_mut-page-requires g c = grind (arith, common_steps, last_page, joined_set, pages_set)
+
+pub overflow_sub-last : goal.overflow_sub-last
+overflow_sub-last g c = grind (arith, common_steps, last_page, joined_set, pages_set)

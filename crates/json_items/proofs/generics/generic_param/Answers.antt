@@ -1,3 +1,5 @@
+use Rattle.std.proofs.lemmas.Grind.{common_steps}
+use Rattle.std.proofs.Common.{arith}
 use Rattle.json_items.specs.Generics.{generic_param}
 use Rattle.json_items.proofs.generics.generic_param.Goals as goal
 
@@ -23,3 +25,39 @@ returns-in-LifetimeParam g c = λ e.
     let bounds = c.field-bounds-in-LifetimeParam.ensures e in
     let lifetime = c.field-lifetime.ensures bounds.0 in
     (lifetime.0, rw (c.in-LifetimeParam.is, c.id-in-LifetimeParam.ensures, c.range-in-LifetimeParam.ensures, lifetime.1, bounds.1))
+
+pub field-ty-requires : goal.field-ty-requires
+unfolding generic_param
+field-ty-requires g c = grind (arith, common_steps)
+
+pub returns-in_default : goal.returns-in_default
+unfolding generic_param
+returns-in_default g c = grind (arith, common_steps)
+
+pub field-default-requires-in-ConstParam : goal.field-default-requires-in-ConstParam
+unfolding generic_param
+field-default-requires-in-ConstParam g c = grind (arith, common_steps)
+
+pub field-name-requires : goal.field-name-requires
+unfolding generic_param
+field-name-requires g c = grind (arith, common_steps)
+
+pub field-default-requires : goal.field-default-requires
+unfolding generic_param
+field-default-requires g c = grind (arith, common_steps)
+
+pub field-bounds-requires-in-LifetimeParam : goal.field-bounds-requires-in-LifetimeParam
+unfolding generic_param
+field-bounds-requires-in-LifetimeParam g c = grind (arith, common_steps)
+
+pub field-lifetime-requires : goal.field-lifetime-requires
+unfolding generic_param
+field-lifetime-requires g c = grind (arith, common_steps)
+
+pub field-name-requires-in-ConstParam : goal.field-name-requires-in-ConstParam
+unfolding generic_param
+field-name-requires-in-ConstParam g c = grind (arith, common_steps)
+
+pub field-bounds-requires : goal.field-bounds-requires
+unfolding generic_param
+field-bounds-requires g c = grind (arith, common_steps)

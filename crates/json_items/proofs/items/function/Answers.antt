@@ -1,3 +1,5 @@
+use Rattle.std.proofs.lemmas.Grind.{common_steps}
+use Rattle.std.proofs.Common.{arith}
 use Rattle.json_items.specs.Items.{function}
 use Rattle.json_items.proofs.items.function.Goals as goal
 
@@ -26,3 +28,23 @@ returns g c = λ e.
         c.value-4.ensures,
       ),
     )
+
+pub field-ret-requires : goal.field-ret-requires
+unfolding function
+field-ret-requires g c = grind (arith, common_steps)
+
+pub field-body-requires : goal.field-body-requires
+unfolding function
+field-body-requires g c = grind (arith, common_steps)
+
+pub generics-generics-requires : goal.generics-generics-requires
+unfolding function
+generics-generics-requires g c = grind (arith, common_steps)
+
+pub field-params-requires : goal.field-params-requires
+unfolding function
+field-params-requires g c = grind (arith, common_steps)
+
+pub where_clause-where_-requires : goal.where_clause-where_-requires
+unfolding function
+where_clause-where_-requires g c = grind (arith, common_steps)

@@ -1,3 +1,5 @@
+use Rattle.std.proofs.lemmas.Grind.{common_steps}
+use Rattle.std.proofs.Common.{arith}
 use Rattle.json_items.specs.Items.{type_alias}
 use Rattle.json_items.proofs.items.type_alias.Goals as goal
 
@@ -20,3 +22,19 @@ returns g c = λ e.
         ty.1,
       ),
     )
+
+pub field-bounds-requires : goal.field-bounds-requires
+unfolding type_alias
+field-bounds-requires g c = grind (arith, common_steps)
+
+pub field-ty-requires : goal.field-ty-requires
+unfolding type_alias
+field-ty-requires g c = grind (arith, common_steps)
+
+pub generics-generics-requires : goal.generics-generics-requires
+unfolding type_alias
+generics-generics-requires g c = grind (arith, common_steps)
+
+pub where_clause-where_-requires : goal.where_clause-where_-requires
+unfolding type_alias
+where_clause-where_-requires g c = grind (arith, common_steps)

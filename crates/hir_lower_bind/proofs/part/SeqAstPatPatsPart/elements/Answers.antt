@@ -42,3 +42,18 @@ returns-in_err-done g c =
           c.one-item.is c.in-len1-up.len_at_least h.0,
       h.1,
     ))
+
+pub slice_bounds-rest-count : goal.slice_bounds-rest-count
+slice_bounds-rest-count g c = grind (arith, common_steps)
+
+pub bounds-left-0 : goal.bounds-left-0
+bounds-left-0 g c = grind (arith, common_steps)
+
+pub element-requires-clause-part : goal.element-requires-clause-part
+element-requires-clause-part g c = grind (arith, common_steps)
+
+pub loop-left-init : goal.loop-left-init
+loop-left-init g c = grind (arith, common_steps)
+
+pub slice_bounds-rest-start : goal.slice_bounds-rest-start
+slice_bounds-rest-start g c = grind (arith, common_steps)

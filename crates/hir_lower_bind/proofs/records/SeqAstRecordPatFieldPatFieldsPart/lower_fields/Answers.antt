@@ -25,3 +25,12 @@ field-requires-clause-part g c = grind (arith, common_steps)
 
 pub returns-in_err-field : goal.returns-in_err-field
 returns-in_err-field g c = grind (arith, common_steps)
+
+pub slice_bounds-rest-count : goal.slice_bounds-rest-count
+slice_bounds-rest-count g c = grind (arith, common_steps)
+
+pub slice_bounds-rest-start : goal.slice_bounds-rest-start
+slice_bounds-rest-start g c = grind (arith, common_steps)
+
+pub bounds-left-0 : goal.bounds-left-0
+bounds-left-0 g c = grind (arith, common_steps)

@@ -7,3 +7,6 @@ returns-in-None g c = grind (arith, common_steps)
 
 pub returns-in-Some : goal.returns-in-Some
 returns-in-Some g c = grind (arith, common_steps)
+
+pub lower_if_present-requires : goal.lower_if_present-requires
+lower_if_present-requires g c = grind (arith, common_steps)

@@ -7,3 +7,6 @@ returns-in-None g c = grind (arith, common_steps)
 
 pub returns-in_ok-else_branch-in-Some : goal.returns-in_ok-else_branch-in-Some
 returns-in_ok-else_branch-in-Some g c = grind (arith, common_steps)
+
+pub else_branch-requires : goal.else_branch-requires
+else_branch-requires g c = grind (arith, common_steps)

@@ -7,3 +7,6 @@ returns-in-None g c = grind (arith, common_steps)
 
 pub returns-in-Some : goal.returns-in-Some
 returns-in-Some g c = grind (arith, common_steps)
+
+pub body_node-requires : goal.body_node-requires
+body_node-requires g c = grind (arith, common_steps)

@@ -7,3 +7,6 @@ returns-in_ok-lower-in-Some g c = grind (arith, common_steps)
 
 pub returns-in-None : goal.returns-in-None
 returns-in-None g c = grind (arith, common_steps)
+
+pub lower-requires : goal.lower-requires
+lower-requires g c = grind (arith, common_steps)

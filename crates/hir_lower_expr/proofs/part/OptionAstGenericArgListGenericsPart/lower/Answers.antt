@@ -4,3 +4,6 @@ use Rattle.hir_lower_expr.proofs.part.OptionAstGenericArgListGenericsPart.lower.
 
 pub returns : goal.returns
 returns g c = grind (arith, common_steps)
+
+pub args_if_present-requires : goal.args_if_present-requires
+args_if_present-requires g c = grind (arith, common_steps)

@@ -4,3 +4,6 @@ use Rattle.hir_lower_expr.proofs.part.OptionBoxedAstExprConstPart.lower.Goals as
 
 pub returns : goal.returns
 returns g c = grind (arith, common_steps)
+
+pub collect_constant-requires : goal.collect_constant-requires
+collect_constant-requires g c = grind (arith, common_steps)

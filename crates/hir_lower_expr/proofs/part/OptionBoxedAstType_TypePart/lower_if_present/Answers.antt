@@ -4,3 +4,6 @@ use Rattle.hir_lower_expr.proofs.part.OptionBoxedAstType_TypePart.lower_if_prese
 
 pub returns : goal.returns
 returns g c = grind (arith, common_steps)
+
+pub type_if_present-requires : goal.type_if_present-requires
+type_if_present-requires g c = grind (arith, common_steps)

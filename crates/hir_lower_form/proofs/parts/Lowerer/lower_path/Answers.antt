@@ -1,3 +1,5 @@
+use Rattle.std.proofs.lemmas.Grind.{common_steps}
+use Rattle.std.proofs.Common.{arith}
 use Rattle.hir_lower_form.specs.Methods.{at_place}
 use Rattle.hir_lower_form.proofs.Aliases.{path_lowers, reading_fails}
 use Rattle.hir_lower_form.proofs.parts.Lowerer.lower_path.Goals as goal
@@ -14,3 +16,9 @@ returns-in-Err g c =
     let at = at_place (g.P.LowerParts.spot c.args.self.now.parts) c.args.place in
     reading_fails at c.args.node.now c.args.state.now c.read_path.new.state c.input_end-mark.result
     c.input_end-mark.ensures.0 c.in-Err.fault (rw (c.new-walk.ensures, c.in-Err.is) at c.read_path.ensures)
+
+pub read_path-requires-clause-walk : goal.read_path-requires-clause-walk
+read_path-requires-clause-walk g c = grind (arith, common_steps)
+
+pub read_path-requires-clause-part : goal.read_path-requires-clause-part
+read_path-requires-clause-part g c = grind (arith, common_steps)

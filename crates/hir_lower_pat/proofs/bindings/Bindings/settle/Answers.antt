@@ -1,5 +1,7 @@
+use Rattle.std.proofs.lemmas.Grind.{common_steps}
+use Rattle.hir_lower_form.specs.Pats.{settle}
 use Rattle.std.proofs.Common.{◌≡◌, ◌+◌, arith, suc, subst, sym}
-use Rattle.hir_lower_pat.proofs.NameLemmas.{Settled, entry_exists, settled_on, settled_past}
+use Rattle.hir_lower_pat.proofs.NameLemmas.{Settled, entry_exists, settled_on, settled_past, drop_entry, drop_none}
 use Rattle.hir_lower_pat.proofs.bindings.Bindings.settle.Goals as goal
 use Rattle.hir_lower_pat.proofs.bindings.Bindings.settle.Goals.{in-Some, in_default}
 
@@ -25,3 +27,11 @@ loop-number-preserved g c =
     let next : suc n ≡ n + 1 = omega arith in
     let all = subst (λ m. Settled b m first c.match-get_index.state) next settled in
     record { so_far = all.0; placed = (all.1, all.2) }
+
+pub returns : goal.returns
+unfolding settle
+returns g c = grind (arith, common_steps, drop_entry, drop_none)
+
+pub loop-number-init : goal.loop-number-init
+unfolding settle
+loop-number-init g c = grind (arith, common_steps, drop_entry, drop_none)

@@ -1,5 +1,7 @@
-use Rattle.std.proofs.Common.{sym}
-use Rattle.hir_lower_pat.proofs.NameLemmas.{used_again}
+use Rattle.std.proofs.lemmas.Grind.{common_steps}
+use Rattle.hir_lower_form.specs.Pats.{use_name}
+use Rattle.std.proofs.Common.{sym, arith}
+use Rattle.hir_lower_pat.proofs.NameLemmas.{used_again, found_exists, known_counted}
 use Rattle.hir_lower_pat.proofs.bindings.Bindings.use_name.Goals as goal
 
 pub returns-in_ok-note-in-Some : goal.returns-in_ok-note-in-Some
@@ -7,3 +9,7 @@ returns-in_ok-note-in-Some g c = used_again (record { name = c.args.name; hygien
     c.args.self.now c.note.new.self c.args.state.now c.in-Some.id c.in-Some.number
     (sym c.in-Some.ensures.binding) c.in-Some.ensures.number c.in-Some.ensures.known
     c.note.ensures.ids c.in_ok-note-in-Some.ensures.noted c.in_ok-note-in-Some.ensures.count c.note.ensures.depth c.requires
+
+pub returns-in-None : goal.returns-in-None
+unfolding use_name
+returns-in-None g c = grind (arith, common_steps, found_exists, known_counted)

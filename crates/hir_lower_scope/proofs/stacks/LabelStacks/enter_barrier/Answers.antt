@@ -1,3 +1,4 @@
+use Rattle.std.proofs.lemmas.Grind.{common_steps}
 use Rattle.std.proofs.Common.{arith, ◌≡◌, ◌+◌, length, reverse}
 use Rattle.std.proofs.lemmas.List.{length-reverse}
 use Rattle.hir_lower_scope.specs.declared.stacks.Opened.TheVariants as opened
@@ -18,3 +19,9 @@ invariant_of-self-2 c =
     )
     (sorted_border i.places.entries i.labels.items (reverse i.opened.items) (reverse i.macros.items) (reverse i.tries.items)
     (reverse i.borders.items) c.self.invariant (c.len-depth.result + 1) (omega (arith, deep)))
+
+pub invariant_of-self-in_err-push : goal.invariant_of-self-in_err-push
+invariant_of-self-in_err-push c = grind (arith, common_steps)
+
+pub returns-clause-ok : goal.returns-clause-ok
+returns-clause-ok c = grind (arith, common_steps)

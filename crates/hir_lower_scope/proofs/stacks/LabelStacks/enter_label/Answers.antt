@@ -1,3 +1,4 @@
+use Rattle.std.proofs.lemmas.Grind.{common_steps}
 use Rattle.std.proofs.Common.{arith, ◌≡◌, ◌∙◌, ap, [], ◌∷◌, ◌++◌, length, reverse}
 use Rattle.std.proofs.lemmas.List.{length-reverse}
 use Rattle.hir_scope.specs.Ribs.{label_rib}
@@ -72,3 +73,6 @@ returns-clause-ok c =
     ∙ ap (λ rs. label_rib c.args.name c.args.hygiene c.args.label ∷ rs)
     (ribs_grown i.places.entries i.labels.items places c.place_for.new.labels.items c.place_for.ensures.grown os c.self.invariant.placed
     ∙ c.self.view_is))))
+
+pub invariant_of-self : goal.invariant_of-self
+invariant_of-self c = grind (arith, common_steps)

@@ -1,3 +1,4 @@
+use Rattle.std.proofs.lemmas.Grind.{common_steps}
 use Rattle.std.proofs.Common.{arith, ◌≡◌, length, reverse}
 use Rattle.std.proofs.lemmas.List.{length-reverse}
 use Rattle.hir_lower_scope.specs.declared.stacks.Opened.TheVariants as opened
@@ -18,3 +19,6 @@ invariant_of-self-2 c =
     )
     (sorted_macro i.places.entries i.labels.items (reverse i.opened.items) (reverse i.macros.items) (reverse i.tries.items)
     (reverse i.borders.items) c.self.invariant (record { depth = c.len-depth.result; def = c.args.def }) deep)
+
+pub invariant_of-self-in_err-push : goal.invariant_of-self-in_err-push
+invariant_of-self-in_err-push c = grind (arith, common_steps)

@@ -7,3 +7,6 @@ returns-in-None g c = grind (arith, common_steps)
 
 pub returns-in-Some : goal.returns-in-Some
 returns-in-Some g c = grind (arith, common_steps)
+
+pub written_end-requires : goal.written_end-requires
+written_end-requires g c = grind (arith, common_steps)

@@ -8,3 +8,6 @@ returns-in-None g c = grind (arith, common_steps, start_is_side)
 
 pub returns-in-Some : goal.returns-in-Some
 returns-in-Some g c = grind (arith, common_steps, start_is_side)
+
+pub side_limit-requires : goal.side_limit-requires
+side_limit-requires g c = grind (arith, common_steps)

@@ -1,3 +1,4 @@
+use Rattle.std.proofs.lemmas.Grind.{common_steps}
 use Rattle.std.proofs.Common.{arith, ◌≡◌, ◌<◌, ◌-◌, ◌∙◌, List, None, Option, Some, ap, length, map, subst, sym, take, vec_len}
 use Rattle.std.specs.Prelude.{slice_get, slice_set}
 use Rattle.hir_store.specs.Bindings.{own_from, unowned_from}
@@ -63,3 +64,6 @@ returns-clause-fewer c =
     let now = slice_set i.owners.items last.0 (Some c.args.owner) in
     let P : List (Option ExprId) → Type 0 = λ v. length (unowned_from 0 now) < length (unowned_from 0 v) in
     λ e. subst P c.self.view_is (fewer c.args.owner i.owners.items i.unowned.items c.self.invariant last is)
+
+pub returns-then-last-start-clause-fewer : goal.returns-then-last-start-clause-fewer
+returns-then-last-start-clause-fewer c = grind (arith, common_steps)

@@ -1,4 +1,5 @@
-use Rattle.std.proofs.Common.{subst}
+use Rattle.std.proofs.lemmas.Grind.{common_steps}
+use Rattle.std.proofs.Common.{subst, arith}
 use Rattle.hir_store.specs.declared.builder.ExpressionStoreBuilder.TheView.{view}
 use Rattle.hir_store.specs.Stored.{Stored, map_of, store_of}
 use Rattle.hir_store.specs.Range.{InRange}
@@ -34,3 +35,12 @@ returns-clause-in_range c =
         lifetimes = lifetimes.ways;
       };
     })
+
+pub invariant_of-store : goal.invariant_of-store
+invariant_of-store c = grind (arith, common_steps)
+
+pub returns-clause-store : goal.returns-clause-store
+returns-clause-store c = grind (arith, common_steps)
+
+pub returns-clause-source_map : goal.returns-clause-source_map
+returns-clause-source_map c = grind (arith, common_steps)

@@ -1,9 +1,10 @@
-use Rattle.std.proofs.Common.{subst, sym}
+use Rattle.std.proofs.lemmas.Grind.{common_steps}
+use Rattle.std.proofs.Common.{subst, sym, arith}
 use Rattle.hir_store.specs.declared.builder.ExpressionStoreBuilder.TheView.{view}
 use Rattle.hir_store.specs.Stored.{Stored}
 use Rattle.hir_store.specs.Range.{HasPat}
 use Rattle.hir_store.specs.FirstMap.{with_first_by}
-use Rattle.hir_store.specs.Storing.{Extends, same_pat}
+use Rattle.hir_store.specs.Storing.{Extends, same_pat, point_pat_field}
 use Rattle.hir_store.proofs.Extending.{extends_pat_field, extends_refl}
 use Rattle.hir_store.proofs.Range.{range_pat_field}
 use Rattle.hir_store.proofs.builder.ExpressionStoreBuilder.point_pat_field.Goals as goal
@@ -27,3 +28,11 @@ returns-in_err-insert-clause-stays c =
     let s : Stored = view c.self.inside in
     let P : Stored → Type 0 = λ v. Extends v s in
     rw c.in_err-insert.ensures.err (subst P c.self.view_is (extends_refl s))
+
+pub returns-clause-stored : goal.returns-clause-stored
+unfolding point_pat_field
+returns-clause-stored c = grind (arith, common_steps, extends_pat_field)
+
+pub invariant_of-self : goal.invariant_of-self
+unfolding point_pat_field
+invariant_of-self c = grind (arith, common_steps, extends_pat_field)

@@ -1,7 +1,8 @@
-use Rattle.std.proofs.Common.{[], ◌∷◌, ◌++◌, subst}
+use Rattle.std.proofs.lemmas.Grind.{common_steps}
+use Rattle.std.proofs.Common.{[], ◌∷◌, ◌++◌, subst, arith}
 use Rattle.hir_store.specs.declared.builder.ExpressionStoreBuilder.TheView.{view}
 use Rattle.hir_store.specs.Stored.{Stored}
-use Rattle.hir_store.specs.Storing.{Extends}
+use Rattle.hir_store.specs.Storing.{Extends, report}
 use Rattle.hir_store.proofs.Extending.{extends_report, extends_refl}
 use Rattle.hir_store.proofs.builder.ExpressionStoreBuilder.report.Goals as goal
 
@@ -16,3 +17,19 @@ returns-in_err-push-clause-stays c =
     let s : Stored = view c.self.inside in
     let P : Stored → Type 0 = λ v. Extends v s in
     rw c.in_err-push.ensures.err (subst P c.self.view_is (extends_refl s))
+
+pub returns-in_err-push-clause-stored : goal.returns-in_err-push-clause-stored
+unfolding report
+returns-in_err-push-clause-stored c = grind (arith, common_steps, extends_report)
+
+pub invariant_of-self-2 : goal.invariant_of-self-2
+unfolding report
+invariant_of-self-2 c = grind (arith, common_steps, extends_report)
+
+pub returns-clause-stored : goal.returns-clause-stored
+unfolding report
+returns-clause-stored c = grind (arith, common_steps, extends_report)
+
+pub invariant_of-self : goal.invariant_of-self
+unfolding report
+invariant_of-self c = grind (arith, common_steps, extends_report)

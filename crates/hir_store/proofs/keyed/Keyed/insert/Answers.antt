@@ -1,3 +1,4 @@
+use Rattle.std.proofs.lemmas.Grind.{common_steps}
 use Rattle.std.proofs.Common.{◌≡◌, ◌∙◌, ◌++◌, ◌∷◌, [], ap, sym, cond, length, ℕ, Some, arith}
 use Rattle.std.specs.Map.{lookup}
 use Rattle.std.specs.BTreeMap.{is_at}
@@ -61,3 +62,15 @@ returns-clause-ok g c =
     c.self.invariant c.args.key new c.args.value in
     c.push_reserved.ensures.items ∙ (ap (λ xs. xs ++ (c.args.key, c.args.value) ∷ []) c.reserve.ensures.items
     ∙ (sym last ∙ ap (λ xs. insert_entry g.K.PartialEq.eq xs c.args.key c.args.value) c.self.view_is))
+
+pub invariant_of-self-in_err-insert : goal.invariant_of-self-in_err-insert
+invariant_of-self-in_err-insert g c = grind (arith, common_steps)
+
+pub returns-in_err-insert-clause-err : goal.returns-in_err-insert-clause-err
+returns-in_err-insert-clause-err g c = grind (arith, common_steps)
+
+pub invariant_of-self-in_err-place : goal.invariant_of-self-in_err-place
+invariant_of-self-in_err-place g c = grind (arith, common_steps)
+
+pub invariant_of-self : goal.invariant_of-self
+invariant_of-self g c = grind (arith, common_steps)

@@ -1,3 +1,4 @@
+use Rattle.std.proofs.lemmas.Grind.{common_steps}
 use Rattle.std.proofs.Common.{arith, ◌≡◌, ◌∙◌, ap, sym, ◌+◌, length, ◌∷◌, Some}
 use Rattle.std.specs.Prelude.{slice_get}
 use Rattle.hir_store.specs.Entries.{numbered_behind}
@@ -17,3 +18,9 @@ pub returns-clause-goes : goal.returns-clause-goes
 returns-clause-goes g c =
     let fewer = ap length (returns-clause-steps g c) in
     record { on = λ _. (tt, tt, omega (arith, fewer)); keeps = tt; rests = λ _. tt }
+
+pub returns-in_err-entry-clause-goes : goal.returns-in_err-entry-clause-goes
+returns-in_err-entry-clause-goes g c = grind (arith, common_steps)
+
+pub returns-then-at-len-clause-steps : goal.returns-then-at-len-clause-steps
+returns-then-at-len-clause-steps g c = grind (arith, common_steps)

@@ -1,3 +1,4 @@
+use Rattle.std.proofs.lemmas.Grind.{common_steps}
 use Rattle.std.proofs.Common.{arith, ◌≡◌, ◌∙◌, ap, length, subst, sym, [], ◌∷◌, ◌++◌, Ok}
 use Rattle.hir_store.specs.Arenas.{Sourced, AllocsMade, sourced_of, with_made}
 use Rattle.hir_store.specs.Pages.{joined}
@@ -41,3 +42,15 @@ returns g c =
       len,
     )
     (subst P c.self.view_is (allocs_made g.T.Entry.number a c.args.entry c.args.source (omega (arith, below, len))))
+
+pub returns-then-at-self : goal.returns-then-at-self
+returns-then-at-self g c = grind (arith, common_steps)
+
+pub put-requires-clause-room : goal.put-requires-clause-room
+put-requires-clause-room g c = grind (arith, common_steps)
+
+pub invariant_of-self : goal.invariant_of-self
+invariant_of-self g c = grind (arith, common_steps)
+
+pub invariant_of-self-in_err-reserve : goal.invariant_of-self-in_err-reserve
+invariant_of-self-in_err-reserve g c = grind (arith, common_steps)

@@ -1,4 +1,5 @@
-use Rattle.std.proofs.Common.{◌∙◌, ◌≤◌, ap, length, subst, sym}
+use Rattle.std.proofs.lemmas.Grind.{common_steps}
+use Rattle.std.proofs.Common.{◌∙◌, ◌≤◌, ap, length, subst, sym, arith}
 use Rattle.hir_store.specs.declared.store.ExpressionStore.TheView.{view}
 use Rattle.hir_store.specs.Arenas.{past}
 use Rattle.hir_store.specs.Children.{children_of}
@@ -14,3 +15,6 @@ returns-clause-in_range c =
     let named = c.of_present.ensures ∙ ap children_of c.get.ensures in
     subst P c.self.view_is
     (subst (λ ids. past past_expr ids ≤ length s.exprs) (sym named) (children_exist s c.args.id.0 c.self.invariant))
+
+pub returns-clause-named : goal.returns-clause-named
+returns-clause-named c = grind (arith, common_steps, children_exist)

@@ -1,0 +1,9 @@
+use Rattle.std.proofs.lemmas.Grind.{common_steps}
+use Rattle.std.proofs.Common.{arith}
+use Rattle.hir_lower_expr.proofs.part.OptionBoxedAstBlockExprBlockPart.lower.Goals as goal
+
+pub collect_block_opt-requires : goal.collect_block_opt-requires
+collect_block_opt-requires g c = grind (arith, common_steps)
+
+pub returns : goal.returns
+returns g c = grind (arith, common_steps)

@@ -1,0 +1,9 @@
+use Rattle.std.proofs.lemmas.Grind.{common_steps}
+use Rattle.std.proofs.Common.{arith}
+use Rattle.hir_lower_expr.proofs.part.OptionBoxedAstExprExprPart.lower_if_present.Goals as goal
+
+pub collect_expr_if_present-requires : goal.collect_expr_if_present-requires
+collect_expr_if_present-requires g c = grind (arith, common_steps)
+
+pub returns : goal.returns
+returns g c = grind (arith, common_steps)

@@ -1,0 +1,9 @@
+use Rattle.std.proofs.lemmas.Grind.{common_steps}
+use Rattle.std.proofs.Common.{arith}
+use Rattle.hir_lower_expr.proofs.runs.stmts_of.Goals as goal
+
+pub returns-in_default : goal.returns-in_default
+returns-in_default c = grind (arith, common_steps)
+
+pub returns-in-Yes-default-Some-Stmts : goal.returns-in-Yes-default-Some-Stmts
+returns-in-Yes-default-Some-Stmts c = grind (arith, common_steps)

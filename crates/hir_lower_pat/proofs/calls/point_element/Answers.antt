@@ -1,0 +1,6 @@
+use Rattle.std.proofs.lemmas.Grind.{common_steps}
+use Rattle.std.proofs.Common.{arith}
+use Rattle.hir_lower_pat.proofs.calls.point_element.Goals as goal
+
+pub returns-in_ok-point_pat-in-Some : goal.returns-in_ok-point_pat-in-Some
+returns-in_ok-point_pat-in-Some g c = grind (arith, common_steps)

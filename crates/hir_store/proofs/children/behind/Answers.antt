@@ -1,0 +1,7 @@
+use Rattle.std.proofs.lemmas.Grind.{common_steps}
+use Rattle.std.proofs.Common.{arith}
+use Rattle.hir_store.proofs.ChildLemmas.{none_behind}
+use Rattle.hir_store.proofs.children.behind.Goals as goal
+
+pub returns : goal.returns
+returns c = grind (arith, common_steps, none_behind)

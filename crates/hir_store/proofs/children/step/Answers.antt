@@ -1,0 +1,18 @@
+use Rattle.std.proofs.lemmas.Grind.{common_steps}
+use Rattle.std.proofs.Common.{arith}
+use Rattle.hir_store.proofs.children.step.Goals as goal
+
+pub returns-in-Some : goal.returns-in-Some
+returns-in-Some c = grind (arith, common_steps)
+
+pub returns-in-Exprs-len1-up : goal.returns-in-Exprs-len1-up
+returns-in-Exprs-len1-up c = grind (arith, common_steps)
+
+pub returns-in-None : goal.returns-in-None
+returns-in-None c = grind (arith, common_steps)
+
+pub returns-in_default : goal.returns-in_default
+returns-in_default c = grind (arith, common_steps)
+
+pub returns-in-Fields-len1-up : goal.returns-in-Fields-len1-up
+returns-in-Fields-len1-up c = grind (arith, common_steps)

@@ -1,0 +1,10 @@
+use Rattle.std.proofs.lemmas.Grind.{common_steps}
+use Rattle.std.proofs.Common.{arith}
+use Rattle.hir_store.proofs.Past.{args_push}
+use Rattle.hir_store.proofs.lists.push_arg.Goals as goal
+
+pub returns-clause-past : goal.returns-clause-past
+returns-clause-past c = grind (arith, common_steps, args_push)
+
+pub returns-clause-items : goal.returns-clause-items
+returns-clause-items c = grind (arith, common_steps, args_push)

@@ -1,0 +1,6 @@
+use Rattle.std.proofs.lemmas.Grind.{common_steps}
+use Rattle.std.proofs.Common.{arith}
+use Rattle.hir_store.proofs.pages.next_page.Goals as goal
+
+pub returns-clause-paged : goal.returns-clause-paged
+returns-clause-paged g c = grind (arith, common_steps)
