@@ -15,7 +15,7 @@ use Rattle.hir_alias.specs.Reaching.{Among, Reached, at_root, below, Named, alia
 use Rattle.hir_alias.specs.Noting.{note_new, note_type, note_place, note_lifetime, note_part, note_parts, Met, MetAll, Done, OnList}
 use Rattle.hir_alias.specs.Noting.{unseen, Sound, falses}
 
--- ---- lists of flags
+-- lists of flags
 
 abbrev from_some : {A : Type 0} → A → Option A → A
 from_some d None = d
@@ -61,7 +61,7 @@ pub met_true : (bs : List Bool) (n : ℕ) → n < length bs → ((b : Bool) → 
 met_true bs n h met =
     let e = slice_get-get_or bs n false h in e ∙ ap Some (met (get_or bs n false) e)
 
--- ---- the list
+-- the list
 
 pub on_more : (n : ℕ) (ts us : List TypeRefId) → OnList n ts → OnList n (ts ++ us)
 on_more n [] us h = elim h [ ]
@@ -76,7 +76,7 @@ on_split n [] t h = elim h [ inl e ↦ inr e | inr r ↦ inl r ]
 on_split n (s ∷ ts) t h =
     elim h [ inl e ↦ inl (inl e) | inr r ↦ elim (on_split n ts t r) [ inl a ↦ inl (inr a) | inr e ↦ inr e ] ]
 
--- ---- flags that are down, and what is written past the end
+-- flags that are down, and what is written past the end
 
 falses_suc : (n : ℕ) → falses n ++ false ∷ [] ≡ falses (suc n)
 falses_suc zero = refl
@@ -97,7 +97,7 @@ none_up (suc n) (suc k) e = none_up n k e
 pub set_behind : (bs : List Bool) (k : ℕ) → length bs ≤ k → slice_set bs k true ≡ bs
 set_behind bs k h = set_past bs k true h
 
--- ---- the work that is left
+-- the work that is left
 
 left_new : (v : Notes) (t : TypeRefId) (o : Option Bool) → slice_get v.noted t.0 ≡ o
     → unseen (note_new v t o).noted + length (note_new v t o).work ≡ unseen v.noted + length v.work
@@ -123,7 +123,7 @@ left_parts lifetimes find v (a_lifetime l ∷ ps) =
 -- each place that is found is one of so many
 module _ (types : List TypeRef) (lifetimes : List LifetimeRef) (find : Name → Option ℕ) (many : ℕ)
     (within : (l : LifetimeRefId) (k : ℕ) → named_place lifetimes find l ≡ Some k → k < many) where
-  -- ---- what was met stays so
+  -- what was met stays so
 
   met_new : (v : Notes) (t : TypeRefId) (o : Option Bool) (q : Part) → Met lifetimes find v q → Met lifetimes find (note_new v t o) q
   met_new v t None q m = m
@@ -154,7 +154,7 @@ module _ (types : List TypeRef) (lifetimes : List LifetimeRef) (find : Name → 
   met_lasts v [] q m = m
   met_lasts v (p ∷ ps) q m = met_lasts (note_part lifetimes find v p) ps q (met_stays v p q m)
 
-  -- ---- what is noted was met
+  -- what is noted was met
 
   new_met : (v : Notes) (t : TypeRefId) (o : Option Bool) → slice_get v.noted t.0 ≡ o → Met lifetimes find (note_new v t o) (a_type t)
   new_met v t None e = λ b h. elim (none-some b (sym e ∙ h)) [ ]
@@ -174,7 +174,7 @@ module _ (types : List TypeRef) (lifetimes : List LifetimeRef) (find : Name → 
   part_met v (a_type t) size = new_met v t (slice_get v.noted t.0) refl
   part_met v (a_lifetime l) size = place_met v l (named_place lifetimes find l) refl size
 
-  -- ---- while the parts of one type are being noted
+  -- while the parts of one type are being noted
 
   module _ (root : TypeRefId) where
     abbrev Right : Part → Type 0
@@ -352,7 +352,7 @@ module _ (types : List TypeRef) (lifetimes : List LifetimeRef) (find : Name → 
             elim (none_up (length types) root.0 (ap (λ bs. slice_get bs root.0) (sym noted) ∙ e)) [ ]
         root_on v (Some false) e noted h = on_last v.work root
 
-    -- ---- at the end
+    -- at the end
 
     module _ (v : Notes) (s : Sound types lifetimes find many root v) (m : Met lifetimes find v (a_type root)) (over : v.work ≡ []) where
       off : (n : ℕ) → OnList n v.work → ⊥

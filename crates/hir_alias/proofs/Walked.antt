@@ -35,7 +35,7 @@ handed_notes (a_type t ∷ ps) v = handed_notes ps (record v { notes = note_type
 handed_notes (a_lifetime l ∷ ps) v =
     handed_notes ps (record v { notes = note_lifetime v.lowered.now.store.lifetimes (found v.places) v.notes l })
 
--- ---- the place of a name is one of the parameters'
+-- the place of a name is one of the parameters'
 
 found_within : (t : Bool) (k j : ℕ) (n : Name) (p : LifetimeParamData) (ps : List LifetimeParamData)
     → (position_from (is_called n) (k + 1) ps ≡ Some j → j < k + 1 + length ps)
@@ -90,7 +90,7 @@ step_less store find v ws t e =
     let b = ap length e in
     let c = length-append ws (t ∷ []) in omega arith
 
--- ---- for the loop
+-- for the loop
 
 -- the visitor once the last type was taken from its list, and the parts of that were noted
 abbrev pub one_on : Visitor → List TypeRefId → TypeRefId → Visitor
@@ -132,7 +132,7 @@ names_none store params = record {
   told = λ k. ((λ h. elim (none_up (length params.lifetimes) k h) [ ]), (λ n. elim n [ ]));
 }
 
--- ---- at the beginning
+-- at the beginning
 
 abbrev pub begun_at : Visitor → Notes
 begun_at was = begun was.lowered.now.store was.lowered.now.generic_params.lifetimes

@@ -27,7 +27,7 @@ holds false = ⊥
 clash : true ≡ false → ⊥
 clash h = subst holds h tt
 
--- ---- one
+-- one
 
 binding_is_none : (params : Bool) (n : Option AstName) (a : OptionArgs) (dots : Bool) (t : OptionType) (bs : Bounds)
     → argument_of (of.binding_of params n a dots t bs) ≡ None
@@ -67,7 +67,7 @@ lifetime_binds : (p : Place) (l : Option AstLifetime) → binding_of (of.lifetim
 lifetime_binds p None = refl
 lifetime_binds p (Some l) = refl
 
--- ---- all
+-- all
 
 put_one : {A : Type 0} (f : A → Option ArgumentData) (a : A) (as' : List A) (xs : ArgumentsData) (b : Bool) → is_some (f a) ≡ b
     → map Some (arguments_in xs) ≡ map f as' → map Some (arguments_in (put_argument (f a) xs)) ≡ map f (if b then a ∷ as' else as')

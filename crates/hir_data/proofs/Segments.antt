@@ -45,7 +45,7 @@ no_some h = clash (sym (ap is_some h))
 abbrev pub name_at : Named → Name
 name_at n = n.name
 
--- ---- all is read
+-- all is read
 
 behind_goes_on : (s : Segment) (ns : List Named) → ends (what false s) ns ≡ false
 behind_goes_on tree.absent_segment ns = refl
@@ -66,7 +66,7 @@ all_go_on (tree.more_segments s ss) = rw (behind_goes_on s (rule.names (items ss
 read_all : (i : Item) (ss : Segments) → read (i ∷ items ss []) ≡ i ∷ items ss []
 read_all i ss = rw (all_go_on ss) refl
 
--- ---- the names of a segment
+-- the names of a segment
 
 abbrev borne : Option Name → List Name
 borne None = []
@@ -131,7 +131,7 @@ segment_first : (at : Spot) (s : AstSegment) → trait_of (out-PathSegment s).se
 segment_first at s h = ap (said true) (segment_is_level at s)
     ∙ said_first at (in_projection at) (out-PathSegment s).seg (out-PathSegment s).name _ _ (out-PathSegment s).trait_ h
 
--- ---- the names of all
+-- the names of all
 
 abbrev all_names : List Item → List Name
 all_names is = map name_at (rule.names is)
@@ -167,7 +167,7 @@ names_first at leading (None ∷ ss) h t = absurd (clash (sym h))
 names_first at leading (Some s ∷ ss) h t = one_said (front leading (answered_segment at s))
     (items (segments_part at ss) []) s (named_among ss) (segment_first at s t) (names_behind at ss h)
 
--- ---- a path that is read
+-- a path that is read
 
 map_reverse : {A B : Type 0} (f : A → B) (xs : List A) → map f (reverse xs) ≡ reverse (map f xs)
 map_reverse f [] = refl
@@ -296,7 +296,7 @@ plain_named at p x w t e =
     ap (map Some) (read_named (front o.leading (first_part at o.segs) ∷ items (rest_part at o.segs) []) y h)
     ∙ names_first at o.leading o.segs w.1 t)
 
--- ---- a path with a trait
+-- a path with a trait
 
 unqualified : (k : Option SegmentKind) (t : Option AstPathType) → not (is_qualified k) ≡ true → trait_of k t ≡ None
 unqualified None t h = refl
@@ -396,7 +396,7 @@ trait_named at leading (Some s ∷ ss) t x m h w e =
     (λ l. map Some l ≡ map segment_name (behind_trait (out-PathType t).path ss))
     (λ y k. trait_names inner (out-PathType t).path y w (ap path_of (sym (path_type_path inner t)) ∙ k) ss ns (names_behind at ss m))
 
--- ---- the law
+-- the law
 
 replaced_named : (at : Spot) (p : AstPath) (x : PathRead) (tr : Option AstPathType) → first_trait (out-Path p).segs ≡ tr → Whole p
     → PlainTrait tr

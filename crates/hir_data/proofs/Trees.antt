@@ -31,7 +31,7 @@ use Rattle.hir_data.specs.Trees.{type_at, with_argument, type_arg_of, binding_of
 use Rattle.hir_data.specs.Trees.{free, pointer, ImplsInside, reads_lifetime, LifetimesOfTexts, reads_abi, AbisOfTexts, fn_at}
 use Rattle.hir_data.specs.Trees.{plain_param, dots_param, VarargsAtTheEnd}
 
--- ---- one level of a tree that is made of its parts
+-- one level of a tree that is made of its parts
 
 module _ (at : Spot) where
   pub type_made : (n : ℕ) (k : TypeKindLayer written)
@@ -74,7 +74,7 @@ module _ (at : Spot) where
   param_made x = param_is_level at (roll-Param x)
       ∙ ap (λ l. of.param_step at.answers (reader at.answers (into at)) l at.place) (out-roll-Param x)
 
--- ---- an `impl` inside of one
+-- an `impl` inside of one
 
 abbrev within : Spot → Spot
 within at = in_impl (free at)
@@ -161,7 +161,7 @@ reads_impls at = (
       ∙ ap (fn_of (tree.leaf_type (pointer at 2) tree.never_leaf)) (inner_is at 1 (bare (codes "B"))))),
 )
 
--- ---- lifetimes
+-- lifetimes
 
 reference_is : (at : Spot) (t : List ℕ)
     → reads_lifetime at t (of.lifetime_ref t)
@@ -179,7 +179,7 @@ reads_lifetimes at = (
   reference_is at (codes "'a"),
 )
 
--- ---- function pointers
+-- function pointers
 
 abi_is : (at : Spot) (t : Option (List ℕ)) → reads_abi at t (of.abi_of t)
 abi_is at t = ap (type_data None) (type_made at 0 _)

@@ -15,7 +15,7 @@ use Rattle.hir_data.specs.Reading.{stored_pat}
 use Rattle.hir_data.specs.Tops.{Tops, tops_of}
 use Rattle.hir_data.specs.Uses.{use_of}
 
--- ---- the bindings that a stored pattern makes
+-- the bindings that a stored pattern makes
 
 abbrev pub in_each : {A : Type 0} → (A → List BindingId) → List A → List BindingId
 in_each f [] = []
@@ -63,7 +63,7 @@ module _ (store : Store) where
   abbrev pub made_for : BindingId → Option Use
   made_for i = option_map use_of (slice_get store.bindings i.0)
 
--- ---- the rule
+-- the rule
 
 -- one of these
 abbrev pub IsAmong : List BindingId → BindingId → Type 0

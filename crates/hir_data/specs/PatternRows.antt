@@ -24,7 +24,7 @@ use Rattle.hir_data.specs.Targets.{target_data}
 use Rattle.hir_data.specs.Worked.{whole, word}
 use Rattle.hir_data.specs.Written.{root_hygiene, signed_data, type_data}
 
--- ---- written
+-- written
 
 abbrev pub x : Name
 x = name.Text (codes "x")
@@ -59,7 +59,7 @@ path_a = whole (word (codes "A")) []
 abbrev pub refused_path : OptionPath
 refused_path = whole tree.crate_segment (tree.crate_segment ∷ [])
 
--- ---- read
+-- read
 
 abbrev pub bound : Pointer → HygieneId → BindingAnnotation → PatData
 bound at h m = pat_at (Some at) (datum.bind_pattern x h m datum.no_pattern)
@@ -74,7 +74,7 @@ data_a = bare_path (name.Text (codes "A"))
 abbrev pub reads : Pat → PatData → Type 0
 reads p d = written_pat (tree.some_pat p) ≡ d
 
--- ---- names
+-- names
 
 -- `(x, ref x)`, the same with two hygienes, `ref x @ x`, and `mut x @ x` within a tuple behind `x`
 abbrev pub ModesOfFirstUses : Type 0
@@ -109,7 +109,7 @@ RefusedBindsNothing = (at a b : Pointer) (n : Name) (by : CfgId)
     × (first_uses (tree.some_pat record_) ≡ [])
     × reads (tree.path_pat at refused_path) (pat_at (Some at) datum.missing_pattern)
 
--- ---- two dots, commas and alternatives
+-- two dots, commas and alternatives
 
 -- `(, .., x)`, and `(x, .., x, ..)`
 abbrev pub DotsHaveAPlace : Type 0
@@ -137,7 +137,7 @@ OneAlternative = (at a b : Pointer)
     (pat_at (Some at) (datum.or_pattern (patterns (bound a root_hygiene Ref ∷ bound b root_hygiene Ref ∷ []))))
     × reads (tree.or_pat at tree.no_pats) (pat_at (Some at) (datum.or_pattern datum.no_patterns))
 
--- ---- ranges
+-- ranges
 
 abbrev pub minus : Literal → Signed
 minus l = record { minus = true; literal = l }
@@ -179,7 +179,7 @@ LimitsOfTypes = (at a b : Pointer) (l : Literal) (i : LangItemId)
     × reads_limits at a (tree.side_limit (tree.name_side b name.Missing tt)) (tree.item_limit None)
     (datum.path_side (bare_path name.Missing) root_hygiene) datum.missing_side
 
--- ---- targets
+-- targets
 
 abbrev pub targets : List Target → Targets
 targets [] = tree.no_targets
@@ -212,7 +212,7 @@ DataOfElements = (call at a : Pointer) (e : Expr)
     ≡ pat_at (Some call) (datum.tuple_pattern None (patterns (place_data a ∷ []))))
     × (target_data (tree.absent_target (Some call)) ≡ pat_at (Some call) datum.missing_pattern)
 
--- ---- problems
+-- problems
 
 abbrev pub shows : Pat → Option BindingProblems → Type 0
 shows p problem = shown over_all 0 (written_uses (tree.some_pat p)) ≡ problem

@@ -15,7 +15,7 @@ use Rattle.hir_data.specs.Rule.{PathRead, data_of}
 use Rattle.hir_data.specs.Uses.{FirstUses, first_use, number_of, with_use}
 use Rattle.hir_data.specs.Written.{path_of, root_hygiene, signed_data}
 
--- ---- patterns without patterns in them
+-- patterns without patterns in them
 
 abbrev pub leaf_pattern : PatLeaf → PatShape
 leaf_pattern tree.wild_leaf = datum.wild_pattern
@@ -58,7 +58,7 @@ range_shape (Some op) start end = datum.range_pattern op start end
 abbrev pub bind_as : Use → OptionPatData → PatShape
 bind_as first sub = datum.bind_pattern first.name first.hygiene first.mode sub
 
--- ---- two dots and commas
+-- two dots and commas
 
 abbrev pub is_dots : Pat → Bool
 is_dots (tree.leaf_pat at tree.rest_leaf) = true
@@ -82,7 +82,7 @@ abbrev pub behind_comma : Bool → PatsData → PatsData
 behind_comma false ps = ps
 behind_comma true ps = datum.more_patterns absent_pattern ps
 
--- ---- what is more than its parts
+-- what is more than its parts
 
 -- without its path a pattern is missing, from no node
 abbrev pub if_path : {A : Type 0} → Option PathRead → (PathData → A) → A → A
@@ -100,7 +100,7 @@ put_field None p fs = fs
 put_field (Some n) p fs = datum.more_pattern_fields n p fs
 
 abbrev mutual
-  -- ---- the first uses once it is read, too
+  -- the first uses once it is read, too
 
   pub uses_after : Pat → FirstUses → FirstUses
   uses_after (tree.leaf_pat at form) us = us
@@ -139,7 +139,7 @@ abbrev mutual
   uses_after_field (tree.pat_field at n p) us = uses_after p us
 
 abbrev mutual
-  -- ---- its data
+  -- its data
 
   pub pattern_data : Pat → FirstUses → PatData
   pattern_data (tree.leaf_pat at form) us = pat_at (Some at) (leaf_pattern form)
@@ -196,7 +196,7 @@ abbrev mutual
   fields_data (tree.more_pat_fields f fs) us = fields_data fs us
 
 abbrev mutual
-  -- ---- what it does with names
+  -- what it does with names
 
   pub uses_of : Pat → FirstUses → Uses
   uses_of (tree.leaf_pat at form) us = product no_parts
@@ -235,7 +235,7 @@ abbrev mutual
   field_uses (tree.more_pat_fields (tree.pat_field at n p) fs) us = more_parts (uses_of p us) (field_uses fs (uses_after p us))
   field_uses (tree.more_pat_fields f fs) us = field_uses fs us
 
--- ---- of a whole top pattern, before which no name has a use
+-- of a whole top pattern, before which no name has a use
 
 abbrev pub written_pat : OptionPat → PatData
 written_pat p = pattern_part_data p []

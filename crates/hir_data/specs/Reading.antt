@@ -98,7 +98,7 @@ module _ (store : Store) (source_map : SourceMap) where
   use_layer (use_arg.Name n) = datum.name_used n
   use_layer (use_arg.Lifetime l) = datum.lifetime_used (stored_lifetime l)
 
-  -- ---- one entry
+  -- one entry
 
   module _ (r : Readers) where
     -- types before others
@@ -192,7 +192,7 @@ module _ (store : Store) (source_map : SourceMap) where
     shape_found None = datum.error_shape
     shape_found (Some t) = shape_layer t
 
-    -- ---- patterns
+    -- patterns
 
     abbrev pub subpattern_layer : Option PatId → OptionPatData
     subpattern_layer None = datum.no_pattern
@@ -267,7 +267,7 @@ module _ (store : Store) (source_map : SourceMap) where
     pattern_found None = datum.unwritten_pattern
     pattern_found (Some p) = pattern_layer p
 
-  -- ---- all
+  -- all
 
   abbrev pub type_source : TypeRefId → Option Pointer
   type_source i = flattened (slice_get source_map.type_sources i.0)

@@ -43,7 +43,7 @@ abbrev pub empty_list : {A : Type 0} → List A → Bool
 empty_list [] = true
 empty_list (x ∷ xs) = false
 
--- ---- the type before a trait's arguments
+-- the type before a trait's arguments
 
 abbrev pub behind_self : TypeData → ArgsData → ArgsData
 behind_self t (args_data as' has_self bs ps) = args_data (datum.more_arguments (datum.type_argument t) as') true bs ps
@@ -76,7 +76,7 @@ first_without_self (n ∷ ns) = record n { args = without_self n.args } ∷ ns
 abbrev pub last_without_self : List Named → List Named
 last_without_self ns = reverse (first_without_self (reverse ns))
 
--- ---- what is read
+-- what is read
 
 abbrev pub names_of : What → List Named
 names_of (named n) = n ∷ []
@@ -102,7 +102,7 @@ abbrev pub read : List Item → List Item
 read [] = []
 read (i ∷ is) = if ended is then read is else i ∷ is
 
--- ---- what is refused
+-- what is refused
 
 -- a trait that is absent, refused or without names refuses too
 abbrev pub refuses : What → Bool
@@ -115,7 +115,7 @@ abbrev pub refused : List Item → Bool
 refused [] = false
 refused (i ∷ is) = refuses i.what || refused is
 
--- ---- the kind
+-- the kind
 
 -- the kind that a segment sets; within one `crate`, `$crate` or a type does, and not a `::` beside it
 abbrev pub sets : Bool → What → Option PathKind
@@ -171,7 +171,7 @@ plain_kind _ = false
 abbrev pub own_kind : PathKind → List Named → Option TypeData → PathKind
 own_kind k ns t = if empty_list ns && plain_kind k && is_none t then kind.Super 0 else k
 
--- ---- anchor and arguments
+-- anchor and arguments
 
 abbrev pub anchor_or : What → Option TypeData → Option TypeData
 anchor_or (anchor t) behind = Some t
@@ -196,7 +196,7 @@ abbrev pub found : List Item → Bool
 found [] = false
 found (i ∷ is) = finds i.what || found is
 
--- ---- the whole
+-- the whole
 
 abbrev pub read_of : List Item → PathRead
 read_of is = record {
@@ -210,7 +210,7 @@ read_of is = record {
 abbrev pub path_read : List Item → Option PathRead
 path_read is = if refused is then None else Some (read_of is)
 
--- ---- as data
+-- as data
 
 abbrev pub anchor_data : Option TypeData → datum.OptionTypeData
 anchor_data None = datum.no_type

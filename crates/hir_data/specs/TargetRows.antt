@@ -11,7 +11,7 @@ use Rattle.hir_data.specs.Data.{PatData, pat_at}
 use Rattle.hir_data.specs.PatternRows.{patterns, targets}
 use Rattle.hir_data.specs.Targets.{target_data}
 
--- ---- written
+-- written
 
 abbrev pub exprs : List Expr → Exprs
 exprs [] = tree.no_exprs
@@ -39,7 +39,7 @@ call s c e = tree.macro_expr s c (tree.some_expr e)
 abbrev pub entering : Pointer → Entered → Expr → Expr
 entering s x e = call s (tree.entered x) e
 
--- ---- read
+-- read
 
 abbrev pub wild_read : Option Pointer → Pointer → Target
 wild_read from at = tree.wild_target (origin from at)
@@ -62,7 +62,7 @@ module _ (found : Path → Bool) where
   abbrev pub reads_within : Pointer → Expr → Target → Type 0
   reads_within at e t = reads (tuple at (e ∷ [])) (tuple_read at (t ∷ []))
 
--- ---- whole calls
+-- whole calls
 
 -- `m!()` for `_`, for a call of `_` and for nothing, and `(m!())` for `_`
 abbrev pub WholeCallsLead : Type 0
@@ -72,7 +72,7 @@ WholeCallsLead = (found : Path → Bool) (at s t : Pointer) (c d : Called)
     × reads found (tree.macro_expr s c tree.no_expr) (tree.macro_target (Some s) c (tree.absent_target None))
     × reads found (in_parens t (call s c (wild at))) (tree.macro_target (Some s) c (wild_read None at))
 
--- ---- elements
+-- elements
 
 -- `(m!(),)` for `_`, for a call of `_`, for `(_)`, for parentheses around a call of `_`, for a place, and for nothing
 abbrev pub ElementsComeFromCalls : Type 0
@@ -104,7 +104,7 @@ DisabledCalls = (found : Path → Bool) (at s a : Pointer) (x : Entered) (why : 
     × reads found disabled (tree.place_target s disabled)
     × reads found call_of_it (tree.place_target s call_of_it)
 
--- ---- two dots and callees
+-- two dots and callees
 
 -- `(_, m!(), _)`, `[_, m!(), _]`, where m stands for a call of `..`, and `(m!(),)`, where it stands for `(..)`
 abbrev pub DotsThroughCalls : Type 0

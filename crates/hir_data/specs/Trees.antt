@@ -35,7 +35,7 @@ use Rattle.hir_data.specs.Data.{TypeData, OptionArgsData}
 use Rattle.hir_data.specs.Written.{type_data, unit_data}
 use Rattle.hir_data.specs.Worked.{sugared}
 
--- ---- trees: the numbers of nodes are written beside types and lifetimes, all others are 9
+-- trees: the numbers of nodes are written beside types and lifetimes, all others are 9
 
 abbrev pub node : ℕ → NodeId
 node n = record { 0 = n }
@@ -119,7 +119,7 @@ impl_at n s =
 abbrev pub never_at : ℕ → AstType_
 never_at n = type_at n TypeKind-F.NeverType
 
--- ---- what they are
+-- what they are
 
 -- in no `impl`, where one stays
 abbrev pub free : Spot → Spot
@@ -153,7 +153,7 @@ one_binding n t =
     datum.no_bindings in
     datum.some_args (datum.args_data datum.no_arguments false bindings parens.No)
 
--- ---- an `impl` inside of one
+-- an `impl` inside of one
 
 abbrev pub reads_impl : Spot → AstPathSegment → TypeData → Type 0
 reads_impl at s t = type_data None (answered_type (free at) (impl_at 0 s)) ≡ t
@@ -168,7 +168,7 @@ ImplsInside = (at : Spot)
     × reads_impl at (fn_trait (codes "Fn") (never_at 2) (impl_at 1 (bare (codes "B"))))
     (impl_data at 0 (codes "Fn") (sugared (never_data at 2) (error_data at 1)) false)
 
--- ---- lifetimes
+-- lifetimes
 
 -- `&t !`
 abbrev pub reference_with : List ℕ → AstType_
@@ -188,7 +188,7 @@ LifetimesOfTexts = (at : Spot)
     × reads_lifetime at (codes "'_") lifetime.Placeholder
     × reads_lifetime at (codes "'a") (lifetime.Named (name.Text (codes "'a")))
 
--- ---- function pointers
+-- function pointers
 
 abbrev pub fn_at : Option (List ℕ) → List AstParam → AstType_
 fn_at a ps = type_at 0 (TypeKind-F.FnPtrType false a (Some ps) None)

@@ -102,7 +102,7 @@ AbsentIsMissing =
     × becomes (leading tree.absent_segment []) kind.Abs (name.Missing ∷ [])
     × becomes (leading tree.super_segment (word (codes "A") ∷ [])) (kind.Super 1) (text (codes "A") ∷ [])
 
--- ---- arguments, with any types
+-- arguments, with any types
 
 -- the arguments with a type for `Self` alone
 abbrev pub self_alone : Type_ → OptionArgsData
@@ -164,7 +164,7 @@ BinderOfFunctions = (at within : Pointer) (h : FnHead) (b : Binder) (t : Type_)
     (datum.more_types (datum.typed (Some within) (datum.fn_shape h None (datum.more_types unit_data datum.no_types)))
     (datum.more_types unit_data datum.no_types))))
 
--- ---- bounds and lists
+-- bounds and lists
 
 -- the type of the trait `A` from this node
 abbrev pub trait_from : Pointer → TypeData
@@ -219,7 +219,7 @@ BindingsOfLists = (t u : Type_) (n : Name) (l : Lifetime)
     (datum.more_bounds (datum.lifetime_bound (lifetime_data l)) datum.no_bounds)))
     × (list_data (tree.some_arg_list (tree.more_args tree.skipped_arg tree.no_args)) ≡ datum.no_args)
 
--- ---- constants
+-- constants
 
 -- an array of this length
 abbrev pub array_of : Pointer → OptionExpr → Type_ → Type_
@@ -244,7 +244,7 @@ LengthsBySites = (at here around : Pointer) (t : Type_) (p : OptionPath) (h : Hy
     (Some (site_of here))
     × is_long at (array_of at (tree.some_expr (tree.macro_expr around c tree.no_expr)) t) t (Some (site_of around))
 
--- ---- calls of macros
+-- calls of macros
 
 -- `m!()`, where m stands for T, where the text lacks the call, and where m has no expansion; as a pattern, where it stands for this
 abbrev pub WhatCallsStandFor : Type 0

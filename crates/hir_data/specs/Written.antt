@@ -28,7 +28,7 @@ use Rattle.hir_data.specs.Literals.{LiteralData, signed_literal}
 use Rattle.hir_data.specs.Rule.{PathRead, What, broken, named, root, self_, super_, anchor, projection, Item}
 use Rattle.hir_data.specs.Rule.{read, path_read, data_of}
 
--- ---- parts without parts
+-- parts without parts
 
 abbrev pub lifetime_data : Lifetime → LifetimeData
 lifetime_data l = record { lifetime = l.lifetime; from = Some l.pointer }
@@ -66,7 +66,7 @@ abbrev pub call_source : Pointer → Called → Option Pointer
 call_source at tree.callless = Some at
 call_source at _ = None
 
--- ---- what is absent or refused
+-- what is absent or refused
 
 abbrev pub shape_of_path : Option PathRead → Shape
 shape_of_path None = datum.error_shape
@@ -92,7 +92,7 @@ abbrev pub record_site : Pointer → Option PathRead → Option Site
 record_site at None = None
 record_site at (Some p) = Some (site_of at)
 
--- ---- sides of ranges
+-- sides of ranges
 
 -- A path in a pattern is looked up with the root's hygiene.
 abbrev pub root_hygiene : HygieneId
@@ -113,7 +113,7 @@ side_of_item (Some i) = datum.path_side (datum.item_path i) root_hygiene
 abbrev pub block_site : Block → Option Site
 block_site (tree.block at is_unsafe label _ number ss e) = Some (site_of at)
 
--- ---- lists of arguments
+-- lists of arguments
 
 abbrev pub put_argument : Option ArgumentData → ArgumentsData → ArgumentsData
 put_argument None behind = behind
@@ -148,7 +148,7 @@ function_args ts output =
     some_args (args_data (datum.more_arguments (datum.type_argument tuple) datum.no_arguments) false (output_is output) parens.ParenSugar)
 
 abbrev mutual
-  -- ---- types
+  -- types
 
   -- A `for` before a function pointer binds its lifetimes, also through parentheses; before any other type it binds nothing. Of
   -- two the inner does.
@@ -187,7 +187,7 @@ abbrev mutual
   parts_data tree.no_parts behind = behind
   parts_data (tree.more_parts p ps) behind = datum.more_types (part_data None p) (parts_data ps behind)
 
-  -- ---- bounds
+  -- bounds
 
   pub bounds_data : Bounds → BoundsData
   bounds_data tree.no_bounds = datum.no_bounds
@@ -199,7 +199,7 @@ abbrev mutual
   bound_data (tree.lifetime_bound l) = datum.lifetime_bound (lifetime_data l)
   bound_data (tree.use_bound us) = datum.use_bound (map use_data us)
 
-  -- ---- arguments
+  -- arguments
 
   pub list_data : OptionArgs → OptionArgsData
   list_data tree.no_arg_list = no_args
@@ -243,7 +243,7 @@ abbrev mutual
   pub segment_args_data : SegmentArgs → OptionArgsData
   segment_args_data (tree.segment_args l p dots) = first_list (list_data l) (first_list (parens_data p) (notation dots))
 
-  -- ---- paths
+  -- paths
 
   -- `crate`, `$crate`, `self` and a type only stand first
   pub what : Bool → Segment → What
@@ -281,7 +281,7 @@ abbrev mutual
   path_of tree.no_path = None
   path_of (tree.some_path p) = path_read (read (segments p []))
 
-  -- ---- patterns of types: in them a range has both ends, and each is part of it
+  -- patterns of types: in them a range has both ends, and each is part of it
 
   pub type_pat_data : TypePat → PatData
   type_pat_data (tree.not_null_type_pat at) = pat_at (Some at) datum.not_null_pattern
@@ -312,7 +312,7 @@ abbrev mutual
   limit_side (tree.path_side at p) = side_of_path (path_of p)
   limit_side tree.other_side = datum.missing_side
 
-  -- ---- constants, by the node that the expression comes from which they become
+  -- constants, by the node that the expression comes from which they become
 
   pub constant_site : Constant → Option Site
   constant_site (tree.constant e) = part_site e
@@ -367,7 +367,7 @@ abbrev mutual
   expr_site (tree.range_expr at form start end) = Some (site_of at)
   expr_site (tree.assign_expr at e t v) = Some (site_of at)
 
--- ---- by their names for those above
+-- by their names for those above
 
 abbrev pub written_type : OptionType → TypeData
 written_type t = part_data None t

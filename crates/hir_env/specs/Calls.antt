@@ -30,7 +30,7 @@ called c (unresolved x) = tree.unresolved c x
 called c no_expansion = tree.unentered
 called c (expanded f x es) = tree.entered (record { call = c; file = f; eager = es })
 
--- ---- what nothing is left of
+-- what nothing is left of
 
 abbrev pub gone_in : Expr → Option Gone
 gone_in (tree.disabled_expr why e) = Some why
@@ -53,7 +53,7 @@ around s c (tree.some_expr e) = around_if (gone_in e) s c (tree.some_expr e)
 abbrev pub lacking_call : Pointer → Expr
 lacking_call s = tree.disabled_expr (record { entered = []; condition = None }) (tree.macro_expr s tree.callless tree.no_expr)
 
--- ---- expressions, patterns and types
+-- expressions, patterns and types
 
 abbrev pub expr_in : Entering → Place → Expanding → OptionExpr
 expr_in into p (expanded f (Some (fragment.Expr e)) es) = tree.some_expr (into.expr e (inside_file f into.left p))
@@ -82,7 +82,7 @@ entered_type env None c p s = tree.macro_type s tree.unentered tree.no_type
 entered_type env (Some into) c p s = let x = asked_call env kind.Type_ c p in
     tree.macro_type s (called (call_pointer p c) x) (type_in into p x)
 
--- ---- statements
+-- statements
 
 abbrev pub append : Stmts → Stmts → Stmts
 append tree.no_stmts rest = rest

@@ -64,7 +64,7 @@ abbrev pub head_pointer : Pointer → OptionExpr → Pointer
 head_pointer at tree.no_expr = at
 head_pointer at (tree.some_expr e) = pointer_of e
 
--- ---- paths
+-- paths
 
 -- what a path that is found in full stands for where it doesn't stand for a place
 abbrev pub is_pattern : Option Resolution → Bool
@@ -88,7 +88,7 @@ module _ (env : Answers) (p : Place) where
   abbrev pub resolves : Path → Bool
   resolves x = names_target (mod_path_of (tree.some_path x))
 
--- ---- two dots, callees and spreads, whose conditions aren't asked for
+-- two dots, callees and spreads, whose conditions aren't asked for
 
 -- `..`, a range without start and end
 abbrev pub is_dots : Expr → Bool
@@ -126,7 +126,7 @@ noted_in (tree.disabled_expr why e) ts = noted_in e ts
 noted_in (tree.macro_expr s c (tree.some_expr e)) ts = tree.noted_targets c (noted_in e ts)
 noted_in _ ts = ts
 
--- ---- targets
+-- targets
 
 -- the outermost of some calls, the inner of which stands here
 abbrev pub outermost : Option Pointer → Pointer → Pointer

@@ -38,7 +38,7 @@ abbrev pub is_plain : Use → OptionPat → Bool
 is_plain u tree.no_pat = is_unannotated u.mode
 is_plain u (tree.some_pat p) = false
 
--- ---- in a type
+-- in a type
 
 abbrev pub start_limit : LangItems → Side → Limit
 start_limit items tree.no_side = tree.item_limit items.range_min
@@ -71,7 +71,7 @@ module _ (items : LangItems) where
   type_pat_or_none tree.no_pat = tree.no_type_pat
   type_pat_or_none (tree.some_pat p) = tree.some_type_pat (type_pat_of p)
 
--- ---- in a parameter
+-- in a parameter
 
 -- the name that a pattern gives a function pointer's parameter
 abbrev pub name_given : OptionPat → Option Name

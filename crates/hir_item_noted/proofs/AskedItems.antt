@@ -73,7 +73,7 @@ use Rattle.hir_item_noted.proofs.AskedLogic.{AskTo, Later, Steps, asked_nothing,
 use Rattle.hir_item_noted.proofs.AskedLogic.{steps_end, steps_lifetime_param, steps_param, steps_part, steps_pure, steps_quiet, steps_then}
 use Rattle.hir_item_noted.proofs.AskedLogic.{ask_at, steps_by, still}
 
--- ---- steps that ask nothing
+-- steps that ask nothing
 
 type_stored : (t : TypeRef) (at : Option Pointer) → Steps nothing (alloc_type t at)
 type_stored t at = steps_quiet (notes_type t at) refl
@@ -105,7 +105,7 @@ lifetime_option_quiet : (l : Option Lifetime) → (of_lifetime_option l).impls �
 lifetime_option_quiet None = refl
 lifetime_option_quiet (Some l) = one_ref_quiet l.scope l.lifetime
 
--- ---- bounds
+-- bounds
 
 -- from here on it is that
 abbrev TypeFrom : Stored → TypeRefId → Asked → Type 0
@@ -220,7 +220,7 @@ each_to binder x t (tree.more_bounds y ys) b d h =
     (held_here (bound_holds y) b c r d is))
     (λ u o f k as'. each_to binder x t ys o f (bounds_stay k.stays t x there)))
 
--- ---- parameters
+-- parameters
 
 -- from a builder on that has the parameter
 typed_to : (def : GenericDefId) (k : ℕ) (bs : WrittenBounds) (b : Builder) → Paired b.stored
@@ -306,7 +306,7 @@ predicates_ask (x ∷ xs) = steps_then (predicate_asks x) (λ u. predicates_ask 
 pub generics_ask : (def : GenericDefId) (g : Generics) → Steps (asked_in_generics def g) (steps.lower_generics def g)
 generics_ask def g = steps_then (all_ask def g.params) (λ u. predicates_ask g.predicates)
 
--- ---- traits, implementations and aliases
+-- traits, implementations and aliases
 
 pub trait_asks : (def : GenericDefId) (x : Trait) → Steps (asked_in_trait def x) (steps.lower_trait def x)
 trait_asks def x = steps_then (type_param_asks def steps.self_text None provenance.TraitSelf x.bounds) (λ u. generics_ask def x.generics)
@@ -332,7 +332,7 @@ alias_asks def x = steps_then (steps_part (bounds_noted [] x.bounds)) (λ bs.
     steps_then (generics_ask def x.generics) (λ u.
     steps_end (steps_part (present_type_noted x.type_)) (λ t. steps_begin (missing_reported x.missing) (λ v. steps_pure _))))
 
--- ---- functions
+-- functions
 
 borrowed_asks : (borrow : Option Mutability) (self : TypeRefId) (l : Option LifetimeRefId) → Steps nothing (steps.borrowed borrow self l)
 borrowed_asks None self l = steps_pure self

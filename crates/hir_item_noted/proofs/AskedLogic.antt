@@ -33,7 +33,7 @@ use Rattle.hir_item_noted.specs.AskedFold.{Asked, Asking, Asks, Reached, asking,
 use Rattle.hir_item_noted.specs.AskedFold.{one_param}
 use Rattle.hir_item_noted.specs.Asked.{IsAsked, Stand, StandsFor, TypeIs}
 
--- ---- what stands
+-- what stands
 
 -- what is so in each store that goes on with this one
 abbrev pub Later : Stored → (Store → SourceMap → Type 0) → Type 0
@@ -49,7 +49,7 @@ stand_append store source_map (p ∷ ps) qs (a ∷ as') bs g h = (g.0, stand_app
 stand_append store source_map [] qs (a ∷ as') bs g h = absurd g
 stand_append store source_map (p ∷ ps) qs [] bs g h = absurd g
 
--- ---- one after another
+-- one after another
 
 asked_both : {x y : Asks} {b c d : Builder} → IsAsked x b c → IsAsked y c d → IsAsked (x ⊟ y) b d
 asked_both {x = x} {y = y} {b = b} g h = record {
@@ -74,7 +74,7 @@ asked_nothing {b = b} e p w = record {
   stand = λ final pre. tt;
 }
 
--- ---- parts
+-- parts
 
 abbrev first_of : BoundsData → BoundData
 first_of datum.no_bounds = datum.error_bound
@@ -125,7 +125,7 @@ asked_part {n = n} {b = b} {c = c} g = record {
   stand = λ final pre. impls_stand c.stored final pre n.impls g.added (count b) g.fits;
 }
 
--- ---- steps
+-- steps
 
 abbrev pub AskTo : {A : Type 0} → Asks → Builder → Checked A → Builder → Type 0
 AskTo x b (Ok a) c = Paired c.stored × IsAsked x b c
@@ -222,7 +222,7 @@ pub asked_by_steps : {A : Type 0} {x : Asks} {p : Lowering A} → Steps x p → 
     → IsAsked x b c
 asked_by_steps {x = x} h b c a d is = (subst (λ r. AskTo x b r.0 r.1) is (h.at b d)).1
 
--- ---- parameters and predicates
+-- parameters and predicates
 
 asked_param : (x : TypeOrConstParamData) (b : Builder) → IsAsked one_param b (record b { notes = with_param x b.notes })
 asked_param x b = record {
@@ -277,7 +277,7 @@ predicate_to p a b d h = (
   },
 )
 
--- ---- what is read back
+-- what is read back
 
 pub read_as : {A D : Type 0} {l : Layer A D} {x : D} {p : Lowering A} → Correct p (Reads l x) → (b c : Builder) (a : A) → Paired b.stored
     → p b ≡ (Ok a, c) → (final : Stored) → Extends c.stored final → l final (within final (all_entries final)) a ≡ x

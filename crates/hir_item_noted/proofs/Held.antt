@@ -40,7 +40,7 @@ pub default_holds : (c : Option Constant) → Correct (present_constant c) (Hold
 default_holds None = holds_none None (λ r. refl)
 default_holds (Some c) = holds_one Some (λ r x. refl) (constant_holds c)
 
--- ---- the node of a constant, as that of an argument that is alone in its list
+-- the node of a constant, as that of an argument that is alone in its list
 
 abbrev alone : Constant → OptionArgs
 alone c = tree.some_arg_list (tree.more_args (tree.const_arg c) tree.no_args)

@@ -66,7 +66,7 @@ use Rattle.hir_item_noted.proofs.Logic.{Gives, Steps, StepsTo, by_at, gives_pure
 use Rattle.hir_item_noted.proofs.Logic.{steps_by, steps_end, steps_given, steps_lifetime_param, steps_part, steps_predicate, steps_pure}
 use Rattle.hir_item_noted.proofs.Logic.{steps_then, then_at}
 
--- ---- steps that note nothing
+-- steps that note nothing
 
 type_stored : (t : TypeRef) (at : Option Pointer) → Steps nothing (alloc_type t at)
 type_stored t at = steps_part (notes_type t at)
@@ -78,7 +78,7 @@ lifetime_stored : (l : LifetimeRef) (at : Option Pointer) → Steps nothing (all
 unfolding alloc_lifetime
 lifetime_stored l at = steps_part (parts.notes_stored (storing.alloc_lifetime l at) (correct_alloc_lifetime l at))
 
--- ---- bounds
+-- bounds
 
 -- of a type
 asked_of_type : (binder : Option Binder) (t : TypeRefId) (y : TypeBound) → Steps nothing (steps.ask binder (bounded_by.Type_ t) y)
@@ -156,7 +156,7 @@ bounds_asked binder text l (tree.more_bounds (tree.use_bound us) bs) =
     steps_given {P = Other} (steps_part (bound_noted (tree.use_bound us))) (gives_then _ (λ i. gives_pure _ tt)) (λ y h.
     steps_then (asked_other binder text l y h) (λ u. bounds_asked binder text l bs))
 
--- ---- parameters
+-- parameters
 
 -- a constant parameter
 abbrev const_of : Name → TypeRefId → Option ConstRef → TypeOrConstParamData
@@ -300,7 +300,7 @@ predicates_noted (x ∷ xs) = steps_then (predicate_noted x) (λ u. predicates_n
 pub generics_noted : (def : GenericDefId) (g : Generics) → Steps (noted_in_generics def g) (steps.lower_generics def g)
 generics_noted def g = steps_then (all_noted def g.params) (λ u. predicates_noted g.predicates)
 
--- ---- traits, implementations and aliases
+-- traits, implementations and aliases
 
 pub trait_noted : (def : GenericDefId) (x : Trait) → Steps (noted_in_trait def x) (steps.lower_trait def x)
 trait_noted def x = steps_then (self_noted def x.bounds) (λ u. generics_noted def x.generics)
@@ -326,7 +326,7 @@ alias_noted def x = steps_then (steps_part (bounds_noted [] x.bounds)) (λ bs.
     steps_then (generics_noted def x.generics) (λ u.
     steps_end (steps_part (present_type_noted x.type_)) (λ t. steps_begin (missing_reported x.missing) (λ v. steps_pure _))))
 
--- ---- functions
+-- functions
 
 borrowed_noted : (borrow : Option Mutability) (self : TypeRefId) (l : Option LifetimeRefId) → Steps nothing (steps.borrowed borrow self l)
 borrowed_noted None self l = steps_pure self

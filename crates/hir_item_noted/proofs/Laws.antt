@@ -36,7 +36,7 @@ items_note def = (
 nothing_stored : (limit : ℕ) → Paired (fresh limit).stored
 nothing_stored limit = record { exprs = refl; labels = refl; pats = refl; types = refl; lifetimes = refl }
 
--- ---- how many are early bound
+-- how many are early bound
 
 one_more : (k : LifetimeBoundType) (n m : ℕ) → n ≤ m → one_early k n ≤ suc m
 one_more kind.EarlyBound n m h = omega (arith, h)

@@ -21,7 +21,7 @@ use Rattle.hir_noted.proofs.Logic as parts
 use Rattle.hir_item_noted.specs.Fold.{ItemNoting, Param, impl_param, nothing, of_part, one_lifetime, one_param, ◌⊞◌}
 use Rattle.hir_item_noted.specs.Noted.{ItemNoted, ParamIs, ParamsFrom, count, early}
 
--- ---- one after another
+-- one after another
 
 -- a list that goes on twice
 twice : {A : Type 0} (xs : List A) {ys zs : List A} (a b : List A) → ys ≡ xs ++ a → zs ≡ ys ++ b → zs ≡ xs ++ (a ++ b)
@@ -109,7 +109,7 @@ behind_nothing n = λ j. record {
   output = append-nil n.output j;
 }
 
--- ---- steps
+-- steps
 
 abbrev pub StepsTo : {A : Type 0} → ItemNoting → Builder → Checked A → Builder → Type 0
 StepsTo n b (Ok a) c = Paired c.stored × ItemNoted n b c
@@ -124,7 +124,7 @@ steps_to_both : {A : Type 0} {m : ItemNoting} (n : ItemNoting) (b c : Builder) �
 steps_to_both n b c g (Ok a) d h = (h.0, noted_both g h.1)
 steps_to_both n b c g (Err e) d h = tt
 
--- ---- what steps answer
+-- what steps answer
 
 abbrev pub GivesTo : {A : Type 0} → (A → Type 0) → Checked A → Type 0
 GivesTo P (Ok a) = P a
@@ -216,7 +216,7 @@ pub noted_by : {A : Type 0} {n : ItemNoting} {p : Lowering A} → Steps n p → 
     → ItemNoted n b c
 noted_by {n = n} h b c a d is = (subst (λ r. StepsTo n b r.0 r.1) is (h.at b d)).1
 
--- ---- parameters and predicates
+-- parameters and predicates
 
 -- a parameter that is this one from here on, whatever its number
 abbrev pub IsFrom : Builder → TypeOrConstParamData → Param → Type 0

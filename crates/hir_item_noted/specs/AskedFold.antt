@@ -58,7 +58,7 @@ asking l = λ k. record { asks = l; params = k }
 abbrev pub one_param : Asks
 one_param = λ k. record { asks = []; params = suc k }
 
--- ---- `impl`s
+-- `impl`s
 
 -- of a parameter that an `impl` became each of its bounds is asked, whatever it is
 abbrev pub each_of : Asked → Bounds → List Asking
@@ -72,7 +72,7 @@ of_impls (i ∷ is) k = each_of (parameter i.parent k (Some i.at)) i.bounds ++ o
 abbrev pub of_part : Noting → Asks
 of_part n = λ k. record { asks = of_impls n.impls k; params = k + length n.impls }
 
--- ---- bounds
+-- bounds
 
 -- an error and a `use<..>` ask nothing, nor does a trait of a lifetime
 abbrev pub asked_by : Option Binder → Target → BoundData → Bodies → List Asking
@@ -91,7 +91,7 @@ asked_in_each binder x tree.no_bounds = nothing
 asked_in_each binder x (tree.more_bounds b bs) =
     of_part (noted_in_bound b) ⊟ (asking (asked_by binder x (bound_data b) (bound_bodies b)) ⊟ asked_in_each binder x bs)
 
--- ---- generic parameters
+-- generic parameters
 
 -- its bounds are those of the parameter with the next number, of a type that comes from no node
 abbrev pub asked_of_param : GenericDefId → Bounds → Asks
@@ -126,7 +126,7 @@ asked_in_predicates (x ∷ xs) = asked_in_predicate x ⊟ asked_in_predicates xs
 abbrev pub asked_in_generics : GenericDefId → Generics → Asks
 asked_in_generics def g = asked_in_params def g.params ⊟ asked_in_predicates g.predicates
 
--- ---- items
+-- items
 
 -- `Self` is the first parameter of a trait
 abbrev pub asked_in_trait : GenericDefId → Trait → Asks

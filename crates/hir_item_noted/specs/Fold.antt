@@ -73,7 +73,7 @@ one_lifetime n = record nothing { lifetimes = n ∷ [] }
 abbrev pub sets_of_item : ItemNoting → LifetimeSets
 sets_of_item n = record { bounds = n.bounds; input = n.input; output = n.output }
 
--- ---- bounds
+-- bounds
 
 abbrev pub noted_in_each : Bounds → ItemNoting
 noted_in_each tree.no_bounds = nothing
@@ -90,7 +90,7 @@ abbrev pub noted_in_bounds_of : LifetimeRef → Bounds → ItemNoting
 noted_in_bounds_of l tree.no_bounds = nothing
 noted_in_bounds_of l (tree.more_bounds b bs) = of_part (noted_in_bound b) ⊞ (bounded l b ⊞ noted_in_bounds_of l bs)
 
--- ---- generic parameters
+-- generic parameters
 
 abbrev pub noted_in_default : Option Constant → ItemNoting
 noted_in_default None = nothing
@@ -136,7 +136,7 @@ noted_in_predicates (x ∷ xs) = noted_in_predicate x ⊞ noted_in_predicates xs
 abbrev pub noted_in_generics : GenericDefId → Generics → ItemNoting
 noted_in_generics def g = noted_in_params def g.params ⊞ noted_in_predicates g.predicates
 
--- ---- items
+-- items
 
 abbrev pub self_name : Name
 self_name = name.Text (codes "Self")

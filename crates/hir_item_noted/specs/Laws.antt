@@ -30,7 +30,7 @@ ItemsNote = (def : GenericDefId)
     × ((x : Alias) → Notes (noted_in_alias def x) (lower_alias def x))
     × ((x : Function) → Notes (noted_in_function def x) (lower_function def x))
 
--- ---- from nothing
+-- from nothing
 
 -- the parameters that are made of what is noted, in each store that goes on with this one
 pub record Made (n : ItemNoting) (lifetimes : List LifetimeParamData) (s : Stored) (g : GenericParams) : Type 0 where

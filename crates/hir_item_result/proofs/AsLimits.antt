@@ -123,7 +123,7 @@ limits_graded = record {
   owning_is = λ h. limited_owning (λ i. i) h;
 }
 
--- ---- bodies behind their parameters
+-- bodies behind their parameters
 
 limited_in_function : (kind : CoroutineKind) (skipped : Bool) (self : Option BindingId) (fs : List Formal) (e : OptionExpr)
     → Limited (each_formal skipped [] fs) → Limited (lower_part e) → Limited (in_function kind skipped self fs e)
@@ -145,7 +145,7 @@ nothing_told = record { coroutine_body = λ skipped f g h k. tt }
 bodies_limited : GradedBodies limits_graded nothing_told
 bodies_limited = record { coroutine_body_is = λ kind skipped f e hs hf he. limited_body kind skipped f e hs hf he }
 
--- ---- what there was room for
+-- what there was room for
 
 fits_one : {n limit held limit' held' : ℕ} → Grew n limit held limit' held' → held' ≤ limit' → held + n ≤ limit
 fits_one g h = omega (arith, g.more, g.same, h)

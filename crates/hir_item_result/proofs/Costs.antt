@@ -40,7 +40,7 @@ pub each_append : {A : Type 0} (f : A → ℕ) (xs ys : List A) → each f (xs +
 each_append f [] ys = omega arith
 each_append f (x ∷ xs) ys = let e = each_append f xs ys in omega (arith, e)
 
--- ---- what is answered
+-- what is answered
 
 abbrev pub a_type : TypeRefId → Cost
 a_type t q = q.types t
@@ -70,7 +70,7 @@ a_bound bound.Error q = 0
 abbrev pub bounds : List TypeBound → Cost
 bounds bs q = each (λ b. a_bound b q) bs
 
--- ---- parameters, and predicates behind those that are of these types
+-- parameters, and predicates behind those that are of these types
 
 abbrev pub a_param : TypeOrConstParamData → Cost
 a_param (param.TypeParamData x) q = present q.types x.default

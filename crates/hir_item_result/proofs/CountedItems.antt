@@ -29,7 +29,7 @@ use Rattle.hir_item_result.proofs.Counting.{Counts, Sort, counts_as, counts_besi
 use Rattle.hir_item_result.proofs.CountedSteps.{Leaves, bound_counts, fault_counts, generics_count, nothing_counts, present_counts}
 use Rattle.hir_item_result.proofs.CountedSteps.{self_counts, type_counts}
 
--- ---- what is noted
+-- what is noted
 
 stored_notes : (at : Pointer) (p : Option HirPath) → parts.Notes nothing (steps.stored_trait at p)
 stored_notes at None = parts.notes_pure None
@@ -68,7 +68,7 @@ answer_notes (Some k) t = parts.notes_begin (parts.notes_begin (unit_or_notes t)
 output_notes : (k : Option CoroutineKind) (r : OptionRet) → parts.Notes (noted_in_output r) (steps.output_type k r)
 output_notes k r = parts.notes_end (ret_notes r) (λ t. answer_notes k t)
 
--- ---- what costs that is answered
+-- what costs that is answered
 
 abbrev pub by_impl : TypeRefId → Option TraitRef → Cost
 by_impl self trait_ q = q.types self + a_trait trait_ q
@@ -80,7 +80,7 @@ abbrev pub by_function : List TypeRefId → Option TypeRefId → Cost
 by_function args ret q = types args q + maybe_type ret q
 
 module _ (S : Sort) (L : Leaves S) where
-  -- ---- implementations, traits and aliases
+  -- implementations, traits and aliases
 
   pub impl_counts : (def : GenericDefId) (x : Impl) → Counts S free (λ a. by_impl a.0 a.1) (steps.lower_impl def x)
   impl_counts def x = counts_then S (type_counts S L x.self_type) (λ self.
@@ -108,7 +108,7 @@ module _ (S : Sort) (L : Leaves S) where
       counts_then S (counts_kept S (by_alias bs t) (missing_counts x.missing)) (λ v.
       counts_pure S (bs, t) (λ q. omega arith)))))
 
-  -- ---- functions
+  -- functions
 
   report_counts : (x : Argument) → Counts S free (λ a. free) (steps.report_inactive x)
   report_counts (item.disabled_argument at by) = fault_counts S L _

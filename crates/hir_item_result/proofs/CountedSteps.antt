@@ -209,7 +209,7 @@ module _ (S : Sort) where
     pub fault_counts : (d : ExpressionStoreDiagnostics) → Counts S free (λ a. free) (report d)
     fault_counts d = part_counts S (L.fault_is d) (notes_report d)
 
-    -- ---- bounds
+    -- bounds
 
     pub bound_counts : (b : Bound) → Counts S free a_bound (lower_bound b)
     bound_counts b = part_counts S (L.bound_is b) (bound_noted b)
@@ -248,7 +248,7 @@ module _ (S : Sort) where
     lifetime_bounds binder text l (tree.more_bounds y ys) = counts_then S (dropped (bound_counts y))
         (λ r. counts_then S (lifetime_asked binder text l r) (λ u. lifetime_bounds binder text l ys))
 
-    -- ---- parameters
+    -- parameters
 
     -- a type parameter with this default
     typed_counts : (def : GenericDefId) (n : Name) (default : Option TypeRefId) (from : TypeParamProvenance) (bs : Bounds)
@@ -290,7 +290,7 @@ module _ (S : Sort) where
     params_count def [] = nothing_counts tt
     params_count def (x ∷ xs) = counts_then S (one_counts def x) (λ u. params_count def xs)
 
-    -- ---- predicates
+    -- predicates
 
     where_counts : (x : Predicate) → Counts S free (λ a. free) (steps.lower_predicate x)
     where_counts (item.of_type t binder bs) = counts_then S (type_counts (tree.some_type t)) (λ id. all_counts binder id bs)

@@ -28,7 +28,7 @@ pub record Sort : Type 1 where
   pub given : View → Stored → ℕ
   pub deep_before : (b c final : Stored) (v : View) → Extends b c → Deep c final v → Deep b final v
 
--- ---- what is noted
+-- what is noted
 
 abbrev pub noted : Stored → Notes → Cost
 noted final n q = params n.generics.type_or_consts q + predicates (store_of final) (map_of final) [] n.generics.where_predicates q
@@ -124,7 +124,7 @@ module _ (S : Sort) where
       wider : (a b m p q : ℕ) → b + p ≤ a + q → (m + b) + p ≤ (m + a) + q
       wider a b m p q g = omega (arith, g)
 
-  -- ---- steps
+  -- steps
 
   abbrev pub CountTo : {A : Type 0} → Cost → (A → Cost) → Builder → Checked A → Builder → Type 0
   CountTo was now b (Ok a) c = Count was (now a) b c
@@ -207,7 +207,7 @@ module _ (S : Sort) where
   pub counts_pure : {A : Type 0} {was : Cost} {now : A → Cost} (a : A) → ((q : Meter) → now a q ≤ was q) → Counts was now (pure a)
   counts_pure a h = record { at = λ b d. count_still refl d (λ final q. let x = h q in omega (arith, x)) }
 
-  -- ---- parts
+  -- parts
 
   -- what it answers, and what is asked, costs no more than it gave out
   pub record Part {A : Type 0} (now : A → Cost) (p : Lowering A) : Type 0 where
@@ -237,7 +237,7 @@ module _ (S : Sort) where
   pub part_counts : {A : Type 0} {now : A → Cost} {n : Noting} {p : Lowering A} → Part now p → parts.Notes n p → Counts free now p
   part_counts {n = n} {p = p} h g = record { at = λ b d. part_to n h b d (p b).0 (p b).1 refl (g.at b d) }
 
-  -- ---- where it answers
+  -- where it answers
 
   pub to_answer : {A : Type 0} {now : A → Cost} {p : Lowering A} → Counts free now p → (b c : Builder) (a : A) → Paired b.stored
       → p b ≡ (Ok a, c) → Count free (now a) b c

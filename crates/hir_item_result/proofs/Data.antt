@@ -50,7 +50,7 @@ use Rattle.hir_item_result.proofs.Steps.{correct_lifetime_param, correct_param}
 use Rattle.hir_item_result.proofs.Told.{constant_graded, trait_graded}
 use Rattle.hir_item_result.proofs.Walk.{Walk, coroutine_of}
 
--- ---- lists
+-- lists
 
 then_nothing : (d : StoredData) → and_then d no_data ≡ d
 then_nothing d = λ j. record { types = append-nil d.types j; lifetimes = append-nil d.lifetimes j }
@@ -70,7 +70,7 @@ type_parts_are : (t : OptionType) → data_of_item (type_parts t) ≡ grade_part
 type_parts_are tree.no_type = refl
 type_parts_are (tree.some_type t) = then_nothing (grade_part stored_data (tree.some_type t))
 
--- ---- steps
+-- steps
 
 record StoresParts {A : Type 0} (xs : List Part) (p : Lowering A) : Type 1 where
   claim : Correct p (Stores (data_of_item xs))
@@ -103,7 +103,7 @@ made : (t : TypeRef) (shape : Shape) → ((final : Stored) (r : Readers) → a_s
     → Correct (alloc_type t None) (Stores (of_type (typed None shape)))
 made t shape e = data_graded.type_made_is (type_in_store (type0 t None e)) (data_graded.type_is t None shape)
 
--- ---- `self`
+-- `self`
 
 bare_self : (l : Option Lifetime)
     → and_then (of_type self_data) (and_then (grade_lifetime stored_data l) no_data) ≡ data_of_item (self_parts None l)
@@ -127,7 +127,7 @@ self_stores (Some m) l = record {
       data_graded.makes_type_is (forms.lifetime_option_graded data_graded l) (λ id. data_graded.type_is _ None _))));
 }
 
--- ---- coroutines
+-- coroutines
 
 module _ (k : CoroutineKind) where
   abbrev the_path : TypeData → StoredData
@@ -161,7 +161,7 @@ module _ (k : CoroutineKind) where
   unfolding unit_type
   unit_stores = record { claim = coroutine_stores unit_type_reads (made (type.Tuple []) _ (λ final r. refl)) }
 
--- ---- the walk
+-- the walk
 
 storing : Walk
 storing = record {
@@ -187,7 +187,7 @@ storing = record {
   unit_coroutine_is = λ k. unit_stores k;
 }
 
--- ---- laws
+-- laws
 
 pub items_store : ItemsStore
 unfolding storing

@@ -27,7 +27,7 @@ use Rattle.hir_item_result.proofs.Reading.{Beside, Reading, nothing_paired}
 use Rattle.hir_item_result.proofs.Told.{GradedParams, TellsAll, items_tell}
 use Rattle.hir_item_result.proofs.Took.{Came, TakesAll, came_of, items_take, lifetime_noted, lifetimes_in, trait_noted}
 
--- ---- parameters that are lifetimes
+-- parameters that are lifetimes
 
 abbrev CountsTo : {A : Type 0} → Checked A → Builder → Type 0
 CountsTo (Ok a) c = Paired c.stored × (lifetimes_in c < 2 ^ 32)
@@ -112,7 +112,7 @@ items_count : OfItems (λ A xs p. CountsAll xs p)
 unfolding counting
 items_count def = items_read counting def
 
--- ---- all that is stored and counted
+-- all that is stored and counted
 
 limited_counted : (x : LifetimeParamData) (room : Bool) → Limited (lifetime_counted x room)
 unfolding note_down count_out
@@ -135,7 +135,7 @@ limits_params = record {
 items_limited : OfItems (λ A xs p. TellsAll limits_graded xs p)
 items_limited = items_tell limits_graded limits_params
 
--- ---- the law
+-- the law
 
 first_params : (m k : ℕ) → k ≡ 0 + m → k < 2 ^ 32 → m < 2 ^ 32
 first_params m k e h = omega (arith, e, h)

@@ -39,7 +39,7 @@ use Rattle.hir_item_result.specs.Answers.{arguments_bodies, output_bodies, recei
 use Rattle.hir_item_result.proofs.Reading.{bind_assoc, bind_pure}
 use Rattle.hir_item_result.proofs.ReadsBack.{generics_apart, missing_apart, reports_apart}
 
--- ---- a trait
+-- a trait
 
 abbrev pub a_trait : Ids (Option TraitRef)
 a_trait r t = of_present (λ t. r.type t.path) t
@@ -62,7 +62,7 @@ trait_holds None = holds_none None (λ r. refl)
 trait_holds (Some x) = correct_as (correct_bind (path_holds x.path) (λ o. stored_holds x.pointer o))
     (λ final ps m m' t g row. let i = row.second.rel m row.first in record { same = i.same })
 
--- ---- implementations and aliases
+-- implementations and aliases
 
 abbrev pub impl_holder : Ids (TypeRefId × Option TraitRef)
 impl_holder r a = r.type a.0 ++ a_trait r a.1
@@ -119,7 +119,7 @@ alias_holds def x = correct_as (correct_bind (pushed_all (bounds_hold x.bounds [
           (u.first.same d (omega (le, v.before.nodes, v.before.entries, arith)));
     }))
 
--- ---- functions
+-- functions
 
 self_held : Correct (alloc_type steps.self_path None) (Holds a_type [])
 self_held = type0 steps.self_path None (λ r. refl)

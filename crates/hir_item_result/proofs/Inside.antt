@@ -53,7 +53,7 @@ use Rattle.hir_item_result.proofs.CountedSteps.{Leaves, generics_count}
 use Rattle.hir_item_result.proofs.Held.{path_holds_given}
 use Rattle.hir_item_result.proofs.Reading.{nothing_paired}
 
--- ---- what is counted
+-- what is counted
 
 -- a type costs what the expressions weigh that it holds, and so does a constant, which is itself one of them
 abbrev of_view : View → Meter
@@ -117,7 +117,7 @@ part_of {now = now} {cost = cost} h le = record {
     part : (a n u w p q o r : ℕ) → n + (p + u) ≤ 0 + (q + w) → a ≤ n → q ≡ r → p ≡ o → a + (o + (0 + u)) ≤ r + (0 + w)
     part a n u w p q o r g h i j = omega (arith, g, h, i, j)
 
--- ---- its parts
+-- its parts
 
 constant_adds : (c : Constant) → Correct (lower_constant c) (Adds weightless constant_weight)
 constant_adds (tree.constant e) = adds_owning (λ c. c.expr) (rooted_adds (tree.constant e))
@@ -161,7 +161,7 @@ answer_adds (Some k) t = adds_then (coroutine_adds k (unit_or t)) (λ i. adds_pu
 output_adds : (k : Option CoroutineKind) (r : OptionRet) → Correct (steps.output_type k r) (Adds weightless maybe_weight)
 output_adds k r = adds_then (ret_adds r) (λ t. answer_adds k t)
 
--- ---- what they cost is what they hold
+-- what they cost is what they hold
 
 module _ (w : ExprId → ℕ) (r : Inners) where
   present_held : {A : Type 0} (g : A → List Inside) (o : Option A) → sum w (of_present g o) ≡ present (λ a. sum w (g a)) o
@@ -248,7 +248,7 @@ leaves = record {
   output_is = λ k r. part_of (output_adds k r) maybe_less;
 }
 
--- ---- where an item is lowered first
+-- where an item is lowered first
 
 -- what is reached, list by list
 pub weighed : (f : ExprId → List ℕ) (k : ℕ) (xs : List Inside) → times k (of_each f (exprs_of xs)) ≡ sum (λ i. times k (f i)) xs

@@ -36,7 +36,7 @@ use Rattle.hir_item_result.proofs.Reading.{Reading, bind_assoc}
 use Rattle.hir_item_result.proofs.Walk.{Walk, coroutine_of, ends, maps, walking}
 
 module _ (W : Walk) where
-  -- ---- what may be absent
+  -- what may be absent
 
   part_type : (t : OptionType) → W.Reads (type_parts t) (type_part None t)
   unfolding error_type
@@ -59,7 +59,7 @@ module _ (W : Walk) where
   bounds_from done tree.no_bounds = W.none done
   bounds_from done (tree.more_bounds b bs) = W.next (W.bound_is b) (λ x. bounds_from (done ++ x ∷ []) bs)
 
-  -- ---- predicates
+  -- predicates
 
   asked : (binder : Option Binder) (x : Bounded) (y : TypeBound) → W.Reads [] (steps.ask binder x y)
   asked binder x bound.Error = W.none tt
@@ -85,7 +85,7 @@ module _ (W : Walk) where
   all_predicates [] = W.none tt
   all_predicates (x ∷ xs) = W.next (one_predicate x) (λ u. all_predicates xs)
 
-  -- ---- parameters
+  -- parameters
 
   typed : (def : GenericDefId) (n : Name) (d : Option TypeRefId) (from : TypeParamProvenance) (bs : Bounds)
       → W.Reads (typed_parts def bs) (steps.type_param_form def n d from bs)
@@ -109,7 +109,7 @@ module _ (W : Walk) where
   generics_read : (def : GenericDefId) (g : Generics) → W.Reads (generics_parts def g) (steps.lower_generics def g)
   generics_read def g = W.next (all_params def g.params) (λ u. all_predicates g.predicates)
 
-  -- ---- traits, implementations and aliases
+  -- traits, implementations and aliases
 
   trait_read : (def : GenericDefId) (x : Trait) → W.Reads (trait_parts def x) (steps.lower_trait def x)
   trait_read def x = W.next (typed def steps.self_text None provenance.TraitSelf x.bounds) (λ u. generics_read def x.generics)
@@ -130,7 +130,7 @@ module _ (W : Walk) where
   alias_read def x = W.next (bounds_from [] x.bounds) (λ bs. W.next (generics_read def x.generics)
       (λ u. W.next (present x.type_) (λ t. ends W (missing x.missing) (λ v. W.none (bs, t)))))
 
-  -- ---- functions
+  -- functions
 
   receiver : (x : Receiver) → W.Reads (receiver_parts x) (steps.lower_receiver x)
   receiver item.no_receiver = W.none None

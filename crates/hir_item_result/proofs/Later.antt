@@ -43,7 +43,7 @@ push_new : {A : Type 0} (xs : List A) (x : A) → slice_get (xs ++ x ∷ []) (le
 push_new [] x = refl
 push_new (y ∷ xs) x = push_new xs x
 
--- ---- types
+-- types
 
 -- one type more, which comes from no node
 abbrev with_never : Stored → Stored
@@ -120,7 +120,7 @@ type_is_stored s t h = ⊎_elim (λ x. let n = x.1 in omega (arith, n))
     (λ x. let n = x.0 in absurd (past_the_end (t.0 - length s.types.entries) s t (omega (arith, n)) h))
     (slice_get_cases s.types.entries t.0).1
 
--- ---- lifetimes
+-- lifetimes
 
 abbrev with_static : Stored → Stored
 with_static s = record s { lifetimes = with_made s.lifetimes lifetime.Static None }
@@ -170,7 +170,7 @@ lifetime_is_stored s l h = ⊎_elim (λ x. let n = x.1 in omega (arith, n))
     (λ x. let n = x.0 in absurd (lifetime_past (l.0 - length s.lifetimes.entries) s l (omega (arith, n)) h))
     (slice_get_cases s.lifetimes.entries l.0).1
 
--- ---- what is named in larger parts
+-- what is named in larger parts
 
 pub within_nothing : (store : Store) → Within store nothing
 within_nothing store = (omega (arith), omega (arith), omega (arith), omega (arith))
@@ -216,7 +216,7 @@ unfolding stored_option_type stored_type
 option_type_within s None h = within_nothing (store_of s)
 option_type_within s (Some t) h = within_type (store_of s) t (type_is_stored s t (λ later e. ap type_in (h later e)))
 
--- ---- bounds
+-- bounds
 
 abbrev no_lifetime : LifetimeData
 no_lifetime = record { lifetime = lifetime.Error; from = None }

@@ -46,7 +46,7 @@ use Rattle.hir_item_result.proofs.Limits.{limited_made_pat, limited_note_down, l
 use Rattle.hir_item_result.proofs.Limits.{limited_owning, limited_pat, limited_problem, limited_pure, limited_then, limited_type}
 use Rattle.hir_item_result.proofs.Limits.{limited_with_notes, limited_with_stored}
 
--- ---- bodies inside
+-- bodies inside
 
 pub limited_constant : {p : ExprSteps} → Limited p → Limited (constant_form p)
 unfolding constant_form
@@ -76,7 +76,7 @@ pub limited_yield : (at : Pointer) (e : Lowering (Option ExprId)) → Limited (v
 unfolding value_form yield_form
 limited_yield at e h = limited_then limited_note_yield (λ u. h)
 
--- ---- what is made up, and what is handed in
+-- what is made up, and what is handed in
 
 pub limited_made_bind : (mode : BindingAnnotation) (n : ℕ) → Limited (made_bind_form mode n)
 unfolding made_bind_form
@@ -161,7 +161,7 @@ limited_coroutine_closure at kind moves hp ht he = limited_then limited_open_bar
     limited_then (limited_owning (λ w. w.coroutine) (limited_within kind hp ht he)) (λ w.
     limited_then (limited_all_handed [] w.handed) (λ ps. limited_then (limited_close_barrier outside) (λ y. limited_expr _ _))))
 
--- ---- `self`
+-- `self`
 
 limited_rebind : (x : Binding) → Limited (rebind_form x)
 unfolding rebind_form
@@ -181,7 +181,7 @@ unfolding let_self
 limited_let_self None = limited_pure _
 limited_let_self (Some id) = limited_then (limited_binding_of id) (λ x. limited_then (limited_rebound id x) (λ r. limited_pure _))
 
--- ---- patterns, paths and types
+-- patterns, paths and types
 
 limited_settle_from : (noted : Notes) (n : ℕ) (es : List (Key × BindingId)) → Limited (settle_from noted n es)
 limited_settle_from noted n [] = limited_pure tt
@@ -223,7 +223,7 @@ limited_becoming at becomes.Opaque bounds = limited_type _ _
 limited_becoming at (becomes.Argument def) bounds = limited_then (limited_add_param _) (λ k. limited_then (limited_type _ _)
     (λ t. limited_then (limited_note_down _ (λ n. refl)) (λ u. limited_pure t)))
 
--- ---- definitions of macros
+-- definitions of macros
 
 limited_def : (k : ℕ) → Limited (count_def k)
 unfolding count_def

@@ -49,7 +49,7 @@ LimitsTo (Err e) c = Unit {0}
 pub record Limited {A : Type 0} (p : Lowering A) : Type 0 where
   pub limited : (b : Builder) → InLimits b → LimitsTo (p b).0 (p b).1
 
--- ---- one after another
+-- one after another
 
 pub limited_pure : {A : Type 0} (a : A) → Limited (pure a)
 limited_pure a = record { limited = λ b h. h }
@@ -71,7 +71,7 @@ limited_where {A = A} {P = P} {p = p} {f = f} h t k =
     by (Ok a) c x y = (k a y).limited c x
     by (Err e) c x y = tt
 
--- ---- what is stored: one entry more, where the limit allows one
+-- what is stored: one entry more, where the limit allows one
 
 one_fits : {T : Type 0} (xs : List T) (x : T) (limit : ℕ) → nat_lt (length xs) limit ≡ true → length (xs ++ x ∷ []) ≤ limit
 one_fits xs x limit is = let n = length-append xs (x ∷ []) in let room = ltb-true (length xs) limit is in omega (arith, n, room)
@@ -163,7 +163,7 @@ limited_binding x = record { limited = λ b h. by b h (nat_lt (length b.stored.b
         ((f.0, f.1, f.2, f.3, f.4, one_fits b.stored.bindings.entries x b.stored.bindings.limit is), h.1, h.2)
     by b h false is = tt
 
--- ---- what stores no entry
+-- what stores no entry
 
 pub limited_define : (i : BindingId) (p : PatId) → Limited (define i p)
 unfolding define storing.define
@@ -245,7 +245,7 @@ unfolding leave_root
 limited_leave_root true i = limited_pure tt
 limited_leave_root false i = limited_then (limited_record_root i) (λ u. limited_outside)
 
--- ---- what is counted
+-- what is counted
 
 pub limited_count_out : {A : Type 0} → Limited (count_out {A = A})
 unfolding count_out
@@ -275,7 +275,7 @@ limited_add_param x = record { limited = λ b h. by b h (nat_lt (length b.notes.
     by b h true is = (h.0, h.1, far_enough b.notes.generics.type_or_consts x is)
     by b h false is = tt
 
--- ---- what is noted and opened
+-- what is noted and opened
 
 pub limited_note_down : (f : Notes → Notes) → KeepsParams f → Limited (note_down f)
 unfolding note_down

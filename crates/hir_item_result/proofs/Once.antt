@@ -47,7 +47,7 @@ use Rattle.hir_item_result.proofs.CountedItems.{alias_counts, by_alias, by_funct
 use Rattle.hir_item_result.proofs.CountedSteps.{Leaves, generics_count}
 use Rattle.hir_item_result.proofs.Reading.{nothing_paired}
 
--- ---- what is counted
+-- what is counted
 
 -- each type costs as often as it reaches this number, a constant nothing
 abbrev of_look : (TypeRefId → List ℕ) → ℕ → Meter
@@ -102,7 +102,7 @@ part_of {now = now} {cost = cost} h le = record {
     part : (a n x y u v p q o r : ℕ) → n + ((x + p) + u) ≤ 0 + ((y + q) + v) → a ≤ n → q ≡ r → p ≡ o → a + (o + (x + u)) ≤ r + (y + v)
     part a n x y u v p q o r g h i j = omega (arith, g, h, i, j)
 
--- ---- its parts
+-- its parts
 
 abbrev trait_numbers : Option TraitRef → Numbers
 trait_numbers t l = of_present (λ t. l.types t.path) t
@@ -153,7 +153,7 @@ answer_adds (Some k) t = adds_then (coroutine_adds k (unit_or t)) (λ i. adds_pu
 output_adds : (k : Option CoroutineKind) (r : OptionRet) → Correct (steps.output_type k r) (Adds none maybe_numbers)
 output_adds k r = adds_then (ret_adds r) (λ t. answer_adds k t)
 
--- ---- what they cost is what they name
+-- what they cost is what they name
 
 module _ (f : TypeRefId → List ℕ) (k : ℕ) where
   present_named : {A : Type 0} (g : A → List ℕ) (o : Option A) → times k (of_present g o) ≡ present (λ a. times k (g a)) o
@@ -243,7 +243,7 @@ leaves = record {
   output_is = λ k r. part_of (output_adds k r) maybe_less;
 }
 
--- ---- where an item is lowered first
+-- where an item is lowered first
 
 sums : (a p e q z n : ℕ) {w x y b r : ℕ} → a + (p + ((e + (q + z)) + 0)) ≤ 0 + (0 + (0 + n)) → b ≡ a → r ≡ p → w ≡ x + y → x ≡ b + r
     → y ≡ e + q → w + 0 ≤ n

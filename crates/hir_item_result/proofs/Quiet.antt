@@ -46,7 +46,7 @@ pub record QuietAll {A : Type 0} (xs : List Part) (p : Lowering A) : Type 0 wher
 record QuietOne {A : Type 0} (x : Part) (p : Lowering A) : Type 0 where
   quiet : Correct p Bare
 
--- ---- the logic
+-- the logic
 
 -- whatever the answer names
 forgotten : {A : Type 0} {now : A → Numbers} {p : Lowering A} → Correct p (Adds none now) → Correct p Bare
@@ -106,7 +106,7 @@ bare_lifetime_param x = bare_with (λ n. by (nat_lt (length n.generics.lifetimes
     by true = bare_note _
     by false = refused
 
--- ---- the parts of an item
+-- the parts of an item
 
 -- the path of a trait names what is in it
 stored_quiet : (at : Pointer) (p : Option HirPath) → Correct (stored_trait at p) (Adds (maybe_path p) (λ r. none))
@@ -140,7 +140,7 @@ pub items_are_quiet : OfItems (λ A xs p. QuietAll xs p)
 unfolding quiet
 items_are_quiet def = items_read quiet def
 
--- ---- what came is named in one way
+-- what came is named in one way
 
 module _ {A : Type 0} {p : Lowering A} (h : Correct p Bare) (b c : Builder) (a : A) (paired : Paired b.stored) (is : p b ≡ (Ok a, c))
     (final : Stored) (stays : Extends c.stored final) where

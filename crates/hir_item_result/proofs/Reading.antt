@@ -58,7 +58,7 @@ pub record Reading : Type 1 where
   pub param_is : (x : TypeOrConstParamData) → One part.param_made (add_param x)
   pub lifetime_param_is : (x : LifetimeParamData) → One part.lifetime_param_made (add_lifetime_param x)
 
--- ---- steps in another order of brackets
+-- steps in another order of brackets
 
 pub bind_assoc : {A B C : Type 0} (p : Lowering A) (f : A → Lowering B) (g : B → Lowering C)
     → ((p >>= f) >>= g) ≡ (p >>= (λ a. f a >>= g))

@@ -56,7 +56,7 @@ use Rattle.hir_item_result.proofs.Words.{same_self, same_variadic}
 pub generics_apart : (def : GenericDefId) (g : Generics) → Correct (steps.lower_generics def g) Apart
 generics_apart def g = ((items_stand_apart def).0 g).apart
 
--- ---- a trait
+-- a trait
 
 abbrev pub maybe_trait : Layer (Option TraitRef) (Option TypeData)
 maybe_trait final r t = option_map (λ t. r.type t.path) t
@@ -94,7 +94,7 @@ trait_reads (Some x) = correct_as (correct_bind (path_reads x.path) (λ o. trait
         let i = type_at {m0 = m} row.stored (λ n ge. ap datum.path_shape (matches_read final m.entries z p h n ge)) in
         ap (maybe_trait final (within final d)) row.is ∙ ap Some (i.is d le)
 
--- ---- implementations and aliases
+-- implementations and aliases
 
 abbrev pub impl_answer : Layer (TypeRefId × Option TraitRef) (TypeData × Option TypeData)
 impl_answer final r a = (r.type a.0, maybe_trait final r a.1)
@@ -128,7 +128,7 @@ alias_reads def x = correct_as (correct_bind (pushed_all (bounds_read x.bounds [
       );
     }))
 
--- ---- what a function is given
+-- what a function is given
 
 self_stored : Correct (alloc_type steps.self_path None) (Reads a_type self_data)
 self_stored = type0 steps.self_path None (λ final r. refl)
@@ -192,7 +192,7 @@ input_reads (item.typed_receiver t) xs =
 input_reads (item.self_receiver borrow l) xs =
     one_behind (λ ts. steps.report_each xs >>= (λ u. steps.argument_types ts xs)) (self_reads borrow l) (λ ts. behind_reports xs ts) []
 
--- ---- what a function returns
+-- what a function returns
 
 -- the path of the trait of a coroutine, in the words of the steps
 abbrev named_path : CoroutineKind → TypeData → PathData
@@ -255,7 +255,7 @@ output_reads (Some k) (tree.some_ret t) =
     (sym (bind_assoc (type_part None t) (λ i. pure (Some i)) (steps.answer_form (Some k))))
     (given_reads k (part_reads None t))
 
--- ---- functions
+-- functions
 
 abbrev pub function_answer : Layer Signature (TypesData × OptionTypeData × Bool × Bool)
 function_answer final r a =

@@ -40,7 +40,7 @@ use Rattle.hir_item_result.proofs.Reading.{Reading, nothing_paired}
 abbrev inner_of : List Part → Bodies
 inner_of xs = (parts_size xs).inner
 
--- ---- one part
+-- one part
 
 bound_notes : (b : Bound) → NotesOf (bound_size b) (lower_bound b)
 bound_notes tree.error_bound = notes_pure _
@@ -91,7 +91,7 @@ lifetime_param_notes x = record {
   notes = λ b d. (counted x (nat_lt (length b.notes.generics.lifetimes) 4294967295)).notes b d;
 }
 
--- ---- all parts
+-- all parts
 
 pub record Records {A : Type 0} (xs : List Part) (p : Lowering A) : Type 0 where
   pub notes : Notes (inner_of xs) p
@@ -128,7 +128,7 @@ pub items_record : OfItems (λ A xs p. Records xs p)
 unfolding records
 items_record def = items_read records def
 
--- ---- laws
+-- laws
 
 roots_of : {A : Type 0} {xs : List Part} {p : Lowering A} → Records xs p → RootsInside xs p
 roots_of h b b' a paired is later stays = roots_behind b b' a paired is h.notes later stays

@@ -93,7 +93,7 @@ module _ {ℓ} {S : Grading {ℓ}} (L : Graded S) where
   unfolding telling
   items_tell ps def = items_read (telling ps) def
 
--- ---- lists
+-- lists
 
 lists_params : {X : Type 0} (L : Listing X) → GradedParams (tells_graded L)
 lists_params L = record {
@@ -118,7 +118,7 @@ items_report = items_tell (tells_graded reported) (lists_params reported)
 pub items_expand : OfItems (λ A xs p. TellsAll expansions_graded xs p)
 items_expand = items_tell expansions_graded expansions_params
 
--- ---- from nothing on
+-- from nothing on
 
 module _ {A : Type 0} {xs : List Part} {p : Lowering A} (limit : ℕ) (new : Builder) (a : A) (paired : Paired (fresh limit).stored)
     (is : p (fresh limit) ≡ (Ok a, new)) where

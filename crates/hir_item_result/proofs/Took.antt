@@ -67,7 +67,7 @@ pub record TakesAll {A : Type 0} (xs : List Part) (p : Lowering A) : Type 0 wher
 record TakesOne {A : Type 0} (x : Part) (p : Lowering A) : Type 0 where
   takes : (b : Builder) → Paired b.stored → CameTo (part_size x) (a_lifetime_param x) b (p b).0 (p b).1
 
--- ---- counting
+-- counting
 
 none_came : (b c m : ℕ) → m ≡ 0 → c ≡ b → c ≡ b + m
 none_came b c m z e = omega (arith, z, e)
@@ -87,7 +87,7 @@ far_first far a m j h = omega (arith, h)
 far_then : (far a b m j : ℕ) → b ≡ a + m → far ≤ b + j → far ≤ a + (m + j)
 far_then far a b m j e h = omega (arith, e, h)
 
--- ---- one part, and then others
+-- one part, and then others
 
 came_first : (n k : Size) (m j : ℕ) (b : Builder) → Short n b ⊎ (2 ^ 32 ≤ lifetimes_in b + m)
     → Short (n ∪ k) b ⊎ (2 ^ 32 ≤ lifetimes_in b + (m + j))
@@ -148,7 +148,7 @@ of_takes {A = A} {x = x} {n = n} {p = p} z h k = record { takes = λ b d. by b (
     }
     by b (Err e) c t y = inl t
 
--- ---- the parts
+-- the parts
 
 bound_takes : (b : Bound) → Takes (bound_size b) (lower_bound b)
 bound_takes tree.error_bound = takes_pure _
@@ -179,7 +179,7 @@ pub lifetime_noted : (l : LifetimeRef) (at : Option Pointer) → noted.Notes non
 unfolding alloc_lifetime
 lifetime_noted l at = noted.notes_stored (storing.alloc_lifetime l at) (correct_alloc_lifetime l at)
 
--- ---- parameters
+-- parameters
 
 numbered_keeps : (x : TypeOrConstParamData) (k : ℕ) (room : Bool) (b : Builder) → Room a_param b (param_numbered x k room b).0
     (param_numbered x k room b).1 → CameTo a_param 0 b (param_numbered x k room b).0 (param_numbered x k room b).1
@@ -265,7 +265,7 @@ grown_of h = record {
   types_map = h.type_ways;
 }
 
--- ---- laws
+-- laws
 
 one_of : {A B C D : Type 0} → (A → C) → (B → D) → A ⊎ B → C ⊎ D
 one_of f g h = ⊎_elim (λ a. inl (f a)) (λ b. inr (g b)) h

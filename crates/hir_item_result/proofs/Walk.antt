@@ -48,10 +48,10 @@ pub record Walk : Type 2 where
   pub none : {A : Type 0} (a : A) → Reads [] (pure a)
   pub next : {A B : Type 0} {xs ys : List Part} {p : Lowering A} {f : A → Lowering B} → Reads xs p → ((a : A) → Reads ys (f a))
       → Reads (xs ++ ys) (p >>= f)
-  -- ---- what is noted besides
+  -- what is noted besides
   pub predicate : (x : WherePredicate) → Reads [] (add_predicate x)
   pub named_in_bound : (l : LifetimeRef) → Reads [] (note_down (naming scope.Bound l))
-  -- ---- of each part
+  -- of each part
   pub type_is : (t : Type_) → Reads (part.type_read t ∷ []) (lower_type None t)
   -- what reads back so by itself
   pub made_is : (t : TypeRef) (shape : Shape) → Patternless t → ((final : Stored) (r : Readers) → a_shape final r t ≡ shape)
@@ -64,7 +64,7 @@ pub record Walk : Type 2 where
   pub fault_is : (d : ExpressionStoreDiagnostics) → Reads (part.fault_told d ∷ []) (report d)
   pub param_is : (x : TypeOrConstParamData) → Reads (part.param_made ∷ []) (add_param x)
   pub lifetime_param_is : (x : LifetimeParamData) → Reads (part.lifetime_param_made ∷ []) (add_lifetime_param x)
-  -- ---- what reads back so by what stands in it
+  -- what reads back so by what stands in it
   pub self_is : (borrow : Option Mutability) (l : Option Lifetime) → Reads (self_parts borrow l) (steps.self_form borrow l)
   pub coroutine_is : (k : CoroutineKind) (t : OptionType)
       → Reads (type_parts t ++ coroutine_parts k (written_type t)) (type_part None t >>= coroutine_of k)
@@ -81,7 +81,7 @@ module _ (W : Walk) where
   pub maps : {A B : Type 0} {xs : List Part} {p : Lowering A} (f : A → B) → W.Reads xs p → W.Reads xs (p >>= (λ a. pure (f a)))
   maps f h = ends h (λ a. W.none (f a))
 
--- ---- a walk of what is claimed in front of others
+-- a walk of what is claimed in front of others
 
 module _ (R : Reading) where
   pub part_type : (t : OptionType) → reading.Reads R (type_parts t) (type_part None t)

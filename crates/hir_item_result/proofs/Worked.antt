@@ -21,7 +21,7 @@ counts_arguments def at = record {
       (held_args (unruns (small_store def at) 4) (arg.Type_ (type_id 1) ∷ []) false [] parens.No);
 }
 
--- ---- what one constant as an argument names, and what it holds
+-- what one constant as an argument names, and what it holds
 
 module _ (def : GenericDefId) where
   names_none : (e : ℕ)

@@ -33,7 +33,7 @@ use Rattle.hir_lower_item.specs.Items.{Alias, Argument, Function, Impl, Receiver
 use Rattle.hir_lower_item.specs.Lower.{lower_alias, lower_function, lower_impl}
 use Rattle.hir_steps.specs.Keeps.{Paired}
 
--- ---- words
+-- words
 
 abbrev pub self_name : Name
 self_name = name.Text (codes "Self")
@@ -68,7 +68,7 @@ keeps_variadic (item.argument t ∷ xs) = keeps_variadic xs
 abbrev pub parameter_type : GenericDefId → ℕ → TypeRef
 parameter_type def k = type.TypeParam (record { parent = def; local_id = record { 0 = k } })
 
--- ---- what is written
+-- what is written
 
 -- the trait of an `impl`, which comes from its node, where its path isn't refused
 abbrev pub trait_data : Option PathTypeReading → Option TypeData
@@ -144,7 +144,7 @@ abbrev pub output_bodies : OptionRet → Bodies
 output_bodies tree.no_ret = []
 output_bodies (tree.some_ret t) = part_bodies t
 
--- ---- what is answered
+-- what is answered
 
 -- where all is read that is in a store
 module _ (store : Store) (source_map : SourceMap) where
@@ -177,7 +177,7 @@ module _ (store : Store) (source_map : SourceMap) where
         (all_of (type_inner_bodies store) args ++ of_present (type_inner_bodies store) ret)
         ((receiver_bodies x.receiver ++ arguments_bodies x.arguments) ++ output_bodies x.ret)
 
--- ---- laws
+-- laws
 
 -- from any builder on in which each entry has its source, and in each store that goes on with what is stored then
 abbrev pub Answers : {A : Type 0} → (Store → SourceMap → A → Type 0) → Lowering A → Type 0

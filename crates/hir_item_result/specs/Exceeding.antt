@@ -45,7 +45,7 @@ pub record FitsBehind (n : Size) (b : Builder) : Type 0 where
   pub names : b.names + n.names < 2 ^ 32
   pub params : length b.notes.generics.type_or_consts + n.params < 2 ^ 32
 
--- ---- laws
+-- laws
 
 -- no arena holds more than it may
 abbrev pub AllWithin : Stored → Type 0

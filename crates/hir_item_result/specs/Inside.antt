@@ -22,7 +22,7 @@ use Rattle.hir_same_meaning.specs.Reached.{Spread, of_each, reached_to}
 use Rattle.hir_type_result.specs.Unrun.{all_unruns, exprs_of}
 use Rattle.hir_item_result.specs.Once.{among, is_of_impl}
 
--- ---- what is held by what is answered, of what each type holds
+-- what is held by what is answered, of what each type holds
 
 abbrev pub Holding : Type 0
 Holding = Inners → List Inside
@@ -43,7 +43,7 @@ held_by_function args ret r = all_of r.type args ++ of_present r.type ret
 abbrev pub none_held : Holding
 none_held r = []
 
--- ---- what is held by parameters and predicates
+-- what is held by parameters and predicates
 
 -- the default of a type; or the type of a constant, and its default, which is itself one that is held
 abbrev pub held_by_param : TypeOrConstParamData → Holding
@@ -75,7 +75,7 @@ abbrev pub HeldApart : Type 0
 HeldApart = (store : Store) (held : Holding) → HoldsOnce store held → (before between behind : List Inside) (x y : Inside)
     → held (all_unruns store) ≡ before ++ (x ∷ (between ++ (y ∷ behind))) → x.expr ≢ y.expr
 
--- ---- laws, where an item is lowered first
+-- laws, where an item is lowered first
 
 abbrev pub AnswersHoldOnce : {A : Type 0} → (A → Holding) → Lowering A → Type 0
 AnswersHoldOnce {A} held p = (limit : ℕ) (new : Builder) (a : A) → p (fresh limit) ≡ (Ok a, new)

@@ -11,7 +11,7 @@ use Rattle.hir_store.specs.declared.ids.TypeRefId.{TypeRefId}
 use Rattle.hir_store.specs.declared.type_ref.TraitRef.{TraitRef}
 use Rattle.hir_store.specs.declared.type_ref.TypeBound.{TypeBound}
 
--- ---- generic parameters
+-- generic parameters
 
 -- the default of a type, or the type of a constant and its default
 abbrev pub past_param : TypeOrConstParamData → Past
@@ -26,7 +26,7 @@ past_predicate (predicate.Lifetime l m) = join (past_lifetime_id l) (past_lifeti
 abbrev pub past_params : GenericParams → Past
 past_params g = join (past_each past_param g.type_or_consts) (past_each past_predicate g.where_predicates)
 
--- ---- what is answered besides
+-- what is answered besides
 
 -- the type of an `impl`, and its trait
 abbrev pub past_impl : TypeRefId → Option TraitRef → Past

@@ -23,7 +23,7 @@ use Rattle.hir_same_meaning.specs.Reached.{Spread}
 use Rattle.hir_type_result.specs.Named.{of_exprs, of_pats, of_types_alone}
 use Rattle.hir_type_result.specs.Reached.{of_bound, of_each, of_present, types_reached}
 
--- ---- what is named by what is answered, of what each type reaches
+-- what is named by what is answered, of what each type reaches
 
 abbrev pub Naming : Type 0
 Naming = (TypeRefId → List ℕ) → List ℕ
@@ -44,7 +44,7 @@ named_by_function args ret f = of_each f args ++ of_present f ret
 abbrev pub none_named : Naming
 none_named f = []
 
--- ---- what is named by parameters and predicates
+-- what is named by parameters and predicates
 
 -- the default of a type, or the type of a constant
 abbrev pub named_by_param : TypeOrConstParamData → Naming
@@ -84,7 +84,7 @@ abbrev pub ReachesOnce : Store → Naming → Type 0
 ReachesOnce store named = (depth : ℕ) → length store.types ≤ depth → let f = types_reached store.types depth in let l = of_types_alone f in
     Spread 0 (length store.types) (named f ++ (of_exprs l store.exprs ++ of_pats l store.pats))
 
--- ---- laws, where an item is lowered first
+-- laws, where an item is lowered first
 
 abbrev pub AnswersOnce : {A : Type 0} → (A → Naming) → Lowering A → Type 0
 AnswersOnce {A} named p = (limit : ℕ) (new : Builder) (a : A) → p (fresh limit) ≡ (Ok a, new)

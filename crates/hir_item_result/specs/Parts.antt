@@ -34,7 +34,7 @@ pub data Part : Type 0 where
   param_made : Part
   lifetime_param_made : Part
 
--- ---- what may be absent
+-- what may be absent
 
 -- an error from no node, where it is absent
 abbrev pub type_parts : OptionType → List Part
@@ -62,7 +62,7 @@ abbrev pub bounds_parts : Bounds → List Part
 bounds_parts tree.no_bounds = []
 bounds_parts (tree.more_bounds b bs) = bound_read b ∷ bounds_parts bs
 
--- ---- generic parameters, and where clauses
+-- generic parameters, and where clauses
 
 -- a type parameter behind its default: itself, the type that it is, and its bounds
 abbrev pub typed_parts : GenericDefId → Bounds → List Part
@@ -92,7 +92,7 @@ predicates_parts (x ∷ xs) = predicate_parts x ++ predicates_parts xs
 abbrev pub generics_parts : GenericDefId → Generics → List Part
 generics_parts def g = params_parts def g.params ++ predicates_parts g.predicates
 
--- ---- traits, implementations and aliases
+-- traits, implementations and aliases
 
 -- `Self` with the bounds of the trait, then its parameters
 abbrev pub trait_parts : GenericDefId → Trait → List Part
@@ -114,7 +114,7 @@ missing_parts (Some f) = fault_told (MissingBody f.0 f.1) ∷ []
 abbrev pub alias_parts : GenericDefId → Alias → List Part
 alias_parts def x = bounds_parts x.bounds ++ (generics_parts def x.generics ++ (present_parts x.type_ ++ missing_parts x.missing))
 
--- ---- functions
+-- functions
 
 -- a reference to `Self`
 abbrev pub borrow_parts : Option Mutability → Option Lifetime → List Part

@@ -42,7 +42,7 @@ a_with x = ty.Path (path.Normal (record {
 abbrev array_of : ℕ → ℕ → TypeRef
 array_of t e = ty.Array (record { ty = type_id t; len = record { expr = expr_id e } })
 
--- ---- `fn(_: impl A<[!; 1]>)`: the path, the array, its element and its length are reached through what is asked of the parameter that
+-- `fn(_: impl A<[!; 1]>)`: the path, the array, its element and its length are reached through what is asked of the parameter that
 -- the `impl` became
 
 module _ (def : GenericDefId) (at : Pointer) where
@@ -81,7 +81,7 @@ module _ (def : GenericDefId) (at : Pointer) where
 abbrev pub CountsArguments : Type 0
 CountsArguments = (def : GenericDefId) (at : Pointer) → CountsArgument def at
 
--- ---- `<T = [!; 1], const N: [!; 2] = 3>` with `where 'static: 'static, [!; 4]: A<5> + A<6>`
+-- `<T = [!; 1], const N: [!; 2] = 3>` with `where 'static: 'static, [!; 4]: A<5> + A<6>`
 
 abbrev pub part_params : List TypeOrConstParamData
 part_params = param.TypeParamData (record {

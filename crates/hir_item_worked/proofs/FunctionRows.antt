@@ -29,7 +29,7 @@ use Rattle.hir_item_worked.proofs.ItemRows.{both_are}
 use Rattle.hir_item_worked.proofs.Levels.{a_with, impl_by_is, impl_in, impl_is, list_with, segment_with}
 use Rattle.hir_item_worked.proofs.Small.{around_in, around_is, b_in, impl_b}
 
--- ---- parameters at any spot, with the condition that may disable one
+-- parameters at any spot, with the condition that may disable one
 
 module _ (at : Spot) (def : GenericDefId) where
   abbrev pub given_at : Spot
@@ -95,7 +95,7 @@ reads_arguments at def by =
       listless = refl;
     }
 
--- ---- `impl`s
+-- `impl`s
 
 module _ (at : Spot) where
   -- `A<T = impl B>`, and an `impl` of it
@@ -133,7 +133,7 @@ reads_argument_impls at def =
           (item.typed_receiver (impl_b s 3 i)) (typed_is here def 4 (impl_at 5 (bare (codes "B"))) (impl_b s 5) i ∷ []) tree.no_ret None);
     }
 
--- ---- what is returned
+-- what is returned
 
 abbrev returning : Option CoroutineKind → Type_ → Function
 returning k t = function_with nothing item.no_receiver [] (tree.some_ret (tree.some_type t)) k

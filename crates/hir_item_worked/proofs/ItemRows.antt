@@ -58,7 +58,7 @@ module _ (at : Spot) (def : GenericDefId) where
   pub both_are : answered_generics (enabled at) def (Some t_of_a) (Some never_of_b) ≡ both
   both_are = λ i. both_by (one (trait_a bound_at 7 i)) (never_is (at_place in_target (enabled at)) 1 i) (one (trait_b bound_at 2 i))
 
-  -- ---- the trait of an `impl`
+  -- the trait of an `impl`
 
   -- by one level of it
   trait_kind : (n : ℕ) (k : TypeKindLayer written) → trait_of opaque_at (Some (type_at n k)) ≡ trait_by opaque_at (pointer at n) k
@@ -71,7 +71,7 @@ module _ (at : Spot) (def : GenericDefId) where
       ∙ (ap (λ p. Some (record { pointer = pointer at n; path = tree.some_path p })) (path_made opaque_at _)
       ∙ ap (λ x. Some (record { pointer = pointer at n; path = tree.some_path (aliased opaque_at x) })) h)
 
-  -- ---- what is read of the whole
+  -- what is read of the whole
 
   abbrev impl_with : OptionType → Option PathTypeReading → Generics → Impl
   impl_with t u g = record { self_type = t; trait_ = u; generics = g }

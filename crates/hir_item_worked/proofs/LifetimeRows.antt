@@ -37,7 +37,7 @@ use Rattle.hir_item_worked.proofs.Levels.{trait_is}
 use Rattle.hir_item_worked.proofs.Small.{one, trait_a}
 use Rattle.hir_item_worked.proofs.FunctionRows.{typed_is}
 
--- ---- types at any spot
+-- types at any spot
 
 module _ (at : Spot) where
   pub a_ref_is : answered_type at a_reference ≡ reference_in at 3 (codes "'a")
@@ -119,7 +119,7 @@ module _ (at : Spot) where
       ∙ ((λ i. as_type (of_two (qualified_is t s i) (b_is at i)))
       ∙ (λ i. as_type (behind (h i) (trait_read_is s g i)))))
 
--- ---- functions
+-- functions
 
 module _ (at : Spot) (def : GenericDefId) (r : Option Resolution) (x : Option Alias) where
   abbrev pub here : Spot

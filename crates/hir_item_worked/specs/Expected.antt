@@ -31,7 +31,7 @@ use Rattle.hir_item_worked.specs.Read.{Read, Seen, a_fault, type_made}
 abbrev pub text : List ℕ → Name
 text t = name.Text t
 
--- ---- types and bounds, by their nodes
+-- types and bounds, by their nodes
 
 -- a path of one name, and one with arguments beside the name
 abbrev pub named_data : Spot → ℕ → List ℕ → TypeData
@@ -73,7 +73,7 @@ absent = typed None datum.error_shape
 abbrev pub only : TypeData → TypesData
 only t = datum.more_types t datum.no_types
 
--- ---- parameters
+-- parameters
 
 abbrev pub plain_param : GenericDefId → List ℕ → Param
 plain_param def t = type_param def (text t) provenance.TypeParamList datum.no_type []
@@ -110,7 +110,7 @@ early t = is_bound EarlyBound t
 abbrev pub late : List ℕ → LifetimeParamData
 late t = is_bound LateBound t
 
--- ---- what is asked
+-- what is asked
 
 -- this bound, of the parameter with this number, and of one that the `impl` at this node became
 abbrev pub of_parameter : GenericDefId → ℕ → BoundData → Asking
@@ -130,7 +130,7 @@ of_written t b = of_bound_type None t b
 abbrev pub outlives : LifetimeData → LifetimeData → Asking
 outlives l m = asked.of_lifetime l m
 
--- ---- faults
+-- faults
 
 abbrev pub inactive : Spot → ℕ → CfgId → Seen
 inactive at n by = a_fault (InactiveCode (pointer at n) by)

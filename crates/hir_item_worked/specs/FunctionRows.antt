@@ -65,7 +65,7 @@ module _ (def : GenericDefId) where
   abbrev pub FunctionReads : Spot → AstFn → Read → Signed → Type 0
   FunctionReads at x r answers = function_seen def (answered_function at def x) ≡ (r, answers)
 
--- ---- `self`
+-- `self`
 
 -- `Self`, and a reference to it
 abbrev pub self_type : TypeData
@@ -103,7 +103,7 @@ module _ (at : Spot) (def : GenericDefId) where
     pub with_type : Receives (self_at 1 false false None (Some (never_at 3))) (never_data at 3) (a_type (never_data at 3) ∷ [])
     pub all : Receives (self_at 1 true true behind_a (Some (never_at 3))) (never_data at 3) (a_type (never_data at 3) ∷ [])
 
--- ---- other parameters
+-- other parameters
 
 -- `A<T = impl B>`: the node of the inner `impl` is 5
 abbrev pub binding_impl : AstType
@@ -189,7 +189,7 @@ module _ (at : Spot) (def : GenericDefId) where
         })
         (taking (datum.more_types (parameter_from at 3 def) (only (parameter_from at 5 def))) true false)
 
--- ---- what is returned
+-- what is returned
 
 module _ (at : Spot) (def : GenericDefId) where
   abbrev pub Returns : Option AstRetType → OptionTypeData → List Seen → Type 0
@@ -253,7 +253,7 @@ module _ (at : Spot) (def : GenericDefId) where
     pub gen_ : ReadsCoroutine false true iterator_trait
     pub async_gen : ReadsCoroutine true true async_iterator_trait
 
--- ---- all in one
+-- all in one
 
 -- `fn<T: A>(&self, _: impl B) -> ! where !: B`
 abbrev pub WholeFunction : Spot → GenericDefId → Type 0
@@ -276,7 +276,7 @@ WholeFunction at def = FunctionReads def (enabled at)
       has_variadic = false;
     })
 
--- ---- laws, for each environment, wherever an item stands
+-- laws, for each environment, wherever an item stands
 
 abbrev pub ReceiversAreRead : Type 0
 ReceiversAreRead = (at : Spot) (def : GenericDefId) → ReadsReceivers at def

@@ -56,7 +56,7 @@ module _ (at : Spot) where
   abbrev pub t_seen : GenericDefId → List Seen
   t_seen def = a_param ∷ parameter_made def ∷ a_bound (a_bound_at at 7) ∷ []
 
--- ---- traits
+-- traits
 
 abbrev pub trait_of : List AstTypeBound → Option (List AstGenericParam) → Option (List AstWherePred) → AstTrait
 trait_of bs ps ws = record { id = node 0; range = no_range; bounds = bs; generics = ps; where_ = ws }
@@ -93,7 +93,7 @@ module _ (at : Spot) (def : GenericDefId) where
           parts = a_param ∷ parameter_made def ∷ t_seen at def;
         })
 
--- ---- implementations
+-- implementations
 
 abbrev pub impl_of : Option AstType → Option AstType → Option (List AstGenericParam) → Option (List AstWherePred) → AstImpl
 impl_of self t ps ws = record { id = node 0; range = no_range; self_ty = self; trait_ = t; generics = ps; where_ = ws }
@@ -136,7 +136,7 @@ module _ (at : Spot) (def : GenericDefId) where
     pub refused : ImplReads (impl_of (Some (never_at 3)) (Some (path_at 4 broken_named)) None None)
         (of_parts (a_type (never_data at 3) ∷ a_trait None ∷ [])) (never_data at 3, None)
 
--- ---- aliases
+-- aliases
 
 abbrev pub alias_of : List AstTypeBound → Option (List AstGenericParam) → Option (List AstWherePred) → Option AstType → AstTypeAlias
 alias_of bs ps ws t = record { id = node 0; range = no_range; bounds = bs; generics = ps; where_ = ws; ty = t }
@@ -182,7 +182,7 @@ module _ (at : Spot) (def : GenericDefId) where
     pub lacks_in_trait : Typeless (holder.TraitId t) []
     pub lacks_in_extern : Typeless (holder.ExternBlockId e) []
 
--- ---- laws, for each environment, wherever an item stands
+-- laws, for each environment, wherever an item stands
 
 abbrev pub TraitsAreRead : Type 0
 TraitsAreRead = (at : Spot) (def : GenericDefId) → ReadsTraits at def

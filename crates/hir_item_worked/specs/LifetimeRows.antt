@@ -27,7 +27,7 @@ use Rattle.hir_item_worked.specs.Read.{function_read}
 use Rattle.hir_item_worked.specs.Expected.{early, late}
 use Rattle.hir_item_worked.specs.FunctionRows.{fn_of}
 
--- ---- functions: `'a` in what follows is a parameter of each
+-- functions: `'a` in what follows is a parameter of each
 
 -- where all types are answered as this, and all aliases as that
 abbrev pub resolving : Option Resolution → Option Alias → Spot → Spot
@@ -192,7 +192,7 @@ module _ (at : Spot) (def : GenericDefId) where
     pub unanswered : (function_read def (answered_function (resolving (Some (resolution.TypeAlias n)) None at) def by_alias)).lifetimes
         ≡ early (codes "'a") ∷ early (codes "'b") ∷ []
 
--- ---- laws, for each environment, wherever a function stands
+-- laws, for each environment, wherever a function stands
 
 abbrev pub TypesDecide : Type 0
 TypesDecide = (at : Spot) (def : GenericDefId) → KindsByTypes at def

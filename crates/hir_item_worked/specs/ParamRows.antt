@@ -40,7 +40,7 @@ module _ (at : Spot) (def : GenericDefId) where
   abbrev pub ReadsBehind : CfgId → List AstGenericParam → Read → Type 0
   ReadsBehind by ps r = generics_read def (answered_generics (disabling 1 by at) def (Some ps) None) ≡ r
 
-  -- ---- type parameters
+  -- type parameters
 
   -- `<T>`, one without a name, and `<T: A = !>`
   pub record ReadsTypeParams : Type 0 where
@@ -61,7 +61,7 @@ module _ (at : Spot) (def : GenericDefId) where
           parts = a_type (never_data at 2) ∷ a_param ∷ parameter_made def ∷ a_bound (bounded_by (named_data at 3 (codes "A"))) ∷ [];
         })
 
-  -- ---- constants
+  -- constants
 
   -- `_`, as a constant
   abbrev pub constant_at : ℕ → Option AstExpr
@@ -86,7 +86,7 @@ module _ (at : Spot) (def : GenericDefId) where
           parts = a_type (never_data at 2) ∷ a_constant (Some (site_of (pointer at 3))) ∷ a_param ∷ [];
         })
 
-  -- ---- lifetimes
+  -- lifetimes
 
   -- of a lifetime with this text, which is none that has a name
   abbrev pub NamelessLifetime : List ℕ → LifetimeRef → Type 0
@@ -113,7 +113,7 @@ module _ (at : Spot) (def : GenericDefId) where
           parts = lifetime_made (record { lifetime = lifetime.Placeholder; from = None }) ∷ [];
         })
 
-  -- ---- order, and what is disabled
+  -- order, and what is disabled
 
   -- `<'a, T, const N: !, U: A>`
   abbrev pub InWrittenOrder : Type 0
@@ -149,7 +149,7 @@ module _ (at : Spot) (def : GenericDefId) where
           parts = inactive at 1 by ∷ a_param ∷ parameter_made def ∷ a_bound (bounded_by (named_data at 3 (codes "A"))) ∷ [];
         })
 
-  -- ---- bounds
+  -- bounds
 
   -- `A + ?A + 'a + use<'a> + for<'b> A`, and a bound that a broken text lacks
   abbrev pub all_bounds : List AstTypeBound
@@ -188,7 +188,7 @@ module _ (at : Spot) (def : GenericDefId) where
           parts = a_lifetime (lifetime_from at 1 (codes "'c")) ∷ a_lifetime_param ∷ all_read;
         })
 
-  -- ---- where clauses
+  -- where clauses
 
   abbrev pub bounded : List AstTypeBound
   bounded = trait_at 2 (bare (codes "A")) ∷ []
@@ -229,7 +229,7 @@ module _ (at : Spot) (def : GenericDefId) where
             ∷ a_type (never_data at 3) ∷ a_bound (bounded_by (named_data at 4 (codes "B"))) ∷ [];
       })
 
-  -- ---- `impl`s
+  -- `impl`s
 
   -- `A<impl B>`, where the `impl` is a parameter
   abbrev pub with_parameter : BoundData
@@ -298,7 +298,7 @@ module _ (at : Spot) (def : GenericDefId) where
         (asking_alone (of_written (error_data at 1) (bounded_by (named_data at 2 (codes "A"))) ∷ [])
         (a_type (error_data at 1) ∷ a_bound (bounded_by (named_data at 2 (codes "A"))) ∷ []))
 
--- ---- laws, for each environment, wherever an item stands
+-- laws, for each environment, wherever an item stands
 
 abbrev pub Everywhere : (Spot → GenericDefId → Type 0) → Type 0
 Everywhere Claim = (at : Spot) (def : GenericDefId) → Claim at def

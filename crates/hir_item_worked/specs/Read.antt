@@ -18,7 +18,7 @@ use Rattle.hir_item_result.specs.Answers.{arguments_data, keeps_self, keeps_vari
 use Rattle.hir_item_result.specs.Parts as part
 use Rattle.hir_item_result.specs.Parts.{Part, alias_parts, function_parts, generics_parts, impl_parts, trait_parts}
 
--- ---- parts, as data
+-- parts, as data
 
 pub data Seen : Type 0 where
   -- a type, and one that comes from no node
@@ -48,7 +48,7 @@ seen (part.fault_told d) = a_fault d
 seen part.param_made = a_param
 seen part.lifetime_param_made = a_lifetime_param
 
--- ---- what is generic in an item
+-- what is generic in an item
 
 -- its parameters by their numbers, its lifetime parameters with their kinds, what is asked of types and lifetimes, and its parts, in the
 -- order in which they are read
@@ -78,7 +78,7 @@ module _ (def : GenericDefId) where
   abbrev pub function_read : Function → Read
   function_read x = let n = noted_in_function def x in read_off n (by_kind n) (asked_in_function def x) (function_parts def x)
 
--- ---- what is answered of an item
+-- what is answered of an item
 
 -- the type of an `impl`, and its trait
 abbrev pub impl_answers : Impl → TypeData × Option TypeData
@@ -103,7 +103,7 @@ function_answers x = record {
   has_variadic = keeps_variadic x.arguments;
 }
 
--- ---- both
+-- both
 
 module _ (def : GenericDefId) where
   abbrev pub impl_seen : Impl → Read × (TypeData × Option TypeData)

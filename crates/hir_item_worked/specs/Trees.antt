@@ -27,7 +27,7 @@ use Rattle.hir_env.specs.Spot.{Spot}
 use Rattle.hir_env.specs.Wrapped.{AstConstArg}
 use Rattle.hir_data.specs.Trees.{bare, called, impl_at, never_at, no_range, node, type_arg_of, type_at, with_argument}
 
--- ---- where they are read
+-- where they are read
 
 -- where no condition disables anything, and in no `impl`
 abbrev pub enabled : Spot → Spot
@@ -40,7 +40,7 @@ disabling n by at = record {
   place = record at.place { in_impl = false };
 }
 
--- ---- types, lifetimes and bounds: the numbers of their nodes are written beside them
+-- types, lifetimes and bounds: the numbers of their nodes are written beside them
 
 abbrev pub lifetime_at : ℕ → List ℕ → AstLifetime
 lifetime_at n t = record { id = node n; range = no_range; t = t }
@@ -141,7 +141,7 @@ with_impl = with_argument (codes "A") (roll-GenericArg (GenericArg-F.TypeArg (ty
 abbrev pub impl_inside : AstTypeBound
 impl_inside = trait_at 4 with_impl
 
--- ---- generic parameters and where clauses
+-- generic parameters and where clauses
 
 abbrev pub type_param_at : ℕ → Option (List ℕ) → List AstTypeBound → Option AstType → AstGenericParam
 type_param_at n t bs d = param.TypeParam (node n) no_range (option_map called t) bs d
@@ -155,7 +155,7 @@ lifetime_param_at n l bs = param.LifetimeParam (node n) no_range l bs
 abbrev pub where_of : Option AstType → Option AstLifetime → Option AstForBinder → List AstTypeBound → AstWherePred
 where_of t l binder bs = record { id = node 9; range = no_range; ty = t; lifetime = l; binder = binder; bounds = bs }
 
--- ---- functions
+-- functions
 
 -- a parameter with this type, and one with dots behind it
 abbrev pub param_at : ℕ → Option AstType → AstParam

@@ -85,7 +85,7 @@ module _ (body : Lowering (Given × ExprId)) (b : Builder) where
       by (Ok r) c k = absurd (not_refused x r (sym (ap (λ (q : Ending). q.0) k)))
       by (Err y) c k = ap Err (err_same y x (ap (λ (q : Ending). q.0) k))
 
--- ---- a body that is no coroutine, behind its parameters
+-- a body that is no coroutine, behind its parameters
 
 pub record PlainSteps (skipped : Bool) (f : Formals) (e : OptionExpr) (b : Builder) (given : Given) (i : ExprId) (b' : Builder)
     : Type 0 where
@@ -122,7 +122,7 @@ module _ (skipped : Bool) (f : Formals) (e : OptionExpr) (b : Builder) where
       first (Ok r) c own_is k = second r c own_is (lower_part e c).0 (lower_part e c).1 refl k
       first (Err x) c own_is k = absurd (not_refused x (given, i) (ap (λ (q : Ending). q.0) k))
 
--- ---- the body of an item, from nothing
+-- the body of an item, from nothing
 
 pub item_is : (kind : Option CoroutineKind) (skipped : Bool) (node : Pointer) (k : Option MissingBodyItemKind) (f : Formals)
     (e : OptionExpr) (limit : ℕ) → body_of kind skipped node k f e (fresh limit)

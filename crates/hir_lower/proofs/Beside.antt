@@ -46,7 +46,7 @@ no_some h = clash (sym (ap is_some h))
 abbrev pub args_at : Named → OptionArgsData
 args_at n = n.args
 
--- ---- no argument for `Self` is written
+-- no argument for `Self` is written
 
 yielded_stays : (as' : ArgumentsData) (bs : BindingsData) → without_self (yielded as' bs) ≡ yielded as' bs
 yielded_stays datum.no_arguments datum.no_bindings = refl
@@ -85,7 +85,7 @@ name_stays tree.super_segment = refl
 name_stays (tree.type_segment t) = refl
 name_stays (tree.trait_segment t at p) = refl
 
--- ---- beside the names of a segment
+-- beside the names of a segment
 
 abbrev borne : Bool → OptionArgsData → List OptionArgsData
 borne false a = []
@@ -153,7 +153,7 @@ segment_first at s h =
     ∙ (said_first at (in_projection at) o.seg o.name _ _ o.trait_ h
     ∙ ap (λ x. borne (is_some (segment_name s)) (behind_name x)) (sym (segment_is_level at s)))
 
--- ---- beside all of them
+-- beside all of them
 
 abbrev pub all_args : List Item → List OptionArgsData
 all_args is = map args_at (rule.names is)
@@ -187,7 +187,7 @@ args_of_all at leading (None ∷ ss) h t = absurd (clash (sym h))
 args_of_all at leading (Some s ∷ ss) h t = one_said at (front leading (answered_segment at s))
     (items (segments_part at ss) []) s (named_among ss) (segment_first at s t) (args_of_rest at ss h)
 
--- ---- a path that is read
+-- a path that is read
 
 pub map_reverse : {A B : Type 0} (f : A → B) (xs : List A) → map f (reverse xs) ≡ reverse (map f xs)
 map_reverse f [] = refl

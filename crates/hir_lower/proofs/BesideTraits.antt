@@ -28,7 +28,7 @@ use Rattle.hir_lower.specs.Beside.{all_behind, args_of_named, beside, beside_nam
 use Rattle.hir_lower.proofs.Beside.{all_args, answered_read, args_at, args_of_rest, clash, first_without, front, last_without, map_reverse}
 use Rattle.hir_lower.proofs.Beside.{no_some, plain_args, read_args, written_stays}
 
--- ---- lists of arguments
+-- lists of arguments
 
 abbrev first_behind : TypeData → List OptionArgsData → List OptionArgsData
 first_behind t [] = []
@@ -87,7 +87,7 @@ trait_changes : (t : TypeData) (as' bs : List OptionArgsData) → last_without b
     → last_without (reverse (first_behind t (reverse as')) ++ bs) ≡ last_behind_type t as' bs
 trait_changes t as' bs h = turned_changes t (reverse as') bs h ∙ ap (λ l. last_behind_type t l bs) (reverse-reverse as')
 
--- ---- a path with a trait
+-- a path with a trait
 
 unqualified : (k : Option SegmentKind) (t : Option AstPathType) → not (is_qualified k) ≡ true → trait_of k t ≡ None
 unqualified None t h = refl
@@ -171,7 +171,7 @@ args_with_trait at leading (Some s ∷ ss) t x m h w e =
     (λ y k. trait_args inner (out-PathType t).path y w (ap path_of (sym (path_type_path inner t)) ∙ k))
     (args_of_rest at ss m) (written_stays at ss)
 
--- ---- the law
+-- the law
 
 named_args : (at : Spot) (p : AstPath) (x : PathRead) (tr : Option AstPathType) → first_trait (out-Path p).segs ≡ tr → Whole p
     → PlainTrait tr → path_of (tree.some_path (answered_path at p)) ≡ Some x

@@ -39,7 +39,7 @@ use Rattle.hir_one_result.specs.Formals.{Given, InFunction, coroutine_body, each
 use Rattle.hir_one_result.specs.Formals.{lower_formals, lower_self, plain_body}
 use Rattle.hir_one_result.proofs.Formals.{HasSelf, self_known}
 
--- ---- parameters
+-- parameters
 
 self_apart : (s : SelfFormal) → Correct (lower_self s) Apart
 self_apart tree.no_self = pure_apart None
@@ -60,7 +60,7 @@ unfolding lower_formals
 formals_apart skipped f =
     then_apart (self_apart f.receiver) (λ s. then_apart (each_apart skipped [] f.formals) (λ ps. pure_apart (s, ps)))
 
--- ---- `self`
+-- `self`
 
 -- its name is written, also in each later store
 abbrev SelfWritten : Option BindingId → Stored → Type 0
@@ -101,7 +101,7 @@ let_self_apart (Some id) = correct_as (correct_let_self (Some id)) (λ final ps 
   apart = λ w. apart_of (rebound_once id (binding_at id m.stored) (w m.stored (extends_refl m.stored)) row.made);
 })
 
--- ---- what is in such a function
+-- what is in such a function
 
 -- Steps by which made names stay apart, and then what hands arguments in.
 record InFunctionApart (final : Stored) (ps : List Frame) (m m' : Mark) (x : InFunction) : Type 0 where
@@ -141,7 +141,7 @@ in_function_apart kind skipped self fs e = correct_as
           (subst (λ n. NewNames three.middle.names n lets.more) (sym names) lets.new_names);
     })
 
--- ---- the whole body
+-- the whole body
 
 -- It is of two bindings, one of which is just one of these formal parameters in the final store.
 pub record OfHanded (final : Stored) (k : ℕ) (formals : List PatId) (t : Times) : Type 0 where

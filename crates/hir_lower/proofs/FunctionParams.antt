@@ -38,7 +38,7 @@ use Rattle.hir_one_result.specs.Room.{formals_data}
 use Rattle.hir_one_result.proofs.Formals.{each_now}
 use Rattle.hir_lower.proofs.ParamBodies.{each_hold, read_bodies, self_any}
 
--- ---- it does what is written
+-- it does what is written
 
 self_is : (s : SelfFormal) → Correct (lower_self s) (SelfIs s)
 self_is tree.no_self = correct_as (correct_pure None) (λ final ps m m' o g row. row.is)
@@ -70,7 +70,7 @@ module _ (kind : CoroutineKind) (skipped : Bool) (f : Formals) (e : OptionExpr) 
   function_does = subst (λ p. Correct p FunctionDoes) (sym as_function)
       (function_same kind f.receiver (formals_read skipped f.formals) e (self_is f.receiver) (params_are skipped f.formals))
 
--- ---- its parameters
+-- its parameters
 
 -- no parameter is handed in yet
 record NoneYet (final : Stored) (ps : List Frame) (m m' : Mark) (begun : Option BindingId × Prelude) : Type 0 where

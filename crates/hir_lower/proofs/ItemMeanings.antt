@@ -32,7 +32,7 @@ use Rattle.hir_lower.proofs.MadeNames.{apart_from_nothing, once_if}
 pub nothing_stored : (limit : ℕ) → Paired (fresh limit).stored
 nothing_stored limit = record { exprs = refl; labels = refl; pats = refl; types = refl; lifetimes = refl }
 
--- ---- parameters and predicates, in the store that they are answered with
+-- parameters and predicates, in the store that they are answered with
 
 pub params_are : (n : ItemNoting) (lifetimes : List LifetimeParamData) (x : Asks) (limit : ℕ) (c : Builder) (g : GenericLists)
     → Made n lifetimes c.stored (finished g) → IsAsked x (fresh limit) c → g.where_predicates ≡ c.notes.generics.where_predicates
@@ -45,7 +45,7 @@ params_are n lifetimes x limit c g m a same = record {
       (a.stand c.stored (extends_refl c.stored));
 }
 
--- ---- what the steps leave
+-- what the steps leave
 
 module _ {A T : Type 0} (p : Lowering A) (made_of : Notes → GenericLists) (limit : ℕ) (answer : T → A) (params : T → GenericParams)
     (store : T → Store) (source_map : T → SourceMap) where

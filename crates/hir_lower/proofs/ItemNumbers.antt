@@ -40,7 +40,7 @@ use Rattle.hir_item_result.specs.Numbers.{past_alias, past_function, past_impl, 
 use Rattle.hir_item_result.proofs.Later.{Lasts, bound_within, lasts_if, lifetime_within, option_type_within, stored_within, type_is_stored}
 use Rattle.hir_item_result.proofs.Later.{whole, within_join, within_nothing, within_type}
 
--- ---- what the steps answer
+-- what the steps answer
 
 first : {A B : Type 0} → A × B → A
 first x = x.0
@@ -75,7 +75,7 @@ pub answer_exists : {A : Type 0} (Has : Stored → A → Type 0) (past : A → P
     → (s : Stored) (a : A) → Has s a → {stored : Stored} {store : Store} → stored ≡ s → store ≡ store_of stored → Within store (past a)
 answer_exists Has past law s a h e f = subst (λ x. Within x (past a)) (sym (f ∙ ap store_of e)) (law s a h)
 
--- ---- a constant that came from the same node whatever is stored further
+-- a constant that came from the same node whatever is stored further
 
 abbrev read_constant : ConstRef → Stored → Option Site
 read_constant c s = stored_constant (store_of s) (map_of s) c
@@ -139,7 +139,7 @@ constant_is_stored s c same h = (
   omega (arith),
 )
 
--- ---- parameters
+-- parameters
 
 module _ (s : Stored) (same : length s.exprs.sources ≡ length s.exprs.entries) where
   -- in each later store
@@ -181,7 +181,7 @@ module _ (s : Stored) (same : length s.exprs.sources ≡ length s.exprs.entries)
   all_exist k (x ∷ xs) (y ∷ ys) h = within_join (store_of s) (past_param x) (past_each past_param xs)
       (param_exists k x y (λ later e. (h later e).0)) (all_exist (suc k) xs ys (λ later e. (h later e).1))
 
-  -- ---- predicates
+  -- predicates
 
   asked_exists : (t : TypeRefId) (x : Asked) → Always (λ st m. TypeIs st m t x) → Within (store_of s) (past_type_id t)
   asked_exists t (parameter def k at) h = stored_within s t _ (h s here).0
@@ -209,7 +209,7 @@ module _ (s : Stored) (same : length s.exprs.sources ≡ length s.exprs.entries)
   all_asked_exist (p ∷ ps) (a ∷ as') h = within_join (store_of s) (past_predicate p) (past_each past_predicate ps)
       (predicate_exists p a (λ later e. (h later e).0)) (all_asked_exist ps as' (λ later e. (h later e).1))
 
--- ---- the parameters that an item is answered with
+-- the parameters that an item is answered with
 
 pub params_exist : (n : ItemNoting) (lifetimes : List LifetimeParamData) (x : Asks) (limit : ℕ) (c : Builder) (g : GenericLists)
     → length c.stored.exprs.sources ≡ length c.stored.exprs.entries → Made n lifetimes c.stored (finished g) → IsAsked x (fresh limit) c

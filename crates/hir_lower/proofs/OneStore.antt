@@ -24,7 +24,7 @@ use Rattle.hir_lower.specs.Collected.{AllStand, Call, Collected, LeftBy, OfCalls
 use Rattle.hir_lower.specs.Roots.{fresh}
 use Rattle.hir_lower.specs.Stays.{Stays}
 
--- ---- ends of ways one behind the other
+-- ends of ways one behind the other
 
 module _ {I : Type 0} (place : I → ℕ) (End : List Way → I → Type 0) (us vs : List Way) (left : (i : I) → End us i → End (us ++ vs) i)
     (right : (i : I) → End vs i → End (us ++ vs) i) where
@@ -61,7 +61,7 @@ module _ (us vs : List Way) (n m k : ℕ) where
   bindings_then = ends_then (λ i. i.0) BindingEnd us vs (λ i x. (x.0, Contains-append_left us vs (binding_way i x.0) x.1))
       (λ i x. (x.0, Contains-append_right us vs (binding_way i x.0) x.1)) n m k
 
--- ---- what stays
+-- what stays
 
 record Onto (s final : Stored) : Type 0 where
   extends : Extends s final
@@ -109,7 +109,7 @@ module _ (before : Stored) (at : Pointer) (t : TypeRef) where
       let o : Onto more final = subst (λ x. Onto x final) is onto in
       record { extends = extends_trans type_extends o.extends; settled = o.settled; owners = o.owners }
 
--- ---- one call behind the other
+-- one call behind the other
 
 record InOne (cs : List Call) (first s final : Stored) : Type 0 where
   ways : List Way
@@ -203,7 +203,7 @@ all_in_one (of_type at t i ∷ cs) first s final (before, (left, adds)) onto =
     subst (λ x. InOne (of_type at t i ∷ cs) first x final) (sym adds.added) (one_type at t i cs first before final
     (all_in_one cs first before final left (onto_type before at t s final adds.added onto)))
 
--- ---- from nothing
+-- from nothing
 
 of_calls : (s : Stored) → Collected s → OfCalls (store_of s) (map_of s)
 of_calls s c =

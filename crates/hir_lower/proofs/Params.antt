@@ -53,7 +53,7 @@ use Rattle.hir_lower.proofs.BodyTypes.{all_pats_once}
 use Rattle.hir_lower.proofs.FunctionParams.{function_reads}
 use Rattle.hir_lower.proofs.ParamBodies.{bodies_inside, read_bodies, self_any}
 
--- ---- patterns
+-- patterns
 
 record ReceivedNow (xs : List PatData) (final : Stored) (ps : List Frame) (m m' : Mark) (received : Received) : Type 0 where
   reads : pats_in final received.1 ≡ xs
@@ -104,7 +104,7 @@ module _ (skipped : Bool) (f : Formals) (e : OptionExpr) (b b' : Builder) (given
   reads None is = plain_reads is
   reads (Some kind) is = coroutine_reads kind is
 
--- ---- `self`
+-- `self`
 
 -- the binding of this number, where there is one
 abbrev bound : List Binding → Option BindingId → Option Binding
@@ -165,7 +165,7 @@ self_reads (Some kind) store source_map skipped f e given root ws h =
       alike = outer.there ∙ sym inner.there;
     }
 
--- ---- the body of an item
+-- the body of an item
 
 -- however deep one looks, each pattern is reached in one way
 abbrev PatsOnce : Stored → List PatId → Type 0
@@ -200,7 +200,7 @@ module _ (kind : Option CoroutineKind) (skipped : Bool) (f : Formals) (e : Optio
             (record { exprs = refl; pats = refl; types = refl }) s.lowered end root depth le;
       })
 
--- ---- what is written, and what it is handed in by
+-- what is written, and what it is handed in by
 
 module _ {A : Type 0} where
   formals_back : (xs ys : List A) → length xs ≡ length ys → map (λ p. p.formal) (both xs ys) ≡ xs

@@ -44,7 +44,7 @@ abbrev pub self_source : SelfFormal → Option Pointer
 self_source (tree.self_formal at u _) = Some at
 self_source _ = None
 
--- ---- which are read
+-- which are read
 
 abbrev pub no_formals : Formals
 no_formals = record { receiver = tree.no_self; formals = [] }

@@ -21,7 +21,7 @@ pub record ParamsAre (store : Store) (source_map : SourceMap) (n : ItemNoting) (
   pub counted : g.early_bound_lifetimes_len ≡ early_among lifetimes
   pub predicates : Stand store source_map g.where_predicates asks
 
--- ---- of each item; lifetimes are early bound, but for those of a function, which are so by all that names them in it
+-- of each item; lifetimes are early bound, but for those of a function, which are so by all that names them in it
 
 module _ (store : Store) (source_map : SourceMap) (def : GenericDefId) where
   abbrev pub GenericsHave : Generics → GenericParams → Type 0

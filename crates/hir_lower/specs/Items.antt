@@ -40,7 +40,7 @@ use Rattle.hir_lower.specs.Roots.{outside_body}
 abbrev pub item_spot : Answers → HirFileId → ModuleId → LoweringMode → Spot
 item_spot env file inside mode = spot_at env (outside_body env file inside mode)
 
--- ---- an item that is read there, with the answers written into it
+-- an item that is read there, with the answers written into it
 
 abbrev pub read_generics : Answers → HirFileId → ModuleId → LoweringMode → GenericDefId → Option (List GenericParam)
     → Option (List WherePred) → item.Generics
@@ -60,7 +60,7 @@ read_alias env file container id x =
 abbrev pub read_function : Answers → HirFileId → ModuleId → FunctionId → Fn → item.Function
 read_function env file inside id x = answered_function (item_spot env file inside Analysis) (definition.FunctionId id) x
 
--- ---- the steps of it
+-- the steps of it
 
 abbrev pub generics_at : Spot → GenericDefId → Option (List GenericParam) → Option (List WherePred) → Lowering (Unit {0})
 generics_at at def ps ws = lower_generics def (answered_generics at def ps ws)
@@ -77,7 +77,7 @@ alias_at at id container x = let def = definition.TypeAliasId id in lower_alias 
 abbrev pub function_at : Spot → FunctionId → Fn → Lowering Signature
 function_at at id x = let def = definition.FunctionId id in lower_function def (answered_function at def x)
 
--- ---- what they make
+-- what they make
 
 -- the parameters of all items but functions: each lifetime is early bound
 abbrev pub as_noted : Notes → GenericLists

@@ -27,7 +27,7 @@ use Rattle.hir_lower_form.specs.Lower.{ExprSteps, lower, lower_kept, some}
 use Rattle.hir_lower_form.specs.Lowering.{Checked, Lowering, ◌>>=◌, ◌>>◌, alloc_expr, go_on, point, pure}
 use Rattle.hir_lower_expr.specs.Calls.{There, call_at, call_in, expr_there, lower_there, pointed, written_call}
 
--- ---- what is told, and then what stands there
+-- what is told, and then what stands there
 
 -- steps that end in something that is kept
 pub kept_after : (o : Checked (Unit {0})) (b : Builder) (s : Pointer) (q : ExprSteps)
@@ -134,7 +134,7 @@ call_on at s c b = by at.place.left
     by zero = refl
     by (suc n) = called_by at s (call_pointer at.place c) n (asked_call at.answers kind.Expr c at.place) b
 
--- ---- what is found may be handed in
+-- what is found may be handed in
 
 abbrev nowhere : There
 nowhere = None
@@ -186,7 +186,7 @@ module _ (at : Spot) (c : AstMacroCall) (Inner : Place → AstExpr → Type 0)
           let t = told (called (call_pointer at.place c) (asked_call at.answers kind.Expr c at.place)) b in
           told_there n h t.0 t.1 d found m q e is
 
--- ---- by the kind
+-- by the kind
 
 pub no_call : (k : ExprKindLayer written) → call_in k ≡ None → IsNoCall k
 no_call (ExprKind-F.MacroExpr c) h = cc

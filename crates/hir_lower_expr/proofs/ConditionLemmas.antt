@@ -36,7 +36,7 @@ use Rattle.hir_lower_pat.proofs.OfKinds.{of_closure, of_for, of_own, of_question
 use Rattle.hir_lower_pat.proofs.TargetCalls.{expr_call_is, lacking_expr_is}
 use Rattle.hir_lower_expr.specs.Conditions.{is_and, let_there}
 
--- ---- a call holds what it stands for does
+-- a call holds what it stands for does
 
 around_holds : (s : Pointer) (c : Called) (x : OptionExpr) → is_with_let (around s c x) ≡ holds_let x
 around_holds s c tree.no_expr = refl
@@ -66,7 +66,7 @@ call_on at s c = by at.place.left
     by zero = refl
     by (suc n) = call_by at s (call_pointer at.place c) n (asked_call at.answers kind.Expr c at.place)
 
--- ---- what is no `let`, no operator, and stands in no parentheses and for no call
+-- what is no `let`, no operator, and stands in no parentheses and for no call
 
 abbrev IsOther : ExprKindLayer written → Type 0
 IsOther (ExprKind-F.LetExpr x e) = ⊥
@@ -122,7 +122,7 @@ other_at at ExprKind-F.IncludeBytesExpr s h = refl
 other_at at ExprKind-F.AsmExpr s h = refl
 other_at at ExprKind-F.FormatArgsExpr s h = refl
 
--- ---- operators
+-- operators
 
 and_at : (at : Spot) (o : Option BinaryOp) (a b : Option AstExpr) (s : Pointer)
     → is_with_let (level at (ExprKind-F.BinExpr o a b) s) ≡ (is_and o && (holds_let (expr_part at a) || holds_let (expr_part at b)))
@@ -153,7 +153,7 @@ by_right o a b r h k e = e ∙ (λ i. h i && (k i || b))
 pub by_none : (o a b r : Bool) → false ≡ o → r ≡ false → r ≡ (o && (a || b))
 by_none o a b r h e = e ∙ (λ i. h i && (a || b))
 
--- ---- one that is disabled, and an operand
+-- one that is disabled, and an operand
 
 pub disabled_holds : (at : Spot) (e : AstExpr) (by : CfgId) → at.answers.cfg (site_of (pointer_at at e.id e.range)) ≡ Err by
     → is_with_let (answered at e) ≡ false
@@ -171,7 +171,7 @@ module _ (at : Spot) (part : Option AstExpr) (x y : AstExpr) (there : part ≡ S
 pub absent_holds : (at : Spot) (part : Option AstExpr) → part ≡ None → holds_let (expr_part at part) ≡ false
 absent_holds at part h = ap (λ o. holds_let (expr_part at o)) h
 
--- ---- by its kind, whatever disables it
+-- by its kind, whatever disables it
 
 module _ (at : Spot) (e : AstExpr) where
   abbrev node : Pointer
@@ -215,7 +215,7 @@ module _ (at : Spot) (e : AstExpr) where
       by (ExprKind-F.MacroExpr c) h = no_call c (made _ h ∙ ast_kind.rolls-MacroExpr c)
       by _ h = tt
 
-  -- ---- how much they count
+  -- how much they count
 
   pub paren_size : (v : Option AstExpr) → out-ExprKind e.kind ≡ ExprKind-F.ParenExpr v
       → suc (count_option_expr (expr_part at v)) ≤ count_expr (answered at e)

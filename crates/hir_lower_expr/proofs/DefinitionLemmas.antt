@@ -33,7 +33,7 @@ use Rattle.hir_lower_form.specs.Lower.{push_some}
 use Rattle.hir_lower_form.specs.Lowering.{Checked, Lowering, ◌>>=◌, close, count_def, count_out, go_on, open_macro, pure, report}
 use Rattle.hir_lower_expr.specs.Runs.{Counts, closed, definitions, expr_stmt, inside, lower_run}
 
--- ---- counts
+-- counts
 
 same_names : (a b : Name) → same_name a b ≡ eq_by_cmp name_cmp a b
 same_names (name.Text a) (name.Text b) = texts_ties a b
@@ -88,7 +88,7 @@ counts_more was is n k d written h same = λ q.
     ∙ one_more (is_at (name_cmp n) q) (same_name n q) k (times q d) (lookup (is_at (name_cmp q)) was) (sym (same_names n q))
     (λ e. same ∙ ap (λ m. times m d) (same_is n q e)) (h q)
 
--- ---- a definition
+-- a definition
 
 abbrev count_if : Bool → Lowering (Unit {0})
 count_if b = if b then pure tt else count_out
@@ -143,7 +143,7 @@ pub opens_always : (d : MacroDefId) (old new : Builder) (e : StoreFault) → ope
 unfolding open_macro
 opens_always d old new e h = true≢false (ap (λ z. is_ok z.0) h)
 
--- ---- what is closed
+-- what is closed
 
 abbrev close_one : Builder → Builder
 close_one b = record b { scopes = rest b.scopes }
@@ -216,7 +216,7 @@ flat_on done tree.no_stmts tail b = sym (ends_pure (tailed tail done b).0 (taile
 flat_on done (tree.more_stmts s ss) tail b =
     flat_more done s ss tail (λ x d. flat_on (push_some done x) ss tail d) (lower_stmt s b).0 (lower_stmt s b).1
 
--- ---- the definitions among what is done are those that were opened
+-- the definitions among what is done are those that were opened
 
 abbrev found_in : Option Statement → ℕ
 found_in None = 0
@@ -316,7 +316,7 @@ tail_in ss (Ok xs) c tail h =
     then_gives (tail c).0 (tail c).1 (with_done xs) (λ r. definitions r.0 ≡ opened ss) (λ t d. same)
 tail_in ss (Err e) c tail h = tt
 
--- ---- what is in a block
+-- what is in a block
 
 pub closes : (ss : Stmts) (e : OptionExpr) (b c : Builder) (xs : List Statement) (t : Option ExprId)
     → flat [] ss (kept_part e) b ≡ (Ok (xs, t), c) → lower_stmts [] ss (kept_part e) b ≡ (Ok (xs, t), closed (definitions xs) c)
@@ -332,7 +332,7 @@ pub closes_nothing : (ss : Stmts) (e : OptionExpr) (b c : Builder) (x : StoreFau
     → flat [] ss (kept_part e) b ≡ (Err x, c) → lower_stmts [] ss (kept_part e) b ≡ (Err x, c)
 closes_nothing ss e b c x h = flat_on [] ss (kept_part e) b ∙ ap (λ z. go_on z.0 z.1 (closing (opened ss))) h
 
--- ---- one after another
+-- one after another
 
 take_all : {A : Type 0} (xs : List A) → take (length xs) xs ≡ xs
 take_all [] = refl

@@ -29,7 +29,7 @@ use Rattle.hir_lower_form.specs.Nests.{Each}
 use Rattle.hir_lower_expr.specs.Runs.{Counts, StmtsBehind, ValueBehind, expr_stmt, inside, lower_run, lower_value, run_part, value_part}
 use Rattle.hir_lower_expr.specs.declared.runs.Run.{Run}
 
--- ---- what is read
+-- what is read
 
 -- statements behind what was read
 abbrev then_run : Spot → List AstStmt → StmtReading → StmtReading
@@ -45,7 +45,7 @@ stmt_expr at s e semi d h =
     ap (λ k. stmt_at at.answers (reader at.answers (into at)) k at.place (pointer_at at s.id s.range) d)
     (ap out-StmtKind (h ∙ sym (kind.rolls-ExprStmt e semi)) ∙ out-roll-StmtKind (StmtKind-F.ExprStmt e semi))
 
--- ---- statements behind each other
+-- statements behind each other
 
 abbrev run_on : List Statement → Stmts → Stmt → Option Statement → Lowering (List Statement)
 run_on done ss s x b = lower_run (push_some done x) ss (inside s b)
@@ -82,7 +82,7 @@ value_append done a r c =
     by (Ok xs) d = refl
     by (Err e) d = refl
 
--- ---- step by step
+-- step by step
 
 -- no arena is shorter than it was two steps ago
 pub grows_on : (a b c : Stored) → Grows a b → Grows b c → Grows a c
@@ -119,7 +119,7 @@ pub stmts_refused : (read : Defined → StmtReading) (was is : Run) (old : Build
 stmts_refused read was is old e (Ok a) new same h = absurd same
 stmts_refused read was is old e (Err f) new same h = rw same h
 
--- ---- single statements
+-- single statements
 
 -- one statement that opens nothing
 pub alone_on : (s : Stmt) (done : List Statement) (old : Builder) → ((b : Builder) → inside s b ≡ b)
@@ -176,7 +176,7 @@ pushed_has s done now None semi h k is =
 pushed_has s done now (Some id) semi h k is =
     rw is (omega (arith, h.0, k), omega (arith, h.1), omega (arith, h.2), omega (arith, h.3))
 
--- ---- a run of statements
+-- a run of statements
 
 take_all : {A : Type 0} (xs : List A) → take (length xs) xs ≡ xs
 take_all [] = refl

@@ -42,7 +42,7 @@ use Rattle.hir_lower_expr.specs.declared.runs.Run.{Run}
 use Rattle.hir_lower_expr.proofs.CallLemmas.{gone_after, kept_after}
 use Rattle.hir_lower_expr.proofs.RunLemmas.{value_append}
 
--- ---- what is no call
+-- what is no call
 
 whole_at : (at : Spot) (k : ExprKindLayer written) (n : AstPtr) (d : Defined) → call_in k ≡ None
     → value_kind at.answers (reader at.answers (into at)) k n at.place d
@@ -69,7 +69,7 @@ whole_behind at e was old r new no_call h =
     subst (λ read. ValueBehind read was old r was new) (λ i d. sym (value_whole at e d no_call) i)
     (whole_on (answered at e) was old r new h)
 
--- ---- a call, which a condition may disable
+-- a call, which a condition may disable
 
 abbrev pub call_value : Spot → Pointer → Option AstMacroCall → Defined → Spliced
 call_value at s None d = nothing d
@@ -149,7 +149,7 @@ on_behind s (Err by) x was is old new o h k = cc
 pub nothing_behind : (was : Run) (old : Builder) → ValueBehind nothing was old (Ok None) was old
 nothing_behind was old = λ d counts. (refl, counts)
 
--- ---- what a call stands for
+-- what a call stands for
 
 -- what stands behind the statements is found at the call, too
 spliced_kept : (s : Pointer) (e : Expr) (b : Builder)
@@ -256,7 +256,7 @@ splice_on at s c done d b = by at.place.left
     by zero = refl
     by (suc n) = spliced_by at s (call_pointer at.place c) n (asked_call at.answers kind.Stmts c at.place) done d b
 
--- ---- what is found
+-- what is found
 
 abbrev found_left : Answers → AstMacroCall → ℕ → Place → Found
 found_left env c zero p = None
@@ -356,7 +356,7 @@ call_left at c b d found h q ms is = by at.place.left refl (ap stmts_there (was_
     by zero e k = let apart : nowhere ≡ Some (q, ms) = k in cc
     by (suc n) e k = left_by at n e (asked_call at.answers kind.Stmts c at.place) q ms k
 
--- ---- a call, step by step
+-- a call, step by step
 
 -- it is entered
 call_on : (at : Spot) (s : Pointer) (c : AstMacroCall) (done : List Statement) (d : Defined) (old b : Builder) (found : Found)

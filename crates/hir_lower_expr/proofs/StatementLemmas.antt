@@ -64,7 +64,7 @@ by_level : (at : Spot) (s : AstStmt) (k : StmtKindLayer written) (was is : Run) 
     → out-StmtKind s.kind ≡ k → StmtsBehind (reads at s k) was old o is new → StmtsBehind (λ d. stmt_level at d s) was old o is new
 by_level at s k was is old new o h x = subst (λ read. StmtsBehind read was old o is new) (sym (level_of at s k h)) x
 
--- ---- one that opens nothing
+-- one that opens nothing
 
 asked_inside : (s : Pointer) (r : Result (Unit {0}) CfgId) (x : Stmt) → ((b : Builder) → inside x b ≡ b) → (b : Builder)
     → inside (asked_stmt s r x) b ≡ b
@@ -119,7 +119,7 @@ item_behind at s was old xs is same =
     (ap out-StmtKind (is ∙ sym kind.rolls-Item) ∙ out-roll-StmtKind StmtKind-F.Item)
     (plain_behind tree.item_stmt was old (Ok (Some statement.Item)) old xs (Some statement.Item) (λ c. refl) refl same)
 
--- ---- definitions
+-- definitions
 
 module _ (at : Spot) (s : AstStmt) where
   abbrev node : Pointer
@@ -215,7 +215,7 @@ module _ (at : Spot) (s : AstStmt) where
         (asked_as answer was (record was { done = xs }) old new o
         (on_behind (alone def_of) was (record was { done = xs }) answer old mid new o on same (defined_alone was xs mid new o h)))
 
--- ---- what exists
+-- what exists
 
 grows_self : (s : Stored) → Grows s s
 grows_self s = (omega arith, omega arith, omega arith, omega arith, omega arith, omega arith)
@@ -251,7 +251,7 @@ pub pushed_one : (s : Stored) (done now : List Statement) (x : Option Statement)
 pushed_one s done now x h k is =
     rw is (omega (arith, h.0, k.0), omega (arith, h.1, k.1), omega (arith, h.2, k.2), omega (arith, h.3, k.3))
 
--- ---- what may be handed in
+-- what may be handed in
 
 pub ends_in : (s : AstStmt) (e : Option AstExpr) (semi : Bool) → s.kind ≡ kind.ExprStmt e semi
     → out-StmtKind s.kind ≡ StmtKind-F.ExprStmt e semi
@@ -270,7 +270,7 @@ pub called_kind : (k : ExprKindLayer written) (c : Option AstMacroCall) → call
 called_kind (ExprKind-F.MacroExpr x) c h = let same : x ≡ c = cc in ap (λ y. ExprKind-F.MacroExpr y) same
 called_kind _ c h = cc
 
--- ---- the definition of a macro, by itself
+-- the definition of a macro, by itself
 
 pub define_alone : (k : ℕ) (m : Option MacroDefId) (was : Run) (xs : List Statement) (old new : Builder) (o : Checked (Unit {0}))
     → DefinesBehind k m was.done old o xs new → StmtsBehind (alone (tree.macro_stmt k m)) was old o (record was { done = xs }) new

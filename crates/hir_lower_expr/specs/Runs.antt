@@ -41,7 +41,7 @@ use Rattle.hir_lower_form.specs.Methods.{HasContents}
 use Rattle.hir_lower_form.specs.Nests.{Claims, KidsRun, claims_at}
 use Rattle.hir_lower_expr.specs.declared.runs.Run.{Run}
 
--- ---- what is read
+-- what is read
 
 -- the statements, behind these definitions
 abbrev pub run_part : Spot → List AstStmt → Defined → StmtReading
@@ -59,7 +59,7 @@ splice_part at ss e d = splice_of (read_stmt at.answers (into at)) (read_value a
 abbrev pub spliced_call : Spot → Pointer → AstMacroCall → Defined → Spliced
 spliced_call at s c d = entered_splice at.answers (into at) c at.place s d
 
--- ---- what is made of it
+-- what is made of it
 
 -- what stands behind a definition stands inside of it
 abbrev pub inside : Stmt → Builder → Builder
@@ -92,7 +92,7 @@ definitions (s ∷ ss) = definitions ss
 abbrev pub close_all : StoredContents → Lowering StoredContents
 close_all r b = (Ok r, closed (definitions r.0) b)
 
--- ---- counts of names
+-- counts of names
 
 abbrev pub count_in : List (Name × ℕ) → Name → ℕ
 count_in es n = unwrap_or (lookup (is_at (name_cmp n)) es) 0
@@ -101,7 +101,7 @@ count_in es n = unwrap_or (lookup (is_at (name_cmp n)) es) 0
 abbrev pub Counts : List (Name × ℕ) → Defined → Type 0
 Counts es d = (n : Name) → count_in es n ≡ times n d
 
--- ---- what a step of the code does, behind whatever was defined before
+-- what a step of the code does, behind whatever was defined before
 
 abbrev pub StmtsBehind : (Defined → StmtReading) → Run → Builder → Checked (Unit {0}) → Run → Builder → Type 0
 StmtsBehind read was old (Ok _) is new = (d : Defined) → Counts was.counts.entries d
@@ -124,7 +124,7 @@ abbrev pub ValueExists : Builder → Checked (Option ExprId) → List Statement 
 ValueExists old (Ok id) is new = Grows old.stored new.stored × HasContents new.stored (is, id)
 ValueExists old (Err e) is new = Unit {0}
 
--- ---- what a call stands for
+-- what a call stands for
 
 -- what it stands for may be handed in where it is entered
 abbrev pub MayEnter : Claims → Spot → AstMacroCall → Type 0
@@ -149,7 +149,7 @@ abbrev pub stmts_lent : Option (Place × Bor AstMacroStmts) → StmtsThere
 stmts_lent None = None
 stmts_lent (Some x) = Some (x.0, x.1.now)
 
--- ---- single statements
+-- single statements
 
 -- whether a node is enabled; the condition that disables it is told
 abbrev pub enabled : Pointer → Result (Unit {0}) CfgId → Lowering Bool

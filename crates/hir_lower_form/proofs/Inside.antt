@@ -40,7 +40,7 @@ fresh env n = record {
   type_ = read_type env (entering env n);
 }
 
--- ---- what is entered is read inside of the expansion
+-- what is entered is read inside of the expansion
 
 module _ (at : Spot) (c : AstMacroCall) (n : ℕ) (f : HirFileId) (left : at.place.left ≡ suc n) where
   pub expr_inside : (e : AstExpr) (es : List Eager)
@@ -86,7 +86,7 @@ module _ (at : Spot) (c : AstMacroCall) (n : ℕ) (f : HirFileId) (left : at.pla
       ∙ ap (λ r. asked_splice s r (entered_splice at.answers (into at) c at.place s d) d) enabled
       ∙ splice_inside s d ms es asked
 
--- ---- a call counts more than what it stands for
+-- a call counts more than what it stands for
 
 around_if_more : (o : Option Gone) (s : Pointer) (c : Called) (e : OptionExpr) → suc (count_option_expr e) ≤ count_expr (around_if o s c e)
 around_if_more None s c e = omega arith
@@ -119,7 +119,7 @@ last_more s (tree.some_expr e) = let more = around_more s tree.spliced (tree.som
 pub spliced_more : (s : Pointer) (c : Entered) (r : Spliced) → suc (count_spliced r) ≤ count_spliced (spliced_in s c r)
 spliced_more s c r = let more = last_more s r.last in omega (arith, more)
 
--- ---- so what is entered counts less
+-- so what is entered counts less
 
 -- the pattern that a call stands for, of whatever is made of the call
 pub pat_call_less : (at : Spot) (c : AstMacroCall) (n : ℕ) (f : HirFileId) (x : AstPat) (es : List Eager) (s : Pointer)
@@ -139,7 +139,7 @@ call_less at c n f e es s left asked =
     let more = call_more at.answers (into at) at.place c s in
     omega (arith, inside, more)
 
--- ---- so it may be handed in
+-- so it may be handed in
 
 pub call_nests : (env : Answers) (expr : Place → AstExpr → Type 0) (p : Place) (c : AstMacroCall) (n : ℕ) (f : HirFileId)
     (e : AstExpr) (es : List Eager) → InCall env expr p c → p.left ≡ suc n

@@ -38,7 +38,7 @@ holds false = ⊥
 clash : true ≡ false → ⊥
 clash h = subst holds h tt
 
--- ---- what steps answer
+-- what steps answer
 
 -- what is so of each answer of the steps
 abbrev Gives : {A : Type 0} → (A → Type 0) → Lowering A → Type 0
@@ -76,7 +76,7 @@ gives_aliased P (Some places) p h =
     (λ mark. gives_bind P P p (λ r. cut_back mark places r >>= (λ u. pure r)) h
     (λ r k. gives_after P (cut_back mark places r) (λ u. pure r) (λ u. gives_pure P r k)))
 
--- ---- a walk, and what is read of the same segments
+-- a walk, and what is read of the same segments
 
 record Says (w : PathWalk) (r : names.Reading) : Type 0 where
   going : r.refused ≡ false
@@ -160,7 +160,7 @@ own_names_of (BarePath x) m e = cc
 own_names_of (Normal x) m e = cc
 own_names_of (LangItem item) m e = cc
 
--- ---- a segment in front of others
+-- a segment in front of others
 
 module _ (leading : Bool) (w : PathWalk) (r : names.Reading) (open_ : r.ended ≡ false) (h : Says w r) where
   -- it is read
@@ -295,7 +295,7 @@ module _ (leading : Bool) (w : PathWalk) (r : names.Reading) (open_ : r.ended �
         },
       )
 
--- ---- segments in front of what is refused or has ended
+-- segments in front of what is refused or has ended
 
 refused_own : (p : names.Piece) (ns : List Name) (r : names.Reading) → r.refused ≡ true → (own_self p ns r).refused ≡ true
 refused_own names.refusing ns r h = h
@@ -357,7 +357,7 @@ mutual
   use_ended tree.no_path r h = refl
   use_ended (tree.some_path p) r h = path_ended p r h
 
--- ---- the whole path
+-- the whole path
 
 module _ (w : PathWalk) (r : names.Reading) (h : Says w r) where
   whole_kind : walks.own_kind w ≡ names.own_kind r
@@ -387,7 +387,7 @@ agreed_names Refused r h = sym (ap (λ b. if b then None else Some (record { kin
 agreed_names (Ended w) r h = read_names w r h.1
 agreed_names (Open w) r h = read_names w r h.1
 
--- ---- the tree
+-- the tree
 
 start_agrees : Agrees (Open start) nothing_read
 start_agrees = (refl, record { going = refl; kind = refl; names = refl; anchor = refl })

@@ -51,7 +51,7 @@ try_exists s (try_rib label typed ∷ rs) h = omega arith
 try_exists s (macro_rib d ∷ rs) h = try_exists s rs h
 try_exists s (barrier_rib ∷ rs) h = omega arith
 
--- ---- a jump without a target
+-- a jump without a target
 
 -- what steps answer and leave where they start at this builder is what equal steps do
 lowers_as : {A : Type 0} (Has : Stored → A → Type 0) (p q : Lowering A) (b : Builder) → p b ≡ q b

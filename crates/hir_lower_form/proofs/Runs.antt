@@ -145,7 +145,7 @@ module _ (env : Answers) (C : Claims) (n : ℕ) (below : Below env C n) (p : Pla
         tail = value e r.defined (omega (arith, h, both));
       }
 
--- ---- what a call stands for in statement or tail place
+-- what a call stands for in statement or tail place
 
 -- with claims of patterns and of such calls that say no more than this
 module _ (env : Answers) (C : Claims)
@@ -183,7 +183,7 @@ module _ (env : Answers) (C : Claims)
       kids_run env C (suc (count_spliced run)) (below p e can (suc (count_spliced run)) (omega (arith, whole, more))) q d ms.stmts ms.expr
       (omega arith)
 
--- ---- parts at another place
+-- parts at another place
 
 module _ (C D : Claims) (at : Place) (moved : Moved C D at) where
   moved_if : {A : Type 0} (K L : A → Type 0) → ((x : A) → K x → L x) → (o : Option A) → IfPresent K o → IfPresent L o

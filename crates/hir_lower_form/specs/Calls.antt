@@ -62,7 +62,7 @@ note_gone why = do
   note_each why.entered
   report_condition why.condition
 
--- ---- definitions of macros
+-- definitions of macros
 
 abbrev pub defined : Option MacroDefId → Statement
 defined None = statement.Item
@@ -84,7 +84,7 @@ abbrev pub behind : {A : Type 0} → Stmt → Lowering A → Lowering A
 behind (tree.macro_stmt k (Some d)) rest = inside_macro d rest
 behind s rest = rest
 
--- ---- what a call that is read here comes to
+-- what a call that is read here comes to
 
 -- where it is read what the call stands for, where it is entered, and what that is, where it stands for something
 abbrev pub Found : Type 0

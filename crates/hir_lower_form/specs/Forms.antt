@@ -55,7 +55,7 @@ push_some done (Some x) = done ++ x ∷ []
 abbrev pub some : {A : Type 0} → Lowering A → Lowering (Option A)
 some p = do pure (Some (← p))
 
--- ---- families of forms
+-- families of forms
 
 -- what is left out is missing
 abbrev pub stored_leaf : Leaf → HirExpr
@@ -79,7 +79,7 @@ abbrev pub stored_leaving : Leaving → Option ExprId → HirExpr
 stored_leaving tree.returning e = hir.Return e
 stored_leaving tree.yeeting e = hir.Yeet e
 
--- ---- literals and paths
+-- literals and paths
 
 abbrev pub stored_literal : AstLiteral → Literal
 stored_literal l = record { negative = false; kind = l.lit; text = l.t; suffix = l.suffix }
@@ -99,7 +99,7 @@ abbrev pub path_or_missing : HygieneId → Option HirPath → HirExpr
 path_or_missing h None = hir.Missing
 path_or_missing h (Some p) = hir.Path p (path_hygiene p h)
 
--- ---- records and blocks
+-- records and blocks
 
 -- what is in a record: its fields, and what the others come from
 abbrev pub StoredFields : Type 0
@@ -124,7 +124,7 @@ settled_block is_unsafe label number r = hir.Block is_unsafe label number r.0 r.
 abbrev pub StoredContents : Type 0
 StoredContents = List Statement × Option ExprId
 
--- ---- forms, of the steps that lower their parts
+-- forms, of the steps that lower their parts
 
 unfoldable pub missing : ExprSteps
 missing = alloc_expr hir.Missing None
@@ -331,7 +331,7 @@ let_stmt_form pattern type_ref initializer else_branch = do
   b ← else_branch
   pure (Some (statement.Let p t i b))
 
--- ---- blocks
+-- blocks
 
 unfoldable pub block_form : Pointer → Bool → Option LabelId → Option BlockId → Lowering StoredContents → ExprSteps
 block_form at is_unsafe label number contents = do
@@ -354,7 +354,7 @@ kept (tree.disabled_expr why e) node = do
   pure None
 kept e node = some node
 
--- ---- constants
+-- constants
 
 -- No jump in it reaches what is open around it, and it is recorded where no other root is being lowered.
 unfoldable pub constant_form : ExprSteps → Lowering ConstRef
@@ -366,7 +366,7 @@ constant_form contents = do
   leave_root outer id
   pure (record { expr = id })
 
--- ---- closures
+-- closures
 
 abbrev pub no_closure_params : ClosureParams
 no_closure_params = record { args = []; arg_types = [] }
@@ -406,7 +406,7 @@ closure_form at moves is_static params ret body = do
   yields ← close_barrier outside
   alloc_expr (stored_closure moves is_static l t e yields) (Some at)
 
--- ---- coroutine blocks
+-- coroutine blocks
 
 -- around the block that is its body
 abbrev pub stored_coroutine : CoroutineKind → Bool → ExprId → HirExpr

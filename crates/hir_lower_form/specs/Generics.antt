@@ -26,7 +26,7 @@ no_notes = record {
   named = record { bounds = []; input = []; output = [] };
 }
 
--- ---- parameters and predicates
+-- parameters and predicates
 
 -- the parameter that an `impl` becomes in an argument
 abbrev pub unnamed_param : TypeOrConstParamData
@@ -52,7 +52,7 @@ abbrev pub with_bounds : TypeRefId → List TypeBound → Notes → Notes
 with_bounds target bs n =
     record n { generics = record n.generics { where_predicates = n.generics.where_predicates ++ predicates_of target bs } }
 
--- ---- the names of lifetimes
+-- the names of lifetimes
 
 -- a name, by where it stands
 abbrev pub noted : LifetimeScope → Name → NamedLifetimes → NamedLifetimes
@@ -69,7 +69,7 @@ naming s lifetime.Static n = n
 naming s lifetime.Placeholder n = n
 naming s lifetime.Error n = n
 
--- ---- an alias in an argument
+-- an alias in an argument
 
 -- the name of a lifetime that is there and has one
 abbrev pub name_of : Option LifetimeRef → Option Name

@@ -219,7 +219,7 @@ close_barrier outside = λ b. (Ok b.yields, record b { scopes = rest b.scopes; y
 unfoldable pub note_yield : Lowering (Unit {0})
 note_yield = λ b. (Ok tt, record b { yields = true })
 
--- ---- what is noted
+-- what is noted
 
 -- of what is noted becomes this
 unfoldable pub note_down : (Notes → Notes) → Lowering (Unit {0})
@@ -277,7 +277,7 @@ becoming at (becomes.Argument def) bounds = argument_form def at bounds
 unfoldable pub input_end : Lowering ℕ
 input_end = with_notes (λ n. pure (length n.named.input))
 
--- ---- definitions of macros
+-- definitions of macros
 
 -- how many definitions of a name stand before one is a number itself, which has an end
 unfoldable pub count_def : ℕ → Lowering (Unit {0})

@@ -72,7 +72,7 @@ item_call_form at item argument = do
 abbrev pub item_pat : LangItemId → PatId → Pat
 item_pat item p = pat.TupleStruct (LangItem item) None (p ∷ [])
 
--- ---- `?`
+-- `?`
 
 -- what makes of a residual the value of what it is for: a `try` without a written type has a way of its own
 abbrev pub conversion : {A : Type 0} → QuestionItems → Option (Try A) → Option LangItemId
@@ -110,7 +110,7 @@ question_form at items operand = do
   c ← flow_arm_form items.breaks (residual_form at items)
   alloc_expr (hir.Match b (a ∷ c ∷ [])) (Some at)
 
--- ---- `try`
+-- `try`
 
 -- the value of a block without a tail
 unfoldable pub value_or_unit : Pointer → Option ExprId → ExprSteps
@@ -152,7 +152,7 @@ typed_try_form at block type_ref = do
   e ← made_path_form at n
   alloc_made (bound_block p t b e) (Some at)
 
--- ---- `for`
+-- `for`
 
 -- an arm without a guard
 abbrev pub arm_for : PatId → ExprId → MatchArm
@@ -220,7 +220,7 @@ for_form at head_at items label head pattern body = do
   l ← made_loop_form at label (for_turn_form at items n p body)
   alloc_expr (hir.Match i (arm_for q l ∷ [])) (Some at)
 
--- ---- a condition whose temporaries end
+-- a condition whose temporaries end
 
 -- what binds a value by the pattern
 abbrev pub held : PatId → ExprId → Statement

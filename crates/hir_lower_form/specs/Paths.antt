@@ -51,7 +51,7 @@ with_trait trait t at w = do
   p ← trait
   read_trait t at w p
 
--- ---- the whole path
+-- the whole path
 
 abbrev pub first_args : List (Option GenericArgs) → Option GenericArgs
 first_args [] = None
@@ -95,7 +95,7 @@ aliased (Some places) path = do
   cut_back mark places p
   pure p
 
--- ---- arguments of a segment
+-- arguments of a segment
 
 abbrev pub output_name : Name
 output_name = name.Text (codes "Output")

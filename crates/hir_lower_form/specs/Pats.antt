@@ -32,7 +32,7 @@ use Rattle.hir_lower_form.specs.Lowering.{point_pat, point_pat_field, report, se
 use Rattle.hir_lower_form.specs.Calls.{told}
 use Rattle.hir_lower_form.specs.Forms.{root_hygiene}
 
--- ---- names
+-- names
 
 -- a name, with its hygiene
 abbrev pub Key : Type 0
@@ -121,7 +121,7 @@ settle_from noted number (e ∷ es) = do
 unfoldable pub settle : Table → Lowering (Unit {0})
 settle t = settle_from t.noted 0 t.bindings
 
--- ---- forms, of the steps that lower their parts
+-- forms, of the steps that lower their parts
 
 -- steps that make a pattern, with the names that were used before and by then
 abbrev pub PatSteps : Type 0
@@ -208,7 +208,7 @@ over_pat_form at form inner t = do
   i ← alloc_pat (stored_pat_unary form r.0) (Some at)
   pure (i, r.1)
 
--- ---- parts of a tuple
+-- parts of a tuple
 
 -- the parts so far, and how many stood in front of the first two dots
 abbrev pub Elements : Type 0
@@ -284,7 +284,7 @@ tuple_struct_form at comma parts path t = do
   p ← path
   tuple_struct_of at comma parts p t
 
--- ---- records
+-- records
 
 -- a field without a name is no part of the record; the part of one with a name leads to it
 abbrev pub named_part : Pointer → Option Name → PatId → Lowering (Option RecordFieldPat)
@@ -312,7 +312,7 @@ record_pat_form at dots fields path t = do
   p ← path
   record_pat_of at dots fields p t
 
--- ---- slices and alternatives
+-- slices and alternatives
 
 unfoldable pub slice_pat_form : Pointer → (Table → Lowering (List PatId × Table)) → (Table → Lowering (Option PatId × Table))
     → (Table → Lowering (List PatId × Table)) → PatSteps
@@ -336,7 +336,7 @@ or_form at first later t = do
   i ← or_of at rs.0
   pure (i, leave_or rs.1)
 
--- ---- literals and ranges
+-- literals and ranges
 
 -- the literal as it is written, with its minus
 abbrev pub signed_literal : Signed → Literal

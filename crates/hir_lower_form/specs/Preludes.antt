@@ -36,7 +36,7 @@ use Rattle.hir_lower_form.specs.Lowering.{Lowering, ◌>>=◌, ◌>>◌, pure, a
 use Rattle.hir_lower_form.specs.Lowering.{made_number, open_barrier, close_barrier, owning}
 use Rattle.hir_lower_form.specs.Forms.{ExprSteps, capture_by, root_hygiene}
 
--- ---- names that are handed in
+-- names that are handed in
 
 abbrev pub name_path : Name → HirPath
 name_path n = BarePath (record { kind = kind.Plain; segments = n ∷ [] })
@@ -66,7 +66,7 @@ handed_form x = do
   define i p
   pure p
 
--- ---- `let`s
+-- `let`s
 
 abbrev pub let_from : PatId → ExprId → Statement
 let_from p e = statement.Let p None (Some e) None
@@ -85,7 +85,7 @@ two_lets_form x p = do
   f ← name_form x.name x.hygiene
   pure (let_from q e ∷ let_from p f ∷ [])
 
--- ---- how a pattern is handed in, which is seen by what is stored
+-- how a pattern is handed in, which is seen by what is stored
 
 abbrev pub is_plain : BindingAnnotation → Option PatId → Bool
 is_plain Unannotated None = true
@@ -112,7 +112,7 @@ own_in s _ = None
 unfoldable pub own_name_of : PatId → Lowering (Option OwnName)
 own_name_of p = λ b. (Ok (own_in b.stored (slice_get b.stored.pats.entries p.0)), b)
 
--- ---- preludes
+-- preludes
 
 abbrev pub no_prelude : Prelude
 no_prelude = record { handed = []; lets = [] }
@@ -164,7 +164,7 @@ lower_handed done (x ∷ xs) = do
   p ← handed_form x
   lower_handed (done ++ p ∷ []) xs
 
--- ---- `self`
+-- `self`
 
 unfoldable pub binding_of : BindingId → Lowering (Option Binding)
 binding_of id = λ b. (Ok (slice_get b.stored.bindings.entries id.0), b)
@@ -194,7 +194,7 @@ let_self (Some id) = do
   r ← rebound id x
   pure (Some r.0, record { handed = []; lets = r.1 })
 
--- ---- coroutines
+-- coroutines
 
 abbrev pub coroutine_of : CoroutineKind → CoroutineSource → ExprId → HirExpr
 coroutine_of which from body = hir.Closure [] [] None body (closure.Coroutine which from) capture.Ref

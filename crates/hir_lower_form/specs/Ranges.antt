@@ -21,7 +21,7 @@ use Rattle.hir_lower_form.specs.Lowering.{leave_root, open_barrier}
 use Rattle.hir_lower_form.specs.Forms.{ExprSteps, root_hygiene}
 use Rattle.hir_lower_form.specs.Pats.{name_path, signed_literal}
 
--- ---- ranges
+-- ranges
 
 -- an item that isn't there is missing
 abbrev pub item_expr : Option LangItemId → HirExpr
@@ -58,7 +58,7 @@ range_form at form low high = do
   e ← high
   made_range at form s e
 
--- ---- ends of ranges in types
+-- ends of ranges in types
 
 -- No jump in it reaches what is open around it, and it is recorded where no other root is being lowered.
 unfoldable pub inner_form : ExprSteps → ExprSteps
@@ -97,7 +97,7 @@ path_limit_form at path = do
   p ← path
   alloc_expr (path_limit_of p) (Some at)
 
--- ---- patterns in types
+-- patterns in types
 
 -- both ends are part of the range
 unfoldable pub limits_form : Pointer → ExprSteps → ExprSteps → Lowering PatId

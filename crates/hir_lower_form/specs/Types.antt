@@ -56,7 +56,7 @@ abbrev pub uncalled_type : Pointer → Called → TypeSteps
 uncalled_type at tree.callless = alloc_type ty.Error (Some at)
 uncalled_type at called = called_type_form at called error_type
 
--- ---- lifetimes
+-- lifetimes
 
 -- it counts where it stands
 unfoldable pub lower_lifetime : Lifetime → Lowering LifetimeRefId
@@ -84,7 +84,7 @@ lower_uses done (u ∷ us) = do
   x ← lower_use u
   lower_uses (done ++ x ∷ []) us
 
--- ---- types
+-- types
 
 abbrev pub stored_leaf_type : TypeLeaf → TypeRef
 stored_leaf_type tree.never_leaf = ty.Never
@@ -167,7 +167,7 @@ pattern_type_form at inner pattern = do
   p ← pattern
   alloc_type (ty.Pattern t p) (Some at)
 
--- ---- lists of arguments
+-- lists of arguments
 
 abbrev pub no_lists : ArgLists
 no_lists = record { args = []; bindings = [] }
@@ -198,7 +198,7 @@ binding_form name dots args type_ref bounds = do
   bs ← bounds
   pure (of_binding name (or_notation a dots) t bs)
 
--- ---- bounds
+-- bounds
 
 abbrev pub stored_modifier : Bool → TraitBoundModifier
 stored_modifier true = modifier.Maybe

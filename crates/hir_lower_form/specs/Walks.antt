@@ -73,7 +73,7 @@ super_read w = option_map (λ k. Open (record w { kind = k })) (one_more_super w
 abbrev pub anchored : TypeRefId → PathWalk → Reading
 anchored t w = Open (record w { kind = kind.Plain; type_anchor = Some t })
 
--- ---- `<T as Trait>`
+-- `<T as Trait>`
 
 -- an item of the language has none
 abbrev pub mod_path : Path → ModPath
@@ -104,7 +104,7 @@ add_trait t p w = record w {
 abbrev pub projected : TypeRefId → Path → PathWalk → Reading
 projected t p w = if no_names (mod_path p).segments then Refused else Open (add_trait t p w)
 
--- ---- the whole path
+-- the whole path
 
 abbrev pub has_self : GenericArgs → Bool
 has_self a = (out-GenericArgs a).has_self_type
@@ -149,7 +149,7 @@ abbrev pub names_read : Option Path → Option ModPath
 names_read None = None
 names_read (Some p) = names_in p
 
--- ---- what is named
+-- what is named
 
 abbrev pub past_walk : PathWalk → Past
 past_walk w = join (past_present past_type_id w.type_anchor) (past_arg_lists w.args)

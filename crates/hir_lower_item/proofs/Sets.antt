@@ -61,7 +61,7 @@ one_taken n x all left rest was now so_far taken put =
 pub all_taken : (n : Name) (all left : List Name) (now : Bool) → among n all ≡ (among n left || now) → left ≡ [] → now ≡ among n all
 all_taken n all left now so_far e = sym (so_far ∙ ap (λ l. among n l || now) e)
 
--- ---- kinds
+-- kinds
 
 module _ (bounds input output : BTreeSet Name) (named : NamedLifetimes) (holds : Holds bounds input output named) where
   kind_is : (l : LifetimeParamData) → kind_in bounds input output l ≡ of_kind named l

@@ -44,7 +44,7 @@ use Rattle.hir_lower_item.specs.Items.{Predicate, of_type, of_lifetime, of_nothi
 use Rattle.hir_lower_item.specs.Items.{Receiver, no_receiver, disabled_receiver, typed_receiver, self_receiver}
 use Rattle.hir_lower_item.specs.Items.{Argument, disabled_argument, variadic_argument, argument, Function, Impl, Trait, Alias}
 
--- ---- places
+-- places
 
 -- where an `impl` becomes this, and a lifetime counts there
 abbrev pub reading : ImplTrait → LifetimeScope → Place → Place
@@ -81,7 +81,7 @@ in_plain p = reading becomes.Error scope.Nowhere p
 abbrev pub at_place : (Place → Place) → Spot → Spot
 at_place f at = record at { place = f at.place }
 
--- ---- parameters
+-- parameters
 
 abbrev pub asked_param : Pointer → Result (Unit {0}) CfgId → Param → Param
 asked_param s (Ok _) x = x
@@ -122,7 +122,7 @@ abbrev pub list_part : Spot → GenericDefId → Option (List AstGenericParam) �
 list_part at def None = []
 list_part at def (Some xs) = params_part at def xs
 
--- ---- where predicates
+-- where predicates
 
 -- one that a text lacks has the missing name
 abbrev pub binder_name : Option AstLifetime → Name
@@ -156,7 +156,7 @@ where_part at def (Some xs) = predicates_part at def xs
 abbrev pub answered_generics : Spot → GenericDefId → Option (List AstGenericParam) → Option (List AstWherePred) → Generics
 answered_generics at def ps ws = record { params = list_part at def ps; predicates = where_part at def ws }
 
--- ---- functions
+-- functions
 
 -- what `self` is borrowed as, which is written as `&` and `mut`
 abbrev pub borrow : Bool → Bool → Option Mutability
@@ -212,7 +212,7 @@ answered_function at def x = record {
   kind = coroutine_kind x.async_ x.gen_;
 }
 
--- ---- other items
+-- other items
 
 -- a trait that isn't written as a path isn't read
 abbrev pub trait_by : Spot → Pointer → TypeKindLayer written → Option PathTypeReading

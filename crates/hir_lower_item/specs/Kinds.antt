@@ -30,7 +30,7 @@ finished g = record {
   where_predicates = g.where_predicates;
 }
 
--- ---- by sets
+-- by sets
 
 -- the set has just these
 abbrev pub Has : BTreeSet Name → List Name → Type 0

@@ -48,7 +48,7 @@ use Rattle.hir_lower_item.specs.declared.function.Signature.{Signature}
 use Rattle.hir_lower_item.specs.declared.predicates.Bounded.{Bounded}
 use Rattle.hir_lower_item.specs.declared.predicates.Bounded.TheVariants as bounded
 
--- ---- predicates
+-- predicates
 
 -- A bound becomes a predicate, with the names of the `for<..>` in front of what is bound. An error and a `use<..>` become none, nor does
 -- a trait of a lifetime; a lifetime that gets one is named by it once more.
@@ -87,7 +87,7 @@ lower_predicates (x ∷ xs) = do
   lower_predicate x
   lower_predicates xs
 
--- ---- parameters
+-- parameters
 
 -- a type parameter, then the type that it is, which comes from no node, and then its bounds
 abbrev pub type_param_form : GenericDefId → Name → Option TypeRefId → TypeParamProvenance → Bounds → Lowering (Unit {0})
@@ -130,7 +130,7 @@ lower_params def (x ∷ xs) = do
   lower_param def x
   lower_params def xs
 
--- ---- items
+-- items
 
 -- the parameters, then the where predicates
 abbrev pub lower_generics : GenericDefId → Generics → Lowering (Unit {0})
@@ -184,7 +184,7 @@ lower_alias def x = do
   report_missing x.missing
   pure (bs, t)
 
--- ---- functions
+-- functions
 
 abbrev pub borrowed : Option Mutability → TypeRefId → Option LifetimeRefId → Lowering TypeRefId
 borrowed None self l = pure self
@@ -238,7 +238,7 @@ abbrev pub present_ret : OptionRet → Lowering (Option TypeRefId)
 present_ret tree.no_ret = pure None
 present_ret (tree.some_ret t) = some (type_part None t)
 
--- ---- what a coroutine answers
+-- what a coroutine answers
 
 -- the names of its trait
 abbrev pub trait_names : CoroutineKind → List Name
@@ -280,7 +280,7 @@ abbrev pub answer_form : Option CoroutineKind → Option TypeRefId → Lowering 
 answer_form None ret = pure ret
 answer_form (Some k) ret = some (coroutine_form k ret)
 
--- ---- the whole
+-- the whole
 
 -- whether it is there and kept
 abbrev pub is_received : Receiver → Bool

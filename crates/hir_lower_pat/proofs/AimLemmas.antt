@@ -48,7 +48,7 @@ use Rattle.hir_lower_pat.proofs.OfKinds.{of_called, of_closure, of_for, of_own, 
 abbrev pub level : Spot → ExprKindLayer written → Pointer → Expr
 level at k s = expr_at at.answers (reader at.answers (into at)) k at.place s
 
--- ---- conditions
+-- conditions
 
 pub enabled_is : (at : Spot) (e : AstExpr) → at.answers.cfg (site_of (pointer_at at e.id e.range)) ≡ Ok tt → answered at e ≡ kept_expr at e
 enabled_is at e h = expr_is_level at e ∙ ap (λ r. asked (pointer_at at e.id e.range) r (kept_expr at e)) h
@@ -73,7 +73,7 @@ disabled_is at call e by h =
     let is : answered at e ≡ asked s (Err by) (kept_expr at e) = expr_is_level at e ∙ ap (λ r. asked s r (kept_expr at e)) h in
     ap (aim_of (found_at at) call) is ∙ sym (ap placed is)
 
--- ---- two dots
+-- two dots
 
 dots_at : (at : Spot) (k : ExprKindLayer written) (s : Pointer) → is_dots (level at k s) ≡ dots_kind k
 dots_at at (ExprKind-F.BlockExpr b) s =
@@ -137,7 +137,7 @@ dots_are at e =
     ap is_dots (expr_is_level at e)
     ∙ (through_asked is_dots (λ why x. refl) s (at.answers.cfg (site_of s)) (kept_expr at e) ∙ dots_at at (out-ExprKind e.kind) s)
 
--- ---- any other kind
+-- any other kind
 
 abbrev nowhere : Target
 nowhere = tree.absent_target None
@@ -249,7 +249,7 @@ no_call_left k no_call = by (out-ExprKind k) refl
     by (ExprKind-F.MacroExpr c) h = no_call c (made k _ h ∙ kind.rolls-MacroExpr c)
     by _ h = tt
 
--- ---- what comes of a target
+-- what comes of a target
 
 then_pat : (t : Target) (at : Pointer) (o : Checked PatId) (b : Builder)
     → (o, b) ≡ go_on (go_on o b (λ i. pure (aim.Pat i))).0 (go_on o b (λ i. pure (aim.Pat i))).1 (landed at)
@@ -371,7 +371,7 @@ module _ (f : Path → Bool) (call : Option Pointer) where
       ap (λ t. lower_target t b) (put_is (place_of call e) e)
       ∙ put_lands (target_or f call nowhere e) e (outermost call (pointer_of e)) b
 
-  -- ---- parentheses
+  -- parentheses
 
   abbrev lead : Pointer → ExprId → Lowering ExprId
   lead at i = point at i >> pure i
@@ -428,7 +428,7 @@ module _ (f : Path → Bool) (call : Option Pointer) where
       ap (λ c. aimed (if c then dots_tuple (origin call at) else target_or f call nowhere e) (tree.paren_expr at (tree.some_expr e)) b) h
       ∙ goes_through at e (target_or f call nowhere e) b
 
--- ---- paths
+-- paths
 
 kept_goes : (o : Checked ExprId) (b : Builder)
     → go_on (go_on o b (λ i. pure (Some i))).0 (go_on o b (λ i. pure (Some i))).1 (λ x. pure (place_left x))

@@ -35,7 +35,7 @@ same_steps Has p q old (Ok a) new e h = (e ∙ h.0, h.1, h.2)
 same_steps Has p q old (Err x) new e h = λ no. (e ∙ (h no).0, (h no).1)
 
 module _ (f : Path → Bool) where
-  -- ---- what comes of a whole target
+  -- what comes of a whole target
 
   pub target_lands : (e : Expr) (at : Pointer) (old : Builder) (r : Checked PatId) (new : Builder) → pointer_of e ≡ at
       → Lowers HasPat (landing f None at e) old r new → LowersTarget (target_of f (tree.some_expr e)) old r new
@@ -44,14 +44,14 @@ module _ (f : Path → Bool) where
       (lands f None e old ∙ ap (λ s. go_on (aim_of f None e old).0 (aim_of f None e old).1 (landed s)) is) h
 
   module _ (call : Option Pointer) where
-    -- ---- targets of their own and places
+    -- targets of their own and places
 
     pub place_aims : (e : Expr) (old : Builder) (r : Checked Aim) (new : Builder)
         → target_or f call (tree.absent_target None) e ≡ tree.absent_target None
         → Lowers HasAim (placed e) old r new → Lowers HasAim (aim_of f call e) old r new
     place_aims e old r new is h = same_steps HasAim (aim_of f call e) (placed e) old r new (ap (λ t. aimed t e old) is) h
 
-    -- ---- parentheses
+    -- parentheses
 
     pub dots_in_parens : (at : Pointer) (e : Expr) (old : Builder) (r : Checked Aim) (new : Builder) → is_dots e ≡ true
         → Lowers HasAim (patterned (dots_tuple (origin call at))) old r new
@@ -67,7 +67,7 @@ module _ (f : Path → Bool) where
         same_steps HasAim (aim_of f call (tree.paren_expr at (tree.some_expr e))) (through_parens f call at e) old r new
         (paren_aims f call at e old is) h
 
-  -- ---- fields
+  -- fields
 
   partless : (s : Pointer) (n : Option AstName) → target_field_of f (field_of s n tree.no_expr) ≡ tree.partless_target_field
   partless s None = refl
@@ -78,7 +78,7 @@ module _ (f : Path → Bool) where
   with_part s None e = refl
   with_part s (Some m) e = refl
 
--- ---- where they are read
+-- where they are read
 
 pub target_lowers : (spot : Spot) (part : Option AstExpr) (e x : AstExpr) (old : Builder) (r : Checked PatId) (new : Builder)
     → part ≡ Some e → x ≡ e → Lowers HasPat (landing (found_at spot) None (own_pointer spot x) (answered spot x)) old r new
@@ -110,7 +110,7 @@ module _ (spot : Spot) (call : Option Pointer) (at : Pointer) where
       subst (λ o. Aims spot call (tree.paren_expr at (expr_part spot o)) old r new) (sym is)
       (subst (λ y. Aims spot call (tree.paren_expr at (tree.some_expr (answered spot y))) old r new) same h)
 
-  -- ---- records
+  -- records
 
   abbrev is_record : Option AstPath → Option AstFieldList → Expr
   is_record p o =
@@ -136,7 +136,7 @@ module _ (spot : Spot) (call : Option Pointer) (at : Pointer) where
   listless_lowers e p o old r new is none q =
       place_aims (found_at spot) call e old r new (ap aimed_at (is ∙ ap (is_record p) none)) q
 
--- ---- fields
+-- fields
 
 module _ (spot : Spot) (at : Pointer) where
   pub partless_lowers : (n : Option AstName) (part : Option AstExpr) (old : Builder) (r : Checked (Option RecordFieldPat)) (new : Builder)

@@ -27,7 +27,7 @@ use Rattle.hir_lower_pat.specs.declared.bindings.Bindings.{Bindings}
 use Rattle.hir_lower_pat.proofs.AimLemmas.{level as expr_level}
 use Rattle.hir_lower_pat.proofs.NameLemmas.{names_grow}
 
--- ---- expressions that are assigned to
+-- expressions that are assigned to
 
 pub kept_as : (at : Spot) (e : AstExpr) (k : ExprKindLayer written) (s : Pointer) → s ≡ pointer_at at e.id e.range
     → answered at e ≡ kept_expr at e → out-ExprKind e.kind ≡ k → answered at e ≡ expr_level at k s
@@ -43,7 +43,7 @@ pub patterned_refused : (t : Target) (old : Builder) (e : StoreFault) (new : Bui
     → patterned t old ≡ (Err e, new)
 patterned_refused t old e new h = ap (λ r. go_on r.0 r.1 (λ j. pure (aim.Pat j))) h
 
--- ---- patterns
+-- patterns
 
 abbrev level : Spot → PatKindLayer written → Pointer → Pat
 level at k s = pat_at at.answers (reader at.answers (into at)) k at.place s
@@ -56,7 +56,7 @@ pat_as at p k s was is old r new here h =
     ap (level at k) here ∙ ap (λ l. level at l (pointer_at at p.id p.range)) (sym h) in
     subst (λ q. LowersPat q was old r is new) same
 
--- ---- names
+-- names
 
 -- steps that know of no name leave the names as they are
 pub alone_lowers : (p : Lowering PatId) (b : Bindings) (old : Builder) (r : Checked PatId) (new : Builder) → HasNames old.stored b

@@ -26,7 +26,7 @@ pub bare_lowers : (at : Spot) (p : AstPat) (b : Bare) (was is : Bindings) (old :
     → LowersPat (bare_as at p (bare_kind (out-PatKind p.kind))) was old r is new
 bare_lowers at p b was is old r new h = subst (λ c. LowersPat (bare_as at p c) was old r is new) (sym h)
 
--- ---- calls, one step after another
+-- calls, one step after another
 
 module _ (at : Spot) (s : Pointer) (c : AstMacroCall) (old mid : Builder) where
   abbrev steps : Table → Lowering (PatId × Table)

@@ -105,7 +105,7 @@ bare_is at p =
     as_read at p (bare.called c) = refl
     as_read at p barred = refl
 
--- ---- a call is what is told of it, and then what it stands for
+-- a call is what is told of it, and then what it stands for
 
 abbrev there : Spot → Pointer → Table → Found → Lowering (PatId × Table)
 there at s t f = bare_there at (pat_there f) t >>= point_named s

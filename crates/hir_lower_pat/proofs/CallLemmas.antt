@@ -74,7 +74,7 @@ module _ {A : Type 0} (s : Pointer) (G : PatId → A) (P : A → Lowering A)
   uncalled (Ok _) b = let q = missing_pat b in led q.0 q.1
   uncalled (Err e) b = refl
 
--- ---- as a pattern
+-- as a pattern
 
 abbrev there : Spot → Pointer → Table → Found → Lowering (PatId × Table)
 there at s t f = lower_there at (pat_there f) t >>= point_named s
@@ -121,7 +121,7 @@ pat_on at s c t b = by at.place.left
     by zero = named s t (Ok tt) b
     by (suc n) = called_by at s (call_pointer at.place c) t n (asked_call at.answers kind.Pat c at.place) b
 
--- ---- as an element
+-- as an element
 
 abbrev as_element : Spot → Pointer → Table → Found → Lowering (Option PatId × Table)
 as_element at s t f = element_there at (pat_there f) t >>= point_element s
@@ -192,7 +192,7 @@ element_on at s c t b = by at.place.left
     by zero = lone s t (Ok tt) b
     by (suc n) = element_by at s (call_pointer at.place c) t n (asked_call at.answers kind.Pat c at.place) b
 
--- ---- as the pattern of a type
+-- as the pattern of a type
 
 abbrev in_type : Spot → Pointer → Found → Lowering PatId
 in_type at s f = type_pat_there at (pat_there f) >>= point_lone s
@@ -231,7 +231,7 @@ type_pat_on at s c b = by at.place.left
     by zero = refl
     by (suc n) = type_by at s (call_pointer at.place c) n (asked_call at.answers kind.Pat c at.place) b
 
--- ---- what is found may be handed in, and counts less
+-- what is found may be handed in, and counts less
 
 abbrev nowhere : There
 nowhere = None
@@ -284,7 +284,7 @@ module _ (at : Spot) (c : AstMacroCall) (Inner : Place → AstPat → Type 0)
           let t = told (called (call_pointer at.place c) (asked_call at.answers kind.Pat c at.place)) b in
           told_there n h t.0 t.1 d found m q e is
 
--- ---- by their kinds
+-- by their kinds
 
 pub call_is : (at : Spot) (p : AstPat) (c : AstMacroCall) → out-PatKind p.kind ≡ PatKind-F.MacroPat (Some c)
     → answered_pat at p ≡ written_call at (pointer_at at p.id p.range) c

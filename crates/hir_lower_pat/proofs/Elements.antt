@@ -28,7 +28,7 @@ use Rattle.hir_lower_form.specs.Pats.{Elements, Table, called_pat_form, dots_aft
 use Rattle.hir_lower_pat.specs.Methods.{add_element, element_behind, element_steps, point_element}
 use Rattle.hir_lower_pat.proofs.KindLemmas.{first_of}
 
--- ---- how much they count
+-- how much they count
 
 rest_counts : (p : Pat) (ps : Pats) → count_pats (rest_in p ps) ≡ count_pat p + count_pats ps
 rest_counts (tree.macro_pat s called (tree.some_pat p)) ps = let h = rest_counts p ps in omega (arith, h)
@@ -82,7 +82,7 @@ count_in p ps = by (is_rest p)
     by true = rest_counts p ps
     by false = ap (λ n. n + count_pats ps) (element_counts p)
 
--- ---- what they are lowered to
+-- what they are lowered to
 
 -- what is told of the calls that two dots come out of
 abbrev told_through : Pat → Lowering (Unit {0})
@@ -306,7 +306,7 @@ lowers_in p ps done t b = by (is_rest p) refl
         ∙ (one_behind q.0 q.1 done ps
         ∙ ap (λ r. go_on (go_on r.0 r.1 (added done)).0 (go_on r.0 r.1 (added done)).1 (more_elements ps)) (sym (part_steps p t b h)))
 
--- ---- one after another
+-- one after another
 
 module _ (at : Spot) (done : Elements) (xs : List AstPat) (x : AstPat) (t : Table) (b c : Builder) where
   abbrev behind : List AstPat
@@ -331,7 +331,7 @@ module _ (at : Spot) (done : Elements) (xs : List AstPat) (x : AstPat) (t : Tabl
       → lower_elements done (elements_part at xs) t b ≡ lower_elements r.0 (elements_part at behind) r.1 c
   one_more r h le is = turn h le ∙ ap (λ q. go_on q.0 q.1 more) is
 
--- ---- by their kinds
+-- by their kinds
 
 abbrev level : Spot → PatKindLayer written → Pointer → Pat
 level at k s = pat_at at.answers (reader at.answers (into at)) k at.place s

@@ -38,7 +38,7 @@ pub of_either : {A : Type 0} (f : Pat → A) (b : Bool) (p q : Pat) (a : A) → 
 of_either f true p q a h k = h
 of_either f false p q a h k = k
 
--- ---- sides
+-- sides
 
 -- a name is a side by its being plain, whatever it stands for
 pub named_side : (b f : Bool) (s : Pointer) (u : Use) (w : IsWritten u.name) (q : OptionPat) → is_plain u q ≡ b
@@ -47,7 +47,7 @@ named_side true true s u w q h = refl
 named_side true false s u w q h = ap (λ b. plain_side b s u.name w) h
 named_side false f s u w q h = ap (λ b. plain_side b s u.name w) h
 
--- ---- patterns that know of no name
+-- patterns that know of no name
 
 either_plain : (b : Bool) (p q : Pat) (t : Table) → lower_pat p t ≡ alone (lower_plain p) t → lower_pat q t ≡ alone (lower_plain q) t
     → lower_pat (if b then p else q) t ≡ alone (lower_plain (if b then p else q)) t
@@ -133,7 +133,7 @@ no_call_left k no_call = by (out-PatKind k) refl
     by PatKind-F.NotNullPat h = tt
     by PatKind-F.ConstBlockPat h = tt
 
--- ---- alternatives
+-- alternatives
 
 take_all : {A : Type 0} (xs : List A) → take (length xs) xs ≡ xs
 take_all [] = refl

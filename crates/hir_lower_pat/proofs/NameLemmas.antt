@@ -35,7 +35,7 @@ pub all_noted_on : {A E : Type 0} (r : Result A E) (f g : Notes) → OnOk r ((n 
 all_noted_on (Ok a) f g h = all_noted f g h
 all_noted_on (Err e) f g h = tt
 
--- ---- bindings
+-- bindings
 
 -- the bindings of names exist
 abbrev past_ids : List (Key × BindingId) → ℕ
@@ -94,7 +94,7 @@ pub goes_last : {A E : Type 0} (r : Result A E) (test : Key → Key → Bool) �
 goes_last (Ok a) test agree was is k b h none = h ∙ new_name test agree was k b none
 goes_last (Err e) test agree was is k b h none = tt
 
--- ---- counts
+-- counts
 
 differ : (n m : ℕ) → n < m → nat_eq n m ≡ false
 differ n m h = grind (arith, nat_tests)
@@ -105,7 +105,7 @@ known_counted n count h = ap (λ b. if b then count + 1 else count) (differ n co
 pub next_counted : (count : ℕ) → count_with count count ≡ count + 1
 next_counted count = ap (λ b. if b then count + 1 else count) (eq-eqb count count refl)
 
--- ---- one binding after another
+-- one binding after another
 
 pub drop_entry : {A : Type 0} (xs : List A) (n : ℕ) (x : A) → slice_get xs n ≡ Some x → drop n xs ≡ x ∷ drop (suc n) xs
 drop_entry [] n x h = cc
@@ -136,7 +136,7 @@ settles_nothing noted n es b at =
     ap (λ xs. settle_from noted n xs b) (drop_none es n at)
     ∙ sym (ap (λ xs. settle_from noted (suc n) xs b) (drop_none es (suc n) (none_after es n at)))
 
--- ---- uses
+-- uses
 
 pub stays : (s : Stored) → Grows s s
 stays s = (omega arith, omega arith, omega arith, omega arith, omega arith, omega arith)

@@ -51,7 +51,7 @@ count_kept_part : (s : Pointer) (r : Result (Unit {0}) CfgId) (f : PatField) →
 count_kept_part s (Ok _) f = refl
 count_kept_part s (Err by) f = refl
 
--- ---- patterns
+-- patterns
 
 module _ (env : Answers) (Q : Place → AstPath → Type 0) (p : Place) (n : ℕ)
     (paths : (q : Place) (x : AstPath) → count_path (answered_path (read_at env q) x) < n → Q q x) where
@@ -171,7 +171,7 @@ pat_nests env Q p x c =
     let same = ap count_pat (pat_is_level at x) in
     kids env Q p (count_pat (answered_pat at x)) c (pointer_at at x.id x.range) (out-PatKind x.kind) (omega (arith, same))
 
--- ---- what is assigned to
+-- what is assigned to
 
 -- the claims with these of paths and of what is assigned to
 abbrev claims : Claims → Answers → (Place → AstExpr → Type 0) → (Place → AstPath → Type 0) → Claims

@@ -42,7 +42,7 @@ use Rattle.hir_lower_pat.proofs.OfKinds.{through_asked}
 use Rattle.hir_lower_pat.proofs.TargetCalls.{expr_call_is, found_there}
 use Rattle.hir_lower_pat.proofs.TargetElements.{callee_is, leveled, no_told, path_of_callee, then_on}
 
--- ---- what is so of a callee is so of it whatever disables it
+-- what is so of a callee is so of it whatever disables it
 
 module _ {A : Type 0} (f : Expr → A) (gone : (why : Gone) (e : Expr) → f (tree.disabled_expr why e) ≡ f e) where
   through_if : (o : Option Gone) (s : Pointer) (c : Called) (x : OptionExpr) → f (around_if o s c x) ≡ f (tree.macro_expr s c x)
@@ -53,7 +53,7 @@ module _ {A : Type 0} (f : Expr → A) (gone : (why : Gone) (e : Expr) → f (tr
   through_around s c tree.no_expr = refl
   through_around s c (tree.some_expr e) = through_if (gone_in e) s c (tree.some_expr e)
 
--- ---- whether it is a path
+-- whether it is a path
 
 path_by : (at : Spot) (s c : Pointer) (n : ℕ) (x : Expanding)
     → callee_path (around s (called c x) (expr_in (fresh at.answers n) at.place x)) ≡ path_there at (expr_there (found_in n at.place x))
@@ -76,7 +76,7 @@ path_on at s c = by at.place.left
     by zero = refl
     by (suc n) = path_by at s (call_pointer at.place c) n (asked_call at.answers kind.Expr c at.place)
 
--- ---- what its steps are
+-- what its steps are
 
 module _ (at : Spot) (s : Pointer) where
   abbrev there : Found → Lowering (Option HirPath)
@@ -119,7 +119,7 @@ module _ (at : Spot) (s : Pointer) where
       by zero = refl
       by (suc n) = callee_by (call_pointer at.place c) n (asked_call at.answers kind.Expr c at.place) b
 
--- ---- by their kinds
+-- by their kinds
 
 module _ (at : Spot) (e : AstExpr) where
   abbrev node : Pointer
@@ -193,7 +193,7 @@ module _ (at : Spot) (c : AstMacroCall) (Inner : Place → AstExpr → Type 0)
       by zero h k = cc
       by (suc n) h k = found_there at c Inner nests n h (asked_call at.answers kind.Expr c at.place) refl q e k
 
--- ---- how much they count
+-- how much they count
 
 module _ (at : Spot) (c : AstMacroCall) where
   abbrev pub size_inside : ℕ

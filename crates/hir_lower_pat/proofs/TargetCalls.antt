@@ -38,7 +38,7 @@ use Rattle.hir_lower_pat.proofs.AimTurns.{behind_first, grows_on}
 use Rattle.hir_lower_pat.proofs.CallLemmas.{found_on, fresh}
 use Rattle.hir_lower_pat.proofs.TargetElements.{found_inside}
 
--- ---- the node of a call leads to what it stands for
+-- the node of a call leads to what it stands for
 
 abbrev leads : Pointer → PatId → Lowering PatId
 leads s i = point_target s i >> pure i
@@ -60,7 +60,7 @@ uncalled : (call : Option Pointer) (s : Pointer) (o : Checked (Unit {0})) (b : B
 uncalled call s (Ok _) b = led_on s (missing_target call b).0 (missing_target call b).1
 uncalled call s (Err e) b = refl
 
--- ---- one that stands for an expression of which something is left
+-- one that stands for an expression of which something is left
 
 -- as a place
 placed_led : (s source : Pointer) (o : Checked ExprId) (b : Builder)
@@ -93,7 +93,7 @@ put_led (tree.call_target a p ts) x s source b h = pat_led s source _ _
 put_led (tree.array_target a ts dots us) x s source b h = pat_led s source _ _
 put_led (tree.record_target a p fs dots spread) x s source b h = pat_led s source _ _
 
--- ---- one of which nothing is left
+-- one of which nothing is left
 
 abbrev nothing : Unit {0} → Lowering (Option ExprId)
 nothing _ = pure None
@@ -133,7 +133,7 @@ module _ (f : Path → Bool) (call : Option Pointer) (s : Pointer) where
   entered_on c (tree.disabled_expr why e) b = gone_after s (outermost call (pointer_of e)) why (note c b).0 (note c b).1
   entered_on c x b = kept_led x (note c b).0 (note c b).1 refl
 
--- ---- calls
+-- calls
 
 module _ (at : Spot) (call : Option Pointer) (s : Pointer) where
   abbrev there : Found → Lowering Aim
@@ -187,7 +187,7 @@ module _ (at : Spot) (call : Option Pointer) (s : Pointer) where
   pub lacking_lowers : (b : Builder) → Aims at call (lacking_call s) b (Ok aim.Gone) b
   lacking_lowers b = (lacking_is_gone b, (omega arith, omega arith, omega arith, omega arith, omega arith, omega arith), tt)
 
--- ---- one step after another
+-- one step after another
 
 module _ (at : Spot) (call : Option Pointer) (s : Pointer) (c : AstMacroCall) (old mid : Builder) where
   abbrev steps : Lowering Aim
@@ -225,7 +225,7 @@ module _ (at : Spot) (call : Option Pointer) (s : Pointer) (q : Place) (e : AstE
       behind_first HasAim (aim_of (found_at here) call (answered here e)) (called_aim s (outermost call (own_pointer here e))) a mid low
       r new h.0 h.1 (subst (λ p. Lowers HasAim (called_aim s p a) low r new) is l)
 
--- ---- what is found may be handed in, and counts less
+-- what is found may be handed in, and counts less
 
 abbrev nowhere : ExprThere
 nowhere = None
@@ -278,7 +278,7 @@ module _ (at : Spot) (c : AstMacroCall) (Inner : Place → AstExpr → Type 0)
           let t = told (called (call_pointer at.place c) (asked_call at.answers kind.Expr c at.place)) b in
           told_there n h t.0 t.1 d found m q e is
 
--- ---- by their kinds
+-- by their kinds
 
 pub expr_call_is : (at : Spot) (e : AstExpr) (c : AstMacroCall) → out-ExprKind e.kind ≡ ExprKind-F.MacroExpr (Some c)
     → kept_expr at e ≡ written_expr at (pointer_at at e.id e.range) c

@@ -45,7 +45,7 @@ use Rattle.hir_lower_pat.specs.TargetLists.{element_call}
 use Rattle.hir_lower_pat.proofs.CallLemmas.{found_on, fresh}
 use Rattle.hir_lower_pat.proofs.OfKinds.{of_closure, of_for, of_own, of_question, through_asked}
 
--- ---- steps behind what is told
+-- steps behind what is told
 
 -- the same steps, one behind the other
 pub after_told : {A : Type 0} (o : Checked (Unit {0})) (b : Builder) (p : Lowering (Unit {0})) (q m : Lowering A)
@@ -60,7 +60,7 @@ pub then_on : {A B : Type 0} (o : Checked (Unit {0})) (b : Builder) (p : Lowerin
 then_on (Ok _) b p q = refl
 then_on (Err e) b p q = refl
 
--- ---- what is told in front of two dots, and in front of the path of a callee
+-- what is told in front of two dots, and in front of the path of a callee
 
 pub noted_lowers : (e : Expr) (ts : Targets) (done : Elements) (b : Builder) → comes_to_dots e ≡ true
     → lower_targets done (noted_in e ts) b ≡ (noted e >> lower_targets done ts) b
@@ -91,7 +91,7 @@ callee_aims (tree.macro_expr s c (tree.some_expr e)) at q ts x p h = refl
 callee_aims (tree.path_expr s y k) at q ts x p h = refl
 callee_aims _ at q ts x p h = absurd (true≢false (sym (ap is_some h)))
 
--- ---- an element that is a call, whatever disables it
+-- an element that is a call, whatever disables it
 
 module _ (f : Path → Bool) (call : Option Pointer) where
   around_if_found : (o : Option Gone) (s : Pointer) (c : Called) (x : OptionExpr)
@@ -203,7 +203,7 @@ module _ (at : Spot) (call : Option Pointer) (s : Pointer) where
       by zero = none_found (Ok tt) b None refl
       by (suc n) = found_by (call_pointer at.place c) n (asked_call at.answers kind.Expr c at.place) b
 
--- ---- by their kinds
+-- by their kinds
 
 abbrev level : Spot → ExprKindLayer written → Pointer → Expr
 level at k s = expr_at at.answers (reader at.answers (into at)) k at.place s
@@ -235,7 +235,7 @@ module _ (at : Spot) (call : Option Pointer) (e : AstExpr) where
       by (Ok _) = refl
       by (Err _) = refl
 
--- ---- what is no call
+-- what is no call
 
 abbrev is_called : Expr → Bool
 is_called (tree.disabled_expr why e) = is_called e

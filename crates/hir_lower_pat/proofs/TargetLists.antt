@@ -31,7 +31,7 @@ use Rattle.hir_lower_pat.proofs.KindLemmas.{first_of}
 use Rattle.hir_lower_pat.proofs.TargetElements.{callee_aims, callee_lowers, noted_lowers}
 
 module _ (f : Path → Bool) where
-  -- ---- tuples and calls
+  -- tuples and calls
 
   abbrev more : Exprs → Elements → Lowering Elements
   more es d = lower_targets d (elements f es)
@@ -86,7 +86,7 @@ module _ (f : Path → Bool) where
       same_steps HasElements (lower_targets no_elements (elements f es)) (elements_read f no_elements es) old r new
       (elements_are no_elements es old) h
 
-  -- ---- arrays
+  -- arrays
 
   -- by those that are lowered
   abbrev array_rest : List PatId → Option Pointer → List PatId → Exprs → Lowering ArrayParts
@@ -201,7 +201,7 @@ module _ (f : Path → Bool) where
       (array_made f at es) old r new
       (array_is at es old ∙ ap (λ x. go_on x.0 x.1 (array_of at)) (array_are ([], None, []) es old)) h
 
-  -- ---- calls
+  -- calls
 
   -- whose callee is no path, or without a list of arguments
   abbrev none : Option Pointer → Pointer → OptionExpr → Bool → Exprs → Type 0
@@ -258,7 +258,7 @@ module _ (f : Path → Bool) where
       same_steps HasAim (aim_of f call e) (called_steps (origin call at) g (lower_targets no_elements ts)) old r new
       (ap (λ x. aimed x e old) t ∙ call_is (origin call at) g p ts e old some) h
 
--- ---- where they are read
+-- where they are read
 
 module _ (spot : Spot) (call : Option Pointer) (at : Pointer) where
   abbrev is_call : Option AstExpr → Option (List AstExpr) → Expr
@@ -309,7 +309,7 @@ module _ (spot : Spot) (call : Option Pointer) (at : Pointer) where
       some_path (callee_path (answered spot x)) (Aims spot call e old r new) path
       (λ p found. path_called (found_at spot) call e at (answered spot x) (exprs_part spot es) p old r new own found h)
 
--- ---- one part after another
+-- one part after another
 
 module _ (spot : Spot) (xs : List AstExpr) (x : AstExpr) (b c : Builder) where
   abbrev behind : List AstExpr

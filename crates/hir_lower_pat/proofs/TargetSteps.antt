@@ -42,7 +42,7 @@ pub some_refused : (p : Lowering PatId) (old : Builder) (e : StoreFault) (new : 
     → some p old ≡ (Err e, new)
 some_refused p old e new h = ap (λ r. go_on r.0 r.1 (λ j. pure (Some j))) h
 
--- ---- what is told of a call, and then what is there
+-- what is told of a call, and then what is there
 
 module _ {A : Type 0} (Has : Stored → A → Type 0) (at : Spot) (c : AstMacroCall) (there : ExprThere → Lowering A) (old mid : Builder) where
   abbrev steps : Lowering A
@@ -61,7 +61,7 @@ module _ {A : Type 0} (Has : Stored → A → Type 0) (at : Spot) (c : AstMacroC
       (found f x h k ∙ l.0, grows_on old.stored mid.stored new.stored grown l.1, l.2)
   found_lowers f x h k (Err e) new grown l = λ other. let m = l other in (found f x h k ∙ m.0, m.1)
 
--- ---- an element that is a call
+-- an element that is a call
 
 -- one that stands for no expression
 pub missing_lowers : (at : Spot) (outer : Pointer) (c : AstMacroCall) (old mid new : Builder) (f : Found) (i : PatId)
@@ -82,7 +82,7 @@ lacking_lowers at call e s old new i h own l =
     (lacking_element at call e old h ∙ ap (λ p. some (alloc_target pat.Missing (origin call p)) old) (sym own))
     (some_lowers steps old i new l)
 
--- ---- an element that is no call
+-- an element that is no call
 
 module _ (at : Spot) (call : Option Pointer) (e : AstExpr) (alone : IsNoCall (out-ExprKind e.kind)) where
   pub dots_found : (b : Builder) → dots_kind (out-ExprKind e.kind) ≡ true

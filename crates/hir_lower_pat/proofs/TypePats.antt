@@ -43,7 +43,7 @@ use Rattle.hir_lower_pat.proofs.KindLemmas.{first_of, named_side, of_either}
 abbrev level : Spot → PatKindLayer written → Pointer → Pat
 level at k s = pat_at at.answers (reader at.answers (into at)) k at.place s
 
--- ---- ends
+-- ends
 
 -- a side that is written
 abbrev IsSide : Side → Type 0
@@ -96,7 +96,7 @@ pub end_is_side : (items : LangItems) (o : Option RangeOp) (q : Pat)
     → end_limit items o (side_of (tree.some_pat q)) ≡ end_at items o (side_of (tree.some_pat q))
 end_is_side items o q = end_written items o (side_of (tree.some_pat q)) (is_side q)
 
--- ---- sides
+-- sides
 
 made : (k : AstPatKind) (l : PatKindLayer written) → out-PatKind k ≡ l → k ≡ roll-PatKind l
 made k l h = sym (roll-out-PatKind k) ∙ ap roll-PatKind h
@@ -161,7 +161,7 @@ no_limit_left at p no_literal no_ident no_path = by (out-PatKind p.kind) refl
     by PatKind-F.NotNullPat h = refl
     by PatKind-F.ConstBlockPat h = refl
 
--- ---- patterns that no type has
+-- patterns that no type has
 
 name_is_other : (items : LangItems) (b : Bool) (s : Pointer) (u : Use) (w : IsWritten u.name) (q : OptionPat)
     → type_pat_of items (name_or_bind b s u w q) ≡ tree.other_type_pat s
@@ -209,7 +209,7 @@ others_left k no_null no_or no_range no_call = by (out-PatKind k) refl
     by (PatKind-F.MacroPat c) h = absurd (no_call c (made k _ h ∙ kind.rolls-MacroPat c))
     by _ h = tt
 
--- ---- sizes
+-- sizes
 
 pub opened : {k : AstPatKind} {l : PatKindLayer written} → roll-PatKind l ≡ k → out-PatKind k ≡ l
 opened {k} {l} h = ap out-PatKind (sym h) ∙ out-roll-PatKind l
@@ -224,7 +224,7 @@ pub first_size : (at : Spot) (xs : List AstPat) (x : AstPat) → x ≡ slice_ind
     → count_pats (pats_part at xs) ≡ count_pat (answered_pat at x) + count_pats (pats_part at (take (length xs - 1) (drop 1 xs)))
 first_size at xs x h le = ap (λ ys. count_pats (pats_part at ys)) (first_of xs x h le)
 
--- ---- alternatives, one after another
+-- alternatives, one after another
 
 module _ (items : LangItems) (at : Spot) (done : List PatId) (xs : List AstPat) (x : AstPat) (b c : Builder) where
   abbrev behind : List AstPat

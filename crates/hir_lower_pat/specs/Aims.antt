@@ -92,7 +92,7 @@ found_at at = resolves at.answers at.place
 abbrev pub Aims : Spot → Option Pointer → Expr → Builder → Checked Aim → Builder → Type 0
 Aims at call e old result new = Lowers HasAim (aim_of (found_at at) call e) old result new
 
--- ---- elements
+-- elements
 
 -- tells the calls that an element or a callee comes out of
 abbrev pub noted : Expr → Lowering (Unit {0})
@@ -108,7 +108,7 @@ element_found is_found call e = if comes_to_dots e then noted e >> pure None els
 abbrev pub AimsElement : Spot → Option Pointer → Expr → Builder → Checked (Option PatId) → Builder → Type 0
 AimsElement at call e old result new = Lowers HasPatOption (element_found (found_at at) call e) old result new
 
--- ---- parentheses
+-- parentheses
 
 -- they lead to the expression of a place
 abbrev pub through_place : Pointer → ExprId → Lowering Aim
@@ -133,7 +133,7 @@ through_parens is_found call at e = do
 abbrev pub dots_tuple : Origin → Target
 dots_tuple at = tree.tuple_target at (tree.dots_targets tree.no_targets)
 
--- ---- calls
+-- calls
 
 -- The node of a call leads to the pattern of what it stands for, which as a place comes from the other node. Where nothing is left of
 -- that, nothing is left of the call.
@@ -155,7 +155,7 @@ uncalled_aim call at = do
   i ← missing_target call
   led at i
 
--- ---- paths
+-- paths
 
 -- those of a language item are none
 abbrev pub is_no_place : Spot → HirPath → Bool
@@ -182,7 +182,7 @@ path_steps spot at h path = do
   r ← lower_path path
   path_aim spot at h r
 
--- ---- records
+-- records
 
 -- with the fields of a list
 abbrev pub record_with : Spot → Origin → Option AstPath → AstFieldList → Target
@@ -191,7 +191,7 @@ record_with spot at path list =
     tree.record_target at (path_part spot path) (target_fields (found_at spot) (fields_part spot level.fields)) level.dotdot
     (spread_pointer (spread_part spot level.spread level.dotdot))
 
--- ---- two dots as they are written
+-- two dots as they are written
 
 abbrev pub no_ends : {A : Type 0} → Option A → Option A → Bool
 no_ends None b = is_none b
@@ -201,7 +201,7 @@ abbrev pub dots_kind : ExprKindLayer written → Bool
 dots_kind (ExprKind-F.RangeExpr op a b) = no_ends a b
 dots_kind _ = false
 
--- ---- what may be handed in
+-- what may be handed in
 
 abbrev pub KidsOfFields : (AstExpr → Type 0) → List AstField → Type 0
 KidsOfFields target fs = Each (λ f. IfPresent target (out-RecordExprField f).expr) fs
@@ -229,7 +229,7 @@ IsPlace (ExprKind-F.RecordExpr x l) = ⊥
 IsPlace (ExprKind-F.MacroExpr call) = ⊥
 IsPlace _ = Unit {0}
 
--- ---- function values that aim at a given expression, and that lower it as an element
+-- function values that aim at a given expression, and that lower it as an element
 
 abbrev pub Pre : Type 0 → Type 1
 Pre P = Bor (Lowerer P) → MutBor Builder → Option Pointer → Bor AstExpr → Type 0

@@ -46,7 +46,7 @@ abbrev pub pat_lent : Option (Place × Bor AstPat) → There
 pat_lent None = None
 pat_lent (Some x) = Some (x.0, x.1.now)
 
--- ---- what the code does with it, which is missing where there is none
+-- what the code does with it, which is missing where there is none
 
 abbrev pub lower_there : Spot → There → Table → Lowering (PatId × Table)
 lower_there at None t = alone missing_pat t
@@ -72,7 +72,7 @@ point_named s r = point_pat s r.0 >> pure r
 abbrev pub point_lone : Pointer → PatId → Lowering PatId
 point_lone s i = point_pat s i >> pure i
 
--- ---- as what is assigned to
+-- as what is assigned to
 
 abbrev pub written_expr : Spot → Pointer → AstMacroCall → Expr
 written_expr at s c = entered_expr at.answers (into at) c at.place s

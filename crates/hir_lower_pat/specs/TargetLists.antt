@@ -28,7 +28,7 @@ use Rattle.hir_lower_pat.specs.Methods.{add_element}
 use Rattle.hir_lower_pat.specs.declared.aims.Aim.{Aim}
 use Rattle.hir_lower_pat.specs.declared.aims.Aim.TheVariants as aim
 
--- ---- tuples and calls
+-- tuples and calls
 
 -- one part more behind those that are lowered; two dots are none
 abbrev pub part_behind : Elements → Lowering (Option PatId) → Lowering Elements
@@ -42,7 +42,7 @@ element_call at outer c = do
   f ← entered_at at kind.Expr c
   target_element_there at outer (expr_there f)
 
--- ---- arrays
+-- arrays
 
 -- the parts in front of the first two dots, the node of the dots, and the parts behind them
 abbrev pub ArrayParts : Type 0
@@ -75,7 +75,7 @@ module _ (is_found : Path → Bool) where
   abbrev pub array_steps : ArrayParts → Expr → Lowering ArrayParts
   array_steps done e = part_steps done.0 done.1 done.2 e
 
-  -- ---- one part after another
+  -- one part after another
 
   abbrev pub elements_read : Elements → Exprs → Lowering Elements
   elements_read done tree.no_exprs = pure done
@@ -100,7 +100,7 @@ array_made is_found at es = do
   r ← array_read is_found ([], None, []) es
   array_of at r
 
--- ---- callees
+-- callees
 
 abbrev pub callee_read : Option OptionPath → Lowering (Option HirPath)
 callee_read None = pure None

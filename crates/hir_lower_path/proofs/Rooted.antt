@@ -73,7 +73,7 @@ pub as_bare : (o : OptionPath) (p : HirPath) (old new : Builder) → LowersPath 
     → is_bare (names_in p) ≡ is_bare (mod_path_of o)
 as_bare o p old new h = ap is_bare (lowered_names o old new (Some p) h.0)
 
--- ---- the steps of one segment
+-- the steps of one segment
 
 abbrev alone : Bool → Segment → Path
 alone leading first = tree.path None leading first tree.no_segments tree.no_path
@@ -149,7 +149,7 @@ dollar_reads true root (Some of) leading w b = refl
 dollar_reads false root None leading w b = refl
 dollar_reads false root (Some of) leading w b = refl
 
--- ---- which segment it is
+-- which segment it is
 
 name_is : (leading : Bool) (t : List ℕ) (a : SegmentArgs)
     → is_bare (mod_path_of (tree.some_path (alone leading (tree.name_segment (name.Text t) tt a)))) ≡ not leading
@@ -211,7 +211,7 @@ module _ (env : Answers) (p : Place) (leading : Bool) (root : Option CrateId) (w
   local_reads (Some kind.SelfTypeKw) n a ty t = says_reads (not leading) root leading tree.self_type_segment w b (self_type_is leading)
   local_reads (Some kind.Qualified) n a ty t = qualified_reads ty t
 
--- ---- the level of a path, whether it is an alias or not
+-- the level of a path, whether it is an alias or not
 
 abbrev pub unaliased : Spot → AstPath → Path
 unaliased at x =
@@ -301,7 +301,7 @@ module _ (at : Spot) (x : AstPath) where
       by true (None ∷ t ∷ ss) = refl
       by true (Some s ∷ t ∷ ss) = refl
 
--- ---- what a function has to show
+-- what a function has to show
 
 same_lowers : (p q : Lowering Reading) (old : Builder) (r : Checked Reading) (new : Builder) → p old ≡ q old
     → Lowers HasReading q old r new → Lowers HasReading p old r new

@@ -75,7 +75,7 @@ call_on at s binder c b = by at.place.left
     by zero = refl
     by (suc n) = called_by at s (call_pointer at.place c) binder n (asked_call at.answers kind.Type_ c at.place) b
 
--- ---- what is found may be handed in
+-- what is found may be handed in
 
 abbrev nowhere : There
 nowhere = None

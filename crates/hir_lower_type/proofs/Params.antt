@@ -90,7 +90,7 @@ pub handed_on : {A : Type 0} (Has : Stored → A → Type 0) (steps : Lowering A
 handed_on Has steps old e (Ok a) new is h = absurd is
 handed_on Has steps old e (Err f) new is h = rw is h
 
--- ---- names
+-- names
 
 -- a pattern of another kind gives no name
 pub no_name_left : (k : AstPatKind)

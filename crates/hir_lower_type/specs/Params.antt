@@ -28,7 +28,7 @@ variadic_last b (x ∷ xs) = variadic_last (out-Param x).variadic xs
 abbrev pub lower_param : ParamReading → Lowering (Option TypeRefId)
 lower_param r = if r.variadic then pure None else some (type_part None r.ty)
 
--- ---- names
+-- names
 
 -- a name, in whatever way it binds
 abbrev pub name_of_kind : PatKindLayer written → Option Name

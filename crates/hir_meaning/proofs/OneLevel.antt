@@ -28,7 +28,7 @@ use Rattle.hir_env.proofs.PathLevels.{type_is_level}
 use Rattle.hir_data.specs.Trees.{node, no_range, type_at, pointer}
 use Rattle.hir_meaning.specs.Reading.{expr_of, pat_of, stmt_of, call_of, from, place_in}
 
--- ---- a call, by one level of it
+-- a call, by one level of it
 
 module _ (env : Answers) (to : Entering) (p : Place) (c : AstMacroCall) (l : MacroCallLayer written) where
   abbrev pub pointer_of : Pointer
@@ -46,7 +46,7 @@ module _ (env : Answers) (to : Entering) (p : Place) (c : AstMacroCall) (l : Mac
   abbrev pub splice_by : Pointer → Defined → Spliced
   splice_by s d = splice_in to p s pointer_of (env.expand (site_of pointer_of) c p.module_id kind.Stmts) d
 
--- ---- one level of a tree that is made of its parts
+-- one level of a tree that is made of its parts
 
 module _ (at : Spot) where
   abbrev rd : Reader written
@@ -77,7 +77,7 @@ module _ (at : Spot) where
   type_made n k = type_is_level at (type_at n k)
       ∙ ap (λ x. of_types.type_at at.answers rd x at.place (pointer at n)) (out-roll-TypeKind k)
 
--- ---- calls, where one may be entered
+-- calls, where one may be entered
 
 abbrev pub entering_of : Answers → ℕ → Entering
 entering_of env k = record {

@@ -74,7 +74,7 @@ module _ (env : Answers) (p : Place) where
     argument = segment_is;
   }
 
-  -- ---- deeper in a constant
+  -- deeper in a constant
 
   -- the spot at such a place, and what is read of the `await` there
   abbrev deeper : Place → Spot

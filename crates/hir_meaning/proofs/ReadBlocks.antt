@@ -51,7 +51,7 @@ module _ (at : Spot) (e : AstExpr) (v : Defined → Spliced) (h : (d : Defined) 
   abbrev last : ReadTail at
   last = record { expr = Some e; reading = v; is = h }
 
--- ---- splices
+-- splices
 
 module _ (env : Answers) (p : Place) where
   abbrev at_two : Spot
@@ -183,7 +183,7 @@ pub splices_nothing_disabled : DisabledIsUnspliced
 splices_nothing_disabled env p n =
     let at = spot_in (record env { cfg = λ s. Err (record { 0 = 8 }) }) p 0 n in twice at gone (value_made at 2 _)
 
--- ---- definitions
+-- definitions
 
 abbrev rules_kind : List ℕ → StmtKindLayer written
 rules_kind n = StmtKind-F.MacroRules (Some (called n))
@@ -223,7 +223,7 @@ counts_inside_of_calls env p = let at = defining env p in
     contents_are at (plain at 4 (rules_kind a)
     ∷ stated at (calling 2) (one_rule at.answers at.place) (rule_is env p) 1 true ∷ plain at 5 (rules_kind a) ∷ []) (no_tail at)
 
--- ---- blocks
+-- blocks
 
 module _ (at : Spot) (l : BlockExprLayer written) where
   abbrev with_head : BlockHead → BlockExprLayer written → Block

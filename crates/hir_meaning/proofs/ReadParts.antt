@@ -28,7 +28,7 @@ use Rattle.hir_meaning.specs.ReadParts.{BeginsAtTheLocalRoot}
 use Rattle.hir_meaning.specs.ReadParts.{param_of, bare_at, in_calls, BarsThroughCalls}
 use Rattle.hir_meaning.proofs.OneLevel.{spot_in, pat_called, pat_made}
 
--- ---- paths
+-- paths
 
 abbrev said : Path → Option PathData
 said x = written_path (tree.some_path x)
@@ -120,7 +120,7 @@ begins_at_the_local_root env p c =
       },
     )
 
--- ---- bare parameters
+-- bare parameters
 
 module _ (env : Answers) (p : Place) (k : PatKindLayer written) (x : Pat) where
   abbrev at : Spot

@@ -40,7 +40,7 @@ use Rattle.hir_meaning.specs.ReadTargets.{KeepsDisabledPlaces, CountsDisabledCal
 use Rattle.hir_meaning.proofs.ReadCalls.{is_gone_at_any_depth}
 use Rattle.hir_meaning.proofs.OneLevel.{spot_in, expr_made, expr_called}
 
--- ---- assignments
+-- assignments
 
 -- with what is assigned to read as e
 assigned_as : (env : Answers) (p : Place) (t : AstExpr) {e : Expr} → answered (spot_of env p 2) t ≡ e
@@ -60,7 +60,7 @@ does_as : (at : Spot) (t : AstExpr) (es : List Event) (end : Ending) {x : Expr} 
 does_as at t es end h d =
     subst (λ x. Does (written_body (tree.some_expr x)) 0 (no 11 ∷ no 12 ∷ no 13 ∷ no 14 ∷ []) es end) (sym h) d
 
--- ---- parts
+-- parts
 
 -- what stands behind a call, in its place
 abbrev through : ℕ → ℕ → Called → Expr → Expr
@@ -108,7 +108,7 @@ module _ (env : Answers) (p : Place) (y : AstExpr) {e : Expr} (is : answered (in
   call_is = expr_made at 12 (ExprKind-F.CallExpr (Some (calling 2)) (Some (two_of 8 ∷ [])))
       ∙ (λ i. tree.call_expr (from 0 12) (tree.some_expr (called_is i)) true (listed (expr_made at 8 (ExprKind-F.Literal two) i)))
 
--- ---- laws
+-- laws
 
 pub destructures_through_calls : DestructuresThroughCalls
 unfolding ends event ◌>>=◌

@@ -41,7 +41,7 @@ use Rattle.hir_meaning.specs.CoroutineClosures.{reads_at_no_node, run_inside, st
 use Rattle.hir_meaning.specs.CoroutineClosures.{y_and_z_data}
 use Rattle.hir_meaning.specs.Worked.{no}
 
--- ---- `async fn f(self, x: A, (y, z): B) {}`, also with `mut self`
+-- `async fn f(self, x: A, (y, z): B) {}`, also with `mut self`
 
 abbrev pub self_name : Name
 self_name = name.Text (codes "self")
@@ -113,7 +113,7 @@ HandsInInOrder = (k : CoroutineKind) (mode : BindingAnnotation) (h : HygieneId) 
     ∷ end_of_temps ∷ end_of_temps ∷ binds_at 2 y_and_z_data (argument 1) ∷ end_of_temps ∷ [])
     (ended unit)
 
--- ---- `async |<[!; 1]>::A: [!; 2]| -> [!; 1] 1 as [!; 2]`, and a function with that parameter and that body
+-- `async |<[!; 1]>::A: [!; 2]| -> [!; 1] 1 as [!; 2]`, and a function with that parameter and that body
 
 abbrev pub with_constant : OptionPat
 with_constant = tree.some_pat (tree.path_pat (at 2) (tree.some_path

@@ -130,7 +130,7 @@ if_opaque Opaque bs = bs
 if_opaque (Argument def) bs = []
 
 abbrev mutual
-  -- ---- constants
+  -- constants
 
   pub constant_bodies : Constant → Bodies
   constant_bodies (tree.constant e) = constant_body e ∷ bodies_in e
@@ -147,7 +147,7 @@ abbrev mutual
   side_bodies (tree.path_side at p) = path_bodies p
   side_bodies tree.other_side = []
 
-  -- ---- types
+  -- types
 
   pub type_bodies : Type_ → Bodies
   type_bodies (tree.paren_type t) = part_bodies t
@@ -198,7 +198,7 @@ abbrev mutual
   type_pats_bodies tree.no_type_pats = []
   type_pats_bodies (tree.more_type_pats p ps) = type_pat_bodies p ++ type_pats_bodies ps
 
-  -- ---- arguments
+  -- arguments
 
   pub list_bodies : OptionArgs → Bodies
   list_bodies tree.no_arg_list = []
@@ -238,7 +238,7 @@ abbrev mutual
   output_bodies tree.no_ret = []
   output_bodies (tree.some_ret t) = part_bodies t
 
-  -- ---- paths
+  -- paths
 
   pub path_bodies : OptionPath → Bodies
   path_bodies tree.no_path = []
@@ -281,7 +281,7 @@ abbrev mutual
   names_bodies (tree.trait_segment t at p) = last_behind (type_bodies t) (held p).names
   names_bodies s = []
 
-  -- ---- expressions
+  -- expressions
 
   pub expr_bodies : Expr → Bodies
   expr_bodies (tree.disabled_expr why e) = []
@@ -401,7 +401,7 @@ abbrev mutual
   stmt_bodies (tree.disabled_stmt at by s) = []
   stmt_bodies (tree.let_stmt p t e b) = pat_part_bodies p ++ (part_bodies t ++ (bodies_in e ++ block_part_bodies b))
 
-  -- ---- patterns
+  -- patterns
 
   pub pat_bodies : Pat → Bodies
   pat_bodies (tree.leaf_pat at form) = []
@@ -435,7 +435,7 @@ abbrev mutual
   pat_fields_bodies (tree.more_pat_fields (tree.pat_field at (Some n) p) fs) = pat_bodies p ++ pat_fields_bodies fs
   pat_fields_bodies (tree.more_pat_fields f fs) = pat_fields_bodies fs
 
-  -- ---- what is assigned to
+  -- what is assigned to
 
   pub target_bodies : Target → Bodies
   target_bodies (tree.absent_target at) = []

@@ -131,7 +131,7 @@ abbrev pub KeepsTheCallsSemicolon : Type 0
 KeepsTheCallsSemicolon = BothDo one_and_two 0 (no 11 ∷ no 12 ∷ no 13 ∷ no 14 ∷ [])
     (literal_event one 4 ∷ end_of_temps ∷ literal_event two 5 ∷ end_of_temps ∷ []) (ended unit)
 
--- ---- definitions
+-- definitions
 
 abbrev pub nine : MacroDefId
 nine = record { 0 = 9 }

@@ -88,7 +88,7 @@ wild_at n = tree.some_pat (tree.leaf_pat (at n) tree.wild_leaf)
 abbrev pub wild_data : ℕ → PatData
 wild_data n = pat_at (Some (at n)) datum.wild_pattern
 
--- ---- assignments
+-- assignments
 
 -- `(a, .., S) = c`, where S stands for a struct
 
@@ -125,7 +125,7 @@ AssignsInOrder = (e : OptionExpr) → BothDoPatterned (assignment e) (no 11 ∷ 
     ∷ event_of (assigned pair_data) (answered 11 ∷ answered 12 ∷ []) 0 ∷ [])
     (ended unit)
 
--- ---- `let` as a condition
+-- `let` as a condition
 
 -- `let x = a`
 
@@ -144,7 +144,7 @@ TestsThePattern = BothDoPatterned condition (no 11 ∷ yes 12 ∷ [])
     (reads_a ∷ event_of (test (matches (x_data 2))) (answered 11 ∷ []) 2 ∷ [])
     (ended (truth true))
 
--- ---- `match`
+-- `match`
 
 -- `match a { x if b => 1, x => 1, _ => 2 }` with a disabled second arm, and `match a {}`
 
@@ -198,7 +198,7 @@ TriesTheArms = (by : CfgId)
     × BothDoPatterned (arms by) (no 11 ∷ no 12 ∷ no 13 ∷ []) (reads_a ∷ tests_x ∷ tests_wild ∷ []) (left unmatched)
     × BothDoPatterned no_arms_at_all (no 11 ∷ []) (reads_a ∷ []) (left unmatched)
 
--- ---- `let` statements
+-- `let` statements
 
 -- `{ let x = a else { 1 }; 2 }`
 
@@ -248,7 +248,7 @@ abbrev pub BindsNoValue : Type 0
 BindsNoValue = (by : CfgId)
     → BothDoPatterned (declared by) (no 11 ∷ []) (event_of (bound (x_data 3) datum.no_type) [] 3 ∷ end_of_temps ∷ []) (ended unit)
 
--- ---- ranges
+-- ranges
 
 -- `a..=b` as a record of an item, and as a call of one; `..`, and `a..b` without its item
 
@@ -321,7 +321,7 @@ MakesRanges = (i : LangItemId)
     (event_of (made_record (item_path i) [] no_spread) [] 0 ∷ []) (ended (answered 11))
     × BothDoPatterned range_without [] [] (left missing)
 
--- ---- ends of ranges in types
+-- ends of ranges in types
 
 -- the last before 1, by a call of an item, as a body of its own
 

@@ -27,7 +27,7 @@ use Rattle.hir_meaning.specs.Reading.{enabled, expr_of, from, spot_of}
 abbrev pub anywhere : Answers → Place → Spot
 anywhere env p = spot_of (enabled env) (record p { mode = mode.Untracked }) 0
 
--- ---- what is written
+-- what is written
 
 -- an `await`, whose operand is absent
 abbrev pub awaiting : ℕ → AstExpr
@@ -54,7 +54,7 @@ block_level m =
 abbrev pub block_after : BlockModifier → AstExpr
 block_after m = expr_of 4 (ExprKind-F.BlockExpr (roll-BlockExpr (block_level m)))
 
--- ---- what it is read as
+-- what it is read as
 
 -- one that stands in this, or in what is async
 abbrev pub await_in : Option AwaitLocation → ℕ → Expr
@@ -73,7 +73,7 @@ const_block = tree.const_expr (from 0 2) (constant_of (tree.block_expr
 abbrev pub coroutine_of : CoroutineKind → Option AwaitLocation → Expr
 coroutine_of kind l = tree.coroutine_expr (from 0 2) kind false None tree.no_stmts (tree.some_expr (await_in l 3))
 
--- ---- the law
+-- the law
 
 -- The array with an `await` as its element and with e as its length, where e is read as this: the element stands in what the array does.
 abbrev pub LengthIs : Spot → AstExpr → Expr → Type 0

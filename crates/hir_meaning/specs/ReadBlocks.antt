@@ -25,7 +25,7 @@ use Rattle.hir_meaning.specs.ReadCalls.{by_condition, disabling}
 use Rattle.hir_meaning.specs.Reading.{stmt_of, expr_of, calling, one_of, two_of, stating, stmts_of, spot_of, from}
 use Rattle.hir_meaning.specs.Reading.{enabled, standing, always, to, two_calls, entering_to}
 
--- ---- splices
+-- splices
 
 abbrev pub each : List Stmt → Stmts
 each [] = tree.no_stmts
@@ -107,7 +107,7 @@ DisabledIsUnspliced = (env : Answers) (p : Place) (n : ℕ)
     → contents_part (spot_of (record env { cfg = λ s. Err (record { 0 = 8 }) }) p n) (stating 1 true (calling 2) ∷ []) (Some (calling 2))
     ≡ (each (disabled_call ∷ tree.expr_stmt tree.no_expr true ∷ disabled_call ∷ []), tree.no_expr)
 
--- ---- definitions
+-- definitions
 
 abbrev pub a : List ℕ
 a = 97 ∷ []
@@ -168,7 +168,7 @@ CountsInsideOfCalls = (env : Answers) (p : Place)
       tree.no_expr,
     )
 
--- ---- blocks
+-- blocks
 
 abbrev pub block_with : ℕ → List AstStmt → Option AstExpr → AstBlockExpr
 block_with n ss e = roll-BlockExpr (record {

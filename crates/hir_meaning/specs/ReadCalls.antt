@@ -22,7 +22,7 @@ use Rattle.hir_meaning.specs.Small.{one}
 use Rattle.hir_meaning.specs.Reading.{expr_of, pat_of, calling, calling_pat, calling_type, lacking, lacking_pat, one_of, spot_of, from}
 use Rattle.hir_meaning.specs.Reading.{enabled, standing, always, to, two_calls, entering_to, first_call, second_call}
 
--- ---- how deep
+-- how deep
 
 -- `m!()` where it is read as this, and stands for nothing
 abbrev pub is_nothing : Answers → Place → ℕ → Called → Type 0
@@ -63,7 +63,7 @@ pub record EntersTwo (env : Answers) (p : Place) : Type 0 where
 abbrev pub EntersBelowTheLimit : Type 0
 EntersBelowTheLimit = (env : Answers) (p : Place) → EntersTwo env p
 
--- ---- what isn't read
+-- what isn't read
 
 -- a call that isn't resolved, one without an expansion, and one with an expansion of nothing
 abbrev pub StandsForNothing : Type 0
@@ -96,7 +96,7 @@ LeavesOtherKinds =
     × (unread_type env p n f es (fragment.Expr e) × unread_type env p n f es (fragment.Stmts ss)
     × unread_type env p n f es (fragment.Pat x))
 
--- ---- what is gone
+-- what is gone
 
 -- where a condition disables the node 6 of the file 2
 abbrev pub disabling : Answers → Answers
@@ -133,7 +133,7 @@ pub record GoneInside (env : Answers) (p : Place) : Type 0 where
 abbrev pub GoneAtAnyDepth : Type 0
 GoneAtAnyDepth = (env : Answers) (p : Place) → GoneInside env p
 
--- ---- elements
+-- elements
 
 -- `(m!(), _)` and `[m!()]`, where m stands for a call of n, and n for `..`
 abbrev pub dots_at : Answers → Place → Spot

@@ -30,7 +30,7 @@ use Rattle.hir_data.specs.Worked.{alone}
 use Rattle.hir_data.specs.Written.{written_path}
 use Rattle.hir_meaning.specs.Reading.{pat_of, calling_pat, spot_of, from, standing, two_calls, first_call, second_call}
 
--- ---- paths
+-- paths
 
 abbrev pub segment_layer : Option SegmentKind → Option (List ℕ) → PathSegmentLayer written
 segment_layer k n = record {
@@ -104,7 +104,7 @@ pub record AbsentInCall (env : Answers) (p : Place) : Type 0 where
 abbrev pub BeginsAtTheLocalRoot : Type 0
 BeginsAtTheLocalRoot = (env : Answers) (p : Place) (c : CrateId) → NameInCall env p c × OtherPaths env p c × AbsentInCall env p
 
--- ---- bare parameters
+-- bare parameters
 
 -- a parameter with this pattern
 abbrev pub param_of : AstPat → AstParam

@@ -35,7 +35,7 @@ use Rattle.hir_meaning.specs.Reading.{expr_of, calling, lacking, one_of, two_of,
 use Rattle.hir_meaning.specs.Reading.{standing, always, two_calls, first_call, second_call}
 use Rattle.hir_meaning.specs.ReadCalls.{by_condition, disabled_at}
 
--- ---- assignments
+-- assignments
 
 -- `t = 1`
 abbrev pub assigning : AstExpr → AstExpr
@@ -99,7 +99,7 @@ place_at f n l = tree.place_target (from f n) (literal_in f n l)
 abbrev pub place_data : ℕ → ℕ → PatData
 place_data f n = pat_at (Some (from f n)) datum.place_pattern
 
--- ---- a whole target
+-- a whole target
 
 -- `m!() = 1`, where n stands for `(1, 2)`
 abbrev pub one_and_two : AstExpr
@@ -119,7 +119,7 @@ pub record Destructures (env : Answers) (p : Place) : Type 0 where
 abbrev pub DestructuresThroughCalls : Type 0
 DestructuresThroughCalls = (env : Answers) (p : Place) → Destructures env p
 
--- ---- two dots
+-- two dots
 
 abbrev pub dots : Option RangeOp → AstExpr
 dots o = expr_of 6 (ExprKind-F.RangeExpr o None None)
@@ -154,7 +154,7 @@ pub record FindsDots (env : Answers) (p : Place) (o : Option RangeOp) : Type 0 w
 abbrev pub FindsDotsInTargets : Type 0
 FindsDotsInTargets = (env : Answers) (p : Place) (o : Option RangeOp) → FindsDots env p o
 
--- ---- dots in parentheses
+-- dots in parentheses
 
 abbrev pub in_parens : AstExpr → AstExpr
 in_parens e = expr_of 12 (ExprKind-F.ParenExpr (Some e))
@@ -170,7 +170,7 @@ pub record KeepsDots (env : Answers) (p : Place) (o : Option RangeOp) : Type 0 w
 abbrev pub KeepsDotsBehindCalls : Type 0
 KeepsDotsBehindCalls = (env : Answers) (p : Place) (o : Option RangeOp) → KeepsDots env p o
 
--- ---- callees
+-- callees
 
 abbrev pub path_of : AstPath → AstExpr
 path_of x = expr_of 6 (ExprKind-F.PathExpr (Some x))
@@ -199,7 +199,7 @@ pub record CallsByPath (env : Answers) (p : Place) (x : AstPath) : Type 0 where
 abbrev pub CallsThroughCallees : Type 0
 CallsThroughCallees = (env : Answers) (p : Place) (x : AstPath) → CallsByPath env p x
 
--- ---- elements
+-- elements
 
 abbrev pub wild : AstExpr
 wild = expr_of 6 ExprKind-F.UnderscoreExpr
@@ -266,7 +266,7 @@ LeadsFromFields = (env : Answers) (p : Place) (x : AstPath) (a : AstName)
     → Assigns (target_at env p wild) (record_with x a (calling 2))
     (field_with (target_at env p wild) x a (in_calls (tree.wild_target (origin None (from 2 6)))))
 
--- ---- what is gone
+-- what is gone
 
 -- the same, where n stands for a disabled literal
 pub record MissesPlaces (env : Answers) (p : Place) : Type 0 where
@@ -348,7 +348,7 @@ pub record CountsDots (env : Answers) (p : Place) (o : Option RangeOp) : Type 0 
 abbrev pub CountsDisabledDots : Type 0
 CountsDisabledDots = (env : Answers) (p : Place) (o : Option RangeOp) → CountsDots env p o
 
--- ---- what stands for nothing
+-- what stands for nothing
 
 abbrev pub nothing_at : Answers → Place → Spot
 nothing_at env p = spot_of (always env no_expansion) p 2

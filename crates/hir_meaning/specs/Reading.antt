@@ -25,7 +25,7 @@ use Rattle.hir_env.specs.Answered.{Called, Entered}
 use Rattle.hir_data.specs.Trees.{node, no_range, type_at}
 use Rattle.hir_meaning.specs.Small.{one, two}
 
--- ---- written trees: the numbers of their nodes stand beside them
+-- written trees: the numbers of their nodes stand beside them
 
 abbrev pub expr_of : ℕ → ExprKindLayer written → AstExpr
 expr_of n k = record { id = node n; range = no_range; kind = roll-ExprKind k }
@@ -71,7 +71,7 @@ stating n semi e = stmt_of n (StmtKind-F.ExprStmt (Some e) semi)
 abbrev pub stmts_of : List AstStmt → Option AstExpr → AstMacroStmts
 stmts_of ss e = record { id = node 1; range = no_range; stmts = ss; expr = e }
 
--- ---- where they are read
+-- where they are read
 
 -- in this file, inside of the module 7, where so many calls may be entered
 abbrev pub place_in : Place → ℕ → ℕ → Place
@@ -84,7 +84,7 @@ spot_of env p n = record { answers = env; place = place_in p 0 n }
 abbrev pub from : ℕ → ℕ → Pointer
 from f n = record { file_id = record { 0 = f }; value = record { node = node n; range = no_range } }
 
--- ---- what calls stand for
+-- what calls stand for
 
 abbrev pub same_kind : FragmentKind → FragmentKind → Bool
 same_kind kind.Expr kind.Expr = true
@@ -116,7 +116,7 @@ abbrev pub two_calls : AstFragment → AstFragment → ℕ → ℕ → AstMacroC
 two_calls x y f n c =
     if nat_eq f 0 && nat_eq n 3 then to 1 x else (if nat_eq f 1 && nat_eq n 5 then to 2 y else no_expansion)
 
--- ---- what they are read as
+-- what they are read as
 
 -- the call with node n in the file f, which is expanded to the file g
 abbrev pub entering_to : ℕ → ℕ → ℕ → Entered

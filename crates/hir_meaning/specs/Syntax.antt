@@ -146,7 +146,7 @@ abbrev pub run_item : Option LangItemId → SyntaxRun Value
 run_item None = ends (leave missing)
 run_item (Some i) = pure (item i)
 
--- ---- `?` (Rust Reference, the question mark operator; `try` blocks)
+-- `?` (Rust Reference, the question mark operator; `try` blocks)
 
 -- what nobody wrote: a name that stands for what a test or a `let` is answered
 abbrev pub unnamed_pattern : PatData
@@ -183,7 +183,7 @@ run_question items t operand site = do
     b ← event (test (matches (item_pattern items.breaks))) (w ∷ []) None
     if b.yes then run_residual items t (answered b.value) site else ends (leave unmatched))
 
--- ---- `try`
+-- `try`
 
 -- its value goes through a call of the item
 abbrev pub through : Option LangItemId → Option Site → SyntaxRun Value → SyntaxRun Value
@@ -254,7 +254,7 @@ while_turn lets condition body site = do
 abbrev pub run_while : ℕ → Bool → SyntaxRun Value → SyntaxRun Value → Option Site → SyntaxRun Value
 run_while turns lets condition body site = loop outward turns (while_turn lets condition body site)
 
--- ---- `for` (Rust Reference, iterator loops)
+-- `for` (Rust Reference, iterator loops)
 
 -- the item that holds nothing, and the one that holds what fits the pattern
 abbrev pub done_pattern : LangItemId → PatData

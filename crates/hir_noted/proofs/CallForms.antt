@@ -31,7 +31,7 @@ use Rattle.hir_noted.proofs.Steps.{notes_close, notes_close_barrier, notes_count
 use Rattle.hir_noted.proofs.Steps.{notes_open_barrier, notes_open_macro, notes_owning, notes_point_pat, notes_point_type, notes_told}
 use Rattle.hir_noted.proofs.Steps.{notes_type}
 
--- ---- calls
+-- calls
 
 module _ (at : Pointer) where
   pub uncalled_notes : (c : Called)
@@ -67,7 +67,7 @@ module _ (at : Pointer) where
   uncalled_pat_notes tree.callless = missing_pat_notes
   uncalled_pat_notes c = called_pat_notes c (λ i. i) (missing_pat_notes)
 
--- ---- closures
+-- closures
 
 pub closure_notes : (at : Pointer) (moves is_static : Bool) {D E F : Noting} {p : Lowering ClosureParams}
     {t : Lowering (Option TypeRefId)} {e : ExprSteps} → Notes D p → Notes E t → Notes F e
@@ -101,7 +101,7 @@ pub yield_notes : (at : Pointer) {D : Noting} {e : Lowering (Option ExprId)} →
 unfolding yield_form
 yield_notes at h = notes_begin notes_note_yield (λ u. notes_end h (λ v. notes_expr _ (Some at)))
 
--- ---- definitions
+-- definitions
 
 pub define_notes : (k : ℕ) (d : Option MacroDefId) → Notes none (define_form k d)
 unfolding define_form

@@ -15,7 +15,7 @@ use Rattle.hir_steps.proofs.Logic.{Rel, Holds, Correct}
 use Rattle.hir_sets.specs.Noting.{Impl, Noting, none, ◌⊕◌}
 use Rattle.hir_noted.specs.Lists.{Fits, Noted, unnamed}
 
--- ---- one after another
+-- one after another
 
 unnamed_append : (is js : List Impl) → unnamed (is ++ js) ≡ unnamed is ++ unnamed js
 unnamed_append [] js = refl
@@ -109,7 +109,7 @@ both_assoc a b c = λ j. record {
   output = append_assoc a.output b.output c.output j;
 }
 
--- ---- steps
+-- steps
 
 abbrev pub NotesTo : {A : Type 0} → Noting → Builder → Checked A → Builder → Type 0
 NotesTo n b (Ok a) c = Paired c.stored × Noted n b c
@@ -164,7 +164,7 @@ abbrev pub if_there : {A : Type 0} → Option A → Noting → Noting
 if_there None n = none
 if_there (Some a) n = n
 
--- ---- steps in which nothing is noted
+-- steps in which nothing is noted
 
 abbrev pub LeavesTo : {A : Type 0} → Builder → Checked A → Builder → Type 0
 LeavesTo b (Ok a) c = c.notes ≡ b.notes

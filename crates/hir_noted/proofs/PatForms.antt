@@ -247,7 +247,7 @@ module _ (at : Pointer) where
   unfolding assign_form
   assign_notes ht hv = notes_then ht (λ t. notes_end hv (λ v. notes_expr _ _))
 
--- ---- targets
+-- targets
 
 -- a node that is assigned to leads to the pattern
 pub pointed_notes : (at : Pointer) {D : Noting} {p : Lowering PatId} → Notes D p

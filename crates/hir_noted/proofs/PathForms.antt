@@ -46,7 +46,7 @@ use Rattle.hir_noted.proofs.Logic.{Notes, NotesTo, noted_none, notes_by, notes_e
 use Rattle.hir_noted.proofs.Logic.{notes_pure, notes_to_both}
 use Rattle.hir_noted.proofs.Steps.{notes_count_out}
 
--- ---- segments, as far as they are read
+-- segments, as far as they are read
 
 -- in each store that goes on these items are read
 abbrev pub Knows : List Item → PathWalk → Builder → Type 0
@@ -125,7 +125,7 @@ pub counted_notes : (r : Option Reading) → Notes none (counted r)
 counted_notes (Some r) = notes_pure r
 counted_notes None = notes_count_out
 
--- ---- arguments
+-- arguments
 
 pub beside_notes : (x : OptionArgsData) {D E : Noting} {as' ps : Lowering (Option GenericArgs)} → Notes D as' → Correct as' (Reads a_list x)
     → Notes E ps → (dots : Bool) → Notes (D ⊕ unless x E) (segment_args_form as' ps dots)
@@ -139,7 +139,7 @@ beside_notes x {E = E} {ps = ps} h reads k dots = notes_by (unless x E) (λ a. o
     by final m None x h = subst (λ y. Notes (unless y E) ps) h k
     by final m (Some a) x h = subst (λ y. Notes (unless y E) (pure (Some a))) h (notes_pure (Some a))
 
--- ---- aliases
+-- aliases
 
 -- beside the last name
 abbrev data_last : List OptionArgsData → Option (List (Option Name))

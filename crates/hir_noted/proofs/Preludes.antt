@@ -35,7 +35,7 @@ use Rattle.hir_noted.proofs.Steps.{notes_binding, notes_close_barrier, notes_def
 use Rattle.hir_noted.proofs.Steps.{notes_open_barrier}
 use Rattle.hir_noted.proofs.Steps.{notes_owning, notes_pat}
 
--- ---- preludes
+-- preludes
 
 -- what is only seen by what is stored
 notes_seen : {A : Type 0} (tells : Stored → A) → Notes none (λ b. (Ok (tells b.stored), b))
@@ -117,7 +117,7 @@ made_coroutine_notes : (kind : CoroutineKind) (from : CoroutineSource) (lets : L
 unfolding made_coroutine_form
 made_coroutine_notes kind from lets body = notes_end (notes_expr _ None) (λ b. notes_expr _ None)
 
--- ---- closures
+-- closures
 
 within_notes : (kind : CoroutineKind) {D E F : Noting} {p : Lowering ClosureParams} {t : Lowering (Option TypeRefId)}
     {e : ExprSteps} → Notes D p → Notes E t → Notes F e

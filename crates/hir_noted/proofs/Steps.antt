@@ -50,7 +50,7 @@ use Rattle.hir_noted.proofs.Logic.{LeavesTo, Notes, NotesTo, Quiet, noted_none, 
 use Rattle.hir_noted.proofs.Logic.{notes_stored}
 use Rattle.hir_noted.proofs.Logic.{quiet_pure, quiet_stored, quiet_then}
 
--- ---- what is stored
+-- what is stored
 
 pub notes_expr : (e : Expr) (at : Option Pointer) → Notes none (alloc_expr e at)
 unfolding alloc_expr
@@ -135,7 +135,7 @@ quiet_enter_block (Some n) = quiet_stored (storing.enter_block n)
 pub notes_enter_block : (n : Option BlockId) → Notes none (enter_block n)
 notes_enter_block n = notes_quiet (correct_enter_block n) (quiet_enter_block n)
 
--- ---- counters
+-- counters
 
 pub notes_count_out : {A : Type 0} → Notes none (count_out {A = A})
 unfolding count_out
@@ -163,7 +163,7 @@ pub notes_count_def : (k : ℕ) → Notes none (count_def k)
 unfolding count_def
 notes_count_def k = counted (nat_lt (suc k) (2 ^ 32))
 
--- ---- what is open
+-- what is open
 
 -- what leaves what is stored
 left_alone : {b c : Builder} → c.stored ≡ b.stored → c.notes ≡ b.notes → {A : Type 0} (a : A) → Paired b.stored → NotesTo none b (Ok a) c

@@ -473,7 +473,7 @@ mutual
   one_target_field_noted tree.partless_target_field = notes_pure None
   one_target_field_noted (tree.target_field at n t) = target_field_notes at n (target_noted t)
 
--- ---- laws
+-- laws
 
 pub types_noted : TypesNoted
 types_noted binder t b c i d is = noted_by (type_noted binder t) b c i d is

@@ -63,7 +63,7 @@ pub unit_notes : Notes none unit_type
 unfolding unit_type
 unit_notes = notes_type _ None
 
--- ---- lifetimes
+-- lifetimes
 
 pub notes_lifetime : (l : LifetimeRef) (at : Option Pointer) → Notes none (alloc_lifetime l at)
 unfolding alloc_lifetime
@@ -136,7 +136,7 @@ pub uses_note : (done : List UseArgRef) (us : List UseRead) → Notes (of_uses u
 uses_note done [] = notes_pure done
 uses_note done (u ∷ us) = notes_then (use_notes u) (λ x. uses_note _ us)
 
--- ---- `impl`s
+-- `impl`s
 
 -- with a parameter more
 abbrev with_unnamed : Builder → Builder

@@ -71,7 +71,7 @@ given {A = A} {P = P} {n = n} {p = p} h t = record { tells = λ b d. by b (p b).
     by b (Ok a) c x y = (x, y)
     by b (Err e) c x y = x
 
--- ---- what an `impl` becomes
+-- what an `impl` becomes
 
 pub impls : (at : Pointer) (mode : ImplTrait) (bounds : List TypeBound) (shape : Shape)
     → Takes (grade_impl sizes mode (datum.typed (Some at) shape)) (becoming at mode bounds)
@@ -79,7 +79,7 @@ impls at becomes.Error bounds shape = becoming_takes at becomes.Error bounds
 impls at becomes.Opaque bounds shape = becoming_takes at becomes.Opaque bounds
 impls at (becomes.Argument def) bounds shape = becoming_takes at (becomes.Argument def) bounds
 
--- ---- two dots
+-- two dots
 
 counts : (n : Option ℕ) → Same nothing (dots_behind n)
 counts None = record {
@@ -129,7 +129,7 @@ dots_take true None = takes_pure None
 dots_take false (Some n) = place_takes false n n refl
 dots_take true (Some n) = place_takes true n (suc n) (add-one n)
 
--- ---- the last expression
+-- the last expression
 
 pub loop_last : (l : Label) (p : ExprSteps) {f : LabelId → ExprId → ExprSteps} → ((n : LabelId) (i : ExprId) → IsLast (f n i))
     → IsLast (open_label l >>= (λ n. p >>= (λ i. close >>= (λ _. f n i))))
@@ -154,13 +154,13 @@ pub named_past_last : (mode : BindingAnnotation) {A : Type 0} (p : Lowering A) {
     → IsLast (made_number >>= (λ n. p >>= (λ a. made_bind_form mode n >>= (λ q. f n a q))))
 named_past_last mode p k = last_then made_number (λ n. last_then p (λ a. last_then (made_bind_form mode n) (λ q. k n a q)))
 
--- ---- the last pattern
+-- the last pattern
 
 pub pats_take : {A B : Type 0} {P : A → Type 0} {pat_in : B → PatId} {n m : Size} {p : Lowering A} {f : A → Lowering B} → Takes n p
     → Answering P p → ((a : A) → P a → Takes m (f a) × LastPat pat_in (f a)) → Takes (n ∪ m) (p >>= f) × LastPat pat_in (p >>= f)
 pats_take h t k = (takes_of (tells_then (given h t) (λ a x. tells_any (k a x).0)), lastly_where in_pats t (λ a x. (k a x).1))
 
--- ---- a `yield`, and a `try`
+-- a `yield`, and a `try`
 
 pub yield_takes : (at : Pointer) (e : Lowering (Option ExprId)) {n : Size} → Takes n (value_form at hir.Yield e) → Takes n (yield_form at e)
 unfolding value_form yield_form
@@ -298,7 +298,7 @@ rooms_graded = record {
   owning_is = λ h. (takes_owning h.1 h.0, owning_last h.1);
 }
 
--- ---- functions that are coroutines
+-- functions that are coroutines
 
 pub self_is : (s : SelfFormal) → grade_self sizes s ≡ self_size s
 self_is tree.no_self = refl

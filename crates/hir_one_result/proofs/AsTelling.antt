@@ -58,7 +58,7 @@ module _ {X : Type 0} (L : Listing X) where
     told = λ ss e. added_then L (row.first.told ss e) (row.second.told ss e);
   })
 
-  -- ---- steps that add nothing
+  -- steps that add nothing
 
   pub tells_made : (e : HirExpr) (at : Option Pointer) → Correct (alloc_made e at) (Tells L (nothing L))
   tells_made e at = correct_as (correct_alloc_made e at) (λ final ps m m' i g row. record {
@@ -88,7 +88,7 @@ module _ {X : Type 0} (L : Listing X) where
   made_bind_tells mode n = tells_end L (tells_binding L _)
       (λ i. tells_end L (tells_pat L _ None) (λ p. tells_end L (tells_define L i p) (λ u. tells_pure L p)))
 
-  -- ---- what an `impl` becomes
+  -- what an `impl` becomes
 
   pub impls_tell : (at : Pointer) (mode : ImplTrait) (bounds : List TypeBound) (t : TypeData)
       → Correct (becoming at mode bounds) (Tells L (grade_impl (listed L.of_faults L.of_block L.of_told) mode t))
@@ -97,7 +97,7 @@ module _ {X : Type 0} (L : Listing X) where
   impls_tell at (becomes.Argument def) bounds t =
       correct_becoming at (becomes.Argument def) bounds (λ t e. tells_aside L (aside_type t (Some at)))
 
-  -- ---- a `try`
+  -- a `try`
 
   added_is : (k : Bool → List X) {b c : Bool} {x y : Stored} → b ≡ c → Added L (k b) x y → Added L (k c) x y
   added_is k {x = x} {y = y} e g = subst (λ z. Added L (k z) x y) e g
@@ -223,7 +223,7 @@ module _ {X : Type 0} (L : Listing X) where
       let x = row.told ss (subst (Around ss) (ribs_frames old.scopes) around) in
       x.is ∙ ap (λ xs. L.list old.stored ++ xs) (sym (like (D ss) x.more x.like))
 
--- ---- the two lists
+-- the two lists
 
 -- the numbers of entered blocks, in this order
 pub entered_block : (n : Option BlockId) (s : Stored) → (with_block n s).block_scopes ≡ s.block_scopes ++ option_to_list n

@@ -34,7 +34,7 @@ use Rattle.hir_one_result.specs.Lists.{blocks}
 use Rattle.hir_one_result.proofs.ConditionsAgree.{blocks_of_condition}
 use Rattle.hir_read_back.proofs.PathsAgree.{read_alike}
 
--- ---- small parts
+-- small parts
 
 abbrev Told : Type 0
 Told = List Scope → List BlockId
@@ -187,7 +187,7 @@ try_is typed number st e ss h =
     first (both refl (h (try_scope typed ∷ ss))) (first (wrapped_none (is_left e || gives_value st false) ss) refl)
 
 mutual
-  -- ---- types, paths, arguments and bounds
+  -- types, paths, arguments and bounds
 
   type_is : (b : Option Binder) (t : Type_) (ss : List Scope) → g.grade_type_in blocks b t ss ≡ now.blocks_of_type t
   type_is b (tree.paren_type t) ss = part_is b t ss
@@ -305,7 +305,7 @@ mutual
   rooted_is : (c : Constant) (ss : List Scope) → g.grade_rooted blocks c ss ≡ now.blocks_of_constant c
   rooted_is (tree.constant e) ss = expr_part_is e (barrier ∷ ss)
 
-  -- ---- patterns of types
+  -- patterns of types
 
   type_pat_is : (q : TypePat) (ss : List Scope) → g.grade_type_pat blocks q ss ≡ now.blocks_of_type_pat q
   type_pat_is (tree.not_null_type_pat at) ss = refl
@@ -335,7 +335,7 @@ mutual
   limit_side_is (tree.path_side at q) ss = behind (whole_is q ss)
   limit_side_is tree.other_side ss = refl
 
-  -- ---- patterns
+  -- patterns
 
   side_is : (s : Side) (ss : List Scope) → g.grade_side blocks s ss ≡ now.blocks_of_side s
   side_is tree.no_side ss = refl
@@ -403,7 +403,7 @@ mutual
   pat_field_is tree.partless_pat_field us ss = refl
   pat_field_is (tree.pat_field at n q) us ss = pat_is q us ss
 
-  -- ---- what is assigned to
+  -- what is assigned to
 
   target_is : (t : Target) (ss : List Scope) → g.grade_target blocks t ss ≡ now.blocks_of_target t
   target_is (tree.absent_target call) ss = refl
@@ -434,7 +434,7 @@ mutual
   target_field_is tree.partless_target_field ss = refl
   target_field_is (tree.target_field at n t) ss = target_is t ss
 
-  -- ---- expressions
+  -- expressions
 
   expr_is : (e : Expr) (ss : List Scope) → g.grade_expr blocks e ss ≡ now.blocks_of e
   expr_is (tree.disabled_expr why e) ss = refl

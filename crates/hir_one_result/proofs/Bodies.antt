@@ -33,7 +33,7 @@ use Rattle.hir_one_result.proofs.TargetStanding.{done_stand}
 use Rattle.hir_one_result.proofs.TreeParts.{behind_none, left_out}
 use Rattle.hir_one_result.proofs.TreeStands.{part_stands, top_stands}
 
--- ---- `self`
+-- `self`
 
 -- a binding that no pattern makes stays as it is
 own_binding : (u : Use)
@@ -62,7 +62,7 @@ self_stands (tree.disabled_self at by) = correct_as (correct_bind (correct_repor
     record { shown = shown_none moved (row.second.is, refl) })
 self_stands (tree.self_formal at u _) = own_binding u
 
--- ---- the other parameters
+-- the other parameters
 
 module _ (final : Stored) where
   abbrev tops : Open → Tops → List PatId → Ways
@@ -103,7 +103,7 @@ formals_stand true (tree.formal p ∷ fs) done =
 formals_stand false (tree.formal p ∷ fs) done =
     formal_more p (formals_read false fs) (present_some (top_stands p)) (formals_stand false fs) done
 
--- ---- the whole
+-- the whole
 
 given_stands : (skipped : Bool) (f : Formals)
     → Correct (lower_formals skipped f) (Shows (λ final rs r. StandsGiven (store_of final) (map_of final) rs skipped f r))

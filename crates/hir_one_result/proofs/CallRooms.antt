@@ -26,7 +26,7 @@ takes_told c = takes_only (only_told c)
 pub takes_gone : (why : Gone) → Takes nothing (note_gone why)
 takes_gone why = takes_only (only_gone why)
 
--- ---- the node of a call leads to the last
+-- the node of a call leads to the last
 
 pub before_one : (n k : ℕ) → suc k ≡ n → k ≡ n - 1
 before_one n k e = omega (arith, e)
@@ -103,4 +103,4 @@ takes_called_type at {n = n} {p = p} l h = record { takes = λ b d. by b (p b).0
     by b (Ok r) c e x = took_then b c _ x (types_called c at r e)
     by b (Err f) c e x = short_first n (a_type_call at) b x
 
--- ---- forms
+-- forms

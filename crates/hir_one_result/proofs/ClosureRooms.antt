@@ -24,7 +24,7 @@ use Rattle.hir_one_result.proofs.Rooms.{Takes, takes_alloc, takes_barrier, takes
 use Rattle.hir_one_result.proofs.Rooms.{takes_end, takes_pure, takes_then}
 use Rattle.hir_one_result.proofs.Took.{Room}
 
--- ---- what owns
+-- what owns
 
 -- where this is what owns the bindings from this one on that nothing owned
 abbrev owned_from : {A : Type 0} → (A → ExprId) → BindingId → A → Lowering A
@@ -80,7 +80,7 @@ pub takes_owned : (x : InnerBody) {n : Size} {p : ExprSteps} → IsLast p → Ta
     → Takes (a_body x (owned n)) (owning (λ c. c.expr) (constant_form p))
 takes_owned x h k = takes_owning (constant_last h) (takes_constant x k)
 
--- ---- forms
+-- forms
 
 behind_takes : {n : Size} {p : ExprSteps} → Takes n p → Takes n (coroutine_form p)
 unfolding coroutine_form

@@ -40,7 +40,7 @@ use Rattle.hir_one_result.proofs.PatStanding.{Behind}
 use Rattle.hir_one_result.proofs.Standing.{Of, Placed, Shows, block_leads, expr_at, moved_fault, moved_pure, own, owning_shows, unled}
 use Rattle.hir_one_result.proofs.TreeParts.{behind_none, contents}
 
--- ---- what a condition disables
+-- what a condition disables
 
 -- one leaves a fault, and nothing else of a list
 pub off_stands : {A B : Type 0} (at : Pointer) (by : CfgId) (done : List A) {q : List A → Lowering B}
@@ -55,7 +55,7 @@ off_stands at by done T h = correct_as
           (subst (λ x. Shown (T final (ribs ps) (push_some done x) r) row.middle.stored m'.stored) row.first.second.is row.second.shown);
     })
 
--- ---- parameters
+-- parameters
 
 -- these behind those that there were
 abbrev pub ParamsBehind : ClosureParams → (StoredParams → Ways) → ClosureParams → Ways
@@ -117,7 +117,7 @@ module _ {P : Of PatId} {T : Of (Option TypeRefId)} where
         ));
   })
 
--- ---- the closure
+-- the closure
 
 -- of the same parts
 closure_as : {a a' : List PatId} {b b' : List (Option TypeRefId)} {k k' : ClosureKind} {c c' : CaptureBy} (t : Option TypeRefId)
@@ -147,7 +147,7 @@ closure_stands P at moves is_static xs t e hp ht he = owning_shows (λ i. i)
           ));
     }))
 
--- ---- coroutine blocks
+-- coroutine blocks
 
 -- over what is in the block
 abbrev Inside : Pointer → CoroutineKind → Bool → Option BlockId → Of StoredContents → Of ExprId

@@ -50,7 +50,7 @@ use Rattle.hir_one_result.proofs.PreludeRooms.{Froms, froms_last}
 use Rattle.hir_one_result.proofs.PreludeStanding.{handed_stand, lets_stand, made_coroutine_stands, named}
 use Rattle.hir_one_result.proofs.Standing.{Of, Placed, Shows, expr_at, moved_pure, own, owning_shows}
 
--- ---- the number of what is stored last
+-- the number of what is stored last
 
 pub record EndsAt {A : Type 0} (owner : A → ExprId) (final : Stored) (ps : List Frame) (m m' : Mark) (a : A) : Type 0 where
   pub is : m'.nodes ≡ suc (owner a).0
@@ -81,7 +81,7 @@ closure_as : {a a' : List PatId} {b b' : List (Option TypeRefId)} {c c' : Captur
     → hir.Closure a b t coroutine (closure.CoroutineClosure kind) c ≡ hir.Closure a' b' t coroutine (closure.CoroutineClosure kind) c'
 closure_as t coroutine kind f g h = λ j. hir.Closure (f j) (g j) t coroutine (closure.CoroutineClosure kind) (h j)
 
--- ---- what is in it
+-- what is in it
 
 -- the parameters that were written, what it returns, its body, and in front of that the `let`s
 abbrev In : CoroutineKind → List PatData → (Stored → Open → StoredParams → Ways) → Of (Option TypeRefId) → Of ExprId → Of Within
@@ -159,7 +159,7 @@ module _ (P : Stored → Open → StoredParams → Ways) {T : Of (Option TypeRef
             ));
       }))
 
-  -- ---- the closure
+  -- the closure
 
   pub coroutine_closure_stands : (at : Pointer) (moves : Bool)
       → Correct (lower_params no_closure_params xs) (Shows (λ final rs l. ParamsBehind no_closure_params (P final rs) l))

@@ -40,7 +40,7 @@ use Rattle.hir_one_result.proofs.Telling.{Listing, Tells, added_none, added_then
 use Rattle.hir_one_result.proofs.Telling.{tells_end, tells_pure}
 
 module _ {X : Type 0} (L : Listing X) where
-  -- ---- preludes
+  -- preludes
 
   tells_own_name : (p : PatId) → Correct (forms.own_name_of p) (Tells L (nothing L))
   tells_own_name p = correct_as (correct_own_name_of p)
@@ -116,7 +116,7 @@ module _ {X : Type 0} (L : Listing X) where
   unfolding made_coroutine_form
   made_coroutine_tells kind from lets body = tells_end L (tells_alloc L _ None) (λ b. tells_alloc L _ None)
 
-  -- ---- closures
+  -- closures
 
   within_tells : (kind : CoroutineKind) {D E F : List Scope → List X} {p : Lowering ClosureParams} {t : Lowering (Option TypeRefId)}
       {e : ExprSteps} → Correct p (Tells L D) → Correct t (Tells L E) → Correct e (Tells L F)
@@ -144,7 +144,7 @@ module _ {X : Type 0} (L : Listing X) where
             last_none L (added_then L (last_none L (added_then L (row.in_within.told inside around) formals)) last);
       }))
 
-  -- ---- functions
+  -- functions
 
   module _ (kind : CoroutineKind) (skipped : Bool) (f : Formals) (e : OptionExpr) where
     pub coroutine_body_tells : {D E F : List Scope → List X} → Correct (lower_self f.receiver) (Tells L D)

@@ -35,7 +35,7 @@ pub no_alternatives : (at : Pointer)
     (forms.alone (alloc_pat (pat.Or []) (Some at)))
 no_alternatives at = pat_as (λ ks us final rs i ws z. ([], z.0, (refl, z.1))) (pat_node (pat.Or []) (Some at) tt)
 
--- ---- parts of a tuple
+-- parts of a tuple
 
 pub no_elements_stand : (done : Elements)
     → PatFine (λ ks us final rs es. Behind done.0 (λ js ws. (js ≡ []) × No ws) es.0) same_uses same_notes (λ t. pure (done, t))

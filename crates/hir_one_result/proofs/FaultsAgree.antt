@@ -35,7 +35,7 @@ use Rattle.hir_one_result.proofs.FaultLists.{Like, as_is, behind, behind_none, b
 use Rattle.hir_one_result.proofs.ConditionsAgree.{faults_of_condition, turned_two}
 use Rattle.hir_read_back.proofs.PathsAgree.{read_alike}
 
--- ---- small parts
+-- small parts
 
 abbrev Told : Type 0
 Told = List Scope → Faults
@@ -179,7 +179,7 @@ try_is : (typed : Bool) (number : Option BlockId) (st : Stmts) (e : OptionExpr) 
 try_is typed number st e D ss h = first h (behind_none (wrapped_none (is_left e || gives_value st false) ss))
 
 mutual
-  -- ---- types, paths, arguments and bounds
+  -- types, paths, arguments and bounds
 
   type_is : (b : Option Binder) (t : Type_) (ss : List Scope) → Like (g.grade_type_in faults b t ss) (now.type_faults ss t)
   type_is b (tree.paren_type t) ss = part_is b t ss
@@ -297,7 +297,7 @@ mutual
   rooted_is : (c : Constant) (ss : List Scope) → Like (g.grade_rooted faults c ss) (now.constant_faults ss c)
   rooted_is (tree.constant e) ss = expr_part_is e (barrier ∷ ss)
 
-  -- ---- patterns of types
+  -- patterns of types
 
   type_pat_is : (q : TypePat) (ss : List Scope) → Like (g.grade_type_pat faults q ss) (now.type_pat_faults ss q)
   type_pat_is (tree.not_null_type_pat at) ss = same _
@@ -327,7 +327,7 @@ mutual
   limit_side_is (tree.path_side at q) ss = behind (whole_is q ss)
   limit_side_is tree.other_side ss = same _
 
-  -- ---- patterns
+  -- patterns
 
   side_is : (s : Side) (ss : List Scope) → Like (g.grade_side faults s ss) (now.side_faults ss s)
   side_is tree.no_side ss = same _
@@ -396,7 +396,7 @@ mutual
   pat_field_is tree.partless_pat_field us ss = same _
   pat_field_is (tree.pat_field at n q) us ss = pat_is q us ss
 
-  -- ---- what is assigned to
+  -- what is assigned to
 
   target_is : (t : Target) (ss : List Scope) → Like (g.grade_target faults t ss) (now.target_faults_in ss t)
   target_is (tree.absent_target call) ss = same _
@@ -427,7 +427,7 @@ mutual
   target_field_is tree.partless_target_field ss = same _
   target_field_is (tree.target_field at n t) ss = target_is t ss
 
-  -- ---- expressions
+  -- expressions
 
   expr_is : (e : Expr) (ss : List Scope) → Like (g.grade_expr faults e ss) (now.diagnostics ss e)
   expr_is (tree.disabled_expr why e) ss = behind (same _)

@@ -28,7 +28,7 @@ use Rattle.hir_one_result.specs.Formals.{each_formal, lower_formal, lower_self}
 use Rattle.hir_one_result.specs.Room.{formals_data}
 use Rattle.hir_one_result.proofs.Knowing.{Known, Lasting, Now}
 
--- ---- patterns
+-- patterns
 
 record FormalNow (xs : List PatData) (final : Stored) (ps : List Frame) (m m' : Mark) (o : Option PatId) : Type 0 where
   is : pats_in final (option_to_list o) ≡ xs
@@ -80,7 +80,7 @@ pub formals_read_as : (skipped : Bool) (fs : List Formal) {final : Stored} {ps :
     → Always (FormalsNow [] (formals_data skipped fs)) final ps m m' is → ReadAs m'.stored is (formals_data skipped fs)
 formals_read_as skipped fs row = λ later e. let now = row.always later e in ap (pats_in later) now.is ∙ now.reads
 
--- ---- `self`
+-- `self`
 
 -- the binding of its name, where there is one, also in each later store
 abbrev pub HasSelf : SelfFormal → Option BindingId → Known

@@ -37,7 +37,7 @@ next_stands at item n = correct_as
     let parts = shown_both (shown_both made.first.shown made.second.shown) row.second.shown in
     record { shown = shown_as parts (λ ws y. (made.one, row.one, y)) })
 
--- ---- the arms
+-- the arms
 
 done_stands : (at : Pointer) (item : LangItemId)
     → Correct (done_arm_form at item) (Shows (λ final rs a. StandsDoneArm (store_of final) (map_of final) at item a))
@@ -67,7 +67,7 @@ gives_stands item p h = correct_as
           (λ ws y. (row.one, r.one, r.second.is, made_pat_at row.first, y));
     })
 
--- ---- the turn, the loop, and the match around it
+-- the turn, the loop, and the match around it
 
 for_turn_stands : (at : Pointer) (items : ForItems) (n : ℕ) (p : PatId) {body : ExprSteps} {B : Of ExprId} → Correct body (Shows B)
     → Correct (for_turn_form at items n p body)

@@ -40,7 +40,7 @@ use Rattle.hir_one_result.proofs.PreludeRooms.{name_takes}
 use Rattle.hir_one_result.proofs.Rooms.{Takes, takes_begin, takes_binding, takes_define, takes_end, takes_pat, takes_pure, takes_then}
 use Rattle.hir_one_result.proofs.Took.{Room}
 
--- ---- `self`
+-- `self`
 
 rebind_takes : (x : Binding) → Takes (a_binding ∪ (a_pat None ∪ an_expr)) (forms.rebind_form x)
 unfolding forms.rebind_form
@@ -76,7 +76,7 @@ let_self_takes (tree.self_formal at u w) o = record {
       subst (λ k. Room size c (let_self k c).0 (let_self k c).1) (sym h.1) ((bound_takes h.0 (new_binding u)).takes c d h.2);
 }
 
--- ---- in the coroutine
+-- in the coroutine
 
 module _ (kind : CoroutineKind) (skipped : Bool) (self : Option BindingId) (fs : List Formal) (e : OptionExpr) where
   abbrev shapes : List PatData
@@ -134,7 +134,7 @@ module _ (kind : CoroutineKind) (skipped : Bool) (self : Option BindingId) (fs :
       (let_params_take begun.1 ps shapes) (lets_any begun.1 ps) (λ l.
       takes_any (takes_end (made_coroutine_takes kind source.Fn l.lets i) (λ c. takes_pure _))))))
 
--- ---- the whole
+-- the whole
 
 module _ (kind : CoroutineKind) (skipped : Bool) (f : Formals) (e : OptionExpr) where
   abbrev written_data : List PatData

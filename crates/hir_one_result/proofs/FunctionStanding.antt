@@ -54,7 +54,7 @@ use Rattle.hir_one_result.proofs.PreludeStanding.{ShowsIf, handed_stand, lets_st
 use Rattle.hir_one_result.proofs.Standing.{Of, Shows, moved_pure}
 use Rattle.hir_one_result.proofs.TreeParts.{behind_none}
 
--- ---- `self`
+-- `self`
 
 -- it is bound anew, like this
 abbrev Anew : Binding → Stored → Option BindingId → List Statement → Ways
@@ -162,7 +162,7 @@ let_self_stands (tree.self_formal at u w) (Some b) = correct_as (some_self_stand
       row.shown (subst (λ k. option_map without_problem (binding_at k m.stored) ≡ Some (new_binding u)) same there);
 })
 
--- ---- in the coroutine
+-- in the coroutine
 
 -- the parameters but `self`, the body, and in front of that the `let`s
 abbrev In : CoroutineKind → SelfFormal → Bool → List Formal → OptionExpr → Of InFunction
@@ -244,7 +244,7 @@ module _ (kind : CoroutineKind) (r : SelfFormal) (skipped : Bool) (self : Option
             ));
       }))
 
--- ---- the whole
+-- the whole
 
 module _ (kind : CoroutineKind) (skipped : Bool) (f : Formals) (e : OptionExpr) where
   abbrev written_data : List PatData

@@ -41,7 +41,7 @@ pub last_then : {A B : Type 0} {owner : B → ExprId} (p : Lowering A) {f : A �
     → Last owner (p >>= f)
 last_then p h = lastly in_exprs p h
 
--- ---- steps that store no expression
+-- steps that store no expression
 
 pub quiet_close : Stays in_exprs close
 unfolding close
@@ -64,7 +64,7 @@ quiet_point : (at : Pointer) (id : ExprId) → Stays in_exprs (point at id)
 unfolding point storing.point
 quiet_point at id = record { stays = λ b. refl }
 
--- ---- expressions that are stored
+-- expressions that are stored
 
 pub last_alloc : (e : Expr) (source : Option Pointer) → IsLast (alloc_expr e source)
 unfolding alloc_expr storing.alloc_expr
@@ -84,7 +84,7 @@ last_made e source = record { last = λ b. by b (nat_lt (length b.stored.exprs.e
     by b true = let more = length-append b.stored.exprs.entries (e ∷ []) in omega (arith, more)
     by b false = tt
 
--- ---- what hands on an expression
+-- what hands on an expression
 
 pub pointed_last : (at : Pointer) {p : ExprSteps} → IsLast p → IsLast (p >>= (λ i. point at i >>= (λ _. pure i)))
 pointed_last at h = last_before in_exprs (λ i. i) (λ i. refl) h (λ i. quiet_point at i)
@@ -117,7 +117,7 @@ unfolding coroutine_form
 coroutine_last h = last_then open_barrier
     (λ outside. last_hands in_exprs h (λ id. hands_then in_exprs (quiet_close_barrier outside) (λ y. hands_pure in_exprs id refl)))
 
--- ---- closures and coroutines
+-- closures and coroutines
 
 module _ (at : Pointer) where
   pub closure_last : (moves is_static : Bool) (p : Lowering ClosureParams) (t : Lowering (Option TypeRefId)) (e : ExprSteps)

@@ -30,7 +30,7 @@ use Rattle.hir_lower_form.specs.Pats.{PatSteps, Table, next_alternative}
 use Rattle.hir_steps.proofs.Calls.{only_told}
 use Rattle.hir_steps.proofs.Answering.{Answering, AnsweredTo, answering_any}
 
--- ---- what is the last of its kind
+-- what is the last of its kind
 
 -- what is counted in a store, by numbers
 pub record Counted (I : Type 0) : Type 0 where
@@ -125,7 +125,7 @@ module _ {I : Type 0} (C : Counted I) where
       → LastOf owner (p >>= (λ a. q a >>= (λ v. pure (g a))))
   last_before g e h k = last_hands h (λ a. hands_then (k a) (λ v. hands_pure (g a) (e a)))
 
--- ---- patterns
+-- patterns
 
 abbrev pub in_pats : Counted PatId
 in_pats = record { place = λ i. i.0; count = λ s. length s.pats.entries }
@@ -245,7 +245,7 @@ module _ (at : Pointer) where
       by (Ok r) c e = later_last ps r.0 r.1 c e
       by (Err f) c e = tt
 
--- ---- types
+-- types
 
 abbrev pub in_types : Counted TypeRefId
 in_types = record { place = λ i. i.0; count = λ s. length s.types.entries }

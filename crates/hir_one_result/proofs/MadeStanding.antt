@@ -44,7 +44,7 @@ use Rattle.hir_one_result.proofs.PatStanding.{Behind}
 use Rattle.hir_one_result.proofs.Standing.{Of, Placed, Shows, block_leads, expr_at, hidden, label_at, moved_pure, own, own_label}
 use Rattle.hir_one_result.proofs.TreeParts.{behind_none, contents}
 
--- ---- what is made up
+-- what is made up
 
 pub made_stands : (e : HirExpr) (at : Pointer)
     → Correct (alloc_made e (Some at)) (Shows (λ final rs i. StandsMade (store_of final) (map_of final) e at i))
@@ -111,7 +111,7 @@ made_bind_stands mode n = steps.correct_as
           };
     })
 
--- ---- `?`
+-- `?`
 
 flow_arm_stands : (item : LangItemId) {body : ℕ → ExprSteps} {S : ℕ → Of ExprId} → ((n : ℕ) → Correct (body n) (Shows (S n)))
     → Correct (flow_arm_form item body)
@@ -178,7 +178,7 @@ question_stands at items h = correct_as
     let parts = shown_both row.first.shown (shown_both q.first.shown arms) in
     record { shown = shown_as parts (λ ws y. (row.one, q.one, s.one, t.one, expr_at t.second, y)) })
 
--- ---- `try`
+-- `try`
 
 tried_value_stands : (at : Pointer) (tail : Option ExprId)
     → Correct (value_or_unit at tail) (Shows (λ final rs v. StandsValue (store_of final) (map_of final) at tail v))
@@ -251,7 +251,7 @@ typed_try_stands at hb ht = correct_as
     let parts = shown_both row.first.shown (shown_after (moved_same q.first.stored) (shown_both s.first.shown last)) in
     record { shown = shown_as parts (λ ws y. (row.one, s.one, q.one, u.one, v.one, y)) })
 
--- ---- a condition, where its temporaries end
+-- a condition, where its temporaries end
 
 held_stands : (at : Pointer) {c : ExprSteps} {C : Of ExprId} → Correct c (Shows C) → Correct (held_form at c)
     (Shows (λ final rs i. StandsCondition (store_of final) (map_of final) at false (λ x. C final rs x) i))

@@ -92,7 +92,7 @@ becoming_takes at becomes.Opaque bounds = takes_type _ _
 becoming_takes at (becomes.Argument def) bounds = takes_then (takes_add_param _)
     (λ k. takes_end (takes_type _ _) (λ t. takes_end (takes_note_down _ (λ n. refl)) (λ u. takes_pure t)))
 
--- ---- a path that is an alias in an argument
+-- a path that is an alias in an argument
 
 takes_input_end : Takes nothing input_end
 unfolding input_end

@@ -17,7 +17,7 @@ use Rattle.hir_one_result.proofs.Leading.{Moved, Shown, moved_then, same_number,
 use Rattle.hir_one_result.proofs.Members.{contains_map, map_contains}
 use Rattle.hir_one_result.proofs.OwnersMoved.{owners_as}
 
--- ---- ways that are overtaken at a node
+-- ways that are overtaken at a node
 
 module _ (p : Pointer) where
   -- one that begins elsewhere stays

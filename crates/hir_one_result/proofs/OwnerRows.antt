@@ -83,7 +83,7 @@ module _ (store : Store) (source_map : SourceMap) (rs : Open) where
       → (b : BindingId) × (ws ≡ binding_way b (Some n.expr) ∷ expr_way (at 9) n.expr ∷ [])
   constant n ws c = let b = block store source_map (barrier_rib ∷ rs) n.expr c.0 c.2 in (b.0, owned n.expr c.1 b.1)
 
--- ---- closures, constants
+-- closures, constants
 
 of_closures : HasWays (closure_of param_x (tree.some_expr (closure_of tree.no_params lets_x))) (λ i ws.
     (b : BindingId) × (c : BindingId) × (block : ExprId) × (inner : ExprId)
@@ -130,7 +130,7 @@ of_const store source_map i ws x =
     let b = block store source_map (barrier_rib ∷ []) x.2.0.expr c.0 c.2 in
     (b.0, x.2.0.expr, owned i x.1 (both h.is (c.1 ∙ ap (λ vs. map (overtaken (at 2)) vs) b.1) h.second))
 
--- ---- coroutines
+-- coroutines
 
 module _ (store : Store) (source_map : SourceMap) (n : ℕ) where
   abbrev shape : PatData

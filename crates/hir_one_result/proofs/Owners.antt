@@ -7,7 +7,7 @@ use Rattle.hir_store.specs.Storing.{expr_id}
 use Rattle.hir_store.specs.declared.ids.ExprId.{ExprId}
 use Rattle.hir_one_result.specs.Size.{further, owned_else_last, placed, placed_owner}
 
--- ---- counted from elsewhere
+-- counted from elsewhere
 
 none_before : (k : ℕ) → 0 + k ≡ k
 none_before k = omega arith
@@ -31,7 +31,7 @@ owners_joined n m os ps qs =
     let apart = map-append (further n) ps (map (further m) qs) ∙ ap (λ rs. map (further n) ps ++ rs) (further_then n m qs) in
     ap (λ rs. os ++ rs) apart ∙ sym (append_assoc os (map (further n) ps) (map (further (n + m)) qs))
 
--- ---- where they are stored
+-- where they are stored
 
 placed_further : (l n : ℕ) (os : List (Option ℕ)) → placed l (map (further n) os) ≡ placed (l + n) os
 placed_further l n [] = refl
@@ -50,7 +50,7 @@ owners_then xs l n os ps e f g =
 pub no_owners : (os : List (Option ExprId)) {ps : List (Option ExprId)} → ps ≡ os → ps ≡ os ++ []
 no_owners os e = e ∙ sym (append-nil os)
 
--- ---- how many
+-- how many
 
 pub as_many_both : (n : ℕ) (os ps : List (Option ℕ)) {k m : ℕ} → length os ≡ k → length ps ≡ m
     → length (os ++ map (further n) ps) ≡ k + m
@@ -67,7 +67,7 @@ as_many_placed xs l os e =
     let m = ap length e in
     omega (arith, n, k, m)
 
--- ---- what the last expression owns
+-- what the last expression owns
 
 pub as_many_owned : (n : ℕ) (os : List (Option ℕ)) {k : ℕ} → length os ≡ k → length (map (owned_else_last n) os) ≡ k
 as_many_owned n os e = length-map os (owned_else_last n) ∙ e

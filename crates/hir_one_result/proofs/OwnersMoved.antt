@@ -28,7 +28,7 @@ pub record OwnersMoved (a b : Stored) (ways : List Way) : Type 0 where
   pub are : OwnersAre b.bindings.owners ways
   pub newer : (x : BindingId) (o : Option ExprId) → Contains ways (binding_way x o) → length a.bindings.owners ≤ x.0
 
--- ---- where nothing is bound
+-- where nothing is bound
 
 -- none of these ways ends at a binding
 abbrev pub BindsNone : List Way → Type 0
@@ -65,7 +65,7 @@ owners_still {a = a} {ws = ws} same n none may = record {
   newer = λ x o c. absurd (binds_none x o ws none c);
 }
 
--- ---- one after another
+-- one after another
 
 pub owners_then : {a b c : Stored} (us vs : List Way) → OwnersMoved a b us → OwnersMoved b c vs → OwnersMoved a c (us ++ vs)
 owners_then us vs g h = let more = longer g.stay in record {
@@ -87,7 +87,7 @@ owners_as back g = record {
   newer = λ x o c. g.newer x o (back x o c);
 }
 
--- ---- a binding more, which nothing owns
+-- a binding more, which nothing owns
 
 pub owners_binding : (y : Binding) (a : Stored) → MayBeOwned a
     → OwnersMoved a (with_new_binding y a) (binding_way (binding_id (length a.bindings.entries)) None ∷ [])
@@ -111,7 +111,7 @@ owners_binding y a may =
           omega (arith, may, place);
     }
 
--- ---- what owns them from then on
+-- what owns them from then on
 
 own_at : (n : ℕ) (id : ExprId) (os : List (Option ExprId)) (k : ℕ) (o : Option ExprId) → n ≤ k → slice_get os k ≡ Some o
     → slice_get (own_from n id os) k ≡ Some (owned_else id o)

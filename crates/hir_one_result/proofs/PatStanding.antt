@@ -46,7 +46,7 @@ use Rattle.hir_one_result.proofs.Naming.{pat_as, pat_alone, facts_as, facts_pure
 use Rattle.hir_one_result.proofs.Naming.{facts_bind, pat_facts, shows_facts, pat_node, with_second}
 use Rattle.hir_one_result.proofs.Standing.{Of, Shows, Facts, Leaves, alone_stands, present_none, present_some}
 
--- ---- the list of a tuple
+-- the list of a tuple
 
 missing_pat_facts : Correct missing_pat (Facts (λ final i. Unit {0}))
 unfolding missing_pat
@@ -74,7 +74,7 @@ elements_facts comma es = correct_as
       moved = moved_then row.first.moved (moved_then s.first.moved s.second.moved);
     })
 
--- ---- parts of ways
+-- parts of ways
 
 pub second_as : {P Q R : Ways} {ws : List Way} → (P & Q) ws → ((vs : List Way) → Q vs → R vs) → (P & R) ws
 second_as z f = record { left = z.left; right = z.right; is = z.is; first = z.first; second = f z.right z.second }
@@ -83,7 +83,7 @@ second_as z f = record { left = z.left; right = z.right; is = z.is; first = z.fi
 abbrev pub Behind : {A : Type 0} → List A → (List A → Ways) → List A → Ways
 Behind {A = A} done S is = λ ws. (new : List A) × (is ≡ done ++ new) × S new ws
 
--- ---- behind a path
+-- behind a path
 
 -- what is so where the path is read
 pub where_as : (S T : PathData → Ways) (N : Ways) (d : Option PathData) (ws : List Way)
@@ -158,7 +158,7 @@ pat_path p U {f = f} {W = W} {T = T} g h none some t =
     join final ps m middle m' r (Some o) (Some d) is x y =
         like_row (behind_row (shows_leaves x) y) (λ us. refl) (λ us n z. refl) (λ ks us ws z. second_as z (λ vs v. (o, v)))
 
--- ---- patterns without patterns in them
+-- patterns without patterns in them
 
 pub missing_alone : Tail (λ final i. Unit {0}) (forms.alone missing_pat)
 missing_alone = pat_alone (shows_facts missing_pat_facts)

@@ -71,7 +71,7 @@ module _ {I : Type 0} (number : ℕ → I) where
   targets_as_led n (called_at p ∷ xs) es = targets_as_led n xs es
   targets_as_led n (assigned_at p ∷ xs) es = targets_as_led n xs (insert_entry same_pointer es p (number (n - 1)))
 
--- ---- where nothing was stored before
+-- where nothing was stored before
 
 push_new : {A : Type 0} (xs : List A) (x : A) → slice_get (xs ++ x ∷ []) (length xs) ≡ Some x
 push_new [] x = refl

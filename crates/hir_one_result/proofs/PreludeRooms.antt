@@ -37,7 +37,7 @@ use Rattle.hir_one_result.proofs.MadeRooms.{takes_number}
 use Rattle.hir_one_result.proofs.Rooms.{Takes, takes_alloc, takes_binding, takes_define, takes_end, takes_made_pat, takes_pure, takes_then}
 use Rattle.hir_one_result.proofs.Took.{Room}
 
--- ---- what is known of patterns
+-- what is known of patterns
 
 -- the pattern came from this node, also in each later store
 abbrev pub From : PatId → Option Pointer → Known
@@ -100,7 +100,7 @@ hand_from [] (p ∷ is) ys s h r = absurd h
 hand_from (x ∷ xs) [] ys s h r = absurd h
 hand_from (x ∷ xs) (p ∷ is) [] s h r = absurd h
 
--- ---- names that are handed in
+-- names that are handed in
 
 pub name_takes : (n : Name) (h : HygieneId) → Takes an_expr (name_form n h)
 unfolding name_form
@@ -119,7 +119,7 @@ unfolding handed_form
 handed_takes x at = takes_if_then (from_lasts x.pat at) (takes_any (takes_binding _)) (any (correct_alloc_binding _))
     (λ i. takes_if_end (beside_takes _ x.pat at) (λ p. takes_end (takes_define i p) (λ u. takes_pure p)))
 
--- ---- `let`s
+-- `let`s
 
 let_takes : (x : Handed) (p : PatId) → Takes an_expr (let_form x p)
 unfolding let_form
@@ -168,7 +168,7 @@ let_params_take done (p ∷ is) (y ∷ ys) = takes_if_then {P = λ s. ReadAs s (
     (record { takes = λ b d h. (let_param_takes done p y).takes b d (first_reads b.stored p is y ys h) })
     (any (correct_let_param done p)) (λ l. let_params_take l is ys)
 
--- ---- what the outside hands them to
+-- what the outside hands them to
 
 pub lower_handed_takes : (done : List PatId) (xs : List Handed) (ys : List PatData)
     → TakesIf (Froms xs ys) (handed_size ys) (lower_handed done xs)
@@ -179,7 +179,7 @@ lower_handed_takes done (x ∷ xs) (y ∷ ys) = takes_if_then {P = Froms (x ∷ 
     (record { takes = λ b d h. (handed_takes x (source_of y)).takes b d h.0 })
     (any (correct_handed x)) (λ p. lower_handed_takes (done ++ p ∷ []) xs ys)
 
--- ---- the coroutine
+-- the coroutine
 
 pub made_coroutine_takes : (kind : CoroutineKind) (from : CoroutineSource) (lets : List Statement) (body : ExprId)
     → Takes (an_expr ∪ an_expr) (made_coroutine_form kind from lets body)

@@ -19,7 +19,7 @@ use Rattle.hir_one_result.specs.Stands.{Stands, opened}
 use Rattle.hir_one_result.specs.StandsPreludes.{Named, StandsHanded, StandsLets}
 use Rattle.hir_one_result.specs.WorkedPreludes.{CoroutineClosures, IsCoroutineClosure, OwnersOfCoroutines, async_break, plain_x}
 
--- ---- what stands for one
+-- what stands for one
 
 module _ (store : Store) (source_map : SourceMap) where
   -- `let`s of one parameter
@@ -84,7 +84,7 @@ coroutine_closures = record {
   parameters_first = λ kind moves. refl;
 }
 
--- ---- what owns bindings
+-- what owns bindings
 
 pub owners_of_coroutines : OwnersOfCoroutines
 owners_of_coroutines = record {

@@ -61,7 +61,7 @@ pub record ShowsIf {A : Type 0} (P : Known) (S : Of A) (final : Stored) (ps : Li
 abbrev FromNow : PatId → Option Pointer → Known
 FromNow p at s = source_in s p ≡ at
 
--- ---- names that are handed in
+-- names that are handed in
 
 module _ {put : PutPat} {p : Pat} {from : Option Pointer} {final : Stored} {ps : List Frame} {m m' : Mark} {i : PatId} where
   pub pat_found : {at : Option Pointer} → from ≡ at → AllocatedPatBy put p from final ps m m' i
@@ -113,7 +113,7 @@ unfolding name_form
 name_stands n h = correct_as (correct_alloc (hir.Path (name_path n) h) None) (λ final ps m m' i g row.
     record { shown = shown_as (unled row) (λ ws x. (expr_at row, x)) })
 
--- ---- `let`s
+-- `let`s
 
 let_stands : (x : Handed) (p : PatId)
     → Correct (let_form x p) (Shows (λ final rs ss. StandsLet (store_of final) (map_of final) (named x) p ss))
@@ -199,7 +199,7 @@ let_param_stands done p y = correct_as
           subst (λ h. Shown (LetBehind done p (source_of y) h final (ribs ps) l) m.stored m'.stored) so found;
     })
 
--- ---- all of them
+-- all of them
 
 -- they are handed in by these patterns
 abbrev pub SamePats : List Handed → List PatId → Type 0
@@ -252,7 +252,7 @@ lets_stand done (p ∷ is) (y ∷ ys) = correct_as
           ));
     })
 
--- ---- what the outside hands them to
+-- what the outside hands them to
 
 pub froms_of : (xs : List Handed) (is : List PatId) (ys : List PatData) (s : Stored) → SamePats xs is → ReadAs s is ys → Froms xs ys s
 froms_of [] [] [] s h r = tt
@@ -296,7 +296,7 @@ handed_stand done (x ∷ xs) (y ∷ ys) = correct_as
           ));
     })
 
--- ---- the coroutine
+-- the coroutine
 
 pub made_coroutine_stands : (kind : CoroutineKind) (from : CoroutineSource) (lets : List Statement) (body : ExprId)
     → Correct (made_coroutine_form kind from lets body) (Shows (λ final rs c ws. (block : ExprId)

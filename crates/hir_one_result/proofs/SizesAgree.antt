@@ -39,7 +39,7 @@ use Rattle.hir_one_result.specs.Sizes.{bodies_sized, sizes}
 use Rattle.hir_one_result.proofs.SameSizes.{all_owned, behind, both, in_body, in_front, same, same_then}
 use Rattle.hir_one_result.proofs.Took.{Same, moved_in, moved_out, nothing_first}
 
--- ---- small parts
+-- small parts
 
 if_is : (b : Bool) {n k : Size} → Same n k → Same (p.if_so sizes b n) (size.if_so b k)
 if_is true h = h
@@ -160,7 +160,7 @@ try_is has_type number st e h = both (same (size.a_made_name ∪ size.a_label)) 
     (both (both (same an_expr) (both (if_is (not (is_left e || gives_value st false)) (same an_expr)) (same an_expr))) (same an_expr))))
 
 mutual
-  -- ---- types, paths, arguments and bounds
+  -- types, paths, arguments and bounds
 
   pub type_is : (b : Option Binder) (t : Type_) → Same (g.grade_type_in sizes b t) (room.type_size t)
   type_is b (tree.paren_type t) = part_is b t
@@ -277,7 +277,7 @@ mutual
   rooted_is : (c : Constant) → Same (g.grade_rooted sizes c) (room.rooted_size c)
   rooted_is (tree.constant e) = in_body (constant_body e) (expr_part_is e)
 
-  -- ---- patterns of types
+  -- patterns of types
 
   type_pat_is : (q : TypePat) → Same (g.grade_type_pat sizes q) (room.type_pat_size q)
   type_pat_is (tree.not_null_type_pat at) = same _
@@ -307,7 +307,7 @@ mutual
   limit_side_is (tree.path_side at q) = both (whole_is q) (same an_expr)
   limit_side_is tree.other_side = same _
 
-  -- ---- patterns
+  -- patterns
 
   side_is : (s : Side) → Same (g.grade_side sizes s) (room.side_size s)
   side_is tree.no_side = same nothing
@@ -381,7 +381,7 @@ mutual
   pat_field_is tree.partless_pat_field us = same nothing
   pat_field_is (tree.pat_field at n q) us = pat_is q us
 
-  -- ---- what is assigned to
+  -- what is assigned to
 
   target_is : (t : Target) → Same (g.grade_target sizes t) (room.target_size t)
   target_is (tree.absent_target call) = same _
@@ -414,7 +414,7 @@ mutual
   target_field_is tree.partless_target_field = same nothing
   target_field_is (tree.target_field at n t) = target_is t
 
-  -- ---- expressions
+  -- expressions
 
   expr_is : (e : Expr) → Same (g.grade_expr sizes e) (room.size e)
   expr_is (tree.disabled_expr why e) = behind (same an_expr)
@@ -546,7 +546,7 @@ mutual
   stmt_is (tree.macro_stmt k d) = same _
   stmt_is (tree.let_stmt q t e b) = both (top_is q) (both (present_is t) (both (expr_present_is e) (block_present_is b)))
 
--- ---- bodies behind their parameters
+-- bodies behind their parameters
 
 self_is : (s : SelfFormal) → Same (grade_self sizes s) (room.self_size s)
 self_is tree.no_self = same nothing

@@ -59,7 +59,7 @@ known final u (f ∷ us) (e ∷ es) h = rw h.0 (by (is_of u.name u.hygiene f) (k
     by false k = known_later f u us e es (lookup (same_key (key_of u)) es) (with_use us u) (is_known us u) (number_of us u)
         (position_or_len (same_key (key_of u)) (keys_of es)) k
 
--- ---- numbers of bindings
+-- numbers of bindings
 
 -- the numbers of these bindings rise from one on, and end below another
 abbrev pub Rising : ℕ → ℕ → Entries → Type 0
@@ -129,7 +129,7 @@ pub free_append : (n : ℕ) (es fs : Entries) → Free n es → Free n fs → Fr
 free_append n [] fs h k = k
 free_append n (e ∷ es) fs h k = (h.0, free_append n es fs h.1 k)
 
--- ---- while names come
+-- while names come
 
 -- the bindings of the names that came are new
 pub record Further (es fs : Entries) (a b : Stored) : Type 0 where

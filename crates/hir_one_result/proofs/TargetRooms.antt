@@ -15,7 +15,7 @@ use Rattle.hir_one_result.proofs.Owners.{no_owners}
 use Rattle.hir_one_result.proofs.Rooms.{Takes}
 use Rattle.hir_one_result.proofs.Took.{Room, Took, grew_none, no_sources, short_first, still, took_then, unnamed}
 
--- ---- the node leads to the last
+-- the node leads to the last
 
 targets_pointed : (b : Builder) (at : Pointer) (i : PatId) → suc i.0 ≡ length b.stored.pats.entries
     → Took (a_target_way at) b (record b { stored = pointing_target at i b.stored })

@@ -37,7 +37,7 @@ use Rattle.hir_one_result.proofs.PatForms.{StandsField, StandsFieldBefore, field
 use Rattle.hir_one_result.proofs.PatStanding.{Behind, elements_facts, leaves_then, path_then, where_as}
 use Rattle.hir_one_result.proofs.Standing.{Of, Shows, Facts, Leaves, moved_pure}
 
--- ---- steps
+-- steps
 
 pub shows_as : {A : Type 0} {S T : Of A} {p : Lowering A} → Correct p (Shows S)
     → ((final : Stored) (rs : Open) (a : A) (ws : List Way) → S final rs a ws → T final rs a ws) → Correct p (Shows T)
@@ -60,7 +60,7 @@ pub leaves_shown : {A : Type 0} {W : Stored → Open → Ways} {p : Lowering A} 
     → Correct p (Shows (λ final rs a. W final rs))
 leaves_shown h = correct_as h (λ final ps m m' a g row. record { shown = row.shown })
 
--- ---- patterns of what is assigned to, to which nodes may lead
+-- patterns of what is assigned to, to which nodes may lead
 
 pub made_facts : (p : HirPat) (source : Option Pointer) → MakesNone p
     → Correct (alloc_made_pat p source) (Facts (λ final i. PatIs (store_of final) (map_of final) i p))
@@ -100,14 +100,14 @@ pointed_stands at {S = S} h = shows_as
     (shows_tail h (λ i. facts_bind (assigned_facts at i) (λ u. facts_pure i)))
     (λ final rs j ws z. subst (λ k. S final rs k ws) (sym z.1.2) z.2)
 
--- ---- lists
+-- lists
 
 pub done_stand : {A : Type 0} (done : List A)
     → Correct (pure done) (Shows (λ final rs is. Behind done (λ js ws. (js ≡ []) × No ws) is))
 done_stand done = correct_as (correct_pure done) (λ final ps m m' is g row.
     record { shown = shown_none (moved_pure row.still) ([], row.is ∙ sym (append-nil done), (refl, refl)) })
 
--- ---- forms
+-- forms
 
 pub place_stands : (at : Pointer) {e : ExprSteps} {S : Of ExprId} → Correct e (Shows S)
     → Correct (targets.place_form at e)
@@ -197,7 +197,7 @@ module _ (at : Origin) where
       (λ o. record_over o dots spread h))
       (λ final rs i ws z. with_second z (where_as _ _ _ (written_path p) z.right (λ d us y. (y.0, y.2.0, y.2.1, y.2.2)) z.second))
 
--- ---- parts
+-- parts
 
 -- one target before others
 pub targets_more : {S : Of PatId} {T : Of (List PatId)} {p : Lowering PatId} {q : Elements → Lowering Elements} → Correct p (Shows S)

@@ -36,7 +36,7 @@ blocks_are e old id new paired is =
     behind entered (λ xs ys like. like) (expr_part_graded (tells_graded entered) e) old new id paired is scopes.0 scopes.1
     ∙ ap (λ ns. old.stored.block_scopes ++ ns) (expr_part_is e scopes.0)
 
--- ---- bodies behind their parameters
+-- bodies behind their parameters
 
 self_none : (s : SelfFormal) (ss : List Scope) → grade_self blocks s ss ≡ []
 self_none tree.no_self ss = refl

@@ -63,7 +63,7 @@ diagnostics_are e old id new paired is ss around = record {
   permuted = expr_part_is e ss;
 }
 
--- ---- bodies behind their parameters
+-- bodies behind their parameters
 
 self_is : (s : SelfFormal) (ss : List Scope) → grade_self faults s ss ≡ self_faults s
 self_is tree.no_self ss = refl

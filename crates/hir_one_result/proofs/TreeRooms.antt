@@ -45,7 +45,7 @@ pub body_takes : (kind : Option CoroutineKind) (skipped : Bool) (f : Formals) (e
     → Takes (body_size kind skipped f e) (lower_body kind skipped f e)
 body_takes kind skipped f e = takes_as (body_is kind skipped f e) (body_graded rooms_graded rooms_bodies kind skipped f e)
 
--- ---- paths and arguments, with what is known of their answers
+-- paths and arguments, with what is known of their answers
 
 segment_tells : (first : Bool) (s : Segment) (w : PathWalk)
     → Tells (segment_size first s (seen w)) (Gives (segment_read first s (seen w))) (read_segment first s w)

@@ -432,7 +432,7 @@ mutual
             (made ∷ y.0, is, (x.0, x.1, x.2, x.3, y.0, refl, beside_ways z x.5 y.2)));
       })
 
-  -- ---- patterns
+  -- patterns
 
   pub top_stands : (p : OptionPat) → Correct (lower_top p) (Shows (λ final rs i. StandsTop (store_of final) (map_of final) rs p i))
   top_stands tree.no_pat = no_top_stands
@@ -522,7 +522,7 @@ mutual
   side_stands (tree.path_side at p) = path_side_stands at p (whole_left p)
   side_stands tree.other_side = present_none
 
-  -- ---- patterns in types
+  -- patterns in types
 
   type_pat_part_left : (p : OptionTypePat)
       → Stays (λ final rs. TypePatPartWays (store_of final) (map_of final) rs p) (lower_type_pat_part p)
@@ -555,7 +555,7 @@ mutual
   limit_side_stands (tree.path_side at p) = path_limit_stands at p (whole_left p)
   limit_side_stands tree.other_side = missing_stands
 
-  -- ---- what is assigned to
+  -- what is assigned to
 
   target_stands : (t : Target) → Correct (lower_target t) (Shows (λ final rs i. StandsTarget (store_of final) (map_of final) rs t i))
   target_stands (tree.absent_target call) = missing_target_stands call

@@ -26,7 +26,7 @@ unless true xs = []
 unless false xs = xs
 
 abbrev mutual
-  -- ---- constants in types, paths, arguments and bounds
+  -- constants in types, paths, arguments and bounds
 
   pub blocks_of_type : Type_ → List BlockId
   blocks_of_type (tree.paren_type t) = blocks_of_type_part t
@@ -147,7 +147,7 @@ abbrev mutual
   blocks_of_side (tree.path_side at p) = blocks_of_whole p
   blocks_of_side s = []
 
-  -- ---- expressions
+  -- expressions
 
   pub blocks_of : Expr → List BlockId
   blocks_of (tree.disabled_expr why e) = []
@@ -261,7 +261,7 @@ abbrev mutual
   blocks_of_stmt (tree.let_stmt p t e b) =
       blocks_of_top p ++ (blocks_of_present_type t ++ (blocks_of_part e ++ blocks_of_block_part b))
 
-  -- ---- patterns
+  -- patterns
 
   pub blocks_of_pat : Pat → List BlockId
   blocks_of_pat (tree.leaf_pat at form) = []
@@ -299,7 +299,7 @@ abbrev mutual
   blocks_of_pat_field tree.partless_pat_field = []
   blocks_of_pat_field (tree.pat_field at n p) = blocks_of_pat p
 
-  -- ---- what is assigned to
+  -- what is assigned to
 
   pub blocks_of_target : Target → List BlockId
   blocks_of_target (tree.absent_target call) = []

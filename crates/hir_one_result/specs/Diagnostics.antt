@@ -51,7 +51,7 @@ behind_stmt (tree.macro_stmt k d) ss = behind_def d ss
 behind_stmt s ss = ss
 
 abbrev mutual
-  -- ---- constants in types, paths, arguments and bounds
+  -- constants in types, paths, arguments and bounds
 
   pub type_faults : List Scope → Type_ → Faults
   type_faults ss (tree.paren_type t) = type_part_faults ss t
@@ -174,7 +174,7 @@ abbrev mutual
   side_faults ss (tree.path_side at p) = whole_faults ss p
   side_faults ss s = []
 
-  -- ---- expressions
+  -- expressions
 
   pub diagnostics : List Scope → Expr → Faults
   diagnostics ss (tree.disabled_expr why e) = condition_faults why.condition
@@ -294,7 +294,7 @@ abbrev mutual
   stmt_diagnostics ss (tree.let_stmt p t e b) =
       top_faults ss p ++ (present_type_faults ss t ++ (part_diagnostics ss e ++ block_part_diagnostics ss b))
 
-  -- ---- patterns
+  -- patterns
 
   pub pat_faults : List Scope → Pat → Faults
   pat_faults ss (tree.leaf_pat at form) = []
@@ -331,7 +331,7 @@ abbrev mutual
   pat_field_faults ss tree.partless_pat_field = []
   pat_field_faults ss (tree.pat_field at n p) = pat_faults ss p
 
-  -- ---- what is assigned to
+  -- what is assigned to
 
   pub target_faults_in : List Scope → Target → Faults
   target_faults_in ss (tree.absent_target call) = []
@@ -360,7 +360,7 @@ abbrev mutual
   target_field_faults ss tree.partless_target_field = []
   target_field_faults ss (tree.target_field at n t) = target_faults_in ss t
 
--- ---- parameters
+-- parameters
 
 abbrev pub self_faults : SelfFormal → Faults
 self_faults tree.no_self = []

@@ -59,7 +59,7 @@ lower_formals skipped f = do
   ps ← each_formal skipped [] f.formals
   pure (s, ps)
 
--- ---- bodies
+-- bodies
 
 unfoldable pub plain_body : Bool → Formals → OptionExpr → Lowering (Given × ExprId)
 plain_body skipped f e = do

@@ -57,7 +57,7 @@ module _ {X : Type 0} (of_faults : List ExpressionStoreDiagnostics → List X) (
   abbrev pub bodies_listed : GradingBodies listed
   bodies_listed = record { coroutine_body = λ skipped f D E F. λ ss. D ss ++ (E ss ++ F ss) }
 
--- ---- faults, and the numbers of blocks
+-- faults, and the numbers of blocks
 
 abbrev pub faults : Grading {0}
 faults = listed {X = ExpressionStoreDiagnostics} (λ ds. ds) (λ n. []) (λ es ds. ds)

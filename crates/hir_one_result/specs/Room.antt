@@ -48,7 +48,7 @@ front_size (tree.tuple_of true) = an_expr
 front_size tree.array_of = nothing
 
 abbrev mutual
-  -- ---- types, paths, arguments and bounds
+  -- types, paths, arguments and bounds
 
   -- each type becomes one, but parentheses and a `for` become none besides what is in them
   pub type_size : Type_ → Size
@@ -147,7 +147,7 @@ abbrev mutual
   bound_size (tree.lifetime_bound l) = a_lifetime (Some l.pointer)
   bound_size (tree.use_bound us) = uses_size us
 
-  -- ---- constants
+  -- constants
 
   -- a length or an argument, of which the expression owns what is bound in it
   pub constant_size : Constant → Size
@@ -157,7 +157,7 @@ abbrev mutual
   pub rooted_size : Constant → Size
   rooted_size (tree.constant e) = a_body (constant_body e) (size_part e)
 
-  -- ---- patterns of types
+  -- patterns of types
 
   pub type_pat_size : TypePat → Size
   type_pat_size (tree.not_null_type_pat at) = a_pat (Some at)
@@ -186,7 +186,7 @@ abbrev mutual
   limit_side_size (tree.path_side at p) = whole_size p ∪ an_expr
   limit_side_size s = an_expr
 
-  -- ---- expressions
+  -- expressions
 
   pub size : Expr → Size
   size (tree.disabled_expr why e) = an_expr
@@ -326,7 +326,7 @@ abbrev mutual
   stmt_size (tree.macro_stmt k d) = a_def k
   stmt_size (tree.let_stmt p t e b) = top_size p ∪ present_size t ∪ size_present e ∪ block_present_size b
 
-  -- ---- patterns, where these names have a use
+  -- patterns, where these names have a use
 
   pub pat_size : Pat → FirstUses → Size
   pat_size (tree.leaf_pat at form) us = a_pat (Some at)
@@ -398,7 +398,7 @@ abbrev mutual
   top_size tree.no_pat = a_pat None
   top_size (tree.some_pat p) = pat_size p []
 
-  -- ---- what is assigned to
+  -- what is assigned to
 
   pub target_size : Target → Size
   target_size (tree.absent_target call) = a_made_pat call
@@ -431,7 +431,7 @@ abbrev mutual
   target_field_size tree.partless_target_field = nothing
   target_field_size (tree.target_field at n t) = target_size t
 
--- ---- a body behind its parameters
+-- a body behind its parameters
 
 abbrev pub tops_size : Tops → Size
 tops_size [] = nothing

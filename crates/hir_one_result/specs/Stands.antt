@@ -131,7 +131,7 @@ module _ (store : Store) (source_map : SourceMap) where
       StandsOverThree (λ low high callee. hir.Call callee (option_to_list low ++ option_to_list high)) at S T (λ f. StandsItem item f) i
   StandsRange at tree.itemless_range S T i = StandsOverTwo (λ low high. hir.Missing) at S T i
 
-  -- ---- parts of patterns
+  -- parts of patterns
 
   abbrev pub PatIs : PatId → HirPat → Type 0
   PatIs i p = slice_get store.pats i.0 ≡ Some p
@@ -166,7 +166,7 @@ module _ (store : Store) (source_map : SourceMap) where
   RangeIs (Some op) i low high = PatIs i (pat.Range op low high)
 
   abbrev mutual
-    -- ---- what stands for the constants of types, paths, arguments and bounds
+    -- what stands for the constants of types, paths, arguments and bounds
 
     pub TypeWays : Open → Type_ → Ways
     TypeWays rs (tree.paren_type t) = TypePartWays rs t
@@ -301,7 +301,7 @@ module _ (store : Store) (source_map : SourceMap) where
         WholeWays rs p & WherePath (written_path p) (λ d. StandsSidePath at d i) (StandsAlone hir.Missing at i)
     StandsLimitSide rs tree.other_side i = StandsMissing i
 
-    -- ---- expressions
+    -- expressions
 
     pub Stands : Open → Expr → ExprId → Ways
     Stands rs (tree.disabled_expr why e) i = StandsMissing i
@@ -486,7 +486,7 @@ module _ (store : Store) (source_map : SourceMap) where
         & ReadsAsType store source_map t (PresentTypeWays rs t) y & StandsPresent rs e x & StandsPresentBlock rs b z)
         & StandsContents rs ss Tail others tail) ws
 
-    -- ---- patterns
+    -- patterns
 
     -- one of which these names have a use
     pub StandsPat : Names → Open → Pat → FirstUses → PatId → Ways
@@ -562,7 +562,7 @@ module _ (store : Store) (source_map : SourceMap) where
         WholeWays rs p & WherePath (written_path p) (λ d. There (λ i. StandsSidePath at d i) o) (Absent o)
     StandsSide rs tree.other_side o = Absent o
 
-    -- ---- what is assigned to
+    -- what is assigned to
 
     pub StandsTarget : Open → Target → PatId → Ways
     StandsTarget rs (tree.absent_target call) i = No

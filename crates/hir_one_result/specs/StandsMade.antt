@@ -70,7 +70,7 @@ module _ (store : Store) (source_map : SourceMap) where
   StandsItemCall at item argument i = λ ws. (callee : ExprId)
       × (StandsMade (item_or_missing item) at callee & StandsMade (hir.Call callee (argument ∷ [])) at i) ws
 
-  -- ---- `while`
+  -- `while`
 
   -- The turn of a `while` is its body where the condition holds, else a break. It, the break and the loop came from the node of the
   -- `while`, which leads to the loop alone.
@@ -90,7 +90,7 @@ module _ (store : Store) (source_map : SourceMap) where
       × (C condition & StandsMadeBind Unannotated n p & StandsMade (generated_name n) at e
       & StandsMade (hir.Block false None None (statement.Let p None (Some condition) None ∷ []) (Some e)) at i) ws
 
-  -- ---- closures
+  -- closures
 
   -- Its parameters, what it returns and its body, and then the closure; it is what is written.
   abbrev pub StandsClosure : Pointer → ClosureKind → CaptureBy → (StoredParams → Ways) → (Option TypeRefId → Ways) → (ExprId → Ways)
@@ -99,7 +99,7 @@ module _ (store : Store) (source_map : SourceMap) where
       × ExprAt store source_map i (hir.Closure l.0 l.1 ret body kind capture) (Some at)
       × (P l & T ret & B body & OneWay at i) ws
 
-  -- ---- coroutine blocks
+  -- coroutine blocks
 
   -- A block with this number, which comes from no node, and then a closure that takes nothing and does what the block does.
   abbrev pub StandsCoroutine : Pointer → CoroutineKind → CaptureBy → Option BlockId → Bool → (List Statement → Option ExprId → Ways)
@@ -110,7 +110,7 @@ module _ (store : Store) (source_map : SourceMap) where
       × ExprAt store source_map body (hir.Block false None number contents.0 contents.1) None
       × (C kept last & OneUnled body & OneWay at i) ws
 
-  -- ---- `?`
+  -- `?`
 
   -- an arm for the item, in which what the item holds has the name of a number
   abbrev pub StandsFlowArm : LangItemId → (ℕ → ExprId → Ways) → MatchArm → Ways
@@ -128,7 +128,7 @@ module _ (store : Store) (source_map : SourceMap) where
       × (S e & StandsItemCall at (Some items.branch) e b & StandsFlowArm items.goes_on (λ n x. StandsMade (generated_name n) at x) goes_on
       & StandsFlowArm items.breaks (λ n x. StandsResidual at items t n x) breaks & OneWay at i) ws
 
-  -- ---- `try`
+  -- `try`
 
   -- the tail, or `()` where there is none
   abbrev pub StandsValue : Pointer → Option ExprId → ExprId → Ways
@@ -155,7 +155,7 @@ module _ (store : Store) (source_map : SourceMap) where
       × (B b & T t & StandsMadeBind Unannotated n p & StandsMade (generated_name n) at e
       & StandsMade (hir.Block false None None (statement.Let p (Some t) (Some b) None ∷ []) (Some e)) at i) ws
 
-  -- ---- `for`
+  -- `for`
 
   -- a call of the item with `&mut` of the name of this number
   abbrev pub StandsNext : Pointer → LangItemId → ℕ → ExprId → Ways

@@ -67,7 +67,7 @@ module _ (store : Store) (source_map : SourceMap) where
   abbrev pub StandsRead : Named → ExprId → Ways
   StandsRead x i = λ ws. ExprAt store source_map i (hir.Path (path_of_name x.name) x.hygiene) None × OneUnled i ws
 
-  -- ---- `let`s
+  -- `let`s
 
   -- `let p = x`
   abbrev pub StandsLet : Named → PatId → List Statement → Ways
@@ -106,7 +106,7 @@ module _ (store : Store) (source_map : SourceMap) where
       × (slice_get store.bindings b.0 ≡ Some (record { name = u.name; mode = u.mode; hygiene = u.hygiene; problems = None }))
       × (OneBindingWay b & StandsRead (the_name u.name u.hygiene) e) ws
 
-  -- ---- coroutines
+  -- coroutines
 
   -- A block with these in front of the body, and around it a closure that takes nothing, and what it uses of the outside by reference.
   pub record IsCoroutine (kind : CoroutineKind) (from : CoroutineSource) (lets : List Statement) (body block coroutine : ExprId)

@@ -51,7 +51,7 @@ ref_x = tree.some_pat (tree.bind_pat (at 8) (record use_x { mode = Ref }) tt tre
 abbrev pub only : OptionPat → Params
 only p = and_then p tree.no_params
 
--- ---- what stands for one
+-- what stands for one
 
 -- `async |x| break 'a`: a formal parameter from the node of the pattern, the closure right behind the coroutine, and in that a block from
 -- no node, with a `let` of the pattern in front of the body.
@@ -87,7 +87,7 @@ BecomesClosure moves takes =
     (kind : CoroutineKind) (outer : LabelId) (store : Store) (source_map : SourceMap) (i : ExprId) (ws : List Way)
     → Stands store source_map (opened label_a outer []) (async_break kind moves) i ws → IsCoroutineClosure kind takes store source_map i
 
--- ---- where patterns come from
+-- where patterns come from
 
 abbrev pub patterns_of : CoroutineKind → OptionPat → List (Option Pointer)
 patterns_of kind p = (size (coroutine_closure_of kind false (only p) (literal_part 1))).pats
@@ -116,7 +116,7 @@ pub record CoroutineClosures : Type 0 where
   pub parameters_first : (kind : CoroutineKind) (moves : Bool)
       → blocks_of (coroutine_closure_of kind moves tree.no_params (just 3)) ≡ block_id 3 ∷ []
 
--- ---- what owns bindings
+-- what owns bindings
 
 pub record OwnersOfCoroutines : Type 0 where
   -- `async |x| 1`: the body 1, the name that is read 2, the block 3, the coroutine 4, the closure 5

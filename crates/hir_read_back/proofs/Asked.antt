@@ -29,7 +29,7 @@ clash h = subst holds h tt
 abbrev name_at : Named → Name
 name_at n = n.name
 
--- ---- truth values
+-- truth values
 
 or_true : (a : Bool) → (a || true) ≡ true
 or_true true = refl
@@ -51,7 +51,7 @@ neither_right : (a b : Bool) → (a || b) ≡ false → b ≡ false
 neither_right true b h = absurd (clash h)
 neither_right false b h = h
 
--- ---- the names of a path
+-- the names of a path
 
 map_reverse : {A B : Type 0} (f : A → B) (xs : List A) → map f (reverse xs) ≡ reverse (map f xs)
 map_reverse f [] = refl
@@ -79,7 +79,7 @@ none_named : (ns : List Named) → asked.no_names (map name_at ns) ≡ empty_lis
 none_named [] = refl
 none_named (n ∷ ns) = refl
 
--- ---- a segment
+-- a segment
 
 abbrev piece_of : What → Piece
 piece_of rule.broken = asked.refusing
@@ -151,7 +151,7 @@ ends_is rule.super_ ns = refl
 ends_is (rule.anchor t) ns = refl
 ends_is (rule.projection t p) ns = refl
 
--- ---- a list that doesn't end
+-- a list that doesn't end
 
 abbrev reading_of : List Item → Reading
 reading_of [] = nothing_read
@@ -216,7 +216,7 @@ open_is (i ∷ is) h =
     ∙ (goes_on i.what (names is) (item_reading i is) here
     ∙ (λ j. record (open_reading (i ∷ is)) { ended = here j })))
 
--- ---- the first that ends it
+-- the first that ends it
 
 ended_own : (x : Piece) (ns : List Name) (r : Reading) → (own_self x ns r).ended ≡ r.ended
 ended_own asked.refusing ns r = refl
@@ -252,7 +252,7 @@ ended_is (i ∷ is) = by (ended is) refl (ended_is is)
         ∙ (ended_own (piece_of i.what) (map name_at (names is)) (item_reading i is)
         ∙ (sym (or_false (rule.ends i.what (names is))) ∙ ap (λ b. rule.ends i.what (names is) || b) (sym h)))
 
--- ---- the path
+-- the path
 
 supers_in_is : (k : PathKind) → asked.supers_in k ≡ rule.supers k
 supers_in_is kind.Plain = refl
@@ -368,7 +368,7 @@ read_law (i ∷ is) = by (ended is) refl (read_law is)
         ∙ (first_said i is ∙ (said_is (i ∷ is)
         ∙ ap (λ b. option_map bare_path (rule.path_read (if b then read is else i ∷ is))) (sym h)))
 
--- ---- in the tree
+-- in the tree
 
 mutual
   piece_is : (first : Bool) (s : Segment) → piece first s ≡ piece_of (what first s)

@@ -57,7 +57,7 @@ then_goes {from = from} {add = add} {more = more} {f = f} h closed k = correct_a
     proceeds (Ended w) = goes_at_once (Ended w) (λ final n is s. closed final n (Ended w) tt is s)
     proceeds (Open w) = k w
 
--- ---- segments
+-- segments
 
 -- a name, with what stands beside it
 pub named_goes : {x : OptionArgsData} {p : Lowering (Option GenericArgs)} (l : Bool) (n : Name) (w : PathWalk) → Correct p (Reads a_list x)
@@ -88,7 +88,7 @@ anchor_goes {t = t} l w h = correct_as (correct_bind h (λ i. correct_pure (anch
           (says_later final m.entries row.middle.entries is (Open w) row.before.entries s);
     }))
 
--- ---- whole paths
+-- whole paths
 
 -- on both sides nothing, or a path that is read so
 pub record PathIs (y : Option PathRead) (final : Stored) (ps : List Frame) (m m' : Mark) (o : Option HirPath) : Type 0 where
@@ -179,7 +179,7 @@ path_bound_reads y at maybe binder h = correct_as (correct_bind h (λ o. bound_s
         ap (a_bound final (within final d)) row.is ∙ (bound_read final d binder maybe row.number
         ∙ ap (written.bound_behind binder (written.modifier_of maybe)) (t.is d le))
 
--- ---- `<T as Trait>`, whose path is stored as a type too
+-- `<T as Trait>`, whose path is stored as a type too
 
 abbrev pub traited : TypeRefId → PathWalk → Option HirPath → Reading
 traited i w None = Refused

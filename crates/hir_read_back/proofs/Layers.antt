@@ -89,7 +89,7 @@ within final d = readers (store_of final) (map_of final) d
 pub record Reads {A D : Type 0} (layer : Layer A D) (x : D) (final : Stored) (ps : List Frame) (m m' : Mark) (a : A) : Type 0 where
   pub is : (d : ℕ) → m'.entries ≤ d → layer final (within final d) a ≡ x
 
--- ---- values
+-- values
 
 -- without parts
 pub value0 : {A D : Type 0} {l : Layer A D} {x : D} (a : A) → ((final : Stored) (r : Readers) → l final r a ≡ x)
@@ -105,7 +105,7 @@ value1 con f h e = correct_as (correct_bind h (λ a. correct_pure (con a)))
       is = λ d le. e final (within final d) row.one ∙ ap f (row.first.is d le);
     }))
 
--- ---- lists
+-- lists
 
 -- what is pushed on a list that grows
 pub record Pushed {A : Type 0} (done : List A) (R : Rel (List A))
@@ -141,7 +141,7 @@ more_read cons e h k done = correct_as (correct_bind h (λ a. k (done ++ a ∷ [
       };
     })
 
--- ---- types
+-- types
 
 -- one that is stored under the number from the source
 pub type_at : {t : TypeRef} {source : Option Pointer} {x : Shape} {final : Stored} {ps : List Frame} {m m0 m' : Mark} {i : TypeRefId}

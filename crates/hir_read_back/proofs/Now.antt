@@ -66,7 +66,7 @@ path_now p = correct_as (correct_in_store (path_reads p))
     go final n (Some x) None h le = absurd h
     go final n (Some x) (Some p) h le = ap Some (matches_read final n x p h (length final.types.entries + length final.pats.entries) le)
 
--- ---- laws
+-- laws
 
 -- what a step that is correct answers
 pub answered : {A : Type 0} {p : Lowering A} {R : Rel A} → Correct p R → (o o' : Builder) (a : A) → Paired o.stored → p o ≡ (Ok a, o')

@@ -20,7 +20,7 @@ use Rattle.hir_data.specs.Written.{written_option_type}
 use Rattle.hir_read_back.proofs.Now.{OptionTypeNow, option_type_now}
 use Rattle.hir_read_back.proofs.PatTree.{PatNow, top_now}
 
--- ---- lists
+-- lists
 
 map_push : {A B : Type 0} (f : A → B) (xs : List A) (a : A) → map f (xs ++ a ∷ []) ≡ map f xs ++ f a ∷ []
 map_push f [] a = refl
@@ -32,7 +32,7 @@ pushed : {A B : Type 0} (f : A → B) (xs : List A) (a : A) (y : B) (zs : List A
 pushed f xs a y zs more e h =
     h ∙ (ap (λ t. t ++ more) (map_push f xs a ∙ ap (λ z. map f xs ++ z ∷ []) e) ∙ append_assoc (map f xs) (y ∷ []) more)
 
--- ---- parameters
+-- parameters
 
 -- one with this pattern and this type
 record ParamNow (l : ClosureParams) (x : PatData) (y : OptionTypeData) (final : Stored) (ps : List Frame) (m m' : Mark) (l' : ClosureParams)

@@ -35,7 +35,7 @@ use Rattle.hir_read_back.proofs.Pats.{a_pat, maybe_pat, many_pats, a_pattern, ma
 use Rattle.hir_read_back.proofs.Pats.{alone_reads, WithPath, found_reads, PushedNamed, more_named}
 use Rattle.hir_read_back.proofs.Walk.{Answers, matches_read}
 
--- ---- parts of a tuple
+-- parts of a tuple
 
 -- parts behind those that are done, with the place of the first two dots
 pub record ElementsAre (done : Elements) (x : FirstUses → PatsData) (dots : Option ℕ) (f : FirstUses → FirstUses) (t : Table)
@@ -103,7 +103,7 @@ part_is {x = x} {y = y} {d = d} {f = f} {k = k} {p = p} h hs done t =
           };
         }
 
--- ---- the list of a tuple
+-- the list of a tuple
 
 counted_is : (comma : Bool) (place : Option ℕ)
     → Correct (forms.counted_dots comma place) (λ final ps m m' r. (r ≡ written.moved_by comma place) × (m'.entries ≡ m.entries))
@@ -201,7 +201,7 @@ tuple_struct_reads {x = x} {d = d} {f = f} {p = p} y at comma hq h =
               ((s.first.reads n (omega (le, arith)) ∙ ap (written.behind_comma comma) ids) j));
         }))
 
--- ---- records
+-- records
 
 -- what a field puts before others
 abbrev pub maybe_field : Layer (Option RecordFieldPat) (PatFieldsData → PatFieldsData)
@@ -288,7 +288,7 @@ record_reads {x = x} {f = f} {p = p} y at dots hq h = found_reads y hq (forms.re
               λ j. datum.record_pattern (path n (omega (le, row.before.entries, arith)) j) (row.first.reads us named n le j) dots);
         }))
 
--- ---- slices
+-- slices
 
 pub slice_reads : {x y : FirstUses → PatsData} {z : FirstUses → datum.OptionPatData} {f h k : FirstUses → FirstUses}
     {p q : Table → Lowering (List PatId × Table)} {o : Table → Lowering (Option PatId × Table)} (at : Pointer) → PatFine many_pats p x f
@@ -309,7 +309,7 @@ slice_reads {f = f} {h = h} at hp ho hq t =
           (u.first.reads (h (f us)) (s.first.uses (f us) first) n le j));
     }))
 
--- ---- alternatives
+-- alternatives
 
 -- into an alternative behind others
 pub later_named : {x : FirstUses → PatData} {y : FirstUses → PatsData} {f k : FirstUses → FirstUses}
@@ -362,7 +362,7 @@ or_reads {f = f} at h hs t =
           (s.first.rel.reads (f us) first d le j)));
     }))
 
--- ---- literals and ranges
+-- literals and ranges
 
 literal_pattern_reads : (at : Pointer) (own : Option Pointer) (l : Signed)
     → Correct (forms.literal_pat_form at own l) (Reads a_pat (pat_at (Some at) (datum.literal_pattern (signed_data l))))

@@ -155,7 +155,7 @@ mutual
   fields_read (tree.more_pat_fields (tree.pat_field at n p) fs) done t =
       parts.more_fields_named (parts.field_reads at n (pat_reads p)) (fields_read fs) done t
 
--- ---- whole patterns
+-- whole patterns
 
 -- before a top pattern no name has a use
 pub top_reads : (p : OptionPat) → Correct (lower.lower_top p) (Reads a_pat (written_pat p))

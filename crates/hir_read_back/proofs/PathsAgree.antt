@@ -13,7 +13,7 @@ use Rattle.hir_steps.specs.PathSeen.{Read, Seen, after, at_first, found}
 use Rattle.hir_steps.specs.PathSeen.{nothing_seen, outer_read, path_read, segment_read, segments_read}
 use Rattle.hir_steps.specs.PathSeen.{whole_read}
 
--- ---- lists
+-- lists
 
 or_true : (b : Bool) → (b || true) ≡ true
 or_true true = refl
@@ -54,7 +54,7 @@ empty_without ns = empty_reverse (rule.first_without_self (reverse ns)) ∙ by (
     by [] = refl
     by (m ∷ ms) = refl
 
--- ---- what is read of a list
+-- what is read of a list
 
 -- none of them ends the reading, so all are read
 all_read : (is : List Item) → ended is ≡ false → read is ≡ is
@@ -110,7 +110,7 @@ module _ (i : Item) (is : List Item) (x : Seen) (h : IsRead is (walk.goes_on x))
     (ap refused all ∙ none_refused e, ap (λ js. empty_list (names js)) all ∙ n),
   )
 
--- ---- paths
+-- paths
 
 abbrev Like : Option PathRead → Option Seen → Type 0
 Like None None = Unit {0}

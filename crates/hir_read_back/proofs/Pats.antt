@@ -35,7 +35,7 @@ use Rattle.hir_read_back.proofs.Layers.{Layer, Reads, within, a_path}
 use Rattle.hir_read_back.proofs.Names.{Named, correct_use_name, first_written}
 use Rattle.hir_read_back.proofs.Walk.{Answers, matches_read}
 
--- ---- what is read at a pattern
+-- what is read at a pattern
 
 abbrev pub a_pat : Layer PatId PatData
 a_pat final r i = r.pat i
@@ -73,7 +73,7 @@ unfolding readers
 pat_stored at h zero le = absurd (omega (arith, le, at.entries))
 pat_stored {source = source} at h (suc d) le = rw (at.number, at.here, at.from) (ap (pat_at source) (h d (omega (arith, le, at.entries))))
 
--- ---- patterns that hand the table on
+-- patterns that hand the table on
 
 -- those that know of no name
 pub alone_reads : {x : PatData} {p : Lowering PatId} → Correct p (Reads a_pat x) → PatFine a_pat (forms.alone p) (λ us. x) (λ us. us)
@@ -138,7 +138,7 @@ some_pat_reads h t = correct_as (correct_bind (h t) (λ r. correct_pure (Some r.
       reads = λ us named d le. ap datum.some_pattern (row.first.reads us named d le);
     }))
 
--- ---- names
+-- names
 
 -- a name that is written
 name_bound : (final : Stored) (r : Readers) (u : Use) → IsWritten u.name → (sub : OptionPatData)
@@ -171,7 +171,7 @@ bind_reads {x = x} {f = f} at u w h t =
           d (omega (le, k.after.entries, arith));
     }))
 
--- ---- what may be refused
+-- what may be refused
 
 -- a path that is absent or refused is missing
 path_pattern_reads : (y : Option PathRead) {p : Lowering (Option HirPath)} (at : Pointer) → Correct p (PathIs y)
@@ -225,7 +225,7 @@ found_reads y {x = x} {f = f} hq g none' some' t =
         let is = h (data_of z) (λ d le. matches_read final n.entries z o a d le) in
         record { uses = is.uses; reads = is.reads }
 
--- ---- lists
+-- lists
 
 -- what is pushed on a list that grows, with the table by then
 pub record PushedNamed {A D : Type 0} (done : List A) (l : Layer (List A) D) (x : FirstUses → D) (f : FirstUses → FirstUses) (t : Table)

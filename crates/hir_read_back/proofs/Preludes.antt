@@ -46,7 +46,7 @@ use Rattle.hir_read_back.proofs.Layers.{within}
 use Rattle.hir_read_back.proofs.Names.{found_in}
 use Rattle.hir_read_back.proofs.Params.{pats_in}
 
--- ---- by what is stored, and by what is written
+-- by what is stored, and by what is written
 
 abbrev pub by_alone : Bool → Name → HygieneId → HandedIn
 by_alone true n h = by_name n h
@@ -135,7 +135,7 @@ pub names_alike : (s : Stored) (p : PatId) → IsOwn (handed_in (stored_pat (sto
 names_alike s p = subst IsOwn (handed_alike s p)
     (own_names (own_at p s) (own_is_written s (slice_get s.pats.entries p.0)))
 
--- ---- `let`s of parameters
+-- `let`s of parameters
 
 -- those of a parameter that is handed in so
 abbrev pub HandedAs : Prelude → PatId → HandedIn → Rel Prelude
@@ -234,7 +234,7 @@ lets_now done (p ∷ is) = correct_as (correct_bind (correct_always (correct_let
       second = row.second.each ys (others_read m.stored row.middle.stored row.first.stays p is y ys h);
     }
 
--- ---- what is handed in
+-- what is handed in
 
 -- by such a name
 abbrev pub HasName : HandedIn → Handed → Type 0
@@ -302,7 +302,7 @@ all_handed done (p ∷ is) (y ∷ ys) final ps m m' l row =
 all_handed done [] (y ∷ ys) final ps m m' l row = absurd row
 all_handed done (p ∷ is) [] final ps m m' l row = absurd row
 
--- ---- what the outside hands its arguments to
+-- what the outside hands its arguments to
 
 abbrev pub formal_shape : HandedIn → PatShape
 formal_shape (by_name n h) = datum.bind_pattern n h mode.Mutable datum.no_pattern

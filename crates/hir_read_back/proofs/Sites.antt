@@ -274,7 +274,7 @@ labelled_from None h = h None
 labelled_from (Some l) h = correct_as (correct_opened block_at l (λ n ps. refl) (λ n. h (Some n)) (λ n i. correct_pure i))
     (λ final ps m m' i g row. rw (row.second.is, row.second.still) (record { is = row.first.is }))
 
--- ---- constants
+-- constants
 
 rooted_reads : {x : Option Site} {p : ExprSteps} → From x p → Correct (constant_form p) (Reads a_constant x)
 rooted_reads h = correct_as (correct_constant h)

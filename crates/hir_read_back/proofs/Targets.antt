@@ -47,7 +47,7 @@ use Rattle.hir_read_back.proofs.Pats.{a_pat, maybe_pat, many_pats, a_pattern, ma
 use Rattle.hir_read_back.proofs.Tree.{path_reads}
 use Rattle.hir_read_back.proofs.Walk.{Answers, matches_read}
 
--- ---- forms
+-- forms
 
 missing_target_reads : (call : Option Pointer) → Correct (forms.missing_target call) (Reads a_pat (pat_at call datum.missing_pattern))
 missing_target_reads call = correct_as (correct_alloc_made_pat pat.Missing call)
@@ -108,7 +108,7 @@ found_target y {x = x} {absent = absent} hq g none' some' = correct_as (correct_
     join final ps m n m' (Some z) (Some o) i a h =
         record { is = h (data_of z) (λ d le. matches_read final n.entries z o a d le) }
 
--- ---- lists
+-- lists
 
 -- parts behind those that are done, with the place of the first two dots
 record TargetsAre (done : Elements) (x : PatsData) (dots : Option ℕ) (final : Stored) (ps : List Frame) (m m' : Mark) (r : Elements)
@@ -202,7 +202,7 @@ array_target_reads at dots h k = correct_as (correct_bind h (λ b. correct_bind 
           λ j. datum.slice_pattern (front j) (u.first.is n le j) (back j));
     })
 
--- ---- records
+-- records
 
 no_field : Correct (pure None) (Reads maybe_field (λ fs. fs))
 no_field = correct_as (correct_pure None) (λ final ps m m' o g row. rw row.is (record { is = λ d le. refl }))
@@ -262,7 +262,7 @@ record_target_reads {x = x} {p = p} y at dots spread hq h =
         pat_stored s.second (λ n le. λ j.
         datum.record_pattern (path n (omega (le, row.before.entries, s.before.entries, arith)) j) (s.first.is n le j) dots))
 
--- ---- by induction
+-- by induction
 
 mutual
   pub target_reads : (t : Target) → Correct (lower.lower_target t) (Reads a_pat (written.target_data t))

@@ -60,7 +60,7 @@ broken_goes l w = goes_at_once Refused (λ final n is h. says_refused final n (i
 mutual
   unfolding whole
 
-  -- ---- types
+  -- types
 
   pub type_reads : (b : Option Binder) (t : Type_) → Correct (lower.lower_type b t) (Reads a_type (written.type_data b t))
   type_reads b (tree.paren_type t) = part_reads b t
@@ -97,7 +97,7 @@ mutual
   parts_read tree.no_parts behind done = kinds.types_none behind done
   parts_read (tree.more_parts p ps) behind done = kinds.types_more behind (part_reads None p) (parts_read ps behind) done
 
-  -- ---- bounds
+  -- bounds
 
   pub bounds_read : (bs : Bounds) (done : List TypeBound)
       → Correct (lower.lower_bounds done bs) (Pushed done (Reads many_bounds (written.bounds_data bs)))
@@ -110,7 +110,7 @@ mutual
   bound_reads (tree.lifetime_bound l) = kinds.lifetime_bound_reads l
   bound_reads (tree.use_bound us) = kinds.uses_bound_reads us
 
-  -- ---- arguments
+  -- arguments
 
   pub list_reads : (as' : OptionArgs) → Correct (lower.args_part as') (Reads a_list (written.list_data as'))
   list_reads tree.no_arg_list = value0 {l = a_list} None (λ final r. refl)
@@ -143,7 +143,7 @@ mutual
   segment_args_reads : (a : SegmentArgs) → Correct (lower.lower_segment_args a) (Reads a_list (written.segment_args_data a))
   segment_args_reads (tree.segment_args as' ps dots) = kinds.segment_args_reads dots (list_reads as') (parens_reads ps)
 
-  -- ---- paths
+  -- paths
 
   pub first_goes : (l : Bool) (s : Segment) (w : PathWalk)
       → Correct (lower.read_segment true s (at_first l w)) (Goes (Open w) (λ is. item l (written.what true s) ∷ is))
@@ -192,7 +192,7 @@ mutual
   path_reads tree.no_path = none_is
   path_reads (tree.some_path p) = correct_aliased (alias_of p) (path_is {add = written.segments p} (path_goes p start))
 
-  -- ---- patterns of types
+  -- patterns of types
 
   type_pat_reads : (p : TypePat) → Correct (lower.lower_type_pat p) (Reads a_pat (written.type_pat_data p))
   type_pat_reads (tree.not_null_type_pat at) = pats.pattern0 pat.NotNull (Some at) (λ final r. refl)
@@ -223,7 +223,7 @@ mutual
   limit_side_is (tree.path_side at p) = pats.path_limit_is (written.path_of p) at (path_reads p)
   limit_side_is tree.other_side = pats.missing_side_is
 
-  -- ---- constants
+  -- constants
 
   constant_reads : (c : Constant) → Correct (lower.lower_constant c) (Reads a_constant (written.constant_site c))
   constant_reads (tree.constant e) = sites.constant_reads (part_from e)

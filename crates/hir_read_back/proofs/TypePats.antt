@@ -51,7 +51,7 @@ plain_of final r e = reading.plain_side_layer (store_of final) (map_of final) r 
 abbrev pub side_of : Layer HirExpr SideData
 side_of final r e = reading.side_layer (store_of final) (map_of final) r (Some e)
 
--- ---- patterns of parts
+-- patterns of parts
 
 pub pattern0 : {x : PatShape} (p : HirPat) (source : Option Pointer) → ((final : Stored) (r : Readers) → a_pattern final r p ≡ x)
     → Correct (alloc_pat p source) (Reads a_pat (pat_at source x))
@@ -88,7 +88,7 @@ pub patterns_more : {x : PatData} {y : PatsData} {p : Lowering PatId} {q : List 
     → Correct (p >>= (λ i. q (done ++ i ∷ []))) (Pushed done (Reads many_pats (datum.more_patterns x y)))
 patterns_more h k done = more_read {l = a_pat} {ls = many_pats} datum.more_patterns (λ final r a as'. refl) h k done
 
--- ---- ends of ranges in types
+-- ends of ranges in types
 
 -- an expression that was stored
 stored_side : {x : SideData} (e : HirExpr) (source : Option Pointer) → ((final : Stored) (r : Readers) → side_of final r e ≡ x)

@@ -49,7 +49,7 @@ use Rattle.hir_read_back.proofs.Layers.{a_bound, a_shape, many_bounds, arguments
 use Rattle.hir_read_back.proofs.Layers.{value0, value1, Pushed, pushed_all, none_read, more_read, type_at, type0, type1, type2}
 use Rattle.hir_read_back.proofs.Generics.{args_roll, binding_roll}
 
--- ---- lifetimes
+-- lifetimes
 
 pub lifetime_reads : (l : Lifetime) → Correct (lower_lifetime l) (Reads a_lifetime (written.lifetime_data l))
 unfolding lower_lifetime
@@ -75,7 +75,7 @@ pub uses_bound_reads : (us : List UseRead)
     → Correct (lower_uses [] us >>= (λ xs. pure (bound.Use xs))) (Reads a_bound (datum.use_bound (map written.use_data us)))
 uses_bound_reads us = value1 {k = a_bound} bound.Use datum.use_bound (pushed_all (uses_pushed us [])) (λ final r a. refl)
 
--- ---- types
+-- types
 
 pub error_type_reads : Correct error_type (Reads a_type written.absent_data)
 unfolding error_type
@@ -165,7 +165,7 @@ pub types_more : {x : TypeData} {y : TypesData} {p : Lowering TypeRefId} {q : Li
     → Correct (p >>= (λ t. q (done ++ t ∷ []))) (Pushed done (Reads (types_before behind) (datum.more_types x y)))
 types_more behind h k done = more_read {l = a_type} {ls = types_before behind} datum.more_types (λ final r a as'. refl) h k done
 
--- ---- bounds
+-- bounds
 
 pub lifetime_bound_reads : (l : Lifetime)
     → Correct (lower_lifetime l >>= (λ i. pure (bound.Lifetime i))) (Reads a_bound (datum.lifetime_bound (written.lifetime_data l)))
@@ -179,7 +179,7 @@ pub bounds_more : {x : datum.BoundData} {y : BoundsData} {p : Lowering TypeBound
     → (done : List TypeBound) → Correct (p >>= (λ b. q (done ++ b ∷ []))) (Pushed done (Reads many_bounds (datum.more_bounds x y)))
 bounds_more h k done = more_read {l = a_bound} {ls = many_bounds} datum.more_bounds (λ final r a as'. refl) h k done
 
--- ---- lists of arguments, which grow in two
+-- lists of arguments, which grow in two
 
 pub record Grown (l : ArgLists) (f : ArgumentsData → ArgumentsData) (g : BindingsData → BindingsData)
     (final : Stored) (ps : List Frame) (m m' : Mark) (r : ArgLists) : Type 0 where
@@ -316,7 +316,7 @@ list_reads h = correct_as (correct_bind h (λ l. correct_pure (yielded l)))
           ∙ (λ j. written.yielded (one.args_read d le j) (one.bindings_read d le j)));
     }))
 
--- ---- what stands behind a name
+-- what stands behind a name
 
 pub parens_reads : {x : TypesData} {y : TypeData} {p : Lowering (List TypeRefId)} {q : Lowering TypeRefId}
     → Correct p (Reads (types_before datum.no_types) x) → Correct q (Reads a_type y)

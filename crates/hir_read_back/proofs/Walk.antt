@@ -39,7 +39,7 @@ holds false = ⊥
 pub clash : true ≡ false → ⊥
 clash h = subst holds h tt
 
--- ---- one word for each
+-- one word for each
 
 same_supers : (k : PathKind) → walks.supers k ≡ supers k
 same_supers kind.Plain = refl
@@ -59,7 +59,7 @@ same_crate : (c : Option CrateId) → walks.crate_kind c ≡ written.crate_kind 
 same_crate None = refl
 same_crate (Some c) = refl
 
--- ---- lists
+-- lists
 
 abbrev pub name_at : Named → Name
 name_at n = n.name
@@ -108,7 +108,7 @@ read_whole (i ∷ is) h = by (ends i.what (rule.names is)) h
     by false h = rw h refl
     by true h = absurd (clash h)
 
--- ---- what a walk that has read these items has found, when so many types are stored
+-- what a walk that has read these items has found, when so many types are stored
 
 abbrev pub none_beside : List Name → List (Option GenericArgs)
 none_beside xs = map (λ n. None) xs
@@ -163,7 +163,7 @@ found_same {final = final} h k ns as' t f nj aj fj = record {
   bare = λ b. as' ∙ (h.bare (sym f ∙ b) ∙ ap none_beside (sym ns));
 }
 
--- ---- one segment more
+-- one segment more
 
 abbrev pub item : Bool → What → Item
 item leading x = record { leading = leading; what = x }
@@ -310,7 +310,7 @@ module _ (final : Stored) (n : ℕ) where
       → Says final n (item l (anchor t) ∷ is) (anchored id (at_first l w))
   says_anchor l is t id w e h = (h.0, h.1, found_anchor (kind_at l is) l is t id (at_first l w) e (at_first_found l is w h.2))
 
-  -- ---- a whole path
+  -- a whole path
 
   -- without names the kind and the rest stand alone
   abbrev is_bare : HirPath → Bool
@@ -336,7 +336,7 @@ module _ (final : Stored) (n : ℕ) where
     pub anchor : (d : ℕ) → n ≤ d → anchor_read final d (anchor_in p) ≡ x.anchor
     pub bare : is_bare p ≡ x.bare
 
-  -- ---- `<T as Trait>`
+  -- `<T as Trait>`
 
   names_last : (t : TypeData) (ns : List Named) → map name_at (first_behind_self t ns) ≡ map name_at ns
   names_last t [] = refl
@@ -402,7 +402,7 @@ module _ (final : Stored) (n : ℕ) where
         found_trait (kind_at l is) l is t id x p (at_first l w) g m (sym e) (at_first_found l is w h.2),
       )
 
-  -- ---- the end of a walk
+  -- the end of a walk
 
   not_ending : (x : What) (ns : List Named) (b : Bool) → (ends x ns || b) ≡ false → ending_self x ns ≡ false
   not_ending self_ ns b h = by (not (empty_list ns)) h
@@ -524,7 +524,7 @@ module _ (final : Stored) (n : ℕ) where
   says_answers is (Open w) h =
       rw (read_whole is h.0) (rw h.1 (finished_matches is w (subst (λ k. Found final n k is w) (open_is_read is h.0) h.2)))
 
-  -- ---- as data
+  -- as data
 
   beside_none : (d : ℕ) (xs : List Name) → names_alone xs ≡ names_beside xs (lists final d (none_beside xs))
   beside_none d [] = refl
@@ -547,7 +547,7 @@ module _ (final : Stored) (n : ℕ) where
       (((λ i. names_beside (m.names i) (m.args d le i)) ∙ beside_data x.names) j) (m.bare j)
   matches_read x (LangItem i) m d le = absurd m.named
 
-  -- ---- segments before those that are read
+  -- segments before those that are read
 
   abbrev pub Closed : Reading → Type 0
   Closed (Open w) = ⊥

@@ -29,7 +29,7 @@ use Rattle.hir_read_back.specs.Yields.{yields}
 use Rattle.hir_read_back.proofs.PathsAgree.{read_alike}
 use Rattle.hir_steps.proofs.Yields.{or_assoc, or_false}
 
--- ---- small parts
+-- small parts
 
 both : {a b c d : Bool} → a ≡ b → c ≡ d → (a || c) ≡ (b || d)
 both e f = λ i. e i || f i
@@ -152,7 +152,7 @@ try_is : (typed : Bool) (number : Option BlockId) (st : Stmts) (e : OptionExpr) 
 try_is typed number st e h = first h (behind (first (off_if (not (is_left e || gives_value st false)) refl) refl))
 
 mutual
-  -- ---- types, paths, arguments and bounds
+  -- types, paths, arguments and bounds
 
   type_off : (b : Option Binder) (t : Type_) → g.grade_type_in yields b t ≡ false
   type_off b (tree.paren_type t) = part_off b t
@@ -262,7 +262,7 @@ mutual
   bound_off (tree.lifetime_bound l) = refl
   bound_off (tree.use_bound us) = uses_off us
 
-  -- ---- patterns of types
+  -- patterns of types
 
   type_pat_off : (q : TypePat) → g.grade_type_pat yields q ≡ false
   type_pat_off (tree.not_null_type_pat at) = refl
@@ -280,7 +280,7 @@ mutual
   type_pats_off tree.no_type_pats = refl
   type_pats_off (tree.more_type_pats q ps) = both (type_pat_off q) (type_pats_off ps)
 
-  -- ---- patterns
+  -- patterns
 
   side_off : (s : Side) → g.grade_side yields s ≡ false
   side_off tree.no_side = refl
@@ -348,7 +348,7 @@ mutual
   pat_field_off (tree.pat_field at n q) us = pat_off q us
 
 mutual
-  -- ---- what is assigned to
+  -- what is assigned to
 
   target_is : (t : Target) → g.grade_target yields t ≡ now.target_yields t
   target_is (tree.absent_target call) = refl
@@ -378,7 +378,7 @@ mutual
   target_fields_are (tree.more_target_fields tree.partless_target_field fs) = target_fields_are fs
   target_fields_are (tree.more_target_fields (tree.target_field at n t) fs) = both (target_is t) (target_fields_are fs)
 
-  -- ---- expressions
+  -- expressions
 
   expr_is : (e : Expr) → g.grade_expr yields e ≡ now.expr_yields e
   expr_is (tree.disabled_expr why e) = refl
@@ -485,7 +485,7 @@ mutual
       both (both (top_off q) (both (present_off t) (both (present_is x) (block_present_is b)))) (stmts_are st e h)
       ∙ sym (or_assoc (now.yields_in x || now.block_part_yields b) (now.stmts_yields st) (now.yields_in e))
 
--- ---- parameters of closures
+-- parameters of closures
 
 param_off : (x : Param) → g.grade_param yields x ≡ false
 param_off (tree.disabled_param at by x) = refl

@@ -22,7 +22,7 @@ abbrev pub given : ℕ → List (Option ℕ) → RunTable
 given i [] = new_table
 given i (o ∷ os) = with_argument o i (given (suc i) os)
 
--- ---- made names that rise
+-- made names that rise
 
 abbrev pub AtLeast : ℕ → Option ℕ → Type 0
 AtLeast lo None = Unit {0}
@@ -41,7 +41,7 @@ rising_from lo lo' [] le h = tt
 rising_from lo lo' (None ∷ os) le h = (tt, rising_from lo lo' os le h.1)
 rising_from lo lo' (Some n ∷ os) le h = let least : lo ≤ n = h.0 in (omega (arith, le, least), h.1)
 
--- ---- what they stand for
+-- what they stand for
 
 -- where a name below them takes a value
 put_below : (n : ℕ) (v : Value) (table : RunTable) (i lo : ℕ) (os : List (Option ℕ)) → n < lo → Rising lo os → ArgumentsIn table i os

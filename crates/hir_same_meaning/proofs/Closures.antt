@@ -34,7 +34,7 @@ event_as {k' = k'} {c = c} {c' = c'} {ps = ps} {ps' = ps'} {ts = ts} {ts' = ts'}
     ap (λ x. closure x c ps ts t) a ∙ (ap (λ x. closure k' x ps ts t) b ∙ (ap (λ x. closure k' c' x ts t) d
     ∙ (ap (λ x. closure k' c' ps' x t) e ∙ ap (λ x. closure k' c' ps' ts' x) f)))
 
--- ---- that it runs so
+-- that it runs so
 
 -- the event of what is stored
 abbrev event_in : Stored → Bool → Bool → ClosureParams → Option TypeRefId → Bool → Operation

@@ -40,7 +40,7 @@ use Rattle.hir_same_meaning.proofs.Handing.{DoesEach, HandsNow, each_in, hands_n
 use Rattle.hir_same_meaning.proofs.Relation.{same_ask}
 use Rattle.hir_same_meaning.proofs.Senses.{Base, Goes, Runs, goes_at, one}
 
--- ---- what stands behind the barrier
+-- what stands behind the barrier
 
 -- What is written of the parameters is read back, in the final store and in each that goes on. Besides them P, T and S are so.
 abbrev pub WithinIs : CoroutineKind → Params → Rel ClosureParams → Rel (Option TypeRefId) → Rel ExprId → Rel Within
@@ -90,7 +90,7 @@ module _ (which : CoroutineKind) (xs : Params) (P : Rel ClosureParams) (T : Rel 
         ∙ row.in_formals.reads x.params.args (tops_data xs) hand
         (λ later e. params_read x later (extends_trans x.in_prelude.stays (extends_trans x.made.stays (extends_trans owned e))))
 
--- ---- that it runs so
+-- that it runs so
 
 module _ (at : Pointer) (which : CoroutineKind) (moves : Bool) where
   -- the event of what is stored

@@ -56,7 +56,7 @@ use Rattle.hir_same_meaning.proofs.Views.{Numbered, count_break, loop_frame, loo
 use Rattle.hir_same_meaning.proofs.Views.{plain_block_ends, turn_ends, view}
 use Rattle.hir_same_meaning.proofs.Views.{view_step}
 
--- ---- steps from where a name stands for a value
+-- steps from where a name stands for a value
 
 module _ {n : ℕ} {v : Value} {ps : List Frame} where
   known_if : {A : Type 0} (b : Bool) {m m' : StoreRun A} {s s' : SyntaxRun A} → SameKnowing n v ps m s → SameKnowing n v ps m' s'
@@ -110,7 +110,7 @@ module _ {n : ℕ} {v : Value} {ps : List Frame} where
     keeps = keeps_loop leaves h.keeps (suc i);
   }
 
--- ---- what takes the value of a name that is the whole pattern
+-- what takes the value of a name that is the whole pattern
 
 module _ {n names : ℕ} (le : names ≤ n) {ps : List Frame} {m : StoreRun Value} (m' : StoreRun Value) {s : Value → SyntaxRun Value}
     (h : (v : Value) → SameKnowing n v ps m (s v)) where
@@ -128,7 +128,7 @@ module _ {n names : ℕ} (le : names ≤ n) {ps : List Frame} {m : StoreRun Valu
       → SameWhere names ps (fits_or_takes a b d v >>= (λ holds. if holds then m else m')) (s v)
   taken_whole a b e d v = rw e (taken v)
 
--- ---- nodes, of walks
+-- nodes, of walks
 
 -- what stands at i is x from where the name of this number stands for this value
 record Holding (base : Base) (nodes n : ℕ) (v : Value) (x : Walk Value) (final : Stored) (ps : List Frame) (i : ExprId) : Type 0 where
@@ -165,7 +165,7 @@ holding_later : {base : Base} {nodes n : ℕ} {v : Value} {x : Walk Value} {fina
     → suc n ≤ base.names → Goes base nodes one x final ps i → Holding base nodes n v x final ps i
 holding_later le h = record { same = λ turns d ge f. known_from le (h.same turns d ge f); jumps = λ d ge. h.jumps d ge }
 
--- ---- the reference to the iterator, and what it is asked for
+-- the reference to the iterator, and what it is asked for
 
 module _ (at : Pointer) where
   abbrev here : Option Site
@@ -215,7 +215,7 @@ module _ (at : Pointer) where
         jumps = called.jumps;
       })
 
-  -- ---- the arms
+  -- the arms
 
   -- the break where the iterator has no more
   record DoneIs (chosen : LangItemId) (final : Stored) (ps : List Frame) (m m' : Mark) (a : MatchArm) : Type 0 where
@@ -271,7 +271,7 @@ module _ (at : Pointer) where
         goes = s.first;
       }))
 
-  -- ---- a turn
+  -- a turn
 
   unmade_done : (i : LangItemId) → Unmade (done_pattern i)
   unmade_done i = record { whole = refl; part = refl }
@@ -330,7 +330,7 @@ module _ (at : Pointer) where
       (subst (λ z. AllocatedMade (hir.Match row.one (z ∷ u.one ∷ [])) (Some at) final ps u.middle t.middle t.one) a.is t.first)))
       t.second)
 
-  -- ---- the loop
+  -- the loop
 
   abbrev loop_walk : ForItems → PatData → Value → Option Label → Walk Value → Walk Value
   loop_walk items d v l y turns ss = loop outward turns (for_turn items d v (y turns (loop_scope l ∷ ss)) here)
@@ -365,7 +365,7 @@ module _ (at : Pointer) where
       (falls_new m.labels row.entered.labels l row.number ps row.new row.labels)
       (row.first (λ d le. reads d (omega (arith, le, row.entries))) refl (omega (arith, made, row.names)) v) row.second)
 
-  -- ---- the whole
+  -- the whole
 
   abbrev for_walk : Pointer → ForItems → PatData → Option Label → Walk Value → Walk Value → Walk Value
   for_walk head_at items d l x y turns ss =

@@ -51,7 +51,7 @@ use Rattle.hir_same_meaning.proofs.Preludes.{DoesLets, handed_holds, handed_made
 use Rattle.hir_same_meaning.proofs.Preludes.{number_written, run_lets}
 use Rattle.hir_same_meaning.proofs.Unmade.{all_of as entries_of, written_is_unmade}
 
--- ---- one parameter
+-- one parameter
 
 -- The pattern reads as y, which is written.
 pub record ReadIn (final : Stored) (p : PatId) (y : PatData) : Type 0 where
@@ -210,7 +210,7 @@ does_one p y final ps m m' l reads read g row =
     does_by p y ps read g row.rel.entries (source_alike m.stored row.paired p ∙ ap source_of now) (own_at p m.stored)
     (handed_alike m.stored p ∙ ap handed_in now) (subst IsOwn (sym (handed_alike m.stored p)) (names_alike m.stored p)) row.rel.rel.handed
 
--- ---- one after another
+-- one after another
 
 abbrev pub EachIn : Stored → List PatId → List PatData → Type 0
 EachIn final [] [] = Unit {0}

@@ -37,7 +37,7 @@ use Rattle.hir_same_meaning.proofs.Holding.{Holds, SameIn, a_pat, a_type, an_exp
 use Rattle.hir_same_meaning.proofs.Induction.{part_fine}
 use Rattle.hir_same_meaning.proofs.Senses.{Runs, base_of, goes_within, one, under_refl, wider}
 
--- ---- parameters
+-- parameters
 
 -- one more than there were
 pub record ParamApart (done : ClosureParams) (es fs : Bodies) (final : Stored) (ps : List Frame) (m m' : Mark) (l : ClosureParams)
@@ -113,7 +113,7 @@ apart_more {es = es} {fs = fs} {es' = es'} {fs' = fs'} done hp hq = correct_as (
           (x.types d (omega (le, row.after.nodes, row.after.entries, arith))) (rest.types d le);
     })
 
--- ---- the closure
+-- the closure
 
 -- where nothing is inside of the patterns, what is inside of the types
 types_alone : (final : Stored) (d : ℕ) (is : List PatId) (ts : List (Option TypeRefId)) → NoneIn final d is

@@ -49,7 +49,7 @@ use Rattle.hir_same_meaning.proofs.Holding.{SameIn, inners_in, same_append, same
 use Rattle.hir_same_meaning.proofs.Holding.{holds_none, holds_one, holds_two, holds_behind, expr_held, expr0, expr1, expr2}
 use Rattle.hir_same_meaning.proofs.HeldTypes.{a_constant, a_path, some_args}
 
--- ---- what is kept, and lists of it
+-- what is kept, and lists of it
 
 pub missing_held : Correct missing (Holds an_expr [])
 unfolding missing
@@ -92,7 +92,7 @@ some_pushed {ids = ids} {es = es} {fs = fs} h k done = correct_as (correct_bind 
       };
     })
 
--- ---- forms
+-- forms
 
 leaf_is : (form : Leaf) (r : Inners) → of_expr r (stored_leaf form) ≡ []
 leaf_is tree.underscore r = refl
@@ -336,7 +336,7 @@ pub contents_held : {es fs : Bodies} {p : Lowering (List RecordLitField)} {q : L
 unfolding record_contents
 contents_held hp hq = holds_two (λ fs s. (fs, s)) (λ r fs s. refl) hp hq
 
--- ---- blocks
+-- blocks
 
 abbrev pub a_statement : Ids Statement
 a_statement r s = of_statement r s

@@ -48,7 +48,7 @@ use Rattle.hir_same_meaning.proofs.Senses.{Base, base_of}
 use Rattle.hir_same_meaning.proofs.Senses.{Walk, one, Goes, Runs, goes_within, goes_at}
 use Rattle.hir_same_meaning.proofs.Strict.{event0_fine}
 
--- ---- runs
+-- runs
 
 item_runs : {base : Base} {m m' : Mark} {final : Stored} {ps qs : List Frame} {i : ExprId} (item : Option LangItemId)
     → Allocated (forms.item_expr item) None final qs m m' i → Goes base m'.nodes one (λ turns ss. run_item item) final ps i
@@ -127,7 +127,7 @@ before_fine item h = correct_as (correct_bind h (λ e. correct_bind (correct_all
     (λ w. stored_row _ _ _ (stored_pure _ (stored_pure _ (same_ask call (v ∷ w ∷ []) None)))))))
     (λ d le. (f.jumps d le, (k.jumps d le, tt))))
 
--- ---- what they hold
+-- what they hold
 
 item_is : (item : Option LangItemId) (r : Inners) → of_expr r (forms.item_expr item) ≡ []
 item_is None r = refl
@@ -176,7 +176,7 @@ side_held (tree.name_side at n _) h = name_held at n
 side_held (tree.path_side at p) h = path_side_held at h
 side_held tree.other_side h = missing_held
 
--- ---- bodies of their own
+-- bodies of their own
 
 abbrev pub a_limit : Ids ExprId
 a_limit r e = of_limit r e
@@ -203,7 +203,7 @@ limit_held (tree.side_limit s) h = own_held (tree.side_limit s) (side_fine s) (s
 limit_held (tree.before_limit item s) h =
     own_held (tree.before_limit item s) (before_fine item (side_fine s)) (before_held item (side_held s h))
 
--- ---- patterns of types
+-- patterns of types
 
 pub type_pat0 : (p : HirPat) (source : Option Pointer) → ((r : Inners) → of_type_pat r p ≡ [])
     → Correct (alloc_pat p source) (Holds a_type_pat [])

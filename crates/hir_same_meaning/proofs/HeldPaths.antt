@@ -74,7 +74,7 @@ then_moves {add = add} {more = more} {f = f} h closed k = correct_as (correct_bi
     proceeds (Ended w) = moves_still (Ended w) (λ final k n ps s. closed final k n (Ended w) tt ps s)
     proceeds (Open w) = k w
 
--- ---- a segment
+-- a segment
 
 pub record Takes (w : PathWalk) (x : Part) (final : Stored) (fs : List Frame) (m m' : Mark) (r : Reading) : Type 0 where
   pub keeps : (ps : List Part) → ended (items_of ps) ≡ false → Kept final (m.nodes + m.entries) ps w
@@ -129,7 +129,7 @@ anchor_takes {b = b} i l w h = correct_as (correct_bind h (λ t. correct_pure (w
           (at_first_kept final (total c) l ps w (kept_later (omega (u.nodes, u.entries, arith)) k));
     }))
 
--- ---- a path
+-- a path
 
 -- nothing, or a path that keeps this
 pub record PathHolds (h : Held) (final : Stored) (fs : List Frame) (m m' : Mark) (o : Option HirPath) : Type 0 where
@@ -148,7 +148,7 @@ trait_takes {b = b} y x i l at w hp hq hk =
           (at_first_kept final (total m') l ps w (kept_later (omega (g.nodes, g.entries, arith)) k));
     }))
 
--- ---- segments in a tree
+-- segments in a tree
 
 abbrev pub first_part : Bool → Segment → Part
 first_part l s = record {
@@ -200,7 +200,7 @@ behind_takes tree.super_segment w h = super_takes _ false w
 behind_takes (tree.type_segment t) w h = broken_takes
 behind_takes (tree.trait_segment t at p) w h = broken_takes
 
--- ---- segments before those that are read
+-- segments before those that are read
 
 one_still : (final : Stored) (k n : ℕ) (r : Reading) → Closed final k r → (x : Part) (ps : List Part) → Stands final k n ps r
     → Stands final k n (x ∷ ps) r
@@ -224,7 +224,7 @@ module _ (Stays : List Part → Type 0) (one : (x : Part) (ps : List Part) → S
     outer_still tree.no_path ps h = h
     outer_still (tree.some_path p) ps h = path_still p ps h
 
--- ---- all segments
+-- all segments
 
 abbrev pub SegmentsHold : Segments → Type 0
 SegmentsHold tree.no_segments = Unit {0}
@@ -278,7 +278,7 @@ mutual
   outer_items tree.no_path ps = refl
   outer_items (tree.some_path p) ps = path_items p ps
 
--- ---- whole paths
+-- whole paths
 
 -- the path keeps, in the type that it is relative to and beside each of its names, the bodies that are written there
 pub path_holds : (p : OptionPath) → OuterHolds p → Correct (lower.lower_path p) (PathHolds (held p))

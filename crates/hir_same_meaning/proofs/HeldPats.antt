@@ -32,7 +32,7 @@ use Rattle.hir_same_meaning.proofs.HeldTypes.{a_path}
 use Rattle.hir_same_meaning.proofs.Holding.{SameIn, inners_in, same_append, same_ids, Ids, an_expr, a_pat, each, maybe, Holds, holds_none}
 use Rattle.hir_same_meaning.proofs.Holding.{holds_one, holds_behind, expr_held, expr0, pat_held, pat0, pat1}
 
--- ---- with the names that were used by then
+-- with the names that were used by then
 
 abbrev pub named : {A : Type 0} → Ids A → Ids (A × Table)
 named f r x = f r x.0
@@ -108,7 +108,7 @@ module _ (at : Pointer) where
             (omega (le, v.before.nodes, v.before.entries, arith));
       }))
 
--- ---- lists that grow
+-- lists that grow
 
 -- what is added to a list in what is handed on
 pub record Added {A B : Type 0} (ids : Ids B) (list : A → List B) (done : List B) (es : Bodies) (final : Stored) (ps : List Frame)
@@ -161,7 +161,7 @@ pub added_behind : {A B C : Type 0} {R : Rel C} {ids : Ids B} {list : A → List
 added_behind h k = correct_as (correct_bind h k) (λ final ps m m' r g row. let s = row.second in
     record { new = s.new; is = s.is; rel = record { same = s.rel.same } })
 
--- ---- parts of a tuple
+-- parts of a tuple
 
 abbrev pub parts : Elements × Table → List PatId
 parts r = r.0.0
@@ -234,7 +234,7 @@ unfolding forms.tuple_pat_form
 tuple_held {es = es} at comma h t =
     correct_as (list_held (Some at) comma pat.Tuple h t) (λ final ps m m' r g row. row es (λ d le n is same. same))
 
--- ---- behind a path
+-- behind a path
 
 abbrev if_some : Option HirPath → Bodies → Bodies
 if_some None bs = []
@@ -308,7 +308,7 @@ pub nameless_held : {R : Rel (PatId × Table)} (at : Pointer) (p : Table → Low
 unfolding forms.pat_field_form
 nameless_held at p t h = holds_behind h (λ r. holds_none (None, r.1) (λ i. refl))
 
--- ---- slices, alternatives, literals and ranges
+-- slices, alternatives, literals and ranges
 
 module _ (at : Pointer) {es fs gs : Bodies} where
   pub slice_held : {b a : Table → Lowering (List PatId × Table)} {o : Table → Lowering (Option PatId × Table)}

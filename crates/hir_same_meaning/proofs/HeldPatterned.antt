@@ -41,7 +41,7 @@ use Rattle.hir_same_meaning.proofs.Holding.{SameIn, inners_in, same_append, same
 use Rattle.hir_same_meaning.proofs.Holding.{holds_one, holds_before, holds_behind, expr_held, expr0, expr2, pat_held}
 use Rattle.hir_same_meaning.proofs.TargetPlaces.{parts_of, spread_any}
 
--- ---- a whole pattern
+-- a whole pattern
 
 -- its bindings get their problems, and nothing else
 pub top_held : {es : Bodies} (p : Table → Lowering (PatId × Table)) → Correct (p no_names) (Holds (named a_pat) es)
@@ -51,7 +51,7 @@ top_held p h = correct_as (correct_bind h (λ r. correct_bind (settle_any r.1) (
       same = λ d le. row.first.same d (omega (le, s.before.nodes, s.before.entries, arith));
     }))
 
--- ---- what is assigned to
+-- what is assigned to
 
 -- the parts so far
 abbrev pub parts : Elements → List PatId
@@ -170,7 +170,7 @@ module _ (at : Pointer) where
   nameless_target_held h = holds_behind h (λ i. correct_as (correct_pure None)
       (λ final ps m m' o g row. rw row.is (record { same = λ d le. tt })))
 
-  -- ---- `let`, `match`, assignments and ranges
+  -- `let`, `match`, assignments and ranges
 
   pub let_held : {es fs : Bodies} {p : Lowering PatId} {e : ExprSteps} → Correct p (Holds a_pat es) → Correct e (Holds an_expr fs)
       → Correct (let_form at p e) (Holds an_expr (es ++ fs))
@@ -236,7 +236,7 @@ range_held {es = es} {fs = fs} at form hp hq = correct_as (correct_bind hp (λ s
           (row.first.same d (omega (le, s.before.nodes, s.before.entries, arith))) (s.first.same d le))).same;
     })
 
--- ---- arms and `let` statements
+-- arms and `let` statements
 
 -- the guard is lowered last
 pub arm_held : {es fs gs : Bodies} {p : Lowering PatId} {e : ExprSteps} {g : Lowering (Option ExprId)} → Correct p (Holds a_pat es)

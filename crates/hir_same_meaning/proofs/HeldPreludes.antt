@@ -42,7 +42,7 @@ use Rattle.hir_same_meaning.proofs.Senses.{Base, Goes, Walk, enclosed_at, goes_a
 use Rattle.hir_same_meaning.proofs.Unmade.{made_whole}
 use Rattle.hir_same_meaning.proofs.Views.{numbers}
 
--- ---- what the parameters are
+-- what the parameters are
 
 -- names that bind what is handed in
 binds_one : (x : Handed) {final : Stored} (p : PatId) → BindsName x final p → made_whole final p ≡ number_handed x
@@ -71,7 +71,7 @@ formals_hold final (p ∷ is) (x ∷ xs) h d = (holds_none_in x p h.0 d, formals
 formals_hold final [] (x ∷ xs) h d = absurd h
 formals_hold final (p ∷ is) [] h d = absurd h
 
--- ---- a prelude
+-- a prelude
 
 -- Where the made names of these numbers stand for their arguments, the `let`s do x to what is behind them. What is inside of them is
 -- inside of these patterns.
@@ -120,7 +120,7 @@ prelude_does {self = self} {begun = begun} {is = is} {ys = ys} {final = final} {
           all_append (of_statement r) begun.lets h.new ∙ (λ j. b.holds d j ++ h.holds d j);
     }))
 
--- ---- coroutines
+-- coroutines
 
 module _ {which : CoroutineKind} {from : CoroutineSource} {lets : List Statement} {body : ExprId} {final : Stored} {qs : List Frame}
     {m m' : Mark} {c : ExprId} (row : MadeCoroutine which from lets body final qs m m' c) where

@@ -101,7 +101,7 @@ abbrev field_kept : Option RecordFieldPat × Table → Option RecordFieldPat
 field_kept r = r.0
 
 mutual
-  -- ---- types
+  -- types
 
   type_holds : (b : Option Binder) (t : Type_) → Correct (lower.lower_type b t) (Holds a_type (inner.type_bodies t))
   type_holds b (tree.paren_type t) = part_holds b t
@@ -137,7 +137,7 @@ mutual
   parts_hold tree.no_parts done = none_held a_type done
   parts_hold (tree.more_parts t ts) done = more_held (part_holds None t) (parts_hold ts) done
 
-  -- ---- bounds
+  -- bounds
 
   bounds_hold : (bs : Bounds) (done : List TypeBound)
       → Correct (lower.lower_bounds done bs) (Pushed done (Holds (each a_bound) (inner.bounds_bodies bs)))
@@ -150,7 +150,7 @@ mutual
   bound_holds (tree.lifetime_bound l) = holds_behind (lifetime_any l) (λ i. holds_none (bound.Lifetime i) (λ r. refl))
   bound_holds (tree.use_bound us) = holds_behind (uses_any [] us) (λ xs. holds_none (bound.Use xs) (λ r. refl))
 
-  -- ---- arguments
+  -- arguments
 
   pub list_holds : (as' : OptionArgs) → Correct (lower.args_part as') (Holds some_args (inner.list_bodies as'))
   list_holds tree.no_arg_list = holds_none None (λ r. refl)
@@ -180,7 +180,7 @@ mutual
   segment_args_hold : (as' : SegmentArgs) → Correct (lower.lower_segment_args as') (Holds some_args (inner.beside_bodies as'))
   segment_args_hold (tree.segment_args l ps dots) = types.segment_args_held dots (list_reads l) (list_holds l) (parens_hold ps)
 
-  -- ---- paths
+  -- paths
 
   segment_holds : (s : Segment) → paths.SegmentHolds s
   segment_holds tree.absent_segment = tt
@@ -205,7 +205,7 @@ mutual
   outer_holds tree.no_path = tt
   outer_holds (tree.some_path p) = all_hold p
 
-  -- ---- constants
+  -- constants
 
   pub constant_holds : (c : Constant) → Correct (lower.lower_constant c) (Holds a_constant (inner.constant_bodies c))
   constant_holds (tree.constant e) = holds_owning (λ c. c.expr) (constant_held e (body_holds e))
@@ -214,7 +214,7 @@ mutual
   rooted_holds : (c : Constant) → Correct (lower.lower_rooted c) (Holds a_constant (inner.constant_bodies c))
   rooted_holds (tree.constant e) = constant_held e (body_holds e)
 
-  -- ---- expressions
+  -- expressions
 
   expr_holds : (e : Expr) → Correct (lower.lower e) (Holds an_expr (inner.expr_bodies e))
   expr_holds (tree.disabled_expr why e) = holds_behind (correct_note_gone why) (λ u. forms.missing_held)
@@ -357,7 +357,7 @@ mutual
   guard_holds tree.no_guard = holds_none None (λ r. refl)
   guard_holds (tree.guard e) = forms.some_held (body_holds e)
 
-  -- ---- patterns
+  -- patterns
 
   pub top_holds : (p : OptionPat) → Correct (lower.lower_top p) (Holds a_pat (inner.pat_part_bodies p))
   top_holds tree.no_pat = pats.absent_held
@@ -439,7 +439,7 @@ mutual
   side_holds (tree.path_side at p) = pats.path_side_held at (paths.path_held p (outer_holds p))
   side_holds tree.other_side = holds_none None (λ r. refl)
 
-  -- ---- patterns of types
+  -- patterns of types
 
   type_pat_part_holds : (p : OptionTypePat) → Correct (lower.lower_type_pat_part p) (Holds a_type_pat (inner.type_pat_part_bodies p))
   type_pat_part_holds tree.no_type_pat = limits.missing_type_pat_held
@@ -470,7 +470,7 @@ mutual
   path_of_side (tree.path_side at p) = paths.path_held p (outer_holds p)
   path_of_side tree.other_side = tt
 
-  -- ---- what is assigned to
+  -- what is assigned to
 
   target_holds : (t : Target) → Correct (lower.lower_target t) (Holds a_pat (inner.target_bodies t))
   target_holds (tree.absent_target call) = patterned.missing_target_held call

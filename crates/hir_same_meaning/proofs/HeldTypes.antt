@@ -69,7 +69,7 @@ a_binding r b = of_binding r b
 pub lifetime_held : (l : Lifetime) → Correct (lower_lifetime l) (Holds nothing [])
 lifetime_held l = correct_as (lifetime_any l) (λ final ps m m' i g row. record { same = λ d le. tt })
 
--- ---- types
+-- types
 
 pub error_held : Correct error_type (Holds a_type [])
 unfolding error_type
@@ -188,7 +188,7 @@ unfolding path_bound_form
 path_bound_held at may binder h = correct_as (correct_bind h (λ o. bound_of_held at may binder o))
     (λ final ps m m' b g row. let t = row.second.rel m row.first in record { same = t.same })
 
--- ---- lists of arguments, which grow in two
+-- lists of arguments, which grow in two
 
 pub record Grown (l : ArgLists) (es fs : Bodies) (final : Stored) (ps : List Frame) (m m' : Mark) (r : ArgLists) : Type 0 where
   pub args : List GenericArg
@@ -301,7 +301,7 @@ binding_held {es = es} {fs = fs} {gs = gs} n dots hp hq hs =
           (s.first.same d (omega (le, u.before.nodes, u.before.entries, arith))) (u.first.same d le)));
     }))
 
--- ---- what stands behind a name
+-- what stands behind a name
 
 sugared_is : (r : Inners) (t o : TypeRefId) → of_list r (Some (sugared_args t o)) ≡ r.type t ++ r.type o
 sugared_is r t o =

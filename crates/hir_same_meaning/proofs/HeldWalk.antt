@@ -30,7 +30,7 @@ use Rattle.hir_meaning.specs.Inner.{of_list, of_path}
 use Rattle.hir_same_meaning.proofs.Holding.{SameIn, inners_in, same_append, same_ids}
 use Rattle.hir_same_meaning.proofs.HeldArgs.{self_first_is}
 
--- ---- lists that are alike, place for place
+-- lists that are alike, place for place
 
 module _ {A B : Type 0} (R : A → B → Type 0) where
   abbrev pub Each : List A → List B → Type 0
@@ -65,7 +65,7 @@ module _ (final : Stored) where
   same_all d (a ∷ as') (b ∷ bs) h =
       same_append final (of_list (inners_in final d) a) (all_of (of_list (inners_in final d)) as') b (all_in bs) h.0 (same_all d as' bs h.1)
 
--- ---- parts
+-- parts
 
 abbrev pub part : Item → Option Bodies → List Bodies → Part
 part i t bs = record { item = i; anchor = t; names = bs }
@@ -87,7 +87,7 @@ all_read (p ∷ ps) h = by (rule.ends p.item.what (rule.names (items_of ps))) h
     by false h = rw h refl
     by true h = absurd (clash h)
 
--- ---- what a walk that has read these parts keeps, when so many expressions, types and patterns are stored
+-- what a walk that has read these parts keeps, when so many expressions, types and patterns are stored
 
 pub record Kept (final : Stored) (n : ℕ) (ps : List Part) (w : PathWalk) : Type 0 where
   pub anchor : (d : ℕ) → n ≤ d → SameIn final (of_present (inners_in final d).type w.type_anchor) (in_anchor ps)
@@ -152,7 +152,7 @@ module _ (final : Stored) (n : ℕ) where
       → Keeps final n (part i None [] ∷ ps) (Open (record w { kind = k }))
   super_kept i k ps w h = record { anchor = h.anchor; args = h.args }
 
-  -- ---- a whole path
+  -- a whole path
 
   abbrev anchor_in : HirPath → Option TypeRefId
   anchor_in (BarePath p) = None
@@ -184,7 +184,7 @@ module _ (final : Stored) (n : ℕ) where
   path_same h (LangItem i) k d le =
       same_append final [] [] h.anchor (all_in h.names) (k.anchor d le) (same_all final d [] h.names (k.names d le))
 
-  -- ---- `<T as Trait>`
+  -- `<T as Trait>`
 
   with_self_kept : (d : ℕ) (t : TypeRefId) (b : Bodies) (as' : List (Option GenericArgs)) (bs : List Bodies) → empty_list as' ≡ false
       → SameIn final ((inners_in final d).type t) b → Beside final d as' bs → Beside final d (with_self t as') (first_behind b bs)
@@ -236,7 +236,7 @@ module _ (final : Stored) (n : ℕ) where
       by true f = tt
       by false f = trait_kept i b x t p ps w (as_many k z p a f) e m h
 
-  -- ---- the end of a walk
+  -- the end of a walk
 
   abbrev first_of : List OptionArgsData → OptionArgsData
   first_of [] = no_args
@@ -318,7 +318,7 @@ module _ (final : Stored) (n : ℕ) where
       (finished_kept (read_parts ps) w (subst (λ is. Found final k (rule.read_kind is) is w) (sym (items_read ps)) s.2) h)
   walk_kept k ps (Open w) s h = rw (read_whole (items_of ps) s.0) (rw s.1 (rw (all_read ps s.0) (finished_kept ps w s.2 h)))
 
-  -- ---- segments before those that are read
+  -- segments before those that are read
 
   pub one_closed_kept : (r : Reading) (x : Part) (ps : List Part) (k : ℕ) → Closed final k r → Says final k (items_of ps) r
       → Keeps final n ps r → Keeps final n (x ∷ ps) r

@@ -63,7 +63,7 @@ maybe f r = of_present (f r)
 pub record Holds {A : Type 0} (ids : Ids A) (es : Bodies) (final : Stored) (ps : List Frame) (m m' : Mark) (a : A) : Type 0 where
   pub same : (d : ℕ) → m'.nodes + m'.entries ≤ d → SameIn final (ids (inners_in final d) a) es
 
--- ---- values
+-- values
 
 pub holds_none : {A : Type 0} {ids : Ids A} (a : A) → ((r : Inners) → ids r a ≡ []) → Correct (pure a) (Holds ids [])
 holds_none a e = correct_as (correct_pure a)
@@ -107,7 +107,7 @@ pub holds_owning : {A : Type 0} {ids : Ids A} {es : Bodies} (owner : A → ExprI
     → Correct (owning owner p) (Holds ids es)
 holds_owning owner h = owning_keeps owner (λ final ps m left start id a held. record { same = held.same }) h
 
--- ---- lists that grow
+-- lists that grow
 
 pub none_held : {A : Type 0} (ids : Ids A) (done : List A) → Correct (pure done) (Pushed done (Holds (each ids) []))
 none_held ids done = correct_as (correct_pure done)
@@ -126,7 +126,7 @@ more_held {ids = ids} {es = es} {fs = fs} h k done = correct_as (correct_bind h 
       };
     })
 
--- ---- types
+-- types
 
 pub type_held : {t : TypeRef} {source : Option Pointer} {es : Bodies} {final : Stored} {ps qs : List Frame} {m n m' : Mark} {i : TypeRefId}
     → AllocatedType t source final qs m m' i
@@ -148,7 +148,7 @@ pub type1 : {A : Type 0} {f : Ids A} {es : Bodies} {p : Lowering A} (source : Op
 type1 {es = es} source con e h = correct_as (correct_bind h (λ a. correct_alloc_type (con a) source))
     (λ final ps m m' i g row. type_held row.second (λ d le. same_ids final es (e (inners_in final d) row.one) (row.first.same d le)))
 
--- ---- expressions
+-- expressions
 
 pub expr_held : {e : HirExpr} {source : Option Pointer} {es : Bodies} {final : Stored} {ps qs : List Frame} {m n m' : Mark} {i : ExprId}
     {put : Put} → AllocatedBy put e source final qs m m' i → Grows m m'
@@ -180,7 +180,7 @@ expr2 {f = f} {k = k} {es = es} {fs = fs} source con is hp hq = correct_as
     same_ids final (es ++ fs) (is r row.one s.one) (same_append final (f r row.one) (k r s.one) es fs
     (row.first.same d (omega (le, s.before.nodes, s.before.entries, arith))) (s.first.same d le))))
 
--- ---- patterns
+-- patterns
 
 abbrev pub a_pat : Ids PatId
 a_pat r p = r.pat p

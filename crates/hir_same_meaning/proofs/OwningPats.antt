@@ -46,7 +46,7 @@ use Rattle.hir_same_meaning.proofs.Owning.{OwnsAs, Owns, OwnsSome, owns_at, owns
 use Rattle.hir_same_meaning.proofs.Spread.{spread_none, spread_wider, spread_append}
 use Rattle.hir_same_meaning.proofs.TargetPlaces.{parts_of, spread_any}
 
--- ---- places come in front of those behind them
+-- places come in front of those behind them
 
 each_append : (f : ExprId → List ℕ) (is js : List ExprId) → of_each f (is ++ js) ≡ of_each f is ++ of_each f js
 each_append f [] js = refl
@@ -111,7 +111,7 @@ in_store_front s (suc c) p is = by (slice_get s.pats p.0) (in_store_front s c)
     by None front = refl
     by (Some q) front = in_front (places_to s c) front q is
 
--- ---- what is assigned to
+-- what is assigned to
 
 -- the places of what was answered, in front of none
 abbrev pub PlacesOf : Type 0 → Type 0
@@ -383,7 +383,7 @@ assign_owns at ht hv = correct_as
     (omega (row.before.nodes, s.before.nodes, arith))
     (row.first.rel.spread (length final.pats.entries) d row.first.pats (omega (le, s.before.nodes, arith))) (s.first.spread d le)))
 
--- ---- `let`, `match` and ranges
+-- `let`, `match` and ranges
 
 pub let_owns : (at : Pointer) (p : OptionPat) {e : ExprSteps} → Correct e Owns → Correct (let_form at (lower_top p) e) Owns
 unfolding let_form
@@ -476,7 +476,7 @@ range_owns at form hq hr = correct_as (correct_bind hq (λ s. correct_bind hr (�
     spread_append m.nodes u.middle.nodes (inl (omega arith)) (omega (row.before.nodes, u.before.nodes, arith))
     (row.first.spread d (omega (le, u.before.nodes, arith))) (u.first.spread d le)))
 
--- ---- `let` statements
+-- `let` statements
 
 pub record AsLet (final : Stored) (ps : List Frame) (m m' : Mark) (o : Option Statement) : Type 0 where
   pub held : Statement

@@ -42,7 +42,7 @@ use Rattle.hir_same_meaning.proofs.Forms.{Pushed, pushed_one}
 abbrev pub pat_in : Stored → PatId → PatData
 pat_in final i = stored_pat (store_of final) (map_of final) i
 
--- ---- `let` as a condition
+-- `let` as a condition
 
 abbrev pub condition : PatData → Walk Value → Walk Value
 condition d x turns ss = x turns ss >>= (λ v. tests_pattern d v >>= (λ fits. pure (truth fits)))
@@ -61,7 +61,7 @@ let_fine at p h = correct_as (correct_bind (top_now p) (λ i. correct_bind h (λ
     (λ final ps m m' k g row. let r = row.second in
     goes_let row.one (written_pat p) row.first.is (written_is_unmade p) (goes_within (omega arith) r.first) r.second)
 
--- ---- `match`
+-- `match`
 
 -- what the arms do with a value, at the site of the `match`
 abbrev pub ArmsWalk : Type 0
@@ -215,7 +215,7 @@ match_fine at {y = y} hp hq = correct_as (correct_bind hp (λ e. correct_bind hq
     (λ turns d le f. same_bind (h.same turns d le f) (λ v. k.same turns d le f v (Some (site_of at))))
     (λ d le. (h.jumps d le, k.jumps d le)))
 
--- ---- `let` statements
+-- `let` statements
 
 pub record AsLet (p : OptionPat) (t : OptionType) (e : OptionExpr) (b : OptionBlock) (final : Stored) (ps : List Frame) (m m' : Mark)
     (o : Option Statement) : Type 0 where

@@ -43,7 +43,7 @@ use Rattle.hir_same_meaning.proofs.Targets.{OneTry, TryAmong, try_among, try_mee
 use Rattle.hir_same_meaning.proofs.Unmade.{all_of, inside_made, made_whole}
 use Rattle.hir_same_meaning.proofs.Views.{numbers, view}
 
--- ---- items
+-- items
 
 pub made_item_goes : {base : Base} {m m' : Mark} {final : Stored} {ps qs : List Frame} {i : ExprId} {put : Put} {source : Option Pointer}
     (o : Option LangItemId) → AllocatedBy put (item_or_missing o) source final qs m m' i
@@ -64,7 +64,7 @@ made_call_goes {at = at} o h k a = goes_at a
     (λ w. stored_row _ _ _ (stored_pure _ (stored_pure _ (same_ask call (u ∷ w ∷ []) (Some (site_of at)))))))))
     (λ d le. (h.jumps d le, (k.jumps d le, tt)))
 
--- ---- an arm, whose pattern takes what the test is answered
+-- an arm, whose pattern takes what the test is answered
 
 -- The pattern of the item, in which the name of this number is bound.
 pub record TakesBy (chosen : LangItemId) (n : ℕ) (final : Stored) (q : PatId) : Type 0 where
@@ -149,7 +149,7 @@ flow_arm_is chosen h = correct_as (correct_bind correct_made_number (λ n. corre
       rel = e.first;
     }))
 
--- ---- the residual
+-- the residual
 
 module _ (at : Pointer) where
   abbrev here : Option Site
@@ -234,7 +234,7 @@ module _ (at : Pointer) where
   unfolding made_path_form
   name_is n = correct_as (correct_alloc_made (hir.Path (made_path n) root_hygiene) (Some at)) (λ final ps m m' i g row v. known_path row)
 
-  -- ---- the whole
+  -- the whole
 
   abbrev arm_of : PatId → ExprId → MatchArm
   arm_of q e = record { pat = q; guard = None; expr = e }

@@ -31,7 +31,7 @@ use Rattle.hir_same_meaning.proofs.Senses.{Base, base_of, under_refl, wider}
 use Rattle.hir_same_meaning.proofs.Senses.{Walk, run_in, one, Goes, Runs, Wider, goes_within, goes_at}
 use Rattle.hir_same_meaning.proofs.Views.{numbers}
 
--- ---- ends
+-- ends
 
 -- what an end became: nothing where it is absent
 abbrev pub EndIs : Base → ℕ → Stored → List Frame → OptionExpr → Option ExprId → Type 0
@@ -107,7 +107,7 @@ fields_are last None (Some e) = refl
 fields_are last (Some s) None = refl
 fields_are last (Some s) (Some e) = refl
 
--- ---- what it is made as
+-- what it is made as
 
 pub item_is : (final : Stored) (i : LangItemId) → stored_path (store_of final) (map_of final) (LangItem i) ≡ item_path i
 unfolding stored_path

@@ -108,7 +108,7 @@ places_at {p = p} {x = x} {final = final} {ps = ps} {m0 = m0} {m' = m'} {i = i} 
         = λ is. rw (at.number, at.here) refl in
         subst (λ k. Put (base_of m0) m'.nodes x final ps k) (λ j is. sym (found is) j) (h c (omega (arith, le, at.next)))
 
--- ---- without places
+-- without places
 
 -- it holds none
 abbrev Placeless : HirPat → Type 0
@@ -155,7 +155,7 @@ path_places at h y hq = correct_as (correct_bind hq stored)
     stored None = without pat.Missing at (λ part is. refl)
     stored (Some p) = without (forms.path_target_of h (Some p)) at (λ part is. refl)
 
--- ---- a place
+-- a place
 
 abbrev pub place : Walk Value → Placing
 place x turns ss m = x turns ss >>= (λ v. m >>= (λ vs. gives (v ∷ vs)))
@@ -171,7 +171,7 @@ place_places at h = correct_as (correct_bind h (λ e. correct_alloc_made_pat (pa
       jumps = λ d ge is s. (e.jumps d ge, s);
     }))
 
--- ---- lists
+-- lists
 
 pub record ElementsPlace (done : Elements) (x : Placing) (final : Stored) (ps : List Frame) (m m' : Mark) (r : Elements) : Type 0 where
   pub new : List PatId
@@ -214,7 +214,7 @@ noted_place c h = correct_as (correct_bind (correct_told c) (λ u. h)) (λ final
   put = λ c le. put_within (omega arith) (omega arith) (s.put c le);
 })
 
--- ---- forms of lists
+-- forms of lists
 
 -- the parts as they are stored, with no comma in front
 abbrev pub PartsOf : Elements → Rel (Option ℕ × List PatId)
@@ -294,7 +294,7 @@ array_places at dots h k = correct_as (correct_bind h (λ b. correct_bind k (λ 
     (put_within (under_trans (under_grown row.before) (under_grown s.before)) (omega (u.after.nodes, arith)) (u.first.put c le))
     (put_within (under_grown row.before) (omega (u.before.nodes, u.after.nodes, arith)) (a.put c (omega (le, u.before.pats, arith))))))))
 
--- ---- fields of a record
+-- fields of a record
 
 abbrev places_in_field : (PatId → List ExprId → List ExprId) → Option RecordFieldPat → List ExprId → List ExprId
 places_in_field part None is = is
@@ -373,7 +373,7 @@ record_places {x = x} {p = p} y at dots spread hq h =
         (λ final ps m m' i g row. let s = row.second in let e = s.first in
         places_at s.second (λ c le. rw e.is (put_within (under_grown row.before) s.after.nodes (e.rel.put c le))))
 
--- ---- assignments
+-- assignments
 
 abbrev pub assigned : Pointer → PatData → Placing → Walk Value → Walk Value
 assigned at d y x turns ss = x turns ss

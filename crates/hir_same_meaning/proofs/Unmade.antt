@@ -156,7 +156,7 @@ unfolding stored_pat
 inside_unmade final p h = ⊎_elim (λ lt. inside_full final p (all_of final) refl (omega (arith, lt)) h) (λ e. e)
     (nothing_inside final p (slice_get final.pats.entries p.0) refl)
 
--- ---- runs
+-- runs
 
 module _ {names : ℕ} {ps : List Frame} where
   fits_by : (a b : Option ℕ) → a ≡ None → b ≡ None → (d : PatData) (v : Value)

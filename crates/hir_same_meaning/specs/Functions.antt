@@ -20,7 +20,7 @@ use Rattle.hir_lower_form.specs.Preludes.{let_params, let_self, lower_handed, ma
 use Rattle.hir_steps.specs.Keeps.{Paired}
 use Rattle.hir_meaning.specs.Same.{SameCoroutine}
 
--- ---- how one is lowered
+-- how one is lowered
 
 -- `self`, and the patterns of the other parameters
 abbrev pub Received : Type 0
@@ -61,7 +61,7 @@ lower_tops done (p ∷ ps) = do
   i ← lower_top p
   lower_tops (done ++ i ∷ []) ps
 
--- ---- what it does
+-- what it does
 
 -- The function became i, whose arguments are handed to these: nothing was open, and the store was `Paired`.
 pub record LoweredFunction (kind : CoroutineKind) (self : SelfFormal) (ps : Tops) (e : OptionExpr) (b : Builder) (formals : List PatId)

@@ -21,7 +21,7 @@ use Rattle.hir_sets.specs.Places.{projected, trait_a, unhidden, with_a}
 use Rattle.hir_sets.specs.Places.{AliasesCount, CountsInImpls, CountsInProjections, CountsWhereItStands, ImplsAreParameters}
 use Rattle.hir_sets.specs.Places.{PathsSayAliases}
 
--- ---- what the trees are
+-- what the trees are
 
 abbrev written_a : Spot → Lifetime
 written_a at = lifetime_of at.place (record { id = node 1; range = no_range; t = codes "'a" })
@@ -51,7 +51,7 @@ path_is at = path_made at _ ∙ ap (one_of at) (segment_is at)
 alone_is : (at : Spot) → answered_type at alone ≡ tree.path_type (pointer at 0) (tree.some_path (one_of at (segment_a at)))
 alone_is at = type_made at 0 _ ∙ ap (λ p. tree.path_type (pointer at 0) (tree.some_path p)) (path_is at)
 
--- ---- where a lifetime counts
+-- where a lifetime counts
 
 pub counts_where_it_stands : CountsWhereItStands
 counts_where_it_stands at s = ap noted_in_type (reference_is (counting s at))
@@ -90,7 +90,7 @@ counts_in_impls at = (
   impl_counts at scope.Output,
 )
 
--- ---- projections
+-- projections
 
 abbrev within : Spot → Spot
 within at = record at { place = inside_projection at.place }
@@ -157,7 +157,7 @@ counts_in_projections at = (
   projection_counts at scope.Output,
 )
 
--- ---- aliases
+-- aliases
 
 said : (at : Spot) → alias_of (answered_path at (path_of (Some with_a ∷ []))) ≡ alias_of (one_of at (segment_a at))
 said at = ap alias_of (path_is at)
@@ -185,7 +185,7 @@ aliases_count at n x = (
   alone_counts (counting scope.Output (aliasing n (Some x) at)),
 )
 
--- ---- an `impl` in an argument
+-- an `impl` in an argument
 
 pub impls_are_parameters : ImplsAreParameters
 impls_are_parameters at def =

@@ -35,7 +35,7 @@ abbrev pub unless : OptionArgsData → Noting → Noting
 unless no_args n = n
 unless (some_args as') n = none
 
--- ---- the lifetimes of an alias
+-- the lifetimes of an alias
 
 abbrev pub text_of : LifetimeRef → Option Name
 text_of (lifetime.Named n) = Some n
@@ -66,7 +66,7 @@ abbrev pub names_of_args : Option PathRead → Option (List (Option Name))
 names_of_args None = None
 names_of_args (Some p) = names_last p.names
 
--- ---- `impl`s
+-- `impl`s
 
 -- one that is an argument becomes a parameter, behind those inside of its bounds
 abbrev pub becoming : ImplTrait → Pointer → Bounds → Noting
@@ -83,7 +83,7 @@ of_uses [] = none
 of_uses (u ∷ us) = of_use u ⊕ of_uses us
 
 abbrev mutual
-  -- ---- types, paths, arguments and bounds
+  -- types, paths, arguments and bounds
 
   pub noted_in_type : Type_ → Noting
   noted_in_type (tree.paren_type t) = noted_in_type_part t
@@ -203,7 +203,7 @@ abbrev mutual
   noted_in_side (tree.path_side at p) = noted_in_whole p
   noted_in_side s = none
 
-  -- ---- expressions
+  -- expressions
 
   pub noted_in : Expr → Noting
   noted_in (tree.disabled_expr why e) = none
@@ -316,7 +316,7 @@ abbrev mutual
   noted_in_stmt (tree.let_stmt p t e b) =
       noted_in_top p ⊕ (noted_in_present_type t ⊕ (noted_in_part e ⊕ noted_in_block_part b))
 
-  -- ---- patterns
+  -- patterns
 
   pub noted_in_pat : Pat → Noting
   noted_in_pat (tree.leaf_pat at form) = none
@@ -354,7 +354,7 @@ abbrev mutual
   noted_in_pat_field tree.partless_pat_field = none
   noted_in_pat_field (tree.pat_field at n p) = noted_in_pat p
 
-  -- ---- what is assigned to
+  -- what is assigned to
 
   pub noted_in_target : Target → Noting
   noted_in_target (tree.absent_target call) = none

@@ -29,7 +29,7 @@ use Rattle.hir_sets.specs.Noting.{Impl, Noting, chosen, none, one_name}
 use Rattle.hir_sets.specs.Fold.{noted_in_type}
 use Rattle.hir_sets.specs.Worked.{a}
 
--- ---- trees
+-- trees
 
 -- `A<'a>`
 abbrev pub with_a : AstPathSegment
@@ -69,7 +69,7 @@ in_front = roll-PathSegment (record {
 abbrev pub projected : AstType_
 projected = type_at 0 (TypeKind-F.PathType (Some (path_of (Some in_front ∷ Some (bare (codes "Q")) ∷ []))))
 
--- ---- where they stand
+-- where they stand
 
 -- where a lifetime counts there
 abbrev pub counting : LifetimeScope → Spot → Spot
@@ -91,7 +91,7 @@ aliasing n x at = answering (Some (resolution.TypeAlias n)) x at
 abbrev pub named_by : Spot → AstType_ → Noting
 named_by at t = noted_in_type (answered_type at t)
 
--- ---- where a lifetime counts
+-- where a lifetime counts
 
 -- `&'a !`, wherever it stands
 abbrev pub CountsWhereItStands : Type 0
@@ -120,7 +120,7 @@ CountsInProjections = (at : Spot)
     × (of_projection scope.Bound at ≡ record none { bounds = a ∷ a ∷ [] })
     × (of_projection scope.Output at ≡ record none { output = a ∷ a ∷ [] })
 
--- ---- aliases
+-- aliases
 
 abbrev pub says : Spot → Option (List Bool) → Type 0
 says at places = alias_of (answered_path at (path_of (Some with_a ∷ []))) ≡ places
@@ -146,7 +146,7 @@ AliasesCount = (at : Spot) (n : TypeAliasId) (x : Alias)
     × (named_by (counting scope.Input (answering None None at)) alone ≡ one_name scope.Input a)
     × (named_by (counting scope.Output (aliasing n (Some x) at)) alone ≡ one_name scope.Output a)
 
--- ---- an `impl` in an argument
+-- an `impl` in an argument
 
 abbrev pub in_argument : GenericDefId → Spot → Spot
 in_argument def at =

@@ -56,7 +56,7 @@ path_of_one alias s = tree.some_path (tree.path alias false s tree.no_segments t
 abbrev pub kind : Noting → Name → LifetimeBoundType
 kind n x = bound_kind (sets_of n) x
 
--- ---- arguments and what is returned
+-- arguments and what is returned
 
 -- `fn f<'a>(_: &'a !) -> &'a !`
 abbrev pub ConstrainedIsLate : Type 0
@@ -83,7 +83,7 @@ NamelessCountNowhere = (at : Pointer) (s : LifetimeScope)
     × (of_lifetime (lifetime_in at s lifetime.Placeholder) ≡ none)
     × (of_lifetime (lifetime_in at s lifetime.Error) ≡ none)
 
--- ---- projections
+-- projections
 
 -- `<! as A<'a>>::Q` in an argument
 abbrev pub projection : Pointer → Type_
@@ -96,7 +96,7 @@ abbrev pub ProjectionConstrainsNothing : Type 0
 ProjectionConstrainsNothing = (at : Pointer)
     → kind (noted_in_type (projection at) ⊕ noted_in_type (reference_in at scope.Output a)) a ≡ EarlyBound
 
--- ---- aliases
+-- aliases
 
 -- `A<'static, 'a, 'b>` in an argument, where A has a type that names these of its parameters
 abbrev pub alias_named : Pointer → List Bool → Type_
@@ -126,7 +126,7 @@ RefusedConstrainsByAll = (at : Pointer)
     × (noted_in_type (tree.path_type at (path_of_two (Some []) tree.broken_segment s)) ≡ one_name scope.Input a)
     × (noted_in_type (tree.path_type at (path_of_two (Some []) bare s)) ≡ none)
 
--- ---- constants
+-- constants
 
 -- `[!; { let _: &'a !; }]`, a constant with a type in it
 abbrev pub length_with : Pointer → LifetimeScope → Type_
@@ -138,7 +138,7 @@ length_with at s =
 abbrev pub ConstantsCount : Type 0
 ConstantsCount = (at : Pointer) (s : LifetimeScope) → noted_in_type (length_with at s) ≡ one_name s a
 
--- ---- `impl`s
+-- `impl`s
 
 -- `impl A<'a> + 'b` in an argument, and `dyn A<'a>` there
 abbrev pub ImplsNote : Type 0

@@ -42,7 +42,7 @@ use Rattle.hir_steps.proofs.Preludes.{HandedBind, HandedIn, HandedOwn, LetsOf, M
 use Rattle.hir_steps.proofs.Preludes.{correct_handed, correct_let_param, correct_made_coroutine, correct_within, own_at}
 use Rattle.hir_steps.proofs.Steps.{Mark, Correct, correct_as, correct_bind, correct_pure}
 
--- ---- names that are handed in
+-- names that are handed in
 
 abbrev pub names_of : List Handed → List Name
 names_of xs = map (λ x. x.name) xs
@@ -67,7 +67,7 @@ handed_alone x {final = final} row =
     ∙ (ap (alone_in bs) row.here ∙ (named_at bs row.binding.0
     ∙ (ap (λ n. name_of (slice_get (map without_problem bs) n)) row.is ∙ ap name_of row.bound)))
 
--- ---- `let`s
+-- `let`s
 
 module _ (x : Handed) (p : PatId) {final : Stored} {ps : List Frame} {m m' : Mark} {ss : List Statement} where
   lets_times : LetsOf x p final ps m m' ss → (k : ℕ) → times k m'.stored ≡ more_of true (times_named k x.name) (times k m.stored)
@@ -76,7 +76,7 @@ module _ (x : Handed) (p : PatId) {final : Stored} {ps : List Frame} {m m' : Mar
   lets_names : LetsOf x p final ps m m' ss → m'.names ≡ m.names
   lets_names row = row.again.names ∙ (row.read.names ∙ row.binds.names)
 
--- ---- a parameter
+-- a parameter
 
 abbrev one_if : Bool → ℕ
 one_if t = if t then 1 else 0
@@ -158,7 +158,7 @@ pub let_param_adds : (done : Prelude) (p : PatId) → Correct (let_param done p)
 let_param_adds done p = correct_as (correct_let_param done p) (λ final ps m m' l g row.
     in_adds done p (own_at p m.stored) (own_is_written m.stored (slice_get m.stored.pats.entries p.0)) row.handed)
 
--- ---- parameters
+-- parameters
 
 -- Made names among these were made up between so many and so many, each of them once.
 pub record NewNames (from to : ℕ) (xs : List Handed) : Type 0 where
@@ -211,7 +211,7 @@ let_params_add done [] = correct_as (correct_pure done) (λ final ps m m' l g ro
 let_params_add done (p ∷ is) = correct_as (correct_bind (let_param_adds done p) (λ l. let_params_add l is))
     (λ final ps m m' l g row. adds_then row.first row.second)
 
--- ---- what the outside hands its arguments to
+-- what the outside hands its arguments to
 
 -- Each name is bound once more, and by what is answered.
 pub record HandsOut (done : List PatId) (xs : List Handed) (final : Stored) (ps : List Frame) (m m' : Mark) (is : List PatId)
@@ -241,7 +241,7 @@ handed_hand_out done (x ∷ xs) = correct_as (correct_bind (correct_handed x) (�
       are = λ j. alone j ∷ others j;
     })
 
--- ---- coroutines
+-- coroutines
 
 -- nothing is named
 module _ {which : CoroutineKind} {from : CoroutineSource} {lets : List Statement} {body : ExprId} {final : Stored} {ps : List Frame}
@@ -349,7 +349,7 @@ coroutine_closure_apart at which moves hp ht he = correct_as
     (correct_coroutine_closure at which moves _ _ _ (within_apart which hp ht he) (λ xs. handed_hand_out [] xs))
     (λ final ps m m' i g row. closure_apart row)
 
--- ---- `self`
+-- `self`
 
 -- of a written name
 module _ (x : Binding) (w : IsWritten x.name) {final : Stored} {ps : List Frame} {m m' : Mark} {r : BindingId × List Statement}

@@ -27,7 +27,7 @@ use Rattle.hir_steps.proofs.Yields.{LeavesTo, Still, Raises, RaisedTo, raises_be
 use Rattle.hir_steps.proofs.Yields.{raises_then}
 use Rattle.hir_steps.proofs.Yields.{still_expr, still_trans}
 
--- ---- constants
+-- constants
 
 still_behind : {A : Type 0} (make : ExprId → A) (p : ExprSteps)
     → Still (open_barrier >>= (λ outside. enter_root >>= (λ outer. p >>= leaving make outside outer)))
@@ -48,7 +48,7 @@ pub still_constant : (p : ExprSteps) → Still (constant_form p)
 unfolding constant_form
 still_constant p = still_behind (λ i. record { expr = i }) p
 
--- ---- a barrier by itself
+-- a barrier by itself
 
 -- behind it
 abbrev pub shut : Builder → Builder
@@ -122,7 +122,7 @@ correct_behind_barrier {p = p} {R = R} {f = f} {Q = Q} h k = record {
       (h.holds final (barrier_at ∷ ps) (shut b) (ap (λ rs. barrier_rib ∷ rs) r));
 }
 
--- ---- coroutine blocks
+-- coroutine blocks
 
 -- what is so of its block behind the barrier
 pub record CoroutineRow (R : Rel ExprId) (final : Stored) (ps : List Frame) (m m' : Mark) (i : ExprId) : Type 0 where
@@ -143,7 +143,7 @@ still_coroutine p = record { still = λ b. by b (p (shut b)).0 (p (shut b)).1 }
     by b (Ok i) c = refl
     by b (Err e) c = tt
 
--- ---- steps of a closure, grouped otherwise
+-- steps of a closure, grouped otherwise
 
 pub grouped : {A B C : Type 0} (p : Lowering A) (f : A → Lowering B) (g : B → Lowering C) (b : Builder)
     → ((p >>= f) >>= g) b ≡ (p >>= (λ a. f a >>= g)) b
@@ -263,7 +263,7 @@ module _ (at : Pointer) (moves is_static : Bool) (p : Lowering ClosureParams) (t
       by_params b (Ok l) c = by_type b l (t c).0 (t c).1
       by_params b (Err f) c = tt
 
--- ---- `yield`
+-- `yield`
 
 -- that one stands here, and nothing else
 abbrev noted : Builder → Builder

@@ -36,7 +36,7 @@ use Rattle.hir_steps.proofs.Yields.{LeavesTo, Still, still_stored}
 abbrev Faults : Type 0
 Faults = List ExpressionStoreDiagnostics
 
--- ---- steps that only tell
+-- steps that only tell
 
 -- it tells these, and nothing else
 pub record Only (es : Expansions) (ds : Faults) (p : Lowering (Unit {0})) : Type 0 where
@@ -162,7 +162,7 @@ pub apart_only : {es : Expansions} {ds : Faults} {p : Lowering (Unit {0})} → O
 apart_only {es = es} {ds = ds} h = correct_as (correct_only h)
     (λ final ps m m' u g row. apart_stored (with_told es ds) m m' (ap (λ c. c.7) row.counts_are) row.stored (λ s k. refl))
 
--- ---- the node of a call leads to what it stands for
+-- the node of a call leads to what it stands for
 
 abbrev pub pointing_pat : Pointer → PatId → Stored → Stored
 pointing_pat p id s = record s { pats = with_way s.pats p id }

@@ -35,7 +35,7 @@ module _ (w : Lowering Within) where
   around_grouped f b = grouped w (λ a. lower_handed [] a.handed >>= (λ ps. pure (a, ps))) f b
       ∙ behind w (λ a c. grouped (lower_handed [] a.handed) (λ ps. pure (a, ps)) f c) b
 
--- ---- `yield`
+-- `yield`
 
 -- none of what runs behind a barrier is one of the body around it
 module _ {A B : Type 0} (q : Lowering A) {f : A → Lowering B} where
@@ -56,7 +56,7 @@ module _ {A B : Type 0} (q : Lowering A) {f : A → Lowering B} where
 still_like : {A : Type 0} {p q : Lowering A} → ((b : Builder) → p b ≡ q b) → Still p → Still q
 still_like same h = record { still = λ b. subst (λ x. LeavesTo b x.0 x.1) (same b) (h.still b) }
 
--- ---- closures
+-- closures
 
 -- The coroutine behind a barrier, which owns what is bound by then; what the outside hands its arguments to; and then the node.
 pub record CoroutineClosureRow (at : Pointer) (which : CoroutineKind) (moves : Bool) (W : Rel Within) (H : List Handed → Rel (List PatId))

@@ -14,7 +14,7 @@ use Rattle.hir_steps.proofs.Frames.{Frame, macro_at}
 use Rattle.hir_steps.proofs.Logic.{Rel, Holds, Correct, IsPure, correct_bind, correct_as, correct_pure}
 use Rattle.hir_steps.proofs.Steps.{correct_count_out}
 
--- ---- inside of a definition
+-- inside of a definition
 
 -- What is so there, where it is around. It is no number and nothing stored.
 abbrev pub InMacro : {A : Type 0} → MacroDefId → Rel A → Rel A
@@ -51,7 +51,7 @@ correct_inside_macro {A = A} {R = R} d {p = p} h = record {
     }
     go final ps b (Err e) c x = x
 
--- ---- the definition
+-- the definition
 
 counted : (t : Bool) → Correct {A = Unit {0}} (if t then pure tt else count_out) (IsPure tt)
 counted true = correct_pure tt
@@ -66,7 +66,7 @@ unfolding define_form
 correct_define k d = correct_as (correct_bind (correct_count_def k) (λ u. correct_pure (Some (defined d))))
     (λ final ps m m' o g row. record { is = row.second.is; still = row.second.still ∙ row.first.still })
 
--- ---- made names
+-- made names
 
 pub define_apart : (k : ℕ) (d : Option MacroDefId) → Correct (define_form k d) Apart
 define_apart k d = correct_as (correct_define k d) (λ final ps m m' o g row. apart_still m m' row.still)

@@ -15,7 +15,7 @@ use Rattle.hir_store.specs.declared.pat.Pat.TheVariants as pat
 use Rattle.hir_steps.specs.Keeps.{IsOneOf, MadeApart, alone_in, formals_in, formals_of, name_alone, times_among}
 use Rattle.hir_steps.proofs.Apart.{ApartIn}
 
--- ---- lists
+-- lists
 
 found_behind : {A : Type 0} (xs more : List A) (n : ℕ) (x : A) → slice_get xs n ≡ Some x → slice_get (xs ++ more) n ≡ Some x
 found_behind [] more n x h = absurd (true≢false (sym (ap is_some h)))
@@ -37,7 +37,7 @@ abbrev others : {A : Type 0} → List A → List A
 others [] = []
 others (x ∷ xs) = xs
 
--- ---- names
+-- names
 
 abbrev pub name_of : Option Binding → Option Name
 name_of x = option_map (λ b. b.name) x
@@ -95,7 +95,7 @@ module _ {s final : Stored} (pre : Extends s final) where
       by (Some z) e y = subst (λ o. IsOneOf k (store_of final) (formals_in o)) (sym (found_stays pre.exprs.entries n z e))
           (record { names = y.names; are = each_stays (formals_in (Some z)) y.names y.are; once = y.once })
 
-  -- ---- made names
+  -- made names
 
   pub apart_in : {names : ℕ} → MadeApart names s → ApartIn final names s
   apart_in m = record {

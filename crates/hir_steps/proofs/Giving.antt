@@ -19,7 +19,7 @@ use Rattle.hir_steps.proofs.Settled.{IsThere, IsEmpty, Settled, before, of_expr,
 use Rattle.hir_steps.proofs.Settled.{push_append}
 use Rattle.hir_steps.proofs.Answering.{Answering, answering_any, answering_less, answering_pure, answering_then}
 
--- ---- parts that are kept
+-- parts that are kept
 
 some_gives : (p : ExprSteps) → Answering (IsThere true) (some p)
 some_gives p = answering_then (answering_any p) (λ i u. answering_pure (Some i) (i, refl))
@@ -32,7 +32,7 @@ kept_part_gives : (e : OptionExpr) → Answering (IsThere (is_left e)) (kept_par
 kept_part_gives tree.no_expr = answering_pure None refl
 kept_part_gives (tree.some_expr e) = kept_gives e (lower e)
 
--- ---- what is in a block
+-- what is in a block
 
 -- what the statements became, behind what was there, and what the tail did
 pub record Contained (ss : Stmts) (left : Bool) (done : List Statement) (r : StoredContents) : Type 0 where

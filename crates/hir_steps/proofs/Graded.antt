@@ -72,7 +72,7 @@ pub record Graded {ℓ} (S : Grading {ℓ}) : Type (ℓ ⊔ 1) where
   pub type_made_is : {t : TypeData} {g : S.G} {p : TypeSteps} → Known TypeRefId p (λ final m m' i. TypeIs t final m i) → MadeType t g p
       → Claim g p
   pub pure_is : {A : Type 0} (a : A) → Claim S.none (pure a)
-  -- ---- one after another, where it is known what the first answers, or where nothing is told of what comes after
+  -- one after another, where it is known what the first answers, or where nothing is told of what comes after
   pub bind_is : {A B : Type 0} {P : A → Type 0} {g h : S.G} {p : Lowering A} {f : A → Lowering B} → Claim g p → Answering P p
       → ((a : A) → P a → Claim h (f a)) → Claim (S.then' g h) (p >>= f)
   pub makes_is : {A : Type 0} {P : A → Type 0} {g h : S.G} {p : Lowering A} {f : A → ExprSteps} → Claim g p → Answering P p
@@ -83,7 +83,7 @@ pub record Graded {ℓ} (S : Grading {ℓ}) : Type (ℓ ⊔ 1) where
       → ((a : A) → MadeType t h (f a)) → MadeType t (S.then' g h) (p >>= f)
   pub end_is : {A B : Type 0} {g : S.G} {p : Lowering A} {f : A → Lowering B} → Claim g p → ((a : A) → Claim S.none (f a))
       → Claim g (p >>= f)
-  -- ---- steps of which something is told where it is so, in a final store, of how far it had come before them and of their answer
+  -- steps of which something is told where it is so, in a final store, of how far it had come before them and of their answer
   pub Where : {A : Type 0} → (Stored → Mark → A → Type 0) → S.G → Lowering A → Type 0
   pub where_type : {t : TypeData} {g : S.G} {p : TypeSteps} → MadeType t g p → Where (TypeIs t) g p
   -- told in any case
@@ -100,7 +100,7 @@ pub record Graded {ℓ} (S : Grading {ℓ}) : Type (ℓ ⊔ 1) where
       → Where (λ final m a. K final m) g p → ((a : A) → Claim h (f a)) → Where (λ final m b. K final m) (S.then' g h) (p >>= f)
   pub where_end : {A B : Type 0} {K : Stored → Mark → Type 0} {g : S.G} {p : Lowering A} {f : A → Lowering B}
       → Where (λ final m a. K final m) g p → ((a : A) → Claim S.none (f a)) → Where (λ final m b. K final m) g (p >>= f)
-  -- ---- steps that hand on the names of a top pattern, of which this table knew some, and others were bound since; behind such steps,
+  -- steps that hand on the names of a top pattern, of which this table knew some, and others were bound since; behind such steps,
   -- and beside steps that hand none on
   pub Hands : {A : Type 0} → Table → S.G → Lowering (A × Table) → Type 0
   pub hands_pure_is : {A : Type 0} (a : A) (t u : Table) → u.bindings ≡ t.bindings → Hands t S.none (pure (a, u))
@@ -139,7 +139,7 @@ pub record Graded {ℓ} (S : Grading {ℓ}) : Type (ℓ ⊔ 1) where
       → Hands t S.binding (alloc_binding (new_binding u) >>= (λ b. pure (b, with_it b)))
   -- of a whole pattern, whose names get their problems in the end
   pub top_is : {g : S.G} {p : Lowering (PatId × Table)} → Hands no_names g p → Claim g (p >>= (λ r. settle r.1 >>= (λ _. pure r.0)))
-  -- ---- what is stored
+  -- what is stored
   pub type_is : (t : TypeRef) (at : Option Pointer) (shape : Shape)
       → MadeType (datum.typed at shape) (S.type_as (datum.typed at shape)) (alloc_type t at)
   pub lifetime_is : (l : LifetimeRef) (at : Option Pointer)
@@ -156,13 +156,13 @@ pub record Graded {ℓ} (S : Grading {ℓ}) : Type (ℓ ⊔ 1) where
   pub binding_is : (u : Use) → IsWritten u.name → Claim S.binding (alloc_binding (new_binding u))
   pub define_is : (b : BindingId) (p : PatId) → Claim S.none (define b p)
   pub field_is : (p : PatId) (at : Pointer) → Claim S.none (point_pat_field p at)
-  -- ---- what is noted: beside steps, in a path that is an alias in an argument, and what an `impl` becomes
+  -- what is noted: beside steps, in a path that is an alias in an argument, and what an `impl` becomes
   pub noted_down_is : (f : Notes → Notes) → KeepsParams f → {A : Type 0} {g : S.G} {p : Lowering A} → Claim g p
       → Claim g (note_down f >> p)
   pub aliased_is : (alias : Option (List Bool)) {g : S.G} {p : Lowering (Option HirPath)} → Claim g p → Claim g (aliased alias p)
   pub impl_is : (at : Pointer) (mode : ImplTrait) (bounds : List TypeBound) (shape : Shape)
       → MadeType (datum.typed (Some at) shape) (grade_impl S mode (datum.typed (Some at) shape)) (becoming at mode bounds)
-  -- ---- what is reported, counted, entered and asked
+  -- what is reported, counted, entered and asked
   pub fault_is : (d : ExpressionStoreDiagnostics) → Claim (S.fault d) (report d)
   -- of calls of macros; the node of one leads to the pattern or the type that was made
   pub noted_is : (c : Entered) → Claim (S.noted c) (note c)
@@ -187,7 +187,7 @@ pub record Graded {ℓ} (S : Grading {ℓ}) : Type (ℓ ⊔ 1) where
   -- to ask for the innermost `try` tells nothing
   pub asked_is : {g : S.G} {f : Option (Try LabelId) → ExprSteps} → ((t : Option (Try LabelId)) → Made g (f t))
       → Made g (try_target >>= f)
-  -- ---- names that are made up and bound, at once or after some steps
+  -- names that are made up and bound, at once or after some steps
   pub named_is : (mode : BindingAnnotation) {A : Type 0} {g : S.G} {f : ℕ → PatId → Lowering A} → ((n : ℕ) (q : PatId) → Claim g (f n q))
       → Claim (S.then' S.made_name (S.then' (made_bind S) g)) (made_number >>= (λ n. made_bind_form mode n >>= (λ q. f n q)))
   pub made_named_is : (mode : BindingAnnotation) {g : S.G} {f : ℕ → PatId → ExprSteps} → ((n : ℕ) (q : PatId) → Made g (f n q))
@@ -195,7 +195,7 @@ pub record Graded {ℓ} (S : Grading {ℓ}) : Type (ℓ ⊔ 1) where
   pub named_past_is : (mode : BindingAnnotation) {A : Type 0} {g h : S.G} {p : Lowering A} {f : ℕ → A → PatId → ExprSteps} → Claim g p
       → ((n : ℕ) (a : A) (q : PatId) → Made h (f n a q)) → Made (S.then' S.made_name (S.then' g (S.then' (made_bind S) h)))
       (made_number >>= (λ n. p >>= (λ a. made_bind_form mode n >>= (λ q. f n a q))))
-  -- ---- what is in a loop, in a block with a label, in a `try`; labels have written names
+  -- what is in a loop, in a block with a label, in a `try`; labels have written names
   pub bare_is : {g : S.G} {p : ExprSteps} {f : ExprId → ExprSteps} → Claim g p → ((i : ExprId) → Made S.expr (f i))
       → Made (S.looped None g) (p >>= f)
   pub loop_is : (l : Label) → IsWritten l.name → {g : S.G} (p : ExprSteps) {f : LabelId → ExprId → ExprSteps} → Claim g p
@@ -210,7 +210,7 @@ pub record Graded {ℓ} (S : Grading {ℓ}) : Type (ℓ ⊔ 1) where
       {s : Lowering (Unit {0})} {p : Lowering StoredContents} {f : LabelId → StoredContents → ExprSteps} → Claim g s → Claim h p
       → Answering (λ r. of r ≡ b) p → ((n : LabelId) (r : StoredContents) → Made (k (of r)) (f n r))
       → Made (S.tried typed g h (k b)) (open_try at typed >>= (λ n. s >>= (λ _. p >>= (λ r. close >>= (λ _. f n r)))))
-  -- ---- bodies inside
+  -- bodies inside
   pub inner_is : (l : Limit) {g : S.G} {p : ExprSteps} → Made g p → Claim (S.inner l g) (inner_form p)
   pub constant_is : (e : OptionExpr) {g : S.G} {p : ExprSteps} → Made g p
       → Claim (S.constant e g) (owning (λ c. c.expr) (constant_form p))

@@ -26,7 +26,7 @@ use Rattle.hir_steps.proofs.PathAnswers.{seen, seen_of, seen_with, path_seen, re
 use Rattle.hir_steps.proofs.PatAnswers.{AreKeyed}
 use Rattle.hir_steps.proofs.Answering.{Answering}
 
--- ---- what a trait's path says
+-- what a trait's path says
 
 appended : (xs ys : List Name) → no_names ys ≡ false → not (no_names (xs ++ ys)) ≡ true
 appended [] ys e = ap not e
@@ -42,7 +42,7 @@ projected_is t p w = by (no_names (mod_path p).segments) refl
     by false e = ap (λ x. goes_on (seen_with (supers (mod_path p).kind) x))
         (appended w.names (reverse (mod_path p).segments) (reversed (mod_path p).segments ∙ e))
 
--- ---- what a `super` gives
+-- what a `super` gives
 
 pub counted_gives : (w : PathWalk) → Answering (GivesRead (goes_on (one_more (seen w)))) (counted (super_read w))
 unfolding count_out
@@ -53,7 +53,7 @@ counted_gives w = by (nat_lt (supers w.kind + 1) (2 ^ 32))
     by true = record { answers = λ b. refl }
     by false = record { answers = λ b. tt }
 
--- ---- names
+-- names
 
 pub keyed_more : (u : Use) (b : BindingId) (us : FirstUses) (es : List (Key × BindingId)) → AreKeyed us es
     → AreKeyed (us ++ u ∷ []) (es ++ (key_of u, b) ∷ [])
@@ -85,7 +85,7 @@ known_by u (f ∷ us) (e ∷ es) h = rw h.0 (by (is_of u.name u.hygiene f) (know
     by true k = (refl, refl)
     by false k = known_later f u us (lookup (same_key (key_of u)) es) (with_use us u) (is_known us u) k
 
--- ---- two dots
+-- two dots
 
 -- what is two dots where it is written is two dots where it is lowered
 pub same_dots : (p : Pat) → written.is_dots p ≡ forms.is_dots p

@@ -31,7 +31,7 @@ module _ {ℓ} {S : Grading {ℓ}} (L : Graded S) where
     unfolding made.item_call_form
     item_call_graded item argument = made_next L (L.made_is (L.made_expr_is _ (Some at))) (λ f. L.made_expr_is _ (Some at))
 
-    -- ---- `?`
+    -- `?`
 
     pub residual_graded : (items : QuestionItems) (n : ℕ) → L.Made (residual S) (made.residual_form at items n)
     unfolding made.residual_form
@@ -46,7 +46,7 @@ module _ {ℓ} {S : Grading {ℓ}} (L : Graded S) where
         made_next L (flow_arm_graded items.goes_on path_graded) (λ a.
         made_next L (flow_arm_graded items.breaks (residual_graded items)) (λ c. L.expr_is _ (Some at)))))
 
-    -- ---- `try`
+    -- `try`
 
     value_graded : (tail : Option ExprId) → L.Claim (if_so S (not (is_some tail)) S.expr) (made.value_or_unit at tail)
     unfolding made.value_or_unit
@@ -75,7 +75,7 @@ module _ {ℓ} {S : Grading {ℓ}} (L : Graded S) where
     typed_try_graded hb ht = made_next L (L.made_is hb) (λ b. L.named_past_is Unannotated ht (λ n t p.
         made_next L (L.made_is (path_graded n)) (λ e. L.made_expr_is _ (Some at))))
 
-    -- ---- a condition, where its temporaries end
+    -- a condition, where its temporaries end
 
     held_graded : {g : S.G} {c : ExprSteps} → L.Made g c → L.Made (condition S false g) (made.held_form at c)
     unfolding made.held_form made.hold_form
@@ -87,7 +87,7 @@ module _ {ℓ} {S : Grading {ℓ}} (L : Graded S) where
     condition_graded true h = h
     condition_graded false h = held_graded h
 
-    -- ---- `for`
+    -- `for`
 
     reference_graded : (n : ℕ) → L.Made (S.then' S.expr S.expr) (made.made_reference_form at n)
     unfolding made.made_reference_form

@@ -69,7 +69,7 @@ module _ {ℓ} {S : Grading {ℓ}} (L : Graded S) where
   pub alone_graded : (us : FirstUses) {g : S.G} {p : Lowering PatId} → L.MadePat g p → PatMade g us us (forms.alone p)
   alone_graded us h t k = pat_last L t refl h (λ i. k)
 
-  -- ---- names
+  -- names
 
   used_graded : (u : Use) → IsWritten u.name → (us : FirstUses) (t : Table) (o : Option BindingId) (w : FirstUses) (b : Bool) → Keyed us t
       → KnownBy us u o w b → HandsTold L {A = BindingId} t (if_so S (not b) S.binding) (λ r. Keyed w r.1) (forms.use_of_known u t o)
@@ -84,7 +84,7 @@ module _ {ℓ} {S : Grading {ℓ}} (L : Graded S) where
   name_graded u is us t k =
       used_graded u is us t (forms.binding_of (key_of u) t) (with_use us u) (is_known us u) k (known_by u us t.bindings k.each)
 
-  -- ---- parts of a tuple
+  -- parts of a tuple
 
   pub elements_graded : (comma : Bool) (es : Elements) (d : Option ℕ) → es.1 ≡ d
       → L.Claim (behind_comma S comma (S.dots (moved_by comma d))) (forms.elements_form comma es)
@@ -126,7 +126,7 @@ module _ {ℓ} {S : Grading {ℓ}} (L : Graded S) where
   named_graded at None i = L.pure_is None
   named_graded at (Some n) i = map_is L _ (L.field_is i at)
 
-  -- ---- alternatives
+  -- alternatives
 
   or_of_graded : (at : Pointer) (ps : Pats) (i : PatId) (is : List PatId) → AsMany ps is
       → L.Claim (grade_or S at ps) (forms.or_of at (i ∷ is))
@@ -156,7 +156,7 @@ module _ {ℓ} {S : Grading {ℓ}} (L : Graded S) where
         known = whole.known;
       }
 
-  -- ---- forms of patterns
+  -- forms of patterns
 
   side_of_graded : (at : Pointer) (p : Option HirPath) → L.Claim (if_so S (is_some (option_seen p)) S.expr) (forms.path_side_of at p)
   side_of_graded at None = L.pure_is None
@@ -262,7 +262,7 @@ module _ {ℓ} {S : Grading {ℓ}} (L : Graded S) where
     unfolding forms.range_pat_form
     range_pat_graded op hs he = pat_next L hs (λ s. pat_next L he (λ e. L.pat_is _ (Some at)))
 
-    -- ---- patterns of types
+    -- patterns of types
 
     pub literal_limit_graded : (s : Signed) → L.Made S.expr (ranges.literal_limit_form at s)
     unfolding ranges.literal_limit_form

@@ -116,7 +116,7 @@ module _ {ℓ} {S : Grading {ℓ}} (L : Graded S) where
   type_told b t h = L.type_made_is (L.reads.type_reads b t) h
 
   mutual
-    -- ---- types, paths, arguments and bounds
+    -- types, paths, arguments and bounds
 
     pub type_made : (b : Option Binder) (t : Type_) → L.MadeType (type_data b t) (g.grade_type_in S b t) (lower_type b t)
     type_made b (tree.paren_type t) = part_made b t
@@ -245,7 +245,7 @@ module _ {ℓ} {S : Grading {ℓ}} (L : Graded S) where
     bound_graded (tree.lifetime_bound l) = map_is L _ (forms.lifetime_graded L l)
     bound_graded (tree.use_bound us) = map_is L _ (forms.uses_graded L [] us)
 
-    -- ---- patterns of types
+    -- patterns of types
 
     pub type_pat_graded : (p : TypePat) → L.MadePat (g.grade_type_pat S p) (lower_type_pat p)
     type_pat_graded (tree.not_null_type_pat at) = L.pat_is _ _
@@ -276,7 +276,7 @@ module _ {ℓ} {S : Grading {ℓ}} (L : Graded S) where
     limit_side_graded (tree.path_side at p) = pats.path_limit_graded L at (path_graded p).claim
     limit_side_graded tree.other_side = exprs.missing_graded L
 
-    -- ---- patterns
+    -- patterns
 
     pub pat_graded : (p : Pat) (us : FirstUses) → PatMade L (g.grade_pat S p us) us (names_after p us) (lower_pat p)
     pat_graded (tree.leaf_pat at form) us = pats.alone_graded L us (L.pat_is _ _)
@@ -362,7 +362,7 @@ module _ {ℓ} {S : Grading {ℓ}} (L : Graded S) where
     top_graded tree.no_pat = L.pat_made_is (pats.missing_pat_graded L)
     top_graded (tree.some_pat p) = L.top_is (L.hands_pat_is no_names (pat_graded p [] no_names none_keyed).claim)
 
-    -- ---- what is assigned to
+    -- what is assigned to
 
     pub target_graded : (t : Target) → L.MadePat (g.grade_target S t) (lower_target t)
     target_graded (tree.absent_target call) = L.made_pat_is _ call
@@ -400,7 +400,7 @@ module _ {ℓ} {S : Grading {ℓ}} (L : Graded S) where
     target_field_graded tree.partless_target_field = L.pure_is None
     target_field_graded (tree.target_field at n t) = targets.target_field_graded L at n (L.pat_made_is (target_graded t))
 
-    -- ---- constants
+    -- constants
 
     pub constant_graded : (c : Constant) → L.Claim (g.grade_constant S c) (lower_constant c)
     constant_graded (tree.constant e) = L.constant_is e (expr_part_graded e)
@@ -408,7 +408,7 @@ module _ {ℓ} {S : Grading {ℓ}} (L : Graded S) where
     pub rooted_graded : (c : Constant) → L.Claim (g.grade_rooted S c) (lower_rooted c)
     rooted_graded (tree.constant e) = L.rooted_is e (expr_part_graded e)
 
-    -- ---- expressions
+    -- expressions
 
     pub expr_graded : (e : Expr) → L.Made (g.grade_expr S e) (lower e)
     expr_graded (tree.disabled_expr why e) = made_next L (L.gone_is why) (λ u. exprs.missing_graded L)

@@ -40,7 +40,7 @@ use Rattle.hir_steps.proofs.Graded.{Graded, MadeTold, Told, map_is, next, pat_be
 use Rattle.hir_steps.proofs.GradedAnswers.{counted_gives, projected_is}
 
 module _ {ℓ} {S : Grading {ℓ}} (L : Graded S) where
-  -- ---- where a path is read, and how far, what comes after is told by that
+  -- where a path is read, and how far, what comes after is told by that
 
   pub told_by_path : {A : Type 0} {g : S.G} {x : Option Seen} {p : Lowering (Option HirPath)} {f : Option HirPath → Lowering A}
       (k : Option Seen → S.G) (P : Option Seen → A → Type 0) → Told L g (GivesPath x) p
@@ -82,7 +82,7 @@ module _ {ℓ} {S : Grading {ℓ}} (L : Graded S) where
       → Told L g (GivesPath x) p → ((o : Option HirPath) → L.Made (k (option_seen o)) (f o)) → L.Made (S.then' g (k x)) (p >>= f)
   made_by_path {f = f} k h more = L.makes_is h.claim h.known (λ o e. subst (λ y. L.Made (k y) (f o)) e (more o))
 
-  -- ---- types
+  -- types
 
   pub error_made : L.MadeType absent_data (S.type_as absent_data) error_type
   unfolding error_type
@@ -161,7 +161,7 @@ module _ {ℓ} {S : Grading {ℓ}} (L : Graded S) where
     unfolding pattern_type_form
     pattern_type_graded h k = L.makes_type_is h (λ t. L.makes_type_is k (λ p. L.type_is _ _ _))
 
-  -- ---- bounds, and the trait of a path, which are types of paths
+  -- bounds, and the trait of a path, which are types of paths
 
   module _ (y : Option PathRead) (at : Pointer) where
     bound_of_graded : (maybe : Bool) (binder : Binder) (p : Option HirPath)
@@ -177,7 +177,7 @@ module _ {ℓ} {S : Grading {ℓ}} (L : Graded S) where
     path_bound_graded maybe binder h reads = claim_of_path y (λ z. if_so S (is_some z) (S.type_as (typed (Some at) (shape_of_path y))))
         h reads (λ p. bound_of_graded maybe binder p)
 
-  -- ---- paths
+  -- paths
 
   pub proceed_graded : (r : Reading) (read : Read) {f : PathWalk → Lowering Reading} (k : Seen → S.G) (q : Seen → Read) → Gives read r
       → ((w : PathWalk) → Told L (k (seen w)) (Gives (q (seen w))) (f w)) → Told L (before S read k) (Gives (after read q)) (proceed r f)
@@ -218,7 +218,7 @@ module _ {ℓ} {S : Grading {ℓ}} (L : Graded S) where
           (λ p e. subst (λ z. Answering (Gives (projected z)) (steps.read_trait t at w p)) e (gives_projected p));
     }
 
-  -- ---- arguments
+  -- arguments
 
   pub parens_graded : (x : TypesData) {g k : S.G} {ts : Lowering (List TypeRefId)} {r : TypeSteps} → L.Claim g ts
       → L.Known (List TypeRefId) ts (λ final m m' is. L.reads.PartsAre x is final m') → L.Claim k r

@@ -73,7 +73,7 @@ correct_kept {R = R} h k = correct_as (correct_bind h (λ a. correct_bind (k a) 
     subst (λ k. R final ps m k b) (sym (rest.second.still ∙ rest.first.still))
     (subst (λ x. R final ps m row.middle x) (sym rest.second.is) row.first))
 
--- ---- a path that is an alias in an argument
+-- a path that is an alias in an argument
 
 pub correct_input_end : Correct input_end Idle
 unfolding input_end
@@ -88,7 +88,7 @@ pub correct_aliased : (alias : Option (List Bool)) {p : Lowering (Option HirPath
 correct_aliased None h = h
 correct_aliased (Some places) h = correct_begin correct_input_end (λ n. correct_kept h (λ p. correct_cut_back n places p))
 
--- ---- what an `impl` becomes
+-- what an `impl` becomes
 
 -- as what it is stored
 abbrev pub BecomesType : ImplTrait → List TypeBound → TypeRef → Type 0

@@ -13,7 +13,7 @@ use Rattle.hir_steps.proofs.Logic.{kept_still}
 use Rattle.hir_steps.proofs.Yields.{Still, Raises, raises_begin, raises_end, raises_pure, raises_still}
 use Rattle.hir_steps.proofs.Yields.{still_pure, still_stored, still_then}
 
--- ---- steps
+-- steps
 
 -- the number of the next binding is answered, and nothing is stored
 pub record NextBinding (final : Stored) (ps : List Frame) (m m' : Mark) (start : BindingId) : Type 0 where
@@ -67,7 +67,7 @@ still_own : (start : BindingId) (id : ExprId) → Still (own start id)
 unfolding own
 still_own start id = still_stored (storing.own start id)
 
--- ---- steps that own
+-- steps that own
 
 module _ {A : Type 0} (owner : A → ExprId) where
   -- What is so of the steps, and then only owners are written.

@@ -9,7 +9,7 @@ use Rattle.hir_lower_form.specs.Pats.{Key, key_of, Table, no_names}
 use Rattle.hir_steps.specs.PatNames.{names_after}
 use Rattle.hir_steps.proofs.TupleDots as parts
 
--- ---- names
+-- names
 
 -- the names that have a binding are these, in the same order
 abbrev pub AreKeyed : FirstUses → List (Key × BindingId) → Type 0
@@ -24,7 +24,7 @@ pub record Keyed (us : FirstUses) (t : Table) : Type 0 where
 pub none_keyed : Keyed [] no_names
 none_keyed = record { each = tt }
 
--- ---- parts of tuples, and alternatives
+-- parts of tuples, and alternatives
 
 -- two dots use no name
 pub dots_use_none : (p : Pat) → is_dots p ≡ true → (us : FirstUses) → names_after p us ≡ us

@@ -35,7 +35,7 @@ use Rattle.hir_steps.proofs.Logic.{grows_refl}
 use Rattle.hir_steps.proofs.Steps.{Mark, mark, Grows, Rel, Correct, Allocated, kept_still}
 use Rattle.hir_steps.proofs.Steps.{correct_alloc, correct_as, correct_bind, correct_pure}
 
--- ---- what is told of what is stored
+-- what is told of what is stored
 
 pub record Told {A : Type 0} (tells : Stored → A) (final : Stored) (ps : List Frame) (m m' : Mark) (a : A) : Type 0 where
   pub is : a ≡ tells m.stored
@@ -65,7 +65,7 @@ pub correct_binding_of : (i : BindingId) → Correct (forms.binding_of i) (Told 
 unfolding forms.binding_of
 correct_binding_of i = correct_told (binding_at i)
 
--- ---- names that are handed in
+-- names that are handed in
 
 -- What binds the name by which a parameter is handed in, alone.
 pub record HandedBind (x : Handed) (final : Stored) (ps : List Frame) (m m' : Mark) (p : PatId) : Type 0 where
@@ -120,7 +120,7 @@ pub correct_name : (n : Name) (h : HygieneId) → Correct (forms.name_form n h) 
 unfolding forms.name_form
 correct_name n h = correct_alloc (hir.Path (name_path n) h) None
 
--- ---- `let`s
+-- `let`s
 
 -- of the pattern, by the name
 pub record LetOf (x : Handed) (p : PatId) (final : Stored) (ps : List Frame) (m m' : Mark) (ss : List Statement) : Type 0 where
@@ -167,7 +167,7 @@ correct_lets x p = correct_as (correct_bind (correct_handed x) (λ q. correct_bi
       again = three.first;
     }))
 
--- ---- parameters
+-- parameters
 
 -- one parameter more, of which the `let`s are so
 pub record OneMore (done : Prelude) (x : Handed) (R : Rel (List Statement)) (final : Stored) (ps : List Frame) (m m' : Mark) (l : Prelude)
@@ -234,7 +234,7 @@ correct_let_param done p = correct_as (correct_bind (correct_own_name_of p) (λ 
           (subst (λ k. HandedIn done p row.one final ps k m' l) row.first.still row.second);
     })
 
--- ---- coroutines
+-- coroutines
 
 -- the block with the `let`s in front of the body, and the coroutine around it
 pub record MadeCoroutine (which : CoroutineKind) (from : CoroutineSource) (lets : List Statement) (body : ExprId)
@@ -323,7 +323,7 @@ module _ (which : CoroutineKind) {p : Lowering ClosureParams} {t : Lowering (Opt
         made = five.first;
       }))
 
--- ---- `self`
+-- `self`
 
 -- its binding once more, which comes from no node, and the `let` of it
 pub record ReboundAs (x : Binding) (final : Stored) (ps : List Frame) (m m' : Mark) (r : BindingId × List Statement) : Type 0 where

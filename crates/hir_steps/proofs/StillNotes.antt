@@ -54,7 +54,7 @@ still_becoming at becomes.Opaque bounds = still_type _ _
 still_becoming at (becomes.Argument def) bounds = still_then (still_add_param _)
     (λ k. still_then (still_type _ _) (λ t. still_then (still_note_down _) (λ u. still_pure t)))
 
--- ---- where one may stand
+-- where one may stand
 
 pub raises_noted_down : (f : Notes → Notes) {A : Type 0} {y : Bool} {p : Lowering A} → Raises y p → Raises y (note_down f >> p)
 raises_noted_down f h = raises_begin (raises_still (correct_note_down f) (still_note_down f)) (λ u. h)

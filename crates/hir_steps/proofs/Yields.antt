@@ -29,7 +29,7 @@ use Rattle.hir_steps.specs.Keeps.{Paired}
 use Rattle.hir_steps.proofs.Frames.{frames, ribs_frames, Frame}
 use Rattle.hir_steps.proofs.Logic.{Rel, Holds, Correct}
 
--- ---- steps in which none stands
+-- steps in which none stands
 
 -- it is as it was
 abbrev pub LeavesTo : {A : Type 0} → Builder → Checked A → Builder → Type 0
@@ -168,7 +168,7 @@ unfolding jump_target
 still_jump_target None = still_pure None
 still_jump_target (Some j) = record { still = λ b. (still_found j (target j b.scopes)).still b }
 
--- ---- one of two
+-- one of two
 
 pub or_false : (x : Bool) → (x || false) ≡ x
 or_false true = refl
@@ -182,7 +182,7 @@ pub or_assoc : (x y z : Bool) → ((x || y) || z) ≡ (x || (y || z))
 or_assoc true y z = refl
 or_assoc false y z = refl
 
--- ---- steps in which one stands, or none does: what each of their answers says of that
+-- steps in which one stands, or none does: what each of their answers says of that
 
 abbrev pub RaisedTo : {A : Type 0} → Bool → Builder → Checked A → Builder → Type 0
 RaisedTo y b (Ok a) c = Paired c.stored × (c.yields ≡ (b.yields || y))

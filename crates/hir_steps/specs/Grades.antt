@@ -23,7 +23,7 @@ use Rattle.hir_steps.specs.Grading.{grade_impl, grade_range, condition, made_bin
 
 module _ {ℓ} (S : Grading {ℓ}) where
   abbrev mutual
-    -- ---- types, paths, arguments and bounds
+    -- types, paths, arguments and bounds
 
     -- behind the lifetimes of a `for`
     pub grade_type_in : Option Binder → Type_ → S.G
@@ -141,7 +141,7 @@ module _ {ℓ} (S : Grading {ℓ}) where
     grade_bound (tree.lifetime_bound l) = S.lifetime_as (lifetime_data l)
     grade_bound (tree.use_bound us) = grade_uses S us
 
-    -- ---- patterns of types
+    -- patterns of types
 
     pub grade_type_pat : TypePat → S.G
     grade_type_pat (tree.not_null_type_pat at) = S.pat_at (Some at)
@@ -172,7 +172,7 @@ module _ {ℓ} (S : Grading {ℓ}) where
     grade_limit_side (tree.path_side at p) = S.then' (grade_whole p) S.expr
     grade_limit_side s = S.expr
 
-    -- ---- patterns, where these names have a use
+    -- patterns, where these names have a use
 
     pub grade_pat : Pat → FirstUses → S.G
     grade_pat (tree.leaf_pat at form) us = S.pat_at (Some at)
@@ -252,7 +252,7 @@ module _ {ℓ} (S : Grading {ℓ}) where
     grade_top tree.no_pat = S.pat_at None
     grade_top (tree.some_pat p) = grade_pat p []
 
-    -- ---- what is assigned to
+    -- what is assigned to
 
     pub grade_target : Target → S.G
     grade_target (tree.absent_target call) = S.made_pat_at call
@@ -285,7 +285,7 @@ module _ {ℓ} (S : Grading {ℓ}) where
     grade_target_field tree.partless_target_field = S.none
     grade_target_field (tree.target_field at n t) = grade_target t
 
-    -- ---- constants
+    -- constants
 
     -- a length or an argument
     pub grade_constant : Constant → S.G
@@ -295,7 +295,7 @@ module _ {ℓ} (S : Grading {ℓ}) where
     pub grade_rooted : Constant → S.G
     grade_rooted (tree.constant e) = S.rooted e (grade_expr_part e)
 
-    -- ---- expressions
+    -- expressions
 
     pub grade_expr : Expr → S.G
     grade_expr (tree.disabled_expr why e) = S.then' (S.gone why) S.expr

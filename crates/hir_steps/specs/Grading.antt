@@ -29,7 +29,7 @@ pub record Grading {ℓ} : Type (ℓ + 1) where
   pub none : G
   -- the one, and then the other
   pub then' : G → G → G
-  -- ---- what is stored: a type and a lifetime that read back so
+  -- what is stored: a type and a lifetime that read back so
   pub type_as : TypeData → G
   pub lifetime_as : LifetimeData → G
   -- of a node, where it came from one
@@ -40,32 +40,32 @@ pub record Grading {ℓ} : Type (ℓ + 1) where
   pub expr : G
   pub binding : G
   pub fault : ExpressionStoreDiagnostics → G
-  -- ---- what is noted: a type parameter that an `impl` becomes
+  -- what is noted: a type parameter that an `impl` becomes
   pub param : G
-  -- ---- calls of macros: one that is entered, what a call comes to, and why something is gone; the node of one leads to the last pattern
+  -- calls of macros: one that is entered, what a call comes to, and why something is gone; the node of one leads to the last pattern
   -- or to the last type
   pub noted : Entered → G
   pub told : Called → G
   pub gone : Gone → G
   pub pat_call : Pointer → G
   pub type_call : Pointer → G
-  -- ---- what is counted: a `super` where so many stand behind it, the parts in front of two dots, and the definition of a macro where so
+  -- what is counted: a `super` where so many stand behind it, the parts in front of two dots, and the definition of a macro where so
   -- many of its name were counted
   pub super : ℕ → G
   pub dots : Option ℕ → G
   pub def : ℕ → G
-  -- ---- what is asked and noted: a jump for its target, a block that is entered, a name that is made up
+  -- what is asked and noted: a jump for its target, a block that is entered, a name that is made up
   pub jump : Option Jump → G
   pub block : Option BlockId → G
   pub made_name : G
-  -- ---- what is in a `yield`, in a loop, which is stored behind it, in a block with a label, and behind the definition of a macro
+  -- what is in a `yield`, in a loop, which is stored behind it, in a block with a label, and behind the definition of a macro
   pub yielding : G → G
   pub looped : Option Label → G → G
   pub labelled : Label → G → G
   pub defined : MacroDefId → G → G
   -- a `try`: what is done first in it, what is in it, and what comes behind it
   pub tried : Bool → G → G → G → G
-  -- ---- bodies inside: the end of a range in a type, a length or an argument, what is in a `const` block
+  -- bodies inside: the end of a range in a type, a length or an argument, what is in a `const` block
   pub inner : Limit → G → G
   pub constant : OptionExpr → G → G
   pub rooted : OptionExpr → G → G
@@ -81,7 +81,7 @@ module _ {ℓ} (S : Grading {ℓ}) where
   if_so true g = g
   if_so false g = S.none
 
-  -- ---- paths
+  -- paths
 
   -- what stands before is read where the reading goes on
   abbrev pub before : Read → (Seen → S.G) → S.G
@@ -100,7 +100,7 @@ module _ {ℓ} (S : Grading {ℓ}) where
   grade_uses [] = S.none
   grade_uses (u ∷ us) = S.then' (grade_use u) (grade_uses us)
 
-  -- ---- types
+  -- types
 
   -- what an `impl` becomes, without its bounds
   abbrev pub grade_impl : ImplTrait → TypeData → S.G
@@ -108,7 +108,7 @@ module _ {ℓ} (S : Grading {ℓ}) where
   grade_impl becomes.Opaque t = S.type_as t
   grade_impl (becomes.Argument def) t = S.then' S.param (S.type_as t)
 
-  -- ---- patterns
+  -- patterns
 
   -- a pattern whose path isn't read is missing
   abbrev pub or_missing : Bool → S.G → S.G
@@ -135,7 +135,7 @@ module _ {ℓ} (S : Grading {ℓ}) where
   grade_name_side name.Missing = S.none
   grade_name_side n = S.expr
 
-  -- ---- calls of macros that stand for nothing
+  -- calls of macros that stand for nothing
 
   -- one that the text lacks is missing, and the node of another one leads to what is missing
   abbrev pub grade_uncalled_pat : Pointer → Called → S.G
@@ -147,7 +147,7 @@ module _ {ℓ} (S : Grading {ℓ}) where
   grade_uncalled_type at tree.callless = S.type_as (datum.typed (Some at) datum.error_shape)
   grade_uncalled_type at called = S.then' (S.told called) (S.then' (S.type_as absent_data) (S.type_call at))
 
-  -- ---- what is assigned to
+  -- what is assigned to
 
   -- it comes from its node, or from the outermost call around it, and its node leads to it
   abbrev pub grade_assigned : Origin → S.G
@@ -168,7 +168,7 @@ module _ {ℓ} (S : Grading {ℓ}) where
   grade_spread None = S.none
   grade_spread (Some spread) = S.fault (FruInDestructuringAssignment spread)
 
-  -- ---- expressions
+  -- expressions
 
   -- what is gone leaves what is told of that and nothing else
   abbrev pub kept_of : Expr → S.G → S.G
@@ -205,7 +205,7 @@ module _ {ℓ} (S : Grading {ℓ}) where
   grade_range (tree.call_range item) = S.then' S.expr S.expr
   grade_range tree.itemless_range = S.expr
 
-  -- ---- what is made up
+  -- what is made up
 
   -- a name that is bound, by a pattern from no node
   abbrev pub made_bind : S.G

@@ -15,7 +15,7 @@ abbrev pub where_read : OptionPath → FirstUses → FirstUses → FirstUses
 where_read p us vs = if is_some (whole_read p) then vs else us
 
 abbrev mutual
-  -- ---- the names that have a use once it is read, too
+  -- the names that have a use once it is read, too
 
   pub names_after : Pat → FirstUses → FirstUses
   names_after (tree.leaf_pat at form) us = us

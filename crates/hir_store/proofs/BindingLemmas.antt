@@ -60,7 +60,7 @@ map_append : {A B : Type 0} (g : A → B) (xs ys : List A) → map g (xs ++ ys) 
 map_append g [] ys = refl
 map_append g (x ∷ xs) ys = ap (λ zs. g x ∷ zs) (map_append g xs ys)
 
--- ---- what stays
+-- what stays
 
 each_refl : {A : Type 0} (xss : List (List A)) → EachGoesOn xss xss
 each_refl [] = tt
@@ -124,7 +124,7 @@ bindings_owner a start id = record {
   limit = refl;
 }
 
--- ---- what is kept
+-- what is kept
 
 pub kept_binding : (a : Bindings) (x : Binding) → KeptBindings a → length a.entries < a.limit → KeptBindings (with_binding a x)
 kept_binding a x h room =
@@ -156,7 +156,7 @@ pub kept_owner : (a : Bindings) (start : BindingId) (id : ExprId) → KeptBindin
 kept_owner a start id h =
     record { as_many = h.as_many; as_many_owners = length_owned start.0 id a.owners ∙ h.as_many_owners; fits = h.fits }
 
--- ---- outcomes
+-- outcomes
 
 pub adds : (a : Bindings) (x : Binding) → length a.entries < a.limit
     → AddsBinding x a (Ok (binding_id (length a.entries))) (with_binding a x)

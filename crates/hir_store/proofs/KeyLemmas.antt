@@ -38,7 +38,7 @@ module _ {K T : Type 0} (cmp : K → K → Ordering) where
       by false more = more
           ∙ ap (or_last (place_from cmp (n + 1) es q) (is_eq (cmp q x.0))) (omega arith)
 
--- ---- where an entry stands
+-- where an entry stands
 
 module _ {K : Type 0} (cmp : K → K → Ordering) (o : IsTotalOrder cmp) where
   -- one key leads where another leads that is no other by the order
@@ -158,7 +158,7 @@ module _ {K T : Type 0} (cmp : K → K → Ordering) (o : IsTotalOrder cmp) (eq 
       by false other None is = is ∙ ap (λ c. cond c (Some (length es)) None) (sym (turned ∙ other))
       by false other (Some j) is = is
 
--- ---- numbers and places
+-- numbers and places
 
 module _ {K T : Type 0} (cmp : K → K → Ordering) (eq : K → K → Bool) (agree : (a b : K) → eq a b ≡ eq_by_cmp cmp a b) where
   -- where the entry of a key stands is the number of the key

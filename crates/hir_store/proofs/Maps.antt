@@ -88,7 +88,7 @@ module _ {T : Type 0} (p : Pointer) (t : T) where
       by others true m false n = ap (λ b. if b then Some t else found es q) n ∙ sym (ap (λ b. if b then Some e.1 else found es q) n)
       by others false m c n = ap (λ r. if same_pointer q e.0 then Some e.1 else r) others
 
--- ---- a list with one item more
+-- a list with one item more
 
 push_new : {A : Type 0} (xs : List A) (x : A) → slice_get (xs ++ x ∷ []) (length xs) ≡ Some x
 push_new [] x = refl
@@ -106,7 +106,7 @@ push_cases [] x y (suc n) h = inl h
 push_cases (z ∷ xs) x y zero h = inl h
 push_cases (z ∷ xs) x y (suc n) h = ⊎_elim (λ l. inl l) (λ e. inr (ap suc e.0, e.1)) (push_cases xs x y n h)
 
--- ---- sources and ways
+-- sources and ways
 
 abbrev new_id : {T I : Type 0} → (ℕ → I) → Sourced T I → I
 new_id number a = number (length a.entries)

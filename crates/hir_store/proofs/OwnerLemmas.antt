@@ -10,7 +10,7 @@ use Rattle.hir_store.specs.Range.{past_expr}
 use Rattle.hir_store.specs.declared.ids.BindingId.{BindingId}
 use Rattle.hir_store.specs.declared.ids.ExprId.{ExprId}
 
--- ---- what stays
+-- what stays
 
 pub stay_refl : (os : List (Option ExprId)) → StayOwned os os
 stay_refl [] = tt
@@ -43,7 +43,7 @@ length_owned n id [] = refl
 length_owned zero id (o ∷ os) = ap suc (length_owned zero id os)
 length_owned (suc n) id (o ∷ os) = ap suc (length_owned n id os)
 
--- ---- range
+-- range
 
 past_else : (id : ExprId) (o : Option ExprId) (m : ℕ) → past_option past_expr o ≤ m → suc id.0 ≤ m
     → past_option past_expr (owned_else id o) ≤ m
@@ -59,7 +59,7 @@ past_owned zero id (o ∷ os) m h k =
     omega (arith, first, others)
 past_owned (suc n) id (o ∷ os) m h k = let others = past_owned n id os m (omega (arith, h)) k in omega (arith, h, others)
 
--- ---- what is read
+-- what is read
 
 pub owner_read : (os : List (Option ExprId)) (n : ℕ) (o : Option ExprId) → slice_get os n ≡ Some o → owner_at os n ≡ o
 owner_read [] n o h = absurd (none-some o h)
@@ -71,7 +71,7 @@ owner_missing [] n h = refl
 owner_missing (o ∷ os) zero h = absurd (none-some o (sym h))
 owner_missing (o ∷ os) (suc n) h = owner_missing os n h
 
--- ---- the last that nothing owns
+-- the last that nothing owns
 
 -- where nothing is left that nothing owns, all stays as it is
 pub all_owned : (k n : ℕ) (id : ExprId) (os : List (Option ExprId)) → unowned_from k os ≡ [] → own_from n id os ≡ os
@@ -140,7 +140,7 @@ last_unowned id os ms m h =
     let e = r.1 in
     subst (λ n. LastAt 0 id os ms n) (omega (arith, e)) r.2
 
--- ---- the same of their numbers
+-- the same of their numbers
 
 -- a list that isn't empty by its last
 pub split_last : {A : Type 0} (xs : List A) (n : ℕ) (x : A) → length xs ≡ suc n → slice_get xs n ≡ Some x → xs ≡ take n xs ++ x ∷ []

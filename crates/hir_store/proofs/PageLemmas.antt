@@ -6,7 +6,7 @@ use Rattle.std.specs.declared.vec.Vec.{Vec}
 use Rattle.std.specs.declared.alloc.Global.{Global}
 use Rattle.hir_store.specs.Pages.{joined, IsPageBefore, ArePages, entry_at}
 
--- ---- a page at the end
+-- a page at the end
 
 pub joined_push : {T : Type 0} (ps : List (Vec T Global)) (q : Vec T Global) → joined (ps ++ q ∷ []) ≡ joined ps ++ q.items
 joined_push [] q = append-nil q.items
@@ -20,7 +20,7 @@ pages_more (p ∷ p2 ∷ ps) q a e h =
     let n : length (joined (p2 ∷ ps)) % 1024 ≡ 0 = omega (arith, length-append p.items (joined (p2 ∷ ps)), a.0) in
     (a.0, pages_more (p2 ∷ ps) q a.1 n h)
 
--- ---- the last page
+-- the last page
 
 pub some_page : {T : Type 0} (ps : List (Vec T Global)) → 0 < length (joined ps) % 1024 → 0 < length ps
 some_page [] h = absurd (omega arith)
@@ -60,7 +60,7 @@ pages_set (p ∷ p2 ∷ []) (suc (suc i)) q e a h = absurd (omega arith)
 pages_set (p ∷ p2 ∷ p3 ∷ ps) (suc zero) q e a h = absurd (omega arith)
 pages_set (p ∷ p2 ∷ p3 ∷ ps) (suc (suc i)) q e a h = (a.0, pages_set (p2 ∷ p3 ∷ ps) (suc i) q (omega arith) a.1 h)
 
--- ---- an entry by its place
+-- an entry by its place
 
 get_left : {T : Type 0} (xs ys : List T) (n : ℕ) → n < length xs → slice_get (xs ++ ys) n ≡ slice_get xs n
 get_left [] ys n h = absurd (omega arith)
@@ -83,7 +83,7 @@ get_joined (p ∷ q ∷ ps) n (suc i) j a e f =
     get_right p.items (joined (q ∷ ps)) (n - 1024) n (omega (arith, a.0))
     ∙ get_joined (q ∷ ps) (n - 1024) i j a.1 (omega arith) (omega arith)
 
--- ---- an entry changed
+-- an entry changed
 
 set_left : {T : Type 0} (xs ys : List T) (n : ℕ) (x : T) → n < length xs → set (xs ++ ys) n x ≡ set xs n x ++ ys
 set_left [] ys n x h = absurd (omega arith)

@@ -92,7 +92,7 @@ pub arg_lists_push : (xs : List (Option GenericArgs)) (x : Option GenericArgs)
     → of.past_arg_lists (xs ++ x ∷ []) ≡ join (of.past_arg_lists xs) (of.past_present of.past_generic x)
 arg_lists_push = each_push (of.past_present of.past_generic)
 
--- ---- arguments and bindings, each in one level of the other
+-- arguments and bindings, each in one level of the other
 
 abbrev mapped : {A B C D : Type 0} → (A → C) → (B → D) → List A → List C
 mapped {A} {B} {C} {D} f g xs =

@@ -90,7 +90,7 @@ abbrev pub add_binding : Binding → Bindings → Result BindingId StoreFault ×
 add_binding x a =
     if nat_lt (length a.entries) a.limit then (Ok (binding_id (length a.entries)), with_binding a x) else (Err Full, a)
 
--- ---- what stays
+-- what stays
 
 -- what is settled of a binding as soon as it is stored
 abbrev pub without_problem : Binding → Binding
@@ -116,7 +116,7 @@ pub record BindingsContinue (a b : Bindings) : Type 0 where
   pub owners : StayOwned a.owners b.owners
   pub limit : b.limit ≡ a.limit
 
--- ---- outcomes
+-- outcomes
 
 -- The outcome of `alloc`, unless memory was refused, and then nothing changes.
 abbrev pub AddsBinding : Binding → Bindings → Result BindingId StoreFault → Bindings → Type 0

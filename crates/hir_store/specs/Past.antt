@@ -59,7 +59,7 @@ abbrev pub past_each : {A : Type 0} → (A → Past) → List A → Past
 past_each past [] = nothing
 past_each past (a ∷ as') = join (past a) (past_each past as')
 
--- ---- numbers, arguments and bounds
+-- numbers, arguments and bounds
 
 abbrev pub past_type_id : TypeRefId → Past
 past_type_id id = record nothing { types = suc id.0 }
@@ -111,7 +111,7 @@ past_bound bound.Error = nothing
 abbrev pub past_bounds : List TypeBound → Past
 past_bounds = past_each past_bound
 
--- ---- arguments, which hold bindings that hold arguments
+-- arguments, which hold bindings that hold arguments
 
 abbrev pub args_step : GenericArgs-F Past Past → Past
 args_step a = join (past_args a.args) (joined a.bindings)
@@ -131,7 +131,7 @@ past_bindings = past_each past_binding
 abbrev pub past_arg_lists : List (Option GenericArgs) → Past
 past_arg_lists = past_each (past_present past_generic)
 
--- ---- paths and types
+-- paths and types
 
 abbrev pub past_normal : NormalPath → Past
 past_normal p = join (past_present past_type_id p.type_anchor) (past_arg_lists p.generic_args)
@@ -163,7 +163,7 @@ past_type (ty.DynTrait bounds) = past_bounds bounds
 past_type (ty.Pattern id p) = join (past_type_id id) (past_pat_id p)
 past_type (ty.TypeParam p) = nothing
 
--- ---- patterns, statements and arms
+-- patterns, statements and arms
 
 abbrev pub past_pat_field : RecordFieldPat → Past
 past_pat_field f = past_pat_id f.pat
@@ -210,7 +210,7 @@ past_arm a = join (past_pat_id a.pat) (join (past_present past_expr_id a.guard) 
 abbrev pub past_arms : List MatchArm → Past
 past_arms = past_each past_arm
 
--- ---- what is named exists
+-- what is named exists
 
 abbrev pub Within : Store → Past → Type 0
 Within s p =

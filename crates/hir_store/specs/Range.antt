@@ -33,7 +33,7 @@ use Rattle.hir_store.specs.declared.type_ref.UseArgRef.{UseArgRef}
 use Rattle.hir_store.specs.declared.type_ref.TypeBound.{TypeBound}
 use Rattle.hir_store.specs.declared.type_ref.TypeRef.{TypeRef}
 
--- ---- the least number above those that are named, for each arena
+-- the least number above those that are named, for each arena
 
 abbrev pub past_expr : ExprId → ℕ
 past_expr id = suc id.0
@@ -135,7 +135,7 @@ abbrev pub bindings_in : Pat → ℕ
 bindings_in (pat.Bind id subpat) = suc id.0
 bindings_in _ = 0
 
--- ---- what is named exists
+-- what is named exists
 
 abbrev pub HasNone : Stored → Unit {0} → Type 0
 HasNone s _ = Unit {0}

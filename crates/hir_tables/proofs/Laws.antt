@@ -21,7 +21,7 @@ use Rattle.hir_tables.specs.Laws.{FirstOfAlias, FirstOfCall, FirstOfDefinition, 
 use Rattle.hir_tables.specs.Laws.{told, first_told}
 use Rattle.hir_tables.specs.Tables.{Tables, place, place_cmp, found, alias_found, path_found, with_path, definition_found, legacy_found}
 
--- ---- the same keys
+-- the same keys
 
 with_true : (b : Bool) → b ≡ (b && true)
 with_true true = refl
@@ -78,7 +78,7 @@ pub paths_as_keys : PathsAsKeys
 paths_as_keys a b = sym (both_tied (same_kind a.kind b.kind) (pointwise same_name a.segments b.segments) _ _
     (same_kinds a.kind b.kind) (lists_ties name_cmp same_names a.segments b.segments))
 
--- ---- the same is one
+-- the same is one
 
 one_number : (m n : ℕ) → nat_eq m n ≡ true → m ≡ n
 one_number m n e = (unsigned_Decides m n).0 e
@@ -135,7 +135,7 @@ same_paths_are_one a b e = λ i. record {
   segments = one_list one_name a.segments b.segments (second_so (same_kind a.kind b.kind) (pointwise same_name a.segments b.segments) e) i;
 }
 
--- ---- the first counts
+-- the first counts
 
 place_total : IsTotalOrder place_cmp
 place_total = then_total (on_total (λ p. p.0) nat_cmp_total) (on_total (λ p. p.1) nat_cmp_total)

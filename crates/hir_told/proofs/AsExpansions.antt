@@ -150,7 +150,7 @@ expansions_bodies = record {
   coroutine_body_is = λ kind skipped f e hs hf he. coroutine_body_tells expanded kind skipped f e hs hf he;
 }
 
--- ---- laws
+-- laws
 
 -- in whatever scopes
 expands : {A : Type 0} {es : Expansions} {p : Lowering A} → Correct p (Tells expanded (λ ss. es)) → (old new : Builder) (a : A)

@@ -159,7 +159,7 @@ data_bodies = record {
   coroutine_body_is = λ kind skipped f e hs hf he. coroutine_body_stores kind skipped f e hs hf he;
 }
 
--- ---- laws
+-- laws
 
 -- where the steps answer
 pub added : {A : Type 0} {d : StoredData} {p : Lowering A} → Correct p (Stores d) → (old new : Builder) (a : A) → Paired old.stored

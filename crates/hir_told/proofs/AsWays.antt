@@ -51,7 +51,7 @@ pub yield_leads : (at : Pointer) (e : Lowering (Option ExprId)) → Leading sinc
 unfolding value_form yield_form
 yield_leads at e h = makes leading_note (λ u. h)
 
--- ---- bodies inside
+-- bodies inside
 
 pub inner_leads : {e : ExprSteps} → Leading since e → Leading any (inner_form e)
 unfolding inner_form
@@ -162,7 +162,7 @@ part_leads e = expr_part_graded ways_graded e
 pub path_leads : (p : OptionPath) → Leading any (lower_path p)
 path_leads p = (path_graded ways_graded p).claim
 
--- ---- laws
+-- laws
 
 -- what is said of an answer
 said : {A : Type 0} (L : Low A) (b : Builder) (o : Checked A) (c : Builder) → Goes L b o c → (a : A) → o ≡ Ok a → L b.stored a

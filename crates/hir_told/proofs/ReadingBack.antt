@@ -66,7 +66,7 @@ path_in None at p = shaped (ty.Path p) (Some at) (shape_of_path None) (PathFound
 path_in (Some x) at p = shaped (ty.Path p) (Some at) (shape_of_path (Some x)) (PathFound (Some x) (Some p))
     (λ final m k d le. ap datum.path_shape (matches_read final m.entries x p k d le))
 
--- ---- handed in
+-- handed in
 
 -- what is so of correct steps
 abbrev pub Surely : Knowing

@@ -99,7 +99,7 @@ more_begin {d = d} {final = final} {a = a} {b = b} e h = record {
   lifetimes = h.lifetimes ∙ ap (λ xs. xs ++ d.lifetimes) (same_lifetimes final a b e);
 }
 
--- ---- steps
+-- steps
 
 -- that store neither types nor lifetimes
 pub still : {A : Type 0} {p : Lowering A} {R : Rel A} → Correct p R
@@ -210,7 +210,7 @@ block_still (Some n) s = refl
 pub block_stores : (n : Option BlockId) → Correct (enter_block n) (Stores no_data)
 block_stores n = still (correct_enter_block n) (λ final ps m m' u row. ap data_of row.stored ∙ block_still n m.stored)
 
--- ---- around steps
+-- around steps
 
 -- nothing is told of what comes behind
 pub stores_opened : {A : Type 0} {d : StoredData} {p : Lowering A} → Correct p (Stores (and_then d no_data)) → Correct p (Stores d)

@@ -107,7 +107,7 @@ made_coroutine_stores : (kind : CoroutineKind) (from : CoroutineSource) (lets : 
 unfolding made_coroutine_form
 made_coroutine_stores kind from lets body = stores_end (expr_stores _ None) (λ b. expr_stores _ None)
 
--- ---- closures
+-- closures
 
 module _ (kind : CoroutineKind) {c d e : StoredData} {p : Lowering ClosureParams} {t : Lowering (Option TypeRefId)} {b : ExprSteps} where
   within_stores : Correct p (Stores c) → Correct t (Stores d) → Correct b (Stores e)
@@ -123,7 +123,7 @@ module _ (kind : CoroutineKind) {c d e : StoredData} {p : Lowering ClosureParams
       (correct_coroutine_closure at kind moves _ _ _ (within_stores hp ht hb) (λ xs. handed_each_store [] xs))
       (λ final ps m m' i g row. more_end (more_last (more_end row.in_within refl) row.in_formals) (ap data_of row.made.stored)))
 
--- ---- functions
+-- functions
 
 pub coroutine_body_stores : (kind : CoroutineKind) (skipped : Bool) (f : Formals) (e : OptionExpr) {a b c : StoredData}
     → Correct (lower_self f.receiver) (Stores a) → Correct (each_formal skipped [] f.formals) (Stores b)

@@ -20,7 +20,7 @@ use Rattle.hir_one_result.specs.Lists.{blocks, bodies_listed, faults}
 use Rattle.hir_one_result.specs.Sizes.{bodies_sized, sizes}
 use Rattle.hir_read_back.specs.Yields.{yields}
 
--- ---- a `yield` is noted where one is told of, and nowhere else
+-- a `yield` is noted where one is told of, and nowhere else
 
 abbrev pub ExprsNote : Type 0
 ExprsNote = WhereLowered (λ e old id new. new.yields ≡ (old.yields || grade_expr_part yields e))
@@ -37,7 +37,7 @@ abbrev pub TargetsNote : Type 0
 TargetsNote = (t : Target) (old new : Builder) (i : PatId) → Paired old.stored → lower_target t old ≡ (Ok i, new)
     → new.yields ≡ (old.yields || grade_target yields t)
 
--- ---- faults and numbers of blocks come behind those that were there, in the order in which they are told, in whatever scopes
+-- faults and numbers of blocks come behind those that were there, in the order in which they are told, in whatever scopes
 
 abbrev pub ExprsReport : Type 0
 ExprsReport = WhereLowered (λ e old id new. (ss : List Scope) → Around ss old.scopes
@@ -47,7 +47,7 @@ abbrev pub ExprsEnter : Type 0
 ExprsEnter = WhereLowered (λ e old id new. (ss : List Scope) → Around ss old.scopes
     → new.stored.block_scopes ≡ old.stored.block_scopes ++ grade_expr_part blocks e ss)
 
--- ---- the calls that are entered come behind those that were there, in the order in which they are told
+-- the calls that are entered come behind those that were there, in the order in which they are told
 
 abbrev pub ExprsExpand : Type 0
 ExprsExpand = WhereLowered (λ e old id new. new.stored.expansions ≡ old.stored.expansions ++ grade_expr_part expansions e)
@@ -60,13 +60,13 @@ abbrev pub PathsExpand : Type 0
 PathsExpand = (p : OptionPath) (old new : Builder) (r : Option HirPath) → Paired old.stored → lower_path p old ≡ (Ok r, new)
     → new.stored.expansions ≡ old.stored.expansions ++ grade_whole expansions p
 
--- ---- as much is stored as is told, or there is no room for it
+-- as much is stored as is told, or there is no room for it
 
 abbrev pub ExprsFit : Type 0
 ExprsFit = (e : OptionExpr) (old : Builder) → Paired old.stored
     → GrownUnless (grade_expr_part sizes e) old (lower_part e old).0 (lower_part e old).1
 
--- ---- bodies behind their parameters, which may be of functions that are coroutines
+-- bodies behind their parameters, which may be of functions that are coroutines
 
 -- what is claimed where such a body is lowered into a `Paired` store
 abbrev pub WhereBodyLowered : (Option CoroutineKind → Bool → Formals → OptionExpr → Builder → Builder → Type 0) → Type 0

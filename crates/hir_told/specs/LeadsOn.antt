@@ -54,7 +54,7 @@ pub record Went (a b : Stored) : Type 0 where
   pub bindings : Prefix a.bindings.entries b.bindings.entries
   pub owners : OwnersStay a b
 
--- ---- laws: whether steps answer or not, and what they answer came since
+-- laws: whether steps answer or not, and what they answer came since
 
 abbrev pub Leads : {A : Type 0} → (A → Stored → Type 0) → Lowering A → Type 0
 Leads {A = A} came p = (old new : Builder) (o : Checked A) → p old ≡ (o, new)

@@ -38,7 +38,7 @@ abbrev pub BodiesStore : Type 0
 BodiesStore = WhereBodyLowered (λ kind skipped f e old new.
     DataAdded (grade_body stored_data bodies_stored kind skipped f e) old.stored new.stored)
 
--- ---- where a type is lowered first, and where a body is and is the root
+-- where a type is lowered first, and where a body is and is the root
 
 abbrev pub WholeTypesStore : Type 0
 WholeTypesStore = (limit : ℕ) (t : OptionType) (i : TypeRefId) (new : Builder) → type_part None t (fresh limit) ≡ (Ok i, new)

@@ -29,7 +29,7 @@ use Rattle.hir_type_result.specs.Pats.{of_type, of_types, pats_reached}
 use Rattle.hir_type_result.proofs.Counted.{times, less, same, same_self, ◌⊑◌, one_past, less_grows}
 use Rattle.hir_type_result.proofs.Numbers.{each_push}
 
--- ---- what is counted: types, or patterns
+-- what is counted: types, or patterns
 
 pub data Sort : Type 0 where
   the_types : Sort
@@ -105,7 +105,7 @@ Adds {A = A} was now = Steps {A = A} [] was (λ a. []) now
 abbrev pub Quiet : {A : Type 0} → Rel A
 Quiet {A = A} = Adds {A = A} none (λ a. none)
 
--- ---- numbers in a range
+-- numbers in a range
 
 pub wider : (lo hi hi' : ℕ) (ks : List ℕ) → hi ≤ hi' → Each (Between lo hi) ks → Each (Between lo hi') ks
 wider lo hi hi' [] le h = tt
@@ -158,7 +158,7 @@ made_then lo final a b c le h k n p from to is = by (before n (length b.stored.p
     by (inl l) = wider lo b.bindings c.bindings (of_pat of_bindings_alone p) le (h n p from l is)
     by (inr l) = k n p l to is
 
--- ---- steps
+-- steps
 
 -- the answer has no other bindings in its table
 pub adds_done : {A : Type 0} {bs : List ℕ} {was : Numbers} {cs : A → List ℕ} {now : A → Numbers} (a : A)
@@ -200,7 +200,7 @@ adds_still {was = was} {now = now} {final = final} {m = m} {m' = m'} {a = a} g n
   };
 }
 
--- ---- what is stored
+-- what is stored
 
 -- of types no pattern is named where types are counted
 pub no_pats_named : (f : TypeRefId → List ℕ) (t : TypeRef) (k : ℕ) → times k (of_type (of_types_alone f) t) ≡ 0

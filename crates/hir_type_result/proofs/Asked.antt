@@ -40,7 +40,7 @@ use Rattle.hir_type_result.proofs.Adding as plain
 use Rattle.hir_type_result.proofs.Adding.{Bound, Numbers, Sort, chosen, the_types, the_pats, both, fewer, known, look, made_then, named}
 use Rattle.hir_type_result.proofs.Adding.{none, none_made, wider}
 
--- ---- what is asked
+-- what is asked
 
 abbrev pub asked_by : Look → WherePredicate → List ℕ
 asked_by l (predicate.TypeBound binder t b) = of_bound l.types b
@@ -54,7 +54,7 @@ abbrev pub owed : Sort → Stored → ℕ → ℕ → Builder → ℕ
 owed s final all k b =
     named s final all b.stored k + times k (asked (look s final all) b)
 
--- ---- what is so of two builders and what was answered, in each store that goes on
+-- what is so of two builders and what was answered, in each store that goes on
 
 abbrev pub Rel : Type 0 → Type 1
 Rel A = Stored → Builder → Builder → A → Type 0
@@ -153,7 +153,7 @@ pub after_lowering : {A : Type 0} {p : Lowering A} {R : Rel A} → Correct p R �
 after_lowering {R = R} h b a c d is final pre =
     let g : Answers R b c a = subst (λ r. AnswersTo R b r.0 r.1) is (h.at b d) in g.in_final final pre
 
--- ---- what is named
+-- what is named
 
 -- No number stands more often in what is answered, held and asked now than it did before, but for those that were given out.
 pub record Earlier (s : Sort) (was : Numbers) (final : Stored) (b c : Builder) (all : ℕ) (now : List ℕ) : Type 0 where
@@ -181,7 +181,7 @@ Adds {A = A} was now = Steps {A = A} [] was (λ a. []) now
 abbrev pub Quiet : {A : Type 0} → Rel A
 Quiet {A = A} = Adds {A = A} none (λ a. none)
 
--- ---- steps that ask nothing
+-- steps that ask nothing
 
 abbrev pub StillTo : {A : Type 0} → Builder → Checked A → Builder → Type 0
 StillTo b (Ok a) c = c.notes.generics.where_predicates ≡ b.notes.generics.where_predicates
@@ -255,7 +255,7 @@ pub stands : {A : Type 0} {bs : List ℕ} {was : Numbers} {cs : A → List ℕ} 
     → CorrectOf p (plain.Steps bs was cs now) → Correct p (Steps bs was cs now)
 stands e h = stands_still (still_of e) h
 
--- ---- steps that store nothing of what is counted
+-- steps that store nothing of what is counted
 
 -- these are the same, and so many bindings
 pub record Kept (b c : Builder) : Type 0 where
@@ -326,7 +326,7 @@ quiet_noted f h = record {
   };
 }
 
--- ---- the logic
+-- the logic
 
 pub adds_done : {A : Type 0} {bs : List ℕ} {was : Numbers} {cs : A → List ℕ} {now : A → Numbers} (a : A)
     → ((l : Look) → now a l ⊑ was l) → ((P : ℕ → Type 0) → Each P bs → Each P (cs a)) → Correct (pure a) (Steps bs was cs now)
@@ -446,7 +446,7 @@ adds_from {was = was} {was' = was'} h c = correct_as c (λ final b c a g row. re
   };
 })
 
--- ---- what is stored
+-- what is stored
 
 pub adds_type : {was : Numbers} (t : TypeRef) (source : Option Pointer)
     → ((l : Look) (k : ℕ) → times k (below l.types t) + times k (of_type l t) ≤ times k (was l))

@@ -103,7 +103,7 @@ becoming_adds at becomes.Error bs = adds_type ty.Error (Some at) (λ l k. omega 
 becoming_adds at becomes.Opaque bs = adds_type (ty.ImplTrait bs) (Some at) (λ l k. omega arith)
 becoming_adds at (becomes.Argument def) bs = argument_adds def at bs
 
--- ---- a path that is an alias in an argument
+-- a path that is an alias in an argument
 
 input_quiet : Correct input_end Quiet
 unfolding input_end

@@ -80,7 +80,7 @@ module _ (at : Pointer) where
   unfolding yield_form
   yield_quiet h = quiet_then quiet_note_yield (λ u. quiet_then h (λ v. quiet_alloc _ (Some at) (λ l k. omega arith)))
 
--- ---- coroutine blocks
+-- coroutine blocks
 
 module _ (at : Pointer) where
   pub coroutine_block_quiet : (kind : CoroutineKind) (moves : Bool) (number : Option BlockId) {c : Lowering StoredContents}
@@ -96,7 +96,7 @@ unfolding coroutine_form
 coroutine_quiet h = quiet_then quiet_open_barrier (λ outside. quiet_then h
     (λ i. quiet_then (quiet_close_barrier outside) (λ y. quiet_pure i)))
 
--- ---- closures that make a coroutine
+-- closures that make a coroutine
 
 -- The patterns of the parameters are named in the coroutine, the types are not.
 

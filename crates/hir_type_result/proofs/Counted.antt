@@ -42,7 +42,7 @@ less_grows k (suc m) zero le = absurd (omega arith)
 less_grows zero (suc m) (suc n) le = omega arith
 less_grows (suc k) (suc m) (suc n) le = less_grows k m n (omega arith)
 
--- ---- numbers in a range, each once
+-- numbers in a range, each once
 
 at_most : (k n : ℕ) → less k n ≤ 1
 at_most k zero = omega arith
@@ -76,7 +76,7 @@ counted_spread lo hi (j ∷ js) h =
     let to : j < hi = is_less j hi (omega arith) in
     record { within = ((from, to), r.within); distinct = (absent j js (omega arith), r.distinct) }
 
--- ---- a choice
+-- a choice
 
 pub either : {A : Type 0} (P : A → Type 0) (b : Bool) {x y : A} → P x → P y → P (if b then x else y)
 either P true h h' = h

@@ -70,7 +70,7 @@ in_store_front s (suc c) p is = by (slice_get s.pats p.0) (in_store_front s c)
     by None front = refl
     by (Some q) front = in_front (places_to s c) front q is
 
--- ---- how often a number is reached from them
+-- how often a number is reached from them
 
 each_append : (f : ExprId → List ℕ) (is js : List ExprId) → of_each f (is ++ js) ≡ of_each f is ++ of_each f js
 each_append f [] js = refl

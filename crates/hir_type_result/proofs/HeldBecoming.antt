@@ -41,7 +41,7 @@ use Rattle.hir_type_result.proofs.Weighed.{Cost, View, a_type, free, sum}
 use Rattle.hir_type_result.proofs.Weighing.{Adds, adds_noting, adds_pure, adds_then, adds_type, any_row, asked, by_predicate, whole}
 use Rattle.hir_type_result.proofs.Weights as weights
 
--- ---- names of lifetimes
+-- names of lifetimes
 
 ref_impls : (s : LifetimeScope) (l : LifetimeRef) → (one_ref s l).impls ≡ []
 ref_impls scope.Nowhere (lifetime.Named n) = refl
@@ -74,7 +74,7 @@ uses_impls (u ∷ us) = ap (λ xs. xs ++ (of_uses us).impls) (use_impls u) ∙ u
 pub uses_add : {was : Cost} (done : List UseArgRef) (us : List UseRead) → Correct (lower_uses done us) (Adds was (λ xs. was))
 uses_add done us = adds_noting (of_uses us) (uses_impls us) (uses_note done us)
 
--- ---- what is noted otherwise
+-- what is noted otherwise
 
 noted_any : {was : Cost} (f : Notes → Notes) → ((n : Notes) → (f n).generics.where_predicates ≡ n.generics.where_predicates)
     → Correct (note_down f) (Adds was (λ u. was))
@@ -103,7 +103,7 @@ param_any {was = was} x = with_noted (λ n. by (length n.generics.type_or_consts
     by k true = adds_then (noted_any _ (λ n. refl)) (λ u. adds_pure k (λ v. omega arith))
     by k false = refused
 
--- ---- `impl`s
+-- `impl`s
 
 -- the predicates of one hold what its bounds do
 asked_of : (v : View) (t : TypeRefId) (bs : List TypeBound) → all_of (by_predicate v) (predicates_of t bs) ≡ all_of (of_bound v.held) bs
@@ -170,7 +170,7 @@ becoming_adds at becomes.Error bs = adds_type ty.Error (Some at) (λ v. omega ar
 becoming_adds at becomes.Opaque bs = adds_type (ty.ImplTrait bs) (Some at) (λ v. omega arith)
 becoming_adds at (becomes.Argument def) bs = argument_adds def at bs
 
--- ---- a path that is an alias in an argument
+-- a path that is an alias in an argument
 
 input_any : {was : Cost} → Correct input_end (Adds was (λ n. was))
 unfolding input_end

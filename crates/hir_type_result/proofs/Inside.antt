@@ -73,7 +73,7 @@ use Rattle.hir_type_result.proofs.InsideFors.{for_adds}
 use Rattle.hir_type_result.proofs.InsideForms.{maybe, each, a_field, a_spread, a_statement, contents, some_more, missing_adds, some_adds}
 use Rattle.hir_type_result.proofs.InsideForms.{kept_adds}
 
--- ---- a tree: types and paths hold constants, which are expressions, and these hold types and paths
+-- a tree: types and paths hold constants, which are expressions, and these hold types and paths
 
 mutual
   -- types and paths
@@ -475,7 +475,7 @@ mutual
   target_field_add tree.partless_target_field = adds_pure None (λ v. omega arith)
   target_field_add (tree.target_field at n t) = aims.target_field_adds at n (target_adds t)
 
--- ---- laws
+-- laws
 
 -- what is reached, list by list
 weighed : (f : ExprId → List ℕ) (k : ℕ) (xs : List Inside) → times k (of_each f (exprs_of xs)) ≡ sum (λ i. times k (f i)) xs

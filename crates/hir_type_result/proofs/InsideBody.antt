@@ -27,7 +27,7 @@ use Rattle.hir_type_result.proofs.InsidePats.{maybe_pat, missing_pat_adds, pats,
 use Rattle.hir_type_result.proofs.InsidePreludes.{each_handed_adds, let_params_add, let_self_adds, made_coroutine_adds}
 use Rattle.hir_type_result.proofs.Inside.{body_adds, inside_once, top_adds}
 
--- ---- parameters
+-- parameters
 
 self_adds : (s : SelfFormal) → Correct (lower_self s) (Adds free (λ o. free))
 self_adds tree.no_self = adds_pure None (λ v. omega arith)
@@ -61,7 +61,7 @@ unfolding lower_formals
 formals_add skipped f = adds_then (self_adds f.receiver) (λ s. adds_then (each_formal_adds skipped [] f.formals)
     (λ ps. adds_pure (s, ps) (λ v. omega arith)))
 
--- ---- bodies
+-- bodies
 
 -- what the outside hands arguments to
 abbrev given : Given → Cost

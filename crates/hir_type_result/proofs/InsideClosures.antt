@@ -38,7 +38,7 @@ use Rattle.hir_type_result.proofs.Weighing.{body_aside, came_of, deep_before, st
 use Rattle.hir_noted.proofs.Steps.{notes_enter_block}
 use Rattle.hir_type_result.proofs.Weights as weights
 
--- ---- parameters
+-- parameters
 
 -- in the types
 abbrev types : List (Option TypeRefId) → Cost
@@ -124,7 +124,7 @@ params_sum k r (p ∷ ps) (t ∷ ts) =
     let d = sum_append k (of_present r.type t) (all_of (of_present r.type) ts) in
     let e = params_sum k r ps ts in omega arith
 
--- ---- closures
+-- closures
 
 -- what the closure costs
 abbrev all_costs : ClosureParams → Option TypeRefId → ExprId → Cost
@@ -161,7 +161,7 @@ module _ (at : Pointer) where
   unfolding yield_form
   yield_adds h = adds_then (adds_any notes_note_yield) (λ u. adds_then h (λ v. adds_expr (hir.Yield v) (Some at) (value_less v)))
 
--- ---- coroutine blocks
+-- coroutine blocks
 
 -- its block is its body
 coroutine_less : (kind : CoroutineKind) (moves : Bool) (body : ExprId) (v : View)
@@ -181,7 +181,7 @@ unfolding coroutine_form
 coroutine_adds h = adds_then (adds_any notes_open_barrier) (λ outside. adds_then h
     (λ i. adds_then (adds_any (notes_close_barrier outside)) (λ y. adds_pure i (λ v. omega arith))))
 
--- ---- closures that make a coroutine
+-- closures that make a coroutine
 
 -- beside what the parameters are handed to
 abbrev within_costs : Within → Cost

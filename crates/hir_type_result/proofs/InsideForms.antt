@@ -40,7 +40,7 @@ use Rattle.hir_noted.proofs.Steps.{notes_enter_block, notes_gone, notes_jump_tar
 use Rattle.hir_noted.proofs.Steps.{notes_told}
 use Rattle.hir_type_result.proofs.InsideTypes.{arguments, maybe_path}
 
--- ---- costs of lists and options
+-- costs of lists and options
 
 abbrev pub maybe : {A : Type 0} → (A → Cost) → Option A → Cost
 maybe cost None v = 0
@@ -70,7 +70,7 @@ pub some_more : {A B : Type 0} {cost : A → Cost} {now : B → Cost} {p : Lower
 some_more {cost = cost} h k done =
     adds_then (adds_beside (each cost done) h) (λ o. adds_from (pushed cost done o) (k (push_some done o)))
 
--- ---- what is reached and what is inside, together
+-- what is reached and what is inside, together
 
 pub both : (v : View) (js ks : List ℕ) (is ls : List Inside)
     → times v.number (js ++ ks) + sum v.weight (is ++ ls) ≡ (times v.number js + sum v.weight is) + (times v.number ks + sum v.weight ls)
@@ -119,7 +119,7 @@ a_record r v = each a_field r.0 v + a_spread r.1 v
 abbrev pub contents : StoredContents → Cost
 contents r v = each a_statement r.0 v + maybe an_expr r.1 v
 
--- ---- what is kept
+-- what is kept
 
 pub missing_adds : Correct missing (Adds free an_expr)
 unfolding missing
@@ -133,7 +133,7 @@ kept_adds (tree.disabled_expr why e) h =
     adds_then (adds_any (notes_gone why)) (λ u. adds_pure None (λ v. omega arith))
 kept_adds e h = some_adds h
 
--- ---- forms
+-- forms
 
 leaf_less : (form : Leaf) (v : View) → in_expr (stored_leaf form) v ≤ 0
 leaf_less tree.underscore v = omega arith

@@ -40,7 +40,7 @@ use Rattle.hir_noted.proofs.Steps.{notes_open_try, notes_try_target}
 use Rattle.hir_type_result.proofs.InsideForms.{maybe, each, each_push, both, a_statement, block_less, first_less, value_less}
 use Rattle.hir_type_result.proofs.InsidePats.{an_arm, arms_are, arm_less, let_less}
 
--- ---- what is made up
+-- what is made up
 
 item_less : (item : Option LangItemId) (v : View) → in_expr (item_or_missing item) v ≤ 0
 item_less None v = omega arith
@@ -75,7 +75,7 @@ module _ (at : Pointer) where
   item_call_adds item a = adds_then (adds_beside (an_expr a) (item_adds item))
       (λ f. adds_made (made_call f a) (Some at) (made_call_less f a))
 
-  -- ---- `?`
+  -- `?`
 
   flow_arm_adds : (item : LangItemId) {body : ℕ → ExprSteps} → ((n : ℕ) → Correct (body n) (Adds free an_expr))
       → Correct (flow_arm_form item body) (Adds free an_arm)
@@ -105,7 +105,7 @@ module _ (at : Pointer) where
       (λ a. adds_then (adds_beside (beside (an_expr b) (an_arm a)) (flow_arm_adds items.breaks (residual_adds items)))
       (λ c. adds_expr (hir.Match b (a ∷ c ∷ [])) (Some at) (two_arms_less b a c)))))
 
-  -- ---- the value of a `try`
+  -- the value of a `try`
 
   wrapped_adds : (item : Option LangItemId) (tail : Option ExprId)
       → Correct (wrapped_form at item tail) (Adds (maybe an_expr tail) an_expr)
@@ -117,7 +117,7 @@ module _ (at : Pointer) where
       (λ f. adds_then (adds_beside (beside (maybe an_expr None) (an_expr f)) (adds_made (hir.Tuple []) (Some at) (λ v. omega arith)))
       (λ x. adds_made (made_call f x) (Some at) (λ v. let y = made_call_less f x v in omega (arith, y))))
 
--- ---- what is in a block, of which the tail lies deeper than the rest
+-- what is in a block, of which the tail lies deeper than the rest
 
 -- What is reached by these statements, and once the last of them may have become the tail, was given out from this number on, where so
 -- much was asked before.
@@ -309,7 +309,7 @@ contains_defined d h = correct_as (correct_bind (adds_any {was = free} (notes_op
           (q.first.settles from owed all number (front_still row.before f (came_of {A = Unit {0}} row.first all number)));
     }))
 
--- ---- `try`
+-- `try`
 
 -- the statements beside the value
 abbrev over_value : StoredContents → ExprId → Cost
@@ -380,7 +380,7 @@ typed_try_adds at hb ht = adds_then hb (λ b. adds_then (adds_any notes_made_num
     (λ p. adds_then (adds_beside (beside (beside (an_expr b) (a_type t)) (a_pat p)) (made_path_adds at n))
     (λ e. adds_made (bound_block p t b e) (Some at) (bound_less p t b e))))))
 
--- ---- a condition, where its temporaries end
+-- a condition, where its temporaries end
 
 held_less : (p : PatId) (c e : ExprId) (v : View) → in_expr (held_block p c e) v ≤ (an_expr c v + a_pat p v) + an_expr e v
 held_less p c e v =

@@ -41,7 +41,7 @@ use Rattle.hir_type_result.proofs.InsideTypes.{maybe_path, maybe_type}
 use Rattle.hir_type_result.proofs.InsideForms.{maybe, each, a_field, a_statement, both, maybe_is, first_less}
 use Rattle.hir_type_result.proofs.InsideForms as of_exprs
 
--- ---- costs
+-- costs
 
 abbrev pub maybe_pat : Option PatId → Cost
 maybe_pat o v = sum v.weight (of_present v.held.pat o)
@@ -92,7 +92,7 @@ leaf_pat_adds at tree.rest_leaf = adds_pat _ (Some at) (λ v. omega arith)
 leaf_pat_adds at tree.not_null_leaf = adds_pat _ (Some at) (λ v. omega arith)
 leaf_pat_adds at tree.broken_leaf = adds_pat _ (Some at) (λ v. omega arith)
 
--- ---- parts of a tuple
+-- parts of a tuple
 
 pub pushed : (is : List PatId) (i : PatId) (v : View) → pats (is ++ i ∷ []) v ≤ pats is v + a_pat i v
 pushed is i v = let e = weights.each_push v.weight v.held.pat is i in omega arith
@@ -119,7 +119,7 @@ unfolding forms.elements_form
 elements_add more comma es = adds_then (adds_any (dots_note comma es.1))
     (λ place. adds_then (front_adds more comma es.0) (λ ids. adds_pure (place, ids) (λ v. omega arith)))
 
--- ---- records
+-- records
 
 named_part_adds : (at : Pointer) (n : Option Name) (i : PatId) → Correct (forms.named_part at n i) (Adds (a_pat i) maybe_field)
 named_part_adds at None i = adds_pure None (λ v. omega arith)
@@ -130,7 +130,7 @@ pub pat_field_adds : (at : Pointer) (n : Option Name) {p : PatSteps} → Each fr
 unfolding forms.pat_field_form
 pat_field_adds at n h t = adds_then (h t) (λ r. adds_then (named_part_adds at n r.0) (λ f. adds_pure (f, r.1) (λ v. omega arith)))
 
--- ---- forms of patterns
+-- forms of patterns
 
 unary_pat : (form : PatUnary) (i : PatId) (v : View) → in_pat (forms.stored_pat_unary form i) v ≤ a_pat i v
 unary_pat (tree.ref_to mutability) i v = omega arith
@@ -282,7 +282,7 @@ module _ (at : Pointer) where
   range_pat_adds o hs he = adds_then (adds_aside side_aside hs) (λ s. adds_then (adds_beside (maybe a_limit s) (adds_aside side_aside he))
       (λ e. adds_pat _ (Some at) (range_pat o s e)))
 
-  -- ---- patterns of types
+  -- patterns of types
 
   pub literal_limit_adds : (s : Signed) → Correct (ranges.literal_limit_form at s) (Adds free an_expr)
   unfolding ranges.literal_limit_form
@@ -330,7 +330,7 @@ pub uncalled_type_pat_adds : (at : Pointer) (c : Called) → Correct (forms.unca
 uncalled_type_pat_adds at tree.callless = missing_type_pat_adds
 uncalled_type_pat_adds at c = called_adds at c (λ i. i) missing_type_pat_adds
 
--- ---- items of the language
+-- items of the language
 
 item_less : (item : Option LangItemId) (v : View) → in_expr (ranges.item_expr item) v ≤ 0
 item_less None v = omega arith
@@ -346,7 +346,7 @@ unfolding ranges.before_form
 before_adds item h = adds_then h (λ e. adds_then (adds_beside (an_expr e) (adds_expr _ None (item_less item)))
     (λ f. adds_expr _ None (λ v. let x = first_less f (e ∷ []) v in omega arith)))
 
--- ---- ranges
+-- ranges
 
 ends_less : (n : Name) (s e : Option ExprId) (v : View)
     → each a_field (ranges.range_fields n s e) v ≤ maybe an_expr s v + maybe an_expr e v
@@ -380,7 +380,7 @@ unfolding ranges.range_form
 range_adds at form hs he =
     adds_then hs (λ s. adds_then (adds_beside (maybe an_expr s) he) (λ e. made_range_adds at form s e))
 
--- ---- what patterns stand in
+-- what patterns stand in
 
 pub let_adds : (at : Pointer) {p : Lowering PatId} {e : ExprSteps} → Correct p (Adds free a_pat) → Correct e (Adds free an_expr)
     → Correct (let_form at p e) (Adds free an_expr)

@@ -31,7 +31,7 @@ use Rattle.hir_type_result.proofs.Weighing.{adds_pure, adds_then}
 use Rattle.hir_noted.proofs.Steps.{notes_binding, notes_define, notes_made_number}
 use Rattle.hir_noted.proofs.Preludes.{notes_bound, notes_own_name}
 
--- ---- names that are handed in
+-- names that are handed in
 
 name_adds : (n : Name) (h : HygieneId) → Correct (forms.name_form n h) (Adds free an_expr)
 unfolding forms.name_form
@@ -49,7 +49,7 @@ each_handed_adds done [] = adds_pure done (λ v. omega arith)
 each_handed_adds done (x ∷ xs) = adds_then (adds_beside (pats done) (handed_adds x))
     (λ p. adds_from (pushed done p) (each_handed_adds (done ++ p ∷ []) xs))
 
--- ---- `let`s
+-- `let`s
 
 abbrev statements : List Statement → Cost
 statements ss = each a_statement ss
@@ -70,7 +70,7 @@ two_lets_add x p = at_once_then (at_once_more (a_pat p) (handed_adds x))
     (λ f. at_once_pure (let_from q e ∷ let_from p f ∷ [])
     (λ v. let l = one_let q e v in let k = one_let p f v in omega (arith, l, k)))))
 
--- ---- preludes
+-- preludes
 
 abbrev pub prelude : Prelude → Cost
 prelude d = statements d.lets
@@ -110,7 +110,7 @@ let_params_add done (p ∷ ps) = at_once_then
     (at_once_beside (pats ps) (let_param_adds done p)))
     (λ d. at_once_from (λ v. omega arith) (let_params_add d ps))
 
--- ---- `self`
+-- `self`
 
 rebind_adds : (x : Binding) → Correct (forms.rebind_form x) (Adds free (λ r. statements r.1))
 unfolding forms.rebind_form
@@ -129,7 +129,7 @@ let_self_adds None = adds_pure (None, no_prelude) (λ v. omega arith)
 let_self_adds (Some id) = adds_then (adds_any (notes_bound id))
     (λ x. adds_then (rebound_adds id x) (λ r. adds_pure (Some r.0, record { handed = []; lets = r.1 }) (λ v. omega arith)))
 
--- ---- coroutines
+-- coroutines
 
 coroutine_less : (which : CoroutineKind) (from : CoroutineSource) (block : ExprId) (v : View)
     → in_expr (coroutine_of which from block) v ≤ a_limit block v

@@ -34,7 +34,7 @@ use Rattle.hir_noted.proofs.PatForms.{dots_note}
 use Rattle.hir_type_result.proofs.InsideTypes.{maybe_path}
 use Rattle.hir_type_result.proofs.InsideForms.{both}
 
--- ---- costs
+-- costs
 
 -- the places of a pattern, in front of others
 abbrev pub part : View → PatId → List ExprId → List ExprId
@@ -63,7 +63,7 @@ maybe_target_field (Some f) v = a_target f.pat v
 abbrev pub target_elements : Elements → Cost
 target_elements es v = all_targets es.0 v
 
--- ---- one more
+-- one more
 
 each_push : (part : PatId → List ExprId → List ExprId) (is : List PatId) (i : PatId)
     → places_in_each part (is ++ i ∷ []) [] ≡ places_in_each part is (part i [])
@@ -89,7 +89,7 @@ field_pushed fs (Some f) v =
     let x = times_each v.number v.reach (places_in_fields (part v) fs []) (part v f.pat [])
     (fields_push (part v) fs f ∙ fields_front (part v) (front v) fs (part v f.pat [])) in omega (arith, e, x)
 
--- ---- forms
+-- forms
 
 -- a node that is assigned to leads to the pattern
 pub pointed_adds : (at : Pointer) {was : Cost} {p : Lowering PatId} → Correct p (Adds was a_target)

@@ -42,7 +42,7 @@ use Rattle.hir_type_result.proofs.NamingPreludes.{handed_add, let_params_name, l
 use Rattle.hir_type_result.proofs.OwnedPats.{pats, maybe_pat, missing_named}
 use Rattle.hir_type_result.proofs.TreeNamed.{part_adds, part_quiet, path_adds, some_then, top_adds}
 
--- ---- types
+-- types
 
 -- types hold no pattern where types are counted
 pub none_held : (f : TypeRefId → List ℕ) (ts : List TypeRef) (k : ℕ) → times k (of_types (of_types_alone f) ts) ≡ 0
@@ -89,7 +89,7 @@ pub expr_types_once : ExprTypesReachedOnce
 expr_types_once e b b' i paired is final stays =
     types_came (λ i f. []) (part_quiet e) (λ i f k. omega arith) b b' i paired is final stays
 
--- ---- patterns
+-- patterns
 
 -- where these patterns are named by what is answered
 
@@ -132,7 +132,7 @@ type_pats_once binder t b b' i paired is final stays =
 pub path_pats_once : PathPatsReachedOnce
 path_pats_once p b b' r paired is final stays = pats_once (λ r. []) (path_adds p) (λ r l k. omega arith) b b' r paired is final stays
 
--- ---- a body behind its parameters
+-- a body behind its parameters
 
 self_quiet : (s : SelfFormal) → Correct (lower_self s) Quiet
 self_quiet tree.no_self = quiet_pure None
@@ -202,7 +202,7 @@ pub body_pats_once : BodyPatsReachedOnce
 body_pats_once kind skipped f e b b' g i paired is final stays =
     pats_once (λ r. r.0.0.1) (body_adds kind skipped f e) (λ r l k. omega arith) b b' (g, i) paired is final stays
 
--- ---- bindings
+-- bindings
 
 -- what is so of each that came
 each_came : (lo hi : ℕ) (final old : List Pat) (ps more : List Pat) (n : ℕ) → final ≡ (old ++ ps) ++ more → n ≡ length old

@@ -112,7 +112,7 @@ quiet_define b i = stands (noted.notes_define b i) (plain.quiet_define b i)
 pub quiet_binding : (x : Binding) → Correct (alloc_binding x) Quiet
 quiet_binding x = stands (noted.notes_binding x) (plain.quiet_binding x)
 
--- ---- names
+-- names
 
 new_name : (u : Use) (bs : List ℕ) → Correct (alloc_binding (new_binding u)) (Steps bs none (λ b. b.0 ∷ bs) (λ b l. l.bindings b))
 new_name u bs = stands (noted.notes_binding _) (plain.new_name u bs)
@@ -140,7 +140,7 @@ pub quiet_settle : (t : Table) → Correct (settle t) Quiet
 unfolding settle
 quiet_settle t = quiet_settle_from t.noted 0 t.bindings
 
--- ---- what is open
+-- what is open
 
 quiet_close : Correct close Quiet
 unfolding close
@@ -249,7 +249,7 @@ unfolding inside_macro
 defined_names d h = adds_then (framed (adds_quiet (quiet_open_macro d)))
     (λ u. adds_then h (λ a. adds_then (framed (adds_quiet quiet_close)) (λ v. adds_done a (λ l k. omega arith) (λ P x. x))))
 
--- ---- a body inside stores no expression but its own
+-- a body inside stores no expression but its own
 
 pub quiet_constant : {p : ExprSteps} → Correct p Quiet → Correct (constant_form p) Quiet
 unfolding constant_form

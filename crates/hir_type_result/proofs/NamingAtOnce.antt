@@ -22,7 +22,7 @@ use Rattle.hir_type_result.proofs.Naming.{quiet_bindings_end, quiet_own}
 use Rattle.hir_type_result.proofs.Owned.{beside}
 use Rattle.hir_type_result.specs.Reached.{of_each}
 
--- ---- of what was named before nothing goes on
+-- of what was named before nothing goes on
 
 abbrev pub CountedAt : Sort → Numbers → Numbers → Stored → Builder → Builder → ℕ → ℕ → Type 0
 CountedAt s was now final b c all k =
@@ -80,7 +80,7 @@ at_once_still {was = was} h = correct_as h (λ final b c a g row. record {
   counted = λ s all k le. let x = row.earlier s all all le le in let e = x.counted k in omega (arith, e);
 })
 
--- ---- one after another
+-- one after another
 
 at_once_seq : {A B : Type 0} {was : Numbers} {one : A → Numbers} {now : B → Numbers} {final : Stored} {b e : Builder} {x : B}
     → Seq (AtOnce was one) (λ a. AtOnce (one a) now) final b e x → AtOnce was now final b e x
@@ -137,7 +137,7 @@ at_once_from {was = was} {was' = was'} h q = correct_as q (λ final b c a g row.
   counted = λ s all k le. let e = row.counted s all k le in let l = h (look s final all) k in omega (arith, e, l);
 })
 
--- ---- steps
+-- steps
 
 pub at_once_pure : {A : Type 0} {was : Numbers} {now : A → Numbers} (a : A) → ((l : Look) → now a l ⊑ was l)
     → Correct (pure a) (AtOnce was now)

@@ -42,7 +42,7 @@ binding_quiet : (i : BindingId) → Correct (forms.binding_of i) Quiet
 unfolding forms.binding_of
 binding_quiet i = quiet_kept (notes_bound i) (λ b. record { exprs = refl; pats = refl; types = refl; bindings = refl })
 
--- ---- names that are handed in
+-- names that are handed in
 
 name_quiet : (n : Name) (h : HygieneId) → Correct (forms.name_form n h) Quiet
 unfolding forms.name_form
@@ -64,7 +64,7 @@ handed_add done [] = adds_pure done (λ l k. omega arith)
 handed_add done (x ∷ xs) = adds_then (adds_beside (pats done) (handed_names x))
     (λ p. adds_from (λ l. pushed done p l) (handed_add (done ++ p ∷ []) xs))
 
--- ---- `let`s
+-- `let`s
 
 one_let : (p : PatId) (e : ExprId) (l : Look) → statements (let_from p e ∷ []) l ⊑ a_pat p l
 one_let p e l k =
@@ -90,7 +90,7 @@ two_lets_name x p = at_once_then (at_once_more (a_pat p) (handed_names x))
     (λ e. at_once_then (at_once_still (name_quiet x.name x.hygiene))
     (λ f. at_once_pure (let_from q e ∷ let_from p f ∷ []) (two_lets q e p f))))
 
--- ---- preludes
+-- preludes
 
 abbrev pub prelude : Prelude → Numbers
 prelude d l = statements d.lets l
@@ -144,7 +144,7 @@ let_params_name done (p ∷ ps) = at_once_then
     let y = times_append k (pats ps l) (prelude d l) in omega arith)
     (let_params_name d ps))
 
--- ---- `self`
+-- `self`
 
 rebind_names : (x : Binding) → Correct (forms.rebind_form x) (Adds none (λ r. statements r.1))
 unfolding forms.rebind_form
@@ -162,7 +162,7 @@ let_self_names None = adds_pure (None, no_prelude) (λ l k. omega arith)
 let_self_names (Some id) = adds_then (binding_quiet id)
     (λ x. adds_then (rebound_names id x) (λ r. adds_pure (Some r.0, record { handed = []; lets = r.1 }) (λ l k. omega arith)))
 
--- ---- coroutines
+-- coroutines
 
 -- the block names what its `let`s do
 pub made_coroutine_names : (which : CoroutineKind) (from : CoroutineSource) (lets : List Statement) (body : ExprId)

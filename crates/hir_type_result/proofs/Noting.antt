@@ -66,7 +66,7 @@ use Rattle.hir_type_result.proofs.Ranges.{came_between}
 use Rattle.hir_type_result.proofs.RootStands.{ShowsInner, constant_shows, contents, contents_any, limit_shows, rooted, root_settles}
 use Rattle.hir_type_result.proofs.TreeNamed.{limit_quiet, rooted_quiet}
 
--- ---- lengths
+-- lengths
 
 further_refl : (a : Lengths) → Further a a
 further_refl a = record { exprs = omega arith; pats = omega arith; bindings = omega arith; types = omega arith }
@@ -104,7 +104,7 @@ Noted es b (Err f) c = Unit {0}
 pub record Notes {A : Type 0} (es : Bodies) (p : Lowering A) : Type 0 where
   pub notes : (b : Builder) → Paired b.stored → Noted es b (p b).0 (p b).1
 
--- ---- one after another
+-- one after another
 
 module _ (store : Store) (source_map : SourceMap) (around : Open) where
   -- what stands behind the one also stands behind what was before that
@@ -189,7 +189,7 @@ pub notes_end : {A B : Type 0} {es : Bodies} {p : Lowering A} {f : A → Lowerin
     → ((a : A) → Notes [] (f a)) → Notes es (p >>= f)
 notes_end {es = es} h k = notes_as (append-nil es) (notes_then h k)
 
--- ---- steps that record none
+-- steps that record none
 
 pub no_roots : {around : Open} {a b later : Stored} → Further (lengths_now a) (lengths_now b) → b.roots ≡ a.roots
     → RootsOf around a b later []
@@ -311,7 +311,7 @@ unfolding owning
 notes_owning owner h =
     notes_then notes_bindings_end (λ start. notes_end h (λ x. notes_end (notes_own start (owner x)) (λ u. notes_pure x)))
 
--- ---- bodies inside
+-- bodies inside
 
 -- what is so of a body inside by what its lowering stored
 record Facts (x : InnerBody) (old new : Stored) (i : ExprId) (later : Stored) : Type 0 where

@@ -205,7 +205,7 @@ pub binding_notes : (name : Name) (dots : Bool) {es fs gs : Bodies} {a : Lowerin
 unfolding binding_form
 binding_notes name dots ha ht hb = notes_then ha (λ a. notes_then ht (λ t. notes_end hb (λ bs. notes_pure _)))
 
--- ---- calls of macros
+-- calls of macros
 
 module _ (at : Pointer) where
   pub called_type_notes : (c : Called) (n : Size) {t : TypeSteps} → NotesOf n t → NotesOf (n ∪ a_type_call at) (called_type_form at c t)

@@ -35,7 +35,7 @@ use Rattle.hir_type_result.specs.Reached.{of_lists}
 use Rattle.hir_type_result.specs.Reached.{of_path}
 use Rattle.hir_type_result.proofs.Counted.{times, ◌⊑◌, times_append, either}
 
--- ---- lists
+-- lists
 
 pub each_push : {A : Type 0} (f : A → List ℕ) (xs : List A) (x : A) (k : ℕ)
     → times k (of_each f (xs ++ x ∷ [])) ≡ times k (of_each f xs) + times k (f x)
@@ -61,7 +61,7 @@ each_reverse f (x ∷ xs) k =
     let a = times_append k (f x) (of_each f xs) in
     let r = each_reverse f xs k in omega arith
 
--- ---- arguments, each in one level of the other
+-- arguments, each in one level of the other
 
 abbrev mapped : {A B C D : Type 0} → (A → C) → (B → D) → List A → List C
 mapped {A} {B} {C} {D} f g xs =
@@ -118,7 +118,7 @@ module _ (f : TypeRefId → List ℕ) where
       let z = times_append k (of_each (of_arg f) o.args) (of_each (of_binding f) o.bindings) in
       let w = ap (times k) (args_out a) in omega arith
 
--- ---- lists of arguments
+-- lists of arguments
 
 abbrev pub of_arg_lists : (TypeRefId → List ℕ) → ArgLists → List ℕ
 of_arg_lists f l = of_each (of_arg f) l.args ++ of_each (of_binding f) l.bindings
@@ -191,7 +191,7 @@ pub path_bound_less : (f : TypeRefId → List ℕ) (maybe : Bool) (binder : Bind
 path_bound_less f maybe [] t k = omega arith
 path_bound_less f maybe (n ∷ ns) t k = omega arith
 
--- ---- what is read of a path
+-- what is read of a path
 
 abbrev pub of_walk : (TypeRefId → List ℕ) → PathWalk → List ℕ
 of_walk f w = of_present f w.type_anchor ++ of_lists f w.args

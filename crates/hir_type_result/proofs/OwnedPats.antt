@@ -108,7 +108,7 @@ leaf_pat_adds at tree.rest_leaf = adds_pat _ (Some at) (λ l k. omega arith)
 leaf_pat_adds at tree.not_null_leaf = adds_pat _ (Some at) (λ l k. omega arith)
 leaf_pat_adds at tree.broken_leaf = adds_pat _ (Some at) (λ l k. omega arith)
 
--- ---- parts of a tuple
+-- parts of a tuple
 
 -- one more
 pub pushed : (is : List PatId) (i : PatId) (l : Look) → pats (is ++ i ∷ []) l ⊑ pats is l ++ a_pat i l
@@ -143,7 +143,7 @@ unfolding forms.elements_form
 elements_add more comma es = adds_then (adds_quiet (dots_quiet comma es.1))
     (λ place. adds_then (front_adds more comma es.0) (λ ids. adds_pure (place, ids) (λ l k. omega arith)))
 
--- ---- records
+-- records
 
 named_part_adds : (at : Pointer) (n : Option Name) (i : PatId) → Correct (forms.named_part at n i) (Adds (a_pat i) maybe_field)
 named_part_adds at None i = adds_pure None (λ l k. omega arith)
@@ -163,7 +163,7 @@ field_pushed fs (Some f) l k =
     let e = each_push (of_pat_field l) fs f k in
     let s = times_append k (fields fs l) (of_pat_field l f) in omega arith
 
--- ---- forms of patterns
+-- forms of patterns
 
 unary_pat : (form : PatUnary) (i : PatId) (l : Look) → of_pat l (forms.stored_pat_unary form i) ⊑ a_pat i l
 unary_pat (tree.ref_to mutability) i l k = omega arith
@@ -289,7 +289,7 @@ module _ (at : Pointer) where
   unfolding forms.range_pat_form
   range_pat_adds op hs he = adds_then hs (λ s. adds_then he (λ e. adds_pat _ (Some at) (range_pat op s e)))
 
-  -- ---- ranges, and patterns of types
+  -- ranges, and patterns of types
 
   pub literal_limit_quiet : (s : Signed) → Correct (ranges.literal_limit_form at s) Quiet
   unfolding ranges.literal_limit_form
@@ -316,7 +316,7 @@ module _ (at : Pointer) where
   unfolding ranges.type_alternatives_form
   type_alternatives_adds h = adds_then h (λ ps. adds_pat (pat.Or ps) (Some at) (λ l k. omega arith))
 
-  -- ---- expressions that patterns stand in
+  -- expressions that patterns stand in
 
   pub let_quiet : {p : Lowering PatId} {e : ExprSteps} → Correct p (Adds none a_pat) → Correct e Quiet → Correct (let_form at p e) Quiet
   unfolding let_form
@@ -333,7 +333,7 @@ module _ (at : Pointer) where
   assign_quiet ht hv = adds_then ht (λ t. adds_then (adds_quiet hv)
       (λ v. adds_expr (hir.Assignment t v) (Some at) (λ l k. omega arith)))
 
--- ---- targets
+-- targets
 
 -- a node that is assigned to leads to the pattern
 pub pointed_adds : (at : Pointer) {was : Numbers} {p : Lowering PatId} → Correct p (Adds was a_pat)
@@ -420,7 +420,7 @@ module _ (at : Origin) where
   unfolding targets.record_target_form
   record_target_adds dots spread h hq = adds_then hq (λ o. record_target_of_adds dots spread h o)
 
--- ---- items of the language
+-- items of the language
 
 item_named : (item : Option LangItemId) (l : Look) → of_expr l (ranges.item_expr item) ⊑ []
 item_named None l k = omega arith
@@ -446,7 +446,7 @@ unfolding ranges.before_form
 before_quiet item h = quiet_then h (λ e. quiet_then (quiet_alloc _ None (item_named item))
     (λ f. quiet_alloc _ None (λ l k. omega arith)))
 
--- ---- arms and statements
+-- arms and statements
 
 pub arm_adds : {p : Lowering PatId} {e : ExprSteps} {g : Lowering (Option ExprId)} → Correct p (Adds none a_pat) → Correct e Quiet
     → Correct g Quiet → Correct (arm_form p e g) (Adds none maybe_arm)

@@ -111,7 +111,7 @@ quiet_target j = correct_as (correct_target j)
     (λ s d k. ap (λ x. named s final d x k) row.stored ∙ jumped s final d k j (ribs ps) m.stored)
     (λ l k. omega arith))
 
--- ---- what is written of patterns and bindings
+-- what is written of patterns and bindings
 
 pub quiet_writes : {p : Lowering (Unit {0})} {f : Stored → Stored} → Correct p (PatWrites f)
     → ((x : Stored) → (f x).pats.entries ≡ x.pats.entries)
@@ -150,7 +150,7 @@ quiet_binding x = correct_as (correct_alloc_binding x)
     (λ final ps m m' u g row. adds_still g (ap (λ x. x.pats.entries) row.stored)
     (λ s d k. ap (λ x. named s final d x k) row.stored) (λ l k. omega arith))
 
--- ---- names
+-- names
 
 -- the numbers of the bindings in a table
 abbrev pub ids : Table → List ℕ

@@ -23,7 +23,7 @@ use Rattle.hir_same_meaning.specs.Reached.{below, of_each, reached_to}
 use Rattle.hir_type_result.specs.Unrun.{unrun_of_pat, unruns}
 use Rattle.hir_type_result.proofs.Counted.{times, less, one_past}
 
--- ---- weights
+-- weights
 
 abbrev pub sum : (ExprId → ℕ) → List Inside → ℕ
 sum k [] = 0
@@ -38,7 +38,7 @@ pub sum_handed : (k : ExprId → ℕ) (ps : List PatId) (xs : List Inside) → s
 sum_handed k ps [] = refl
 sum_handed k ps (x ∷ xs) = refl
 
--- ---- costs: how often a number is reached
+-- costs: how often a number is reached
 
 -- what each expression reaches, how often that number is in what one inside reaches, what is inside, and how deep places are
 pub record View : Type 0 where
@@ -132,7 +132,7 @@ pub record Adds {A : Type 0} (was : Cost) (now : A → Cost) (final : Stored) (p
 
 -- whatever owns bindings
 
--- ---- what is stored
+-- what is stored
 
 -- a type holds what it names
 pub adds_type : {was : Cost} (t : TypeRef) (source : Option Pointer) → ((v : View) → sum v.weight (of_type v.held t) ≤ was v)

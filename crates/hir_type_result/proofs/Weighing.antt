@@ -37,7 +37,7 @@ use Rattle.hir_type_result.proofs.Weighed as plain
 use Rattle.hir_type_result.proofs.Weighed.{Cost, Deep, DeepView, View, a_constant, a_limit, a_pat, a_target, a_type, a_type_pat, an_expr}
 use Rattle.hir_type_result.proofs.Weighed.{at_depth, beside, free, in_expr, in_pat, in_target, in_type_pat, sum, view}
 
--- ---- what is asked
+-- what is asked
 
 abbrev pub by_predicate : View → WherePredicate → List Inside
 by_predicate v (predicate.TypeBound binder t b) = of_bound v.held b
@@ -99,7 +99,7 @@ still_deep reach hold place g d counted = let x = deep_before (reach, hold, plac
   counted = counted;
 }
 
--- ---- the logic
+-- the logic
 
 pub adds_pure : {A : Type 0} {was : Cost} {now : A → Cost} (a : A) → ((v : View) → now a v ≤ was v) → Correct (pure a) (Adds was now)
 adds_pure a h = record {
@@ -195,7 +195,7 @@ adds_from h q = correct_as q (λ final b c a g row. record {
       };
 })
 
--- ---- steps that ask nothing
+-- steps that ask nothing
 
 same_asked : (final : Stored) (all number : ℕ) (b c : Builder) → c.notes.generics.where_predicates ≡ b.notes.generics.where_predicates
     → asked final all number c ≡ asked final all number b
@@ -251,7 +251,7 @@ unfolding owning
 adds_owning owner h = adds_then (adds_any noted.notes_bindings_end) (λ start. adds_then h
     (λ a. adds_then (adds_any (noted.notes_own start (owner a))) (λ u. adds_pure a (λ v. omega arith))))
 
--- ---- what is stored
+-- what is stored
 
 pub adds_type : {was : Cost} (t : TypeRef) (source : Option Pointer) → ((v : View) → sum v.weight (of_type v.held t) ≤ was v)
     → Correct (alloc_type t source) (Adds was a_type)
@@ -288,7 +288,7 @@ pub adds_expr : {was : Cost} (e : HirExpr) (source : Option Pointer) → ((v : V
     → Correct (alloc_expr e source) (Adds was an_expr)
 adds_expr e source h = stands (noted.notes_expr e source) (plain.adds_expr e source h)
 
--- ---- what is open around steps
+-- what is open around steps
 
 pub adds_opened : {A B : Type 0} (l : Label) {was : Cost} {one : A → Cost} {now : B → Cost}
     {p : LabelId → Lowering A} {f : LabelId → A → Lowering B}
@@ -303,7 +303,7 @@ unfolding inside_macro
 adds_defined d h = adds_then (adds_any (noted.notes_open_macro d)) (λ u. adds_then h
     (λ a. adds_then (adds_any noted.notes_close) (λ v. adds_pure a (λ w. omega arith))))
 
--- ---- bodies inside
+-- bodies inside
 
 -- A body is held like the end of a range in a type.
 pub body_aside : (e : ExprId) (final : Stored) (all number reach hold place : ℕ)

@@ -29,7 +29,7 @@ use Rattle.hir_type_result.proofs.Counted.{either}
 use Rattle.hir_type_result.proofs.Weighed.{sum, sum_append}
 
 module _ (k : ExprId → ℕ) where
-  -- ---- lists
+  -- lists
 
   pub each_push : {A : Type 0} (f : A → List Inside) (xs : List A) (x : A)
       → sum k (all_of f (xs ++ x ∷ [])) ≡ sum k (all_of f xs) + sum k (f x)
@@ -56,7 +56,7 @@ module _ (k : ExprId → ℕ) where
       let r = each_reverse f xs in omega arith
 
 module _ (k : ExprId → ℕ) (held : Inners) where
-  -- ---- lists of arguments
+  -- lists of arguments
 
   abbrev pub in_lists : ArgLists → ℕ
   in_lists l = sum k (all_of (of_arg held) l.args) + sum k (all_of (of_binding held) l.bindings)
@@ -104,7 +104,7 @@ module _ (k : ExprId → ℕ) (held : Inners) where
   path_bound_less maybe [] t = omega arith
   path_bound_less maybe (n ∷ ns) t = omega arith
 
-  -- ---- what is read of a path
+  -- what is read of a path
 
   abbrev in_beside : List (Option GenericArgs) → ℕ
   in_beside as' = sum k (all_of (of_list held) as')

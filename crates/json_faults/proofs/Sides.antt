@@ -156,7 +156,7 @@ node_next kinds at vs i v levels new within is ok =
     ∙ ap (λ r. r >>= (λ levels. nodes_from kinds (suc at) rest levels)) ok
     ∙ ap (λ k. nodes_from kinds k rest new) next
 
--- ---- where the members of each node begin
+-- where the members of each node begin
 
 pub grown : (old new : List Member) (ps : List Named) → pairs new ≡ pairs old ++ ps → length new ≡ length old + length ps
 grown old new ps h = sym (length-map new pair_of) ∙ ap length h ∙ length-append (pairs old) ps

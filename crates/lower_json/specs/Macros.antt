@@ -17,7 +17,7 @@ use Rattle.json_kinds.specs.declared.kind.Kind.{Kind}
 use Rattle.lower_json.specs.Reading.{fragment_at}
 use Rattle.lower_json.specs.Tables.{both, path_in, site_of}
 
--- ---- expansions
+-- expansions
 
 -- the call that an entry is for
 abbrev pub call_in : Option Items → Option Site
@@ -55,7 +55,7 @@ abbrev pub with_expansions : List (Option Kind) → Items → Items → Said →
 with_expansions kinds ns no_items es = es
 with_expansions kinds ns (item d ds) es = with_expansions kinds ns ds (with_expansion kinds ns (as_array d) es)
 
--- ---- definitions
+-- definitions
 
 -- no text stands for the missing name
 abbrev pub name_in : Data → Option Name

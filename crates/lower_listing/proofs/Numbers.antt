@@ -9,7 +9,7 @@ use Rattle.std.proofs.lemmas.Option.{cond_some, none-some}
 use Rattle.indexmap.specs.IndexSet.{insert_key}
 use Rattle.lower_listing.specs.Numbering.{Placed}
 
--- ---- the first place at which a test passes
+-- the first place at which a test passes
 
 module _ {X : Type 0} (p : X → Bool) where
   any_is : (xs : List X) → list_any p xs ≡ nat_lt (position_or_len p xs) (length xs)
@@ -49,7 +49,7 @@ module _ {X : Type 0} (p : X → Bool) where
       by true = refl
       by false = refl
 
--- ---- one item more
+-- one item more
 
 step : (len n : ℕ) (b : Bool) → n ≤ len → (b ≡ true → n ≡ len)
     → cond (nat_lt (cond (nat_eq n len) (len + cond b 0 1) n) (len + 1)) (Some (cond (nat_eq n len) (len + cond b 0 1) n)) None
@@ -82,7 +82,7 @@ pub placed_more : (xs : List ℕ) (places now : List (Option ℕ)) (item : ℕ) 
 placed_more xs places now item placed new noted x =
     noted x ∙ (ap (λ o. cond (nat_eq x item) (Some (length xs)) o) (placed x) ∙ sym (pushed xs item x new))
 
--- ---- what is in the set already, and what isn't
+-- what is in the set already, and what isn't
 
 pub stays : (xs : List ℕ) (item k : ℕ) → position (nat_eq item) xs ≡ Some k → xs ≡ insert_key nat_eq xs item
 stays xs item k h = sym (ap (λ b. if b then xs else xs ++ item ∷ []) (found (nat_eq item) xs k h).1)
@@ -90,7 +90,7 @@ stays xs item k h = sym (ap (λ b. if b then xs else xs ++ item ∷ []) (found (
 pub comes : (xs : List ℕ) (item : ℕ) → position (nat_eq item) xs ≡ None → xs ++ item ∷ [] ≡ insert_key nat_eq xs item
 comes xs item h = sym (ap (λ b. if b then xs else xs ++ item ∷ []) (missing (nat_eq item) xs h).1)
 
--- ---- what is noted of each number
+-- what is noted of each number
 
 -- a longer list, with nothing in what is new
 pub reaches : (old new : List (Option ℕ)) (n : ℕ) → length new ≡ n → length old ≤ n

@@ -173,7 +173,7 @@ aim_called-returns-in_ok-inner-in-Some g t c =
     (inner_lowers at call c.args.at place node c.enter.new.state c.aim.new.state c.in_ok-inner-in-Some.inner c.source.result _ _ source
     inner c.called_aim.ensures)
 
--- ---- elements
+-- elements
 
 pub element-called_element-requires : goal.element-called_element-requires
 element-called_element-requires g t c κs within =

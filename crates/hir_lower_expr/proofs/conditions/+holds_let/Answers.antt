@@ -15,7 +15,7 @@ use Rattle.hir_lower_expr.proofs.ConditionLemmas.{disabled_holds, lacking_holds,
 use Rattle.hir_lower_expr.proofs.ConditionLemmas.{part_holds, part_size}
 use Rattle.hir_lower_expr.proofs.conditions.+holds_let.Goals as goal
 
--- ---- calls
+-- calls
 
 pub called_with_let-is_with_let-requires : goal.called_with_let-is_with_let-requires
 called_with_let-is_with_let-requires g t c κs within =
@@ -37,7 +37,7 @@ called_with_let-returns-in-None g t c =
     let at = g.P.LowerParts.spot c.args.lowerer.now.parts in
     ap (let_there at) (sym (sym c.expr_behind.ensures ∙ ap expr_lent c.in-None.is))
 
--- ---- operators
+-- operators
 
 pub is_and_with_let-holds_let-requires : goal.is_and_with_let-holds_let-requires
 is_and_with_let-holds_let-requires g t c κs within = (omega (arith, c.decreases), within)
@@ -60,7 +60,7 @@ is_and_with_let-returns-else-is_and g t c =
     by_none (is_and c.args.op.now) (holds_let (expr_part at c.args.lhs.now)) (holds_let (expr_part at c.args.rhs.now)) _
     (sym c.if-is_and.false ∙ c.is_and.ensures) c.if-is_and.false
 
--- ---- by their kinds
+-- by their kinds
 
 pub is_kept_with_let-returns-in-LetExpr : goal.is_kept_with_let-returns-in-LetExpr
 is_kept_with_let-returns-in-LetExpr g t c =
@@ -118,7 +118,7 @@ is_kept_with_let-returns-in_default g t c =
     let d = c.in_default in
     sym (other_holds at c.args.node.now d.not-LetExpr d.not-ParenExpr d.not-BinExpr d.not-MacroExpr)
 
--- ---- with the condition that disables it
+-- with the condition that disables it
 
 pub is_with_let-returns-in-Err : goal.is_with_let-returns-in-Err
 is_with_let-returns-in-Err g t c =
@@ -135,7 +135,7 @@ is_with_let-returns-in-Ok g t c =
     let asked = sym (c.cfg.ensures ∙ ap at.answers.cfg (c.site.ensures ∙ ap site_of c.pointer-at.ensures)) ∙ c.in-Ok.is in
     c.is_kept_with_let.ensures ∙ ap is_with_let (sym (enabled_is at c.args.node.now asked))
 
--- ---- a part
+-- a part
 
 pub holds_let-is_with_let-requires : goal.holds_let-is_with_let-requires
 holds_let-is_with_let-requires g t c κs within =

@@ -25,7 +25,7 @@ use Rattle.hir_lower_expr.proofs.StatementLemmas.{splice_may, stmts_same, stmts_
 use Rattle.hir_lower_expr.proofs.StatementLemmas.{value_same, value_unplaced}
 use Rattle.hir_lower_expr.proofs.runs.+splice.Goals as goal
 
--- ---- a call
+-- a call
 
 pub collect_call-returns-in_err-entered-clause-steps : goal.collect_call-returns-in_err-entered-clause-steps
 collect_call-returns-in_err-entered-clause-steps g t c =
@@ -146,7 +146,7 @@ collect_call-returns-clause-placed g t c =
     (grows_on c.args.state.now.stored c.enter_splice.new.state.stored c.collect_run.new.state.stored entered run.0) value.0)
     value.1.0 c.pointed.ensures
 
--- ---- a run of statements
+-- a run of statements
 
 pub collect_run-loop-all-init : goal.collect_run-loop-all-init
 collect_run-loop-all-init g t c = record {
@@ -198,7 +198,7 @@ collect_run-returns-clause-steps g t c =
 pub collect_run-returns-clause-placed : goal.collect_run-returns-clause-placed
 collect_run-returns-clause-placed g t c = c.loop-all.invariant.placed
 
--- ---- a statement
+-- a statement
 
 pub collect_stmt-returns-in_err-made-in-LetStmt-clause-steps : goal.collect_stmt-returns-in_err-made-in-LetStmt-clause-steps
 collect_stmt-returns-in_err-made-in-LetStmt-clause-steps g t c =
@@ -437,7 +437,7 @@ collect_stmt-returns-in_ok-push_statement-in-Item-clause-placed g t c = (
       (omega arith, omega arith, omega arith, omega arith) c.in_ok-push_statement-in-Item.ensures.past,
 )
 
--- ---- an expression in statement or tail place
+-- an expression in statement or tail place
 
 pub collect_value-maybe_collect_expr-requires : goal.collect_value-maybe_collect_expr-requires
 collect_value-maybe_collect_expr-requires g t c =

@@ -6,6 +6,3 @@ pub mod functions;
 pub mod items;
 pub mod lifetimes;
 pub mod params;
-
-/// A program, since nothing stands on it: the gate writes no library for it.
-fn main() {}

@@ -7,6 +7,3 @@ pub mod calls;
 pub mod nodes;
 pub mod owners;
 pub mod plain;
-
-/// A program, since nothing stands on it: the gate writes no library for it.
-fn main() {}

@@ -69,6 +69,3 @@ mod types;
 mod ways;
 #[cfg(test)]
 mod ways_back;
-
-/// A program, since nothing stands on it: the gate writes no library for it.
-fn main() {}
