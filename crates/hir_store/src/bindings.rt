@@ -45,6 +45,16 @@ impl Definitions {
     }
 }
 
+/// What owns the binding by this list, where something does.
+fn owner_in(owners: &[Option<ExprId>], id: BindingId) -> Option<ExprId>
+    ensures { result ≡ owner_at owners.now id.0 }
+{
+    match owners.get(id.0 as usize) {
+        None => None,
+        Some(owner) => *owner,
+    }
+}
+
 /// What owns each binding, where something does.
 pub struct Owners {
     of: Vec<Option<ExprId>>,
@@ -70,10 +80,7 @@ impl Owners {
     pub fn of(&self, id: BindingId) -> Option<ExprId>
         ensures { result ≡ owner_at self.now id.0 }
     {
-        match self.of.get(id.0 as usize) {
-            None => None,
-            Some(owner) => *owner,
-        }
+        owner_in(self.of.as_slice(), id)
     }
 }
 
@@ -219,6 +226,13 @@ impl Owning {
         while self.own_last(start, owner) {}
     }
 
+    /// What owns the binding, where something does.
+    fn of(&self, id: BindingId) -> Option<ExprId>
+        ensures { result ≡ owner_at self.now id.0 }
+    {
+        owner_in(self.owners.as_slice(), id)
+    }
+
     fn into_owners(self) -> Owners
         ensures { result ≡ self }
     {
@@ -253,6 +267,13 @@ impl BindingArena {
         ensures { option_copied result ≡ slice_get self.now.entries id.0 }
     {
         get(&self.pages, id.0 as usize)
+    }
+
+    /// What owns the binding, where something does.
+    pub fn owner(&self, id: BindingId) -> Option<ExprId>
+        ensures { result ≡ owner_at self.now.owners id.0 }
+    {
+        self.owners.of(id)
     }
 
     /// Stores a binding that no pattern makes yet.
