@@ -32,11 +32,13 @@ static int refuse(size_t at) {
     return is("fails") ? 2 : 3;
 }
 
-// A test notices a refusal and passes, fails at the second one, or doesn't pass at all.
+// A test says that it noticed a refusal and passes, says so of the second one alone, says nothing, fails at the second one, or doesn't pass
+// at all.
 static int test(void) {
     for (int at = 0; at < 2; at++) {
         char *volatile byte = malloc(1);
         if (byte == NULL && at > 0 && is("calls::fails")) return 101;
+        if (byte == NULL && !is("calls::is_silent") && (at > 0 || !is("calls::is_late"))) say(STDOUT_FILENO, "memory\n");
         free(byte);
     }
     if (is("calls::never")) return 101;
@@ -49,7 +51,8 @@ int main(int count, char **words) {
     size_t length = 0;
     word = count == 2 ? words[1] : "";
     if (is("--list")) {
-        say(STDOUT_FILENO, "calls::passes: test\ncalls::fails: test\ncalls::never: test\nothers::fails: test\ntests: 4\n");
+        say(STDOUT_FILENO, "calls::passes: test\ncalls::is_late: test\ncalls::is_silent: test\n");
+        say(STDOUT_FILENO, "calls::fails: test\ncalls::never: test\nothers::fails: test\ntests: 6\n");
         return 0;
     }
     if (strncmp(word, "calls::", 7) == 0) return test();

@@ -6,7 +6,8 @@
 // without an ending. Answers are compared here, out of the program's reach. A
 // row is given up where nothing is heard of it for so many seconds. One with the
 // ending `.test` is a test, which itself says whether a refusal is answered as it
-// has to be: it ends as it does where none is.
+// has to be: it ends as it does where none is, and behind a line `memory` where
+// memory was refused to what it tests.
 #define _GNU_SOURCE
 #include <errno.h>
 #include <fcntl.h>
@@ -171,27 +172,42 @@ static void let_go(struct row *row, const struct worker *worker) {
     free(row->err.bytes);
 }
 
-// Whether a file holds just these bytes.
-static int holds(int file, const char *bytes, size_t length) {
+// Whether a file holds just these bytes behind the first ones.
+static int holds_behind(int file, size_t first, const char *bytes, size_t length) {
     struct stat stat;
     char part[1 << 14];
-    if (fstat(file, &stat) != 0 || (size_t)stat.st_size != length) return 0;
+    if (fstat(file, &stat) != 0 || (size_t)stat.st_size != first + length) return 0;
     for (size_t at = 0; at < length;) {
-        ssize_t got = pread(file, part, sizeof part, at);
+        ssize_t got = pread(file, part, sizeof part, first + at);
         if (got <= 0 || (size_t)got > length - at || memcmp(part, bytes + at, got) != 0) return 0;
         at += got;
     }
     return 1;
 }
 
-static int is_own_answer(const struct worker *worker, const struct row *row, int status) {
-    return status == row->status && row->out.bytes != NULL && holds(worker->out, row->out.bytes, row->out.length)
+static int holds(int file, const char *bytes, size_t length) { return holds_behind(file, 0, bytes, length); }
+
+// Whether a row is answered as it says, behind so many bytes.
+static int is_answer_behind(const struct worker *worker, const struct row *row, int status, size_t first) {
+    return status == row->status && row->out.bytes != NULL && holds_behind(worker->out, first, row->out.bytes, row->out.length)
         && holds(worker->err, row->err.bytes, row->err.length);
+}
+
+static int is_own_answer(const struct worker *worker, const struct row *row, int status) {
+    return is_answer_behind(worker, row, status, 0);
+}
+
+// Whether a test says that memory was refused to what it tests, and passes.
+static int is_told(const struct worker *worker, const struct row *row, int status) {
+    static const char line[] = "memory\n";
+    char first[sizeof line - 1];
+    return pread(worker->out, first, sizeof first, 0) == sizeof first && memcmp(first, line, sizeof first) == 0
+        && is_answer_behind(worker, row, status, sizeof first);
 }
 
 static int is_refusal(const struct worker *worker, const struct row *row, int status) {
     static const char memory[] = "refused: memory\n";
-    if (row->is_test) return is_own_answer(worker, row, status);
+    if (row->is_test) return is_told(worker, row, status);
     return status == 3 && holds(worker->out, NULL, 0) && holds(worker->err, memory, sizeof memory - 1);
 }
 

@@ -1,5 +1,6 @@
 //! What arenas tell of their room, recorded expansions by call, and the entries and children that a store lends.
 
+use crate::documents::{Said, own_if};
 use hir_base::node::{HirFileId, InFile, NodeId, TextRange};
 use hir_store::arena::Arena;
 use hir_store::builder::ExpressionStoreBuilder;
@@ -11,33 +12,67 @@ use hir_store::type_ref::LifetimeRef;
 use std::alloc::Global;
 use std::test::Fail;
 
-/// What `spare` answers after so many calls of `alloc` in an arena with this limit, how many entries there are then, and what one
-/// more call answers.
-fn after(alloc: Global, limit: u32, calls: u32) -> (u32, u32, Result<LifetimeRefId, StoreFault>) {
-    let mut arena = Arena::with_limit(alloc, limit);
+/// The limit of an arena, how many calls of `alloc` are made in it, what `spare` answers then, and what one more call answers.
+pub type Room = (u32, u32, u32, Result<LifetimeRefId, StoreFault>);
+
+/// A page has 1,024 entries.
+pub const PAGES: [Room; 6] = [
+    (u32::MAX, 0, 0, Ok(LifetimeRefId(0))),
+    (u32::MAX, 1, 1023, Ok(LifetimeRefId(1))),
+    (u32::MAX, 1023, 1, Ok(LifetimeRefId(1023))),
+    (u32::MAX, 1024, 0, Ok(LifetimeRefId(1024))),
+    (u32::MAX, 1025, 1023, Ok(LifetimeRefId(1025))),
+    (u32::MAX, 2048, 0, Ok(LifetimeRefId(2048))),
+];
+
+/// A limit cuts what is spare.
+pub const LIMITS: [Room; 4] = [
+    (3, 1, 2, Ok(LifetimeRefId(1))),
+    (3, 3, 0, Err(StoreFault::Full)),
+    (1030, 1025, 5, Ok(LifetimeRefId(1025))),
+    (1030, 1030, 0, Err(StoreFault::Full)),
+];
+
+/// Stores so many entries, up to the first refusal.
+fn fill(arena: &mut Arena<LifetimeRef>, calls: u32) -> Result<(), StoreFault> {
     for _ in 0..calls {
-        let _ = arena.alloc(LifetimeRef::Error);
+        arena.alloc(LifetimeRef::Error)?;
     }
+    Ok(())
+}
+
+/// How an arena answers.
+pub fn said_of_room(alloc: Global, room: Room) -> Said {
+    let (limit, calls, own_spare, own_more) = room;
+    let mut arena = Arena::with_limit(alloc, limit);
+    let filled = fill(&mut arena, calls);
     let spare = arena.spare();
     let len = arena.len();
     let more = arena.alloc(LifetimeRef::Error);
     drop(arena);
-    (spare, len, more)
+    if filled == Err(StoreFault::Memory) || more == Err(StoreFault::Memory) {
+        return Said::Memory;
+    }
+    own_if(filled == Ok(()) && (spare, len, more) == (own_spare, calls, own_more))
 }
 
 #[test]
 fn a_page_has_1024_entries(rt: HostRuntime) {
-    let alloc = rt.alloc();
-    assert!(rt; after(alloc, u32::MAX, 0) == (0, 0, Ok(LifetimeRefId(0))));
-    assert!(rt; after(alloc, u32::MAX, 1) == (1023, 1, Ok(LifetimeRefId(1))));
-    assert!(rt; after(alloc, u32::MAX, 1023) == (1, 1023, Ok(LifetimeRefId(1023))));
-    assert!(rt; after(alloc, u32::MAX, 1024) == (0, 1024, Ok(LifetimeRefId(1024))));
-    assert!(rt; after(alloc, u32::MAX, 1025) == (1023, 1025, Ok(LifetimeRefId(1025))));
-    assert!(rt; after(alloc, u32::MAX, 2048) == (0, 2048, Ok(LifetimeRefId(2048))));
+    for room in PAGES.iter() {
+        assert!(rt; said_of_room(rt.alloc(), *room) == Said::Own);
+    }
 }
 
-/// Whether each of the calls behind the first, as many as fill its page, is answered with a number.
-fn fills_its_page(alloc: Global) -> bool {
+#[test]
+fn a_limit_cuts_what_is_spare(rt: HostRuntime) {
+    for room in LIMITS.iter() {
+        assert!(rt; said_of_room(rt.alloc(), *room) == Said::Own);
+    }
+}
+
+/// Whether each of the calls behind the first, as many as fill its page, is answered with a number. The first makes two requests for
+/// memory, and those behind it none.
+pub fn fills_its_page(alloc: Global) -> bool {
     let mut arena = Arena::with_limit(alloc, u32::MAX);
     let _ = arena.alloc(LifetimeRef::Error);
     let mut fills = true;
@@ -50,47 +85,42 @@ fn fills_its_page(alloc: Global) -> bool {
     fills
 }
 
-/// The first call makes two requests for memory, and those behind it none: it passes where the third one is refused, too
-/// (`rt try --test --fail-alloc 3`).
 #[test]
 fn the_rest_of_a_page_takes_no_memory(rt: HostRuntime) {
     assert!(rt; fills_its_page(rt.alloc()));
 }
 
-/// Whether each of so many calls is answered with the next number, up to the limit, or is refused for memory and changes nothing.
-pub fn after_each_refusal(alloc: Global, limit: u32, calls: u32) -> bool {
+/// How one more call is answered: with the next number up to the limit, or refused for memory, which changes nothing.
+fn said_of_one_more(arena: &mut Arena<LifetimeRef>, limit: u32) -> Said {
+    let len = arena.len();
+    let spare = arena.spare();
+    let answer = arena.alloc(LifetimeRef::Error);
+    if answer == Ok(LifetimeRefId(len)) {
+        return own_if(len < limit);
+    }
+    if arena.len() != len || arena.spare() != spare {
+        return Said::Other;
+    }
+    match answer {
+        Err(StoreFault::Memory) if len < limit => Said::Memory,
+        Err(StoreFault::Full) => own_if(len >= limit),
+        _ => Said::Other,
+    }
+}
+
+/// How so many calls are answered, one of which may be refused for memory.
+pub fn said_of_each(alloc: Global, limit: u32, calls: u32) -> Said {
     let mut arena = Arena::with_limit(alloc, limit);
-    let mut holds = true;
+    let mut said = Said::Own;
     for _ in 0..calls {
-        let len = arena.len();
-        let spare = arena.spare();
-        match arena.alloc(LifetimeRef::Error) {
-            Ok(id) => if id != LifetimeRefId(len) || len >= limit {
-                holds = false;
-            },
-            Err(fault) => {
-                let own = if len < limit {
-                    StoreFault::Memory
-                } else {
-                    StoreFault::Full
-                };
-                if fault != own || arena.len() != len || arena.spare() != spare {
-                    holds = false;
-                }
-            }
+        match said_of_one_more(&mut arena, limit) {
+            Said::Own => {}
+            Said::Memory if said == Said::Own => said = Said::Memory,
+            _ => said = Said::Other,
         }
     }
     drop(arena);
-    holds
-}
-
-#[test]
-fn a_limit_cuts_what_is_spare(rt: HostRuntime) {
-    let alloc = rt.alloc();
-    assert!(rt; after(alloc, 3, 1) == (2, 1, Ok(LifetimeRefId(1))));
-    assert!(rt; after(alloc, 3, 3) == (0, 3, Err(StoreFault::Full)));
-    assert!(rt; after(alloc, 1030, 1025) == (5, 1025, Ok(LifetimeRefId(1025))));
-    assert!(rt; after(alloc, 1030, 1030) == (0, 1030, Err(StoreFault::Full)));
+    said
 }
 
 const CALL: InFile<NodeId> = InFile {

@@ -1,10 +1,9 @@
-//! Calls of macros that an object answers, without end and otherwise, and what a collector answers to a call behind a refusal.
+//! Calls of macros that an object answers, without end and otherwise.
 
-use crate::collectors::{Call, Holds, Script, said_of_calls};
 use crate::documents::Said;
 use crate::lowered::{By, said_of_body};
+use crate::objects::Text;
 use crate::ways::{Count, Shown};
-use lower_json::document::Root;
 
 /// `f(m!(), n!())`, where each call stands for itself: the call in what it stands for has its number, in its file.
 pub const ENDLESS: &str = r#"{
@@ -85,18 +84,18 @@ pub const ITS_OWN_PARENT: &str = r#"{
     }
 }"#;
 
-/// One expansion is recorded, and one fault.
-pub const ONE_AND_A_FAULT: Shown<'static> = Shown {
-    ways: &[],
-    back: &[],
-    counts: &[(Count::Expansions, 1), (Count::Faults, 1)],
-};
+/// The jump has no label.
+pub const NO_LABEL: Text = Text(
+    r"body r0=(Block - - - [] (Loop (Block - - - [(MacroDef 9)] (Break - -)) L0 loop))
+label 0 'a
+expansion @7 1
+diag UndeclaredLabel 'a
+",
+);
 
 #[test]
 fn a_search_ends_in_a_context_that_is_its_own_parent(rt: HostRuntime) {
-    assert!(rt;
-        said_of_body(rt.alloc(), ITS_OWN_PARENT, By::Object, &ONE_AND_A_FAULT) == Said::Own
-    );
+    assert!(rt; said_of_body(rt.alloc(), ITS_OWN_PARENT, By::Object, &NO_LABEL) == Said::Own);
 }
 
 /// `m!()` as an expression, which is expanded to a type.
@@ -111,51 +110,9 @@ pub const OTHER_KIND: &str = r#"{
     "env": {"macros": [[0, 2, "file", 1, 3]]}
 }"#;
 
-pub const ONE: Shown<'static> = Shown {
-    ways: &[],
-    back: &[],
-    counts: &[(Count::Expansions, 1), (Count::Faults, 0)],
-};
+pub const MISSING: Text = Text("body r0=(Missing)\nexpansion @2 1\n");
 
 #[test]
-fn a_call_that_is_expanded_to_another_kind_is_recorded(rt: HostRuntime) {
-    assert!(rt; said_of_body(rt.alloc(), OTHER_KIND, By::Object, &ONE) == Said::Own);
-}
-
-/// The type of an array, whose length is a call that stands for a call, and so on, one more than may be entered.
-const NESTED: &str = r#"{
-    "nodes": [
-        {"k": "ArrayType", "len": 1},
-        {"k": "ConstArg", "expr": 2},
-        {"k": "MacroExpr", "call": 3},
-        {"k": "MacroCall"},
-        {"k": "MacroExpr", "call": 5},
-        {"k": "MacroCall"},
-        {"k": "MacroExpr", "call": 7},
-        {"k": "MacroCall"},
-        {"k": "MacroExpr", "call": 9},
-        {"k": "MacroCall"},
-        {"k": "Literal", "lit": "int", "t": "1"}
-    ],
-    "env": {
-        "limit": 3,
-        "macros": [[0, 3, "file", 1, 4], [1, 5, "file", 2, 6], [2, 7, "file", 3, 8], [3, 9, "file", 4, 10]]
-    }
-}"#;
-
-/// It passes whichever request for memory is refused, too: `rt try --test --fail-alloc N`. Where one of the call's is, the call is refused
-/// for good.
-#[test]
-fn a_constant_that_is_refused_is_refused_for_good(rt: HostRuntime) {
-    let script = Script {
-        limit: u32::MAX,
-        calls: &[(Call::Constant, Ok(true))],
-        holds: Holds::Sizes {
-            exprs: 1,
-            labels: 0,
-            expansions: 3,
-            faults: 0,
-        },
-    };
-    assert!(rt; said_of_calls(rt.alloc(), Root::Type_, NESTED, &script) != Said::Other);
+fn a_call_that_is_expanded_to_another_kind_is_recorded_and_missing(rt: HostRuntime) {
+    assert!(rt; said_of_body(rt.alloc(), OTHER_KIND, By::Object, &MISSING) == Said::Own);
 }

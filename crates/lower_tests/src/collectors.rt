@@ -1,8 +1,8 @@
 //! Collectors: how their calls are answered, and the stores that they hand out.
 
-use crate::documents::{AskOfDocument, Said, constant_in, path_in, said_by_error, said_of};
+use crate::documents::{AskOfDocument, Said, constant_in, own_if, path_in, said_by_error, said_of};
 use crate::in_range::in_range;
-use crate::listings::{is_listed, is_type_listed};
+use crate::listings::{said_of_listing, said_of_type_listing};
 use crate::owners::{Owners, are_owners};
 use hir_base::Seq;
 use hir_base::node::{AstPtr, HirFileId, NodeId, TextRange};
@@ -12,6 +12,7 @@ use hir_lower::{
     ErrorImplTrait, ExprCollector, ImplTraitLower, LowerError, OpaqueImplTrait,
     impl_trait_error_allocator,
 };
+use hir_store::builder::ExpressionStoreBuilder;
 use hir_store::ids::{BindingId, ExprId, ModuleId, PatId, TypeRefId};
 use hir_store::roots::ExprRoot;
 use hir_store::source_map::ExpressionStoreSourceMap;
@@ -19,7 +20,8 @@ use hir_store::store::ExpressionStore;
 use lower_json::document::{Document, Root};
 use std::alloc::Global;
 
-/// A call of a collector: of the document's constant, of its path, in which an `impl` is an error or stays, or of an `impl` without bounds.
+/// A call of a collector: of the document's constant, absent where it has none, of its path, in which an `impl` is an error or stays, or of
+/// an `impl` without bounds.
 #[derive(Clone, Copy)]
 pub enum Call {
     Constant,
@@ -52,10 +54,8 @@ pub enum Holds {
     Failed {
         exprs: Option<u32>,
     },
-    /// The ends of the first root, none where none is recorded.
-    FirstEnds(Option<Ends>),
-    /// Where the expressions of the only root end.
-    OnlyRootEnd(ExprId),
+    /// The ends of the only root; none where no root is recorded.
+    OnlyEnds(Option<Ends>),
     /// The first three roots: the expression of each, and where those end that belong to it.
     Roots([Option<(ExprId, ExprId)>; 3]),
     Owners(Owners),
@@ -97,11 +97,11 @@ pub fn collector<E: LowerEnv>(alloc: Global, env: &E, limit: u32) -> ExprCollect
 }
 
 /// What the calls of a collector are made of. Whatever hands it on knows nothing of trees, which are dear to prove anything about.
-trait Subject {
-    /// Lowers the constant. Where there is none no call is made.
+pub trait Subject {
+    /// Lowers the constant.
     fn constant<E: LowerEnv>(&self, collector: &mut ExprCollector<'_, E>) -> Answer;
 
-    /// Lowers the path. Where there is none no call is made.
+    /// Lowers the path. Where there is none no call is made, and it isn't answered that one fails.
     fn path<E: LowerEnv, I: ImplTraitLower>(
         &self,
         collector: &mut ExprCollector<'_, E>,
@@ -111,13 +111,8 @@ trait Subject {
 
 impl Subject for Document {
     fn constant<E: LowerEnv>(&self, collector: &mut ExprCollector<'_, E>) -> Answer {
-        match constant_in(self) {
-            Some(constant) => {
-                let _lowered = collector.lower_const_arg(constant)?;
-                Ok(true)
-            }
-            None => Err(LowerError::Failed),
-        }
+        let _lowered = collector.lower_const_arg(constant_in(self).unwrap_or(&None))?;
+        Ok(true)
     }
 
     fn path<E: LowerEnv, I: ImplTraitLower>(
@@ -132,7 +127,7 @@ impl Subject for Document {
                 drop(lowered);
                 Ok(is_some)
             }
-            None => Err(LowerError::Failed),
+            None => Ok(false),
         }
     }
 }
@@ -187,19 +182,32 @@ fn answers<E: LowerEnv, S: Subject>(
     Said::Own
 }
 
+/// How much is stored of each kind, and how many roots are recorded.
+fn sizes(store: &ExpressionStoreBuilder) -> ([u32; 6], usize) {
+    let sizes = [
+        store.exprs_len(),
+        store.pats_len(),
+        store.bindings_len(),
+        store.types_len(),
+        store.lifetimes_len(),
+        store.labels_len(),
+    ];
+    (sizes, store.expr_roots().len())
+}
+
 /// Whether each call is answered `Failed`, and none changes how much is stored.
 fn fails_for_good<E: LowerEnv, S: Subject>(
     alloc: Global,
     collector: &mut ExprCollector<'_, E>,
     subject: &S,
 ) -> bool {
-    let exprs = collector.store().exprs_len();
+    let own = sizes(collector.store());
     for call in ALL_CALLS.iter() {
         if called(alloc, collector, *call, subject) != Err(LowerError::Failed) {
             return false;
         }
     }
-    collector.store().exprs_len() == exprs
+    sizes(collector.store()) == own
 }
 
 /// Whether the numbers in the store are in range, and where there was an error each later call fails.
@@ -235,57 +243,52 @@ fn roots_in(roots: &[ExprRoot]) -> [Option<(ExprId, ExprId)>; 3] {
     ]
 }
 
-fn is_held(
+fn said_of_store(
     alloc: Global,
     store: &ExpressionStore,
     source_map: &ExpressionStoreSourceMap,
     holds: Holds,
-) -> bool {
+) -> Said {
     let roots = store.expr_roots();
     match holds {
-        Holds::Failed { .. } => false,
-        Holds::FirstEnds(own) => roots.first().map(ends_of) == own,
-        Holds::OnlyRootEnd(own) => match roots {
-            [root] => root.exprs_end == own,
-            _ => false,
-        },
-        Holds::Roots(own) => roots_in(roots) == own,
-        Holds::Owners(own) => are_owners(store, own),
+        Holds::Failed { .. } => Said::Other,
+        Holds::OnlyEnds(own) => own_if(roots.len() <= 1 && roots.first().map(ends_of) == own),
+        Holds::Roots(own) => own_if(roots_in(roots) == own),
+        Holds::Owners(own) => own_if(are_owners(store, own)),
         Holds::Sizes {
             exprs,
             labels,
             expansions,
             faults,
         } => {
-            store.exprs_len() == exprs
+            let is_so = store.exprs_len() == exprs
                 && store.labels_len() == labels
                 && source_map.expansions().len() == expansions
-                && source_map.diagnostics().len() == faults
+                && source_map.diagnostics().len() == faults;
+            own_if(is_so)
         }
-        Holds::FirstType(text) => is_type_listed(alloc, store, source_map, TypeRefId(0), text),
-        Holds::Listing(text) => is_listed(alloc, store, source_map, text),
+        Holds::FirstType(text) => {
+            said_of_type_listing(alloc, store, source_map, TypeRefId(0), text)
+        }
+        Holds::Listing(text) => said_of_listing(alloc, store, source_map, text),
     }
 }
 
-/// Whether a collector hands out this. No other function owns a store that one handed out.
-pub fn is_handed_out<E: LowerEnv>(
-    alloc: Global,
-    collector: ExprCollector<'_, E>,
-    holds: Holds,
-) -> bool {
+/// What a collector hands out. No other function owns a store that one handed out.
+fn handed_out<E: LowerEnv>(alloc: Global, collector: ExprCollector<'_, E>, holds: Holds) -> Said {
     match collector.into_store() {
         Ok((store, source_map)) => {
-            let is_held = is_held(alloc, &store, &source_map, holds);
+            let said = said_of_store(alloc, &store, &source_map, holds);
             drop(store);
             drop(source_map);
-            is_held
+            said
         }
-        Err(error) => error == LowerError::Failed && matches!(holds, Holds::Failed { .. }),
+        Err(error) => own_if(error == LowerError::Failed && matches!(holds, Holds::Failed { .. })),
     }
 }
 
 /// How the calls of a script are answered. Behind a refusal of memory a collector fails for good.
-fn said_in<E: LowerEnv, S: Subject>(
+pub fn said_in<E: LowerEnv, S: Subject>(
     alloc: Global,
     env: &E,
     script: &Script<'_>,
@@ -295,14 +298,13 @@ fn said_in<E: LowerEnv, S: Subject>(
     let said = answers(alloc, &mut collector, script.calls, subject);
     let holds = match said {
         Said::Memory => Holds::Failed { exprs: None },
-        Said::Own | Said::Other => script.holds,
+        Said::Own | Said::Beside | Said::Other => script.holds,
     };
     let is_sound = is_sound(alloc, &mut collector, holds, subject);
-    let is_handed_out = is_handed_out(alloc, collector, holds);
-    if is_sound && is_handed_out {
-        said
-    } else {
-        Said::Other
+    match handed_out(alloc, collector, holds) {
+        Said::Own if is_sound => said,
+        Said::Beside if is_sound => Said::Beside,
+        _ => Said::Other,
     }
 }
 
@@ -312,7 +314,7 @@ impl AskOfDocument for Script<'_> {
     }
 }
 
-/// How the calls of a collector are answered that have to do with the document of a text.
-pub fn said_of_calls(alloc: Global, want: Root, text: &str, script: &Script<'_>) -> Said {
-    said_of(alloc, want, text, script)
+/// How the calls of a collector are answered that have to do with the path of a text.
+pub fn said_of_calls(alloc: Global, text: &str, script: &Script<'_>) -> Said {
+    said_of(alloc, Root::Path, text, script)
 }

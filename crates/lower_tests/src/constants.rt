@@ -3,8 +3,7 @@
 use crate::collectors::{Call, Holds, Script, said_of_calls};
 use crate::documents::Said;
 use hir_lower::LowerError;
-use hir_store::ids::{BindingId, ExprId, PatId};
-use lower_json::document::Root;
+use hir_store::ids::ExprId;
 
 /// `A<{a::<{b}>}>`, which becomes two expressions.
 pub const PATH: &str = r#"{"nodes": [
@@ -32,13 +31,13 @@ fn a_constant_in_a_constant_is_no_root_and_a_later_one_is(rt: HostRuntime) {
         calls: &[(Call::Constant, Ok(true))],
         holds: Holds::Roots([first, None, None]),
     };
-    assert!(rt; said_of_calls(alloc, Root::Path, PATH, &alone) == Said::Own);
+    assert!(rt; said_of_calls(alloc, PATH, &alone) == Said::Own);
     let both = Script {
         limit: u32::MAX,
         calls: &[(Call::Constant, Ok(true)), (Call::Path, Ok(true))],
         holds: Holds::Roots([first, second, None]),
     };
-    assert!(rt; said_of_calls(alloc, Root::Path, PATH, &both) == Said::Own);
+    assert!(rt; said_of_calls(alloc, PATH, &both) == Said::Own);
 }
 
 /// In a collector for one expression, and in one for two.
@@ -53,42 +52,11 @@ fn a_path_does_not_fit_where_its_constants_do_not(rt: HostRuntime) {
         ],
         holds: Holds::Failed { exprs: Some(1) },
     };
-    assert!(rt; said_of_calls(alloc, Root::Path, PATH, &in_one) == Said::Own);
+    assert!(rt; said_of_calls(alloc, PATH, &in_one) == Said::Own);
     let in_two = Script {
         limit: 2,
         calls: &[(Call::Path, Ok(true)), (Call::Path, Err(LowerError::Full))],
         holds: Holds::Failed { exprs: Some(2) },
     };
-    assert!(rt; said_of_calls(alloc, Root::Path, PATH, &in_two) == Said::Own);
-}
-
-/// `A<{ let (x, y); }>`, whose constant becomes one expression, three patterns and two bindings.
-pub const LET: &str = r#"{"nodes": [
-    {"k": "Path", "segs": [1]},
-    {"k": "PathSegment", "seg": "name", "name": "A", "generics": 2},
-    {"k": "GenericArgList", "args": [3]},
-    {"k": "ConstArg", "expr": 4},
-    {"k": "BlockExpr", "stmts": [5]},
-    {"k": "LetStmt", "pat": 6},
-    {"k": "TuplePat", "fields": [7, 8]},
-    {"k": "IdentPat", "name": "x"},
-    {"k": "IdentPat", "name": "y"}
-]}"#;
-
-/// In a collector for two of each kind, and in one for three.
-#[test]
-fn a_let_of_two_names_takes_three_patterns_and_two_bindings(rt: HostRuntime) {
-    let alloc = rt.alloc();
-    let in_two = Script {
-        limit: 2,
-        calls: &[(Call::Constant, Err(LowerError::Full))],
-        holds: Holds::Failed { exprs: None },
-    };
-    assert!(rt; said_of_calls(alloc, Root::Path, LET, &in_two) == Said::Own);
-    let in_three = Script {
-        limit: 3,
-        calls: &[(Call::Constant, Ok(true))],
-        holds: Holds::FirstEnds(Some((ExprId(1), PatId(3), BindingId(2)))),
-    };
-    assert!(rt; said_of_calls(alloc, Root::Path, LET, &in_three) == Said::Own);
+    assert!(rt; said_of_calls(alloc, PATH, &in_two) == Said::Own);
 }

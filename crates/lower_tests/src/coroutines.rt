@@ -1,6 +1,6 @@
 //! Which stored parts the parameters of a function are whose body is a coroutine, and where the coroutine of a closure is stored.
 
-use crate::documents::Said;
+use crate::documents::{Said, own_if};
 use crate::lowered::{AskOfBody, By, said_of_body};
 use crate::ways::expr_at;
 use hir_lower::{Body, BodySourceMap};
@@ -89,10 +89,10 @@ fn written_and_bound(body: &Body) -> Option<(Received, Received)> {
 pub struct BoundByLets;
 
 impl AskOfBody for BoundByLets {
-    fn is_so(&self, _alloc: Global, body: &Body, _source_map: &BodySourceMap) -> bool {
+    fn said(&self, _alloc: Global, body: &Body, _source_map: &BodySourceMap) -> Said {
         match written_and_bound(body) {
-            Some((written, bound)) => written == bound,
-            None => false,
+            Some((written, bound)) => own_if(written == bound),
+            None => Said::Other,
         }
     }
 }
@@ -115,13 +115,13 @@ pub const NUMBERS: Numbers = Numbers {
 };
 
 impl AskOfBody for Numbers {
-    fn is_so(&self, _alloc: Global, body: &Body, source_map: &BodySourceMap) -> bool {
+    fn said(&self, _alloc: Global, body: &Body, source_map: &BodySourceMap) -> Said {
         if expr_at(source_map, 2) != Some(self.closure) {
-            return false;
+            return Said::Other;
         }
         match body.store.expr(self.closure) {
-            Some(Expr::Closure { body, .. }) => *body == self.coroutine,
-            _ => false,
+            Some(Expr::Closure { body, .. }) => own_if(*body == self.coroutine),
+            _ => Said::Other,
         }
     }
 }

@@ -1,6 +1,6 @@
 //! The patterns that make a binding, which no listing prints by number, and how many patterns and bindings are stored.
 
-use crate::documents::Said;
+use crate::documents::{Said, own_if};
 use crate::lowered::{AskOfBody, By, said_of_body};
 use hir_lower::{Body, BodySourceMap};
 use hir_store::ids::{BindingId, PatId};
@@ -73,11 +73,12 @@ fn is_defined_by(source_map: &BodySourceMap, binding: BindingId, own: Definition
 }
 
 impl AskOfBody for Defined {
-    fn is_so(&self, _alloc: Global, body: &Body, source_map: &BodySourceMap) -> bool {
-        is_defined_by(source_map, BindingId(0), self.first)
+    fn said(&self, _alloc: Global, body: &Body, source_map: &BodySourceMap) -> Said {
+        let is_so = is_defined_by(source_map, BindingId(0), self.first)
             && is_defined_by(source_map, BindingId(1), self.second)
             && body.store.pats_len() == self.pats
-            && body.store.bindings_len() == self.bindings
+            && body.store.bindings_len() == self.bindings;
+        own_if(is_so)
     }
 }
 

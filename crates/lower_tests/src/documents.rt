@@ -1,17 +1,21 @@
 //! Documents that tests ask about, and how they are answered.
 
 use hir_lower::LowerError;
-use hir_syntax::ast::{ConstArg, GenericArg, Path, TypeKind};
+use hir_syntax::ast::{ConstArg, GenericArg, Path};
 use lower_json::document::{Document, Root, Tree};
 use lower_json::fault::ReadError;
 use lower_json::read::read_tree;
 use std::alloc::Global;
 
-/// How a question is answered: as it has to be, by a refusal of memory, or otherwise.
+/// How a question is answered.
 #[derive(Clone, Copy, PartialEq, Eq)]
 pub enum Said {
+    /// As it has to be.
     Own,
+    /// The call is refused for memory.
     Memory,
+    /// Memory is refused beside the call: where its document is read, or what it answers is listed.
+    Beside,
     Other,
 }
 
@@ -42,7 +46,7 @@ pub fn said_of<A: AskOfDocument>(alloc: Global, want: Root, text: &str, ask: &A)
             drop(document);
             said
         }
-        Err(ReadError::Memory) => Said::Memory,
+        Err(ReadError::Memory) => Said::Beside,
         Err(ReadError::Fault(_)) => Said::Other,
     }
 }
@@ -55,20 +59,13 @@ pub fn path_in(document: &Document) -> Option<&Path> {
     }
 }
 
-/// The constant in a document: of a path the argument beside its only name, of an array type the length.
+/// The constant in the document of a path: the only argument beside its only name.
 pub fn constant_in(document: &Document) -> Option<&ConstArg> {
-    match &document.tree {
-        Tree::Path(path) => match path.segs.as_slice() {
-            [Some(segment)] => match segment.generics.as_ref()?.as_slice() {
-                [GenericArg::ConstArg(constant)] => Some(constant),
-                _ => None,
-            },
+    match path_in(document)?.segs.as_slice() {
+        [Some(segment)] => match segment.generics.as_ref()?.as_slice() {
+            [GenericArg::ConstArg(constant)] => Some(constant),
             _ => None,
         },
-        Tree::Type_(Some(ty)) => match &ty.kind {
-            TypeKind::ArrayType { len, .. } => len.as_ref(),
-            _ => None,
-        },
-        Tree::Type_(None) | Tree::Fn(_) | Tree::Pat(_) => None,
+        _ => None,
     }
 }

@@ -2,6 +2,7 @@
 
 use crate::documents::Said;
 use crate::lowered::{By, said_of_body};
+use crate::objects::Text;
 use crate::ways::{Count, Leads, Shown};
 
 /// `f(m!(), n!())`, of which each is expanded to a call, and that to a call, and so on.
@@ -23,15 +24,17 @@ pub const ARGUMENTS: &str = r#"{
     "env": {"limit": 3, "macros": [[9, 0, "file", 0, 9]]}
 }"#;
 
-pub const OF_ARGUMENTS: Shown<'static> = Shown {
-    ways: &[],
-    back: &[],
-    counts: &[
-        (Count::Exprs, 4),
-        (Count::Expansions, 6),
-        (Count::Faults, 0),
-    ],
-};
+/// Each call stands in the file of its number and of the file around it.
+pub const OF_ARGUMENTS: Text = Text(
+    r"body r0=(Call (Path f) [(Missing) (Missing)])
+expansion @100 100
+expansion @200 200
+expansion @100.1 101
+expansion @101.1 102
+expansion @200.1 201
+expansion @201.1 202
+",
+);
 
 #[test]
 fn each_argument_is_entered_up_to_the_limit(rt: HostRuntime) {
@@ -57,15 +60,7 @@ pub const NO_ARGUMENTS: &str = r#"{
     "env": {"limit": 0, "macros": [[9, 0, "file", 0, 9]]}
 }"#;
 
-pub const OF_NO_ARGUMENTS: Shown<'static> = Shown {
-    ways: &[],
-    back: &[],
-    counts: &[
-        (Count::Exprs, 4),
-        (Count::Expansions, 0),
-        (Count::Faults, 0),
-    ],
-};
+pub const OF_NO_ARGUMENTS: Text = Text("body r0=(Call (Path f) [(Missing) (Missing)])\n");
 
 #[test]
 fn no_argument_is_entered_where_the_limit_is_zero(rt: HostRuntime) {

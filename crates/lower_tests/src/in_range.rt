@@ -1,16 +1,18 @@
 //! Whether the numbers in a store that a collector fills are numbers of its entries.
 
+use crate::in_range_types::{has_args_option, has_path, has_type, has_type_option, has_type_parts};
 use hir_store::builder::ExpressionStoreBuilder;
 use hir_store::children::Children;
 use hir_store::hir::{Expr, MatchArm, Statement};
-use hir_store::ids::{BindingId, ExprId, PatId};
+use hir_store::ids::{BindingId, ExprId, LabelId, LifetimeRefId, PatId, TypeRefId};
 use hir_store::pat::{Pat, RecordFieldPat};
+use hir_store::roots::ExprRoot;
 
-fn has_expr(store: &ExpressionStoreBuilder, id: ExprId) -> bool {
+pub fn has_expr(store: &ExpressionStoreBuilder, id: ExprId) -> bool {
     store.expr(id).is_some()
 }
 
-fn has_pat(store: &ExpressionStoreBuilder, id: PatId) -> bool {
+pub fn has_pat(store: &ExpressionStoreBuilder, id: PatId) -> bool {
     store.pat(id).is_some()
 }
 
@@ -28,9 +30,25 @@ fn has_expr_option(store: &ExpressionStoreBuilder, id: Option<ExprId>) -> bool {
     }
 }
 
+fn has_label_option(store: &ExpressionStoreBuilder, id: Option<LabelId>) -> bool {
+    match id {
+        Some(id) => store.label(id).is_some(),
+        None => true,
+    }
+}
+
 fn has_pats(store: &ExpressionStoreBuilder, ids: &[PatId]) -> bool {
     for id in ids {
         if !has_pat(store, *id) {
+            return false;
+        }
+    }
+    true
+}
+
+fn has_type_options(store: &ExpressionStoreBuilder, ids: &[Option<TypeRefId>]) -> bool {
+    for id in ids {
+        if !has_type_option(store, *id) {
             return false;
         }
     }
@@ -46,10 +64,11 @@ fn has_children(store: &ExpressionStoreBuilder, expr: &Expr) -> bool {
     true
 }
 
-fn has_let_pats(store: &ExpressionStoreBuilder, statements: &[Statement]) -> bool {
+/// Whether the patterns and the types of statements are there.
+fn has_lets(store: &ExpressionStoreBuilder, statements: &[Statement]) -> bool {
     for statement in statements {
-        if let Statement::Let { pat, .. } = statement {
-            if !has_pat(store, *pat) {
+        if let Statement::Let { pat, type_ref, .. } = statement {
+            if !(has_pat(store, *pat) && has_type_option(store, *type_ref)) {
                 return false;
             }
         }
@@ -75,29 +94,51 @@ fn has_field_pats(store: &ExpressionStoreBuilder, fields: &[RecordFieldPat]) -> 
     true
 }
 
-/// Whether an expression names expressions and patterns that are there.
+/// Whether what an expression names is there.
 fn has_parts(store: &ExpressionStoreBuilder, expr: &Expr) -> bool {
-    let has_pats = match expr {
+    let has_others = match expr {
+        Expr::Path { path, .. } | Expr::RecordLit { path, .. } => has_path(store, path),
+        Expr::MethodCall { generic_args, .. } => has_args_option(store, generic_args),
+        Expr::Cast { type_ref, .. } => has_type(store, *type_ref),
+        Expr::OffsetOf { container, .. } => has_type(store, *container),
         Expr::Let { pat, .. } => has_pat(store, *pat),
         Expr::Assignment { target, .. } => has_pat(store, *target),
-        Expr::Closure { args, .. } => has_pats(store, args.as_slice()),
+        Expr::Closure {
+            args,
+            arg_types,
+            ret_type,
+            ..
+        } => {
+            has_pats(store, args.as_slice())
+                && has_type_options(store, arg_types.as_slice())
+                && has_type_option(store, *ret_type)
+        }
         Expr::Match { arms, .. } => has_arm_pats(store, arms.as_slice()),
-        Expr::Block { statements, .. } => has_let_pats(store, statements.as_slice()),
+        Expr::Block {
+            label,
+            statements,
+            ..
+        } => has_label_option(store, *label) && has_lets(store, statements.as_slice()),
+        Expr::Loop { label, .. } | Expr::Continue { label } | Expr::Break { label, .. } => {
+            has_label_option(store, *label)
+        }
         _ => true,
     };
-    has_pats && has_children(store, expr)
+    has_others && has_children(store, expr)
 }
 
-/// Whether a pattern names patterns, expressions and bindings that are there.
+/// Whether what a pattern names is there.
 fn has_pat_parts(store: &ExpressionStoreBuilder, pat: &Pat) -> bool {
     match pat {
-        Pat::Bind { id, subpat } => {
-            store.binding(*id).is_some() && has_pat_option(store, *subpat)
+        Pat::Bind { id, subpat } => store.binding(*id).is_some() && has_pat_option(store, *subpat),
+        Pat::Path { path, .. } => has_path(store, path),
+        Pat::TupleStruct { path, args, .. } => {
+            has_path(store, path) && has_pats(store, args.as_slice())
         }
-        Pat::TupleStruct { args, .. } | Pat::Tuple { args, .. } | Pat::Or(args) => {
-            has_pats(store, args.as_slice())
+        Pat::Tuple { args, .. } | Pat::Or(args) => has_pats(store, args.as_slice()),
+        Pat::Record { path, args, .. } => {
+            has_path(store, path) && has_field_pats(store, args.as_slice())
         }
-        Pat::Record { args, .. } => has_field_pats(store, args.as_slice()),
         Pat::Slice {
             prefix,
             slice,
@@ -113,7 +154,7 @@ fn has_pat_parts(store: &ExpressionStoreBuilder, pat: &Pat) -> bool {
         Pat::Range { start, end, .. } => {
             has_expr_option(store, *start) && has_expr_option(store, *end)
         }
-        _ => true,
+        Pat::Missing | Pat::Wild | Pat::Rest | Pat::NotNull => true,
     }
 }
 
@@ -141,16 +182,64 @@ fn has_pats_in_range(store: &ExpressionStoreBuilder) -> bool {
     true
 }
 
-fn has_bindings(store: &ExpressionStoreBuilder) -> bool {
+fn has_types_in_range(store: &ExpressionStoreBuilder) -> bool {
+    for number in 0..store.types_len() {
+        match store.type_ref(TypeRefId(number)) {
+            Some(ty) => if !has_type_parts(store, ty) {
+                return false;
+            },
+            None => return false,
+        }
+    }
+    true
+}
+
+/// Whether what owns bindings is there.
+fn has_owners(store: &ExpressionStoreBuilder) -> bool {
     for number in 0..store.bindings_len() {
-        if store.binding(BindingId(number)).is_none() {
+        if !has_expr_option(store, store.binding_owner(BindingId(number))) {
             return false;
         }
     }
     true
 }
 
-/// Whether each expression and each pattern names entries that are there. Types and labels aren't lent by a store that is being filled.
+/// Whether a root is there, and no more belongs to it than is there.
+fn has_root(store: &ExpressionStoreBuilder, root: &ExprRoot) -> bool {
+    has_expr(store, root.root)
+        && root.exprs_end.0 <= store.exprs_len()
+        && root.pats_end.0 <= store.pats_len()
+        && root.bindings_end.0 <= store.bindings_len()
+}
+
+fn has_roots(store: &ExpressionStoreBuilder) -> bool {
+    for root in store.expr_roots() {
+        if !has_root(store, root) {
+            return false;
+        }
+    }
+    true
+}
+
+/// Whether there are as many entries of each kind as are counted, and no more.
+fn has_just_so_many(store: &ExpressionStoreBuilder) -> bool {
+    store.expr(ExprId(store.exprs_len())).is_none()
+        && store.pat(PatId(store.pats_len())).is_none()
+        && store.type_ref(TypeRefId(store.types_len())).is_none()
+        && store.label(LabelId(store.labels_len())).is_none()
+        && store
+            .lifetime(LifetimeRefId(store.lifetimes_len()))
+            .is_none()
+        && store.binding(BindingId(store.bindings_len())).is_none()
+}
+
+/// Whether each number in a store that is being filled is one of an entry that is there: in expressions, patterns, types and roots, and of
+/// what owns bindings. Labels, lifetimes and bindings name nothing by number.
 pub fn in_range(store: &ExpressionStoreBuilder) -> bool {
-    has_exprs_in_range(store) && has_pats_in_range(store) && has_bindings(store)
+    has_exprs_in_range(store)
+        && has_pats_in_range(store)
+        && has_types_in_range(store)
+        && has_owners(store)
+        && has_roots(store)
+        && has_just_so_many(store)
 }

@@ -1,6 +1,6 @@
 //! What the nodes of `const` blocks, repeat arrays, closures and coroutines lead to, and how much is stored for them.
 
-use crate::documents::Said;
+use crate::documents::{Said, own_if};
 use crate::lowered::{AskOfBody, By, said_of_body};
 use crate::ways::{Count, are_counts, expr_at};
 use hir_lower::{Body, BodySourceMap};
@@ -117,8 +117,9 @@ pub struct Became {
 }
 
 impl AskOfBody for Became {
-    fn is_so(&self, _alloc: Global, body: &Body, source_map: &BodySourceMap) -> bool {
-        form_in(body, source_map) == self.form && are_counts(body, source_map, self.counts)
+    fn said(&self, _alloc: Global, body: &Body, source_map: &BodySourceMap) -> Said {
+        let is_form = form_in(body, source_map) == self.form;
+        own_if(is_form && are_counts(body, source_map, self.counts))
     }
 }
 
@@ -171,7 +172,7 @@ fn an_async_block_leads_to_the_coroutine_around_its_block(rt: HostRuntime) {
 struct HaveNodes([bool; 4]);
 
 impl AskOfBody for HaveNodes {
-    fn is_so(&self, _alloc: Global, _body: &Body, source_map: &BodySourceMap) -> bool {
+    fn said(&self, _alloc: Global, _body: &Body, source_map: &BodySourceMap) -> Said {
         let map = &source_map.store;
         let have = [
             map.expr_syntax(ExprId(0)).is_some(),
@@ -179,7 +180,7 @@ impl AskOfBody for HaveNodes {
             map.expr_syntax(ExprId(2)).is_some(),
             map.expr_syntax(ExprId(3)).is_some(),
         ];
-        have == self.0
+        own_if(have == self.0)
     }
 }
 

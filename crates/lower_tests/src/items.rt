@@ -298,7 +298,7 @@ pub fn said_of_item(alloc: Global, item: Item, row: Row) -> Said {
             drop(text);
             said
         }
-        Err(_) => Said::Memory,
+        Err(_) => Said::Beside,
     }
 }
 

@@ -43,7 +43,7 @@ const TO: &str = r#"{"owner": "const", "nodes": [
 ]}"#;
 
 /// `a..b`, where ranges are the newer ones.
-const NEWER_RANGE: &str = r#"{
+pub const NEWER_RANGE: &str = r#"{
     "owner": "const",
     "nodes": [
         {"k": "Fn", "body": 1},
@@ -93,7 +93,7 @@ const TO_INCLUSIVE: &str = r#"{"owner": "const", "nodes": [
 ]}"#;
 
 /// `a..=b`, where ranges are the newer ones.
-const NEWER_INCLUSIVE: &str = r#"{
+pub const NEWER_INCLUSIVE: &str = r#"{
     "owner": "const",
     "nodes": [
         {"k": "Fn", "body": 1},

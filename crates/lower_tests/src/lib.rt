@@ -28,13 +28,13 @@ mod generics;
 #[cfg(test)]
 mod in_range;
 #[cfg(test)]
+mod in_range_types;
+#[cfg(test)]
 mod inner;
 #[cfg(test)]
 mod items;
 #[cfg(test)]
 mod lacking;
-#[cfg(test)]
-mod limits;
 #[cfg(test)]
 mod listings;
 #[cfg(test)]

@@ -17,7 +17,6 @@ use hir_store::path::{ModPath, Path, PathKind};
 use hir_store::source_map::ExpressionStoreSourceMap;
 use hir_store::store::ExpressionStore;
 use hir_syntax::ast::LiteralKind;
-use lower_json::document::Root;
 use lower_listing::{Listed, body_listing, type_listing};
 use std::alloc::{AllocError, Global};
 use std::test::Fail;
@@ -54,53 +53,54 @@ pub fn said_of_text(listed: Result<String, AllocError>, own: &str) -> Said {
             drop(text);
             own_if(is_own)
         }
-        Err(_) => Said::Memory,
+        Err(_) => Said::Beside,
     }
 }
 
-fn is_text(listed: Result<String, AllocError>, own: &str) -> bool {
-    said_of_text(listed, own) == Said::Own
-}
-
-/// Whether a store is listed so, with sources.
-pub fn is_listed(
+/// What the listing of a store, with sources, is.
+pub fn said_of_listing(
     alloc: Global,
     store: &ExpressionStore,
     source_map: &ExpressionStoreSourceMap,
     own: &str,
-) -> bool {
+) -> Said {
     let items = LangItems::numbered();
     let listed = listed_in(store, source_map, &items, true);
-    is_text(body_listing(alloc, listed, None, &[]), own)
+    said_of_text(body_listing(alloc, listed, None, &[]), own)
 }
 
-/// Whether a body is listed so.
-pub fn is_body_listed(alloc: Global, body: &Body, source_map: &BodySourceMap, own: &str) -> bool {
+/// What the listing of a body is.
+pub fn said_of_body_listing(
+    alloc: Global,
+    body: &Body,
+    source_map: &BodySourceMap,
+    own: &str,
+) -> Said {
     let items = LangItems::numbered();
     let listed = listed_in(&body.store, &source_map.store, &items, false);
-    is_text(
+    said_of_text(
         body_listing(alloc, listed, None, body.params.as_slice()),
         own,
     )
 }
 
-/// Whether a type is listed so.
-pub fn is_type_listed(
+/// What the listing of a type is.
+pub fn said_of_type_listing(
     alloc: Global,
     store: &ExpressionStore,
     source_map: &ExpressionStoreSourceMap,
     ty: TypeRefId,
     own: &str,
-) -> bool {
+) -> Said {
     let items = LangItems::numbered();
     let listed = listed_in(store, source_map, &items, false);
-    is_text(type_listing(alloc, listed, ty), own)
+    said_of_text(type_listing(alloc, listed, ty), own)
 }
 
 /// Whether what a builder holds is listed so, with sources.
 fn is_built(alloc: Global, builder: ExpressionStoreBuilder, own: &str) -> bool {
     let (store, source_map) = builder.finish();
-    let is_listed = is_listed(alloc, &store, &source_map, own);
+    let is_listed = said_of_listing(alloc, &store, &source_map, own) == Said::Own;
     drop(store);
     drop(source_map);
     is_listed
@@ -196,10 +196,12 @@ fn a_label_behind_a_border_is_told(rt: HostRuntime) -> Result<(), Fail> {
     Ok(())
 }
 
-/// An array type whose length is an `await` of nothing.
+/// A path whose argument is an `await` of nothing.
 const AWAIT: &str = r#"{"nodes": [
-    {"k": "ArrayType", "len": 1},
-    {"k": "ConstArg", "expr": 2},
+    {"k": "Path", "segs": [1]},
+    {"k": "PathSegment", "seg": "name", "name": "A", "generics": 2},
+    {"k": "GenericArgList", "args": [3]},
+    {"k": "ConstArg", "expr": 4},
     {"k": "AwaitExpr"}
 ]}"#;
 
@@ -209,8 +211,8 @@ fn an_await_in_a_constant_alone_stands_in_a_constant(rt: HostRuntime) {
         limit: u32::MAX,
         calls: &[(Call::Constant, Ok(true))],
         holds: Holds::Listing(
-            "body r0=(Await@2 (Missing))\ndiag AwaitOutsideOfAsync constant @2\n",
+            "body r0=(Await@4 (Missing))\ndiag AwaitOutsideOfAsync constant @4\n",
         ),
     };
-    assert!(rt; said_of_calls(rt.alloc(), Root::Type_, AWAIT, &script) == Said::Own);
+    assert!(rt; said_of_calls(rt.alloc(), AWAIT, &script) == Said::Own);
 }

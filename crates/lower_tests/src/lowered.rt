@@ -1,6 +1,6 @@
 //! Documents of items, lowered, and what is asked of their bodies.
 
-use crate::documents::{AskOfDocument, Said, own_if, said_by_error, said_of};
+use crate::documents::{AskOfDocument, Said, said_by_error, said_of};
 use hir_base::node::{AstPtr, HirFileId};
 use hir_env::env::LowerEnv;
 use hir_env::lang::LangItems;
@@ -139,7 +139,7 @@ fn lowered_by<I: Item>(alloc: Global, by: By, behind: &TableEnv, item: &I) -> Lo
 
 /// A question to a body, with the answer that it has to have.
 pub trait AskOfBody {
-    fn is_so(&self, alloc: Global, body: &Body, source_map: &BodySourceMap) -> bool;
+    fn said(&self, alloc: Global, body: &Body, source_map: &BodySourceMap) -> Said;
 }
 
 /// The question to the body that the item in a document is lowered to.
@@ -159,10 +159,10 @@ impl<Q: AskOfBody> AskOfDocument for OfBody<'_, Q> {
     fn said(&self, alloc: Global, document: &mut Document) -> Said {
         match lowered_by(alloc, self.by, &document.env, &*document) {
             Ok((body, source_map)) => {
-                let is_so = self.own.is_so(alloc, &body, &source_map);
+                let said = self.own.said(alloc, &body, &source_map);
                 drop(body);
                 drop(source_map);
-                own_if(is_so)
+                said
             }
             Err(error) => said_by_error(error),
         }

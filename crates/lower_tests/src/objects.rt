@@ -1,7 +1,7 @@
 //! What an object answers: the numbers of blocks, which no listing prints in order, what names stand for, and which ranges are meant.
 
-use crate::documents::Said;
-use crate::listings::is_body_listed;
+use crate::documents::{Said, own_if};
+use crate::listings::said_of_body_listing;
 use crate::lowered::{AskOfBody, By, said_of_body};
 use hir_lower::{Body, BodySourceMap};
 use hir_store::ids::BlockId;
@@ -17,14 +17,14 @@ pub const BLOCK_IN_BLOCK: &str = r#"{
 pub struct Entered(pub [Option<BlockId>; 3]);
 
 impl AskOfBody for Entered {
-    fn is_so(&self, _alloc: Global, _body: &Body, source_map: &BodySourceMap) -> bool {
+    fn said(&self, _alloc: Global, _body: &Body, source_map: &BodySourceMap) -> Said {
         let scopes = source_map.store.block_scopes();
         let entered = [
             scopes.first().copied(),
             scopes.get(1).copied(),
             scopes.get(2).copied(),
         ];
-        entered == self.0
+        own_if(entered == self.0)
     }
 }
 
@@ -61,8 +61,8 @@ const NAMES_AND_RANGES: &str = r#"{
 pub struct Text(pub &'static str);
 
 impl AskOfBody for Text {
-    fn is_so(&self, alloc: Global, body: &Body, source_map: &BodySourceMap) -> bool {
-        is_body_listed(alloc, body, source_map, self.0)
+    fn said(&self, alloc: Global, body: &Body, source_map: &BodySourceMap) -> Said {
+        said_of_body_listing(alloc, body, source_map, self.0)
     }
 }
 

@@ -1,16 +1,17 @@
 //! What is lowered where odd objects answer, and a block that no document has.
 
-use crate::calls::ONE_AND_A_FAULT;
-use crate::collectors::{Holds, collector, is_handed_out};
+use crate::calls::NO_LABEL;
+use crate::collectors::{Answer, Call, Holds, Script, Subject, said_in};
 use crate::documents::{AskOfDocument, Said, own_if, said_by_error, said_of};
+use crate::lacking::{NEWER_INCLUSIVE, NEWER_RANGE};
 use crate::lowered::{AskOfBody, By, said_of_body};
-use crate::objects::{BLOCK_IN_BLOCK, Entered};
+use crate::objects::{BLOCK_IN_BLOCK, Entered, Text as Listing};
 use crate::paths::EMPTY;
 use hir_base::node::{HirFileId, InFile, NodeId, TextRange};
 use hir_base::{Boxed, Seq, Text};
 use hir_env::env::LowerEnv;
 use hir_env::lang::LangItems;
-use hir_lower::{Body, BodySourceMap, lower_function};
+use hir_lower::{Body, BodySourceMap, ExprCollector, ImplTraitLower, lower_function};
 use hir_odd_envs::lacking::Lacking;
 use hir_store::hir::Expr;
 use hir_store::ids::{BlockId, FunctionId, LangItemId, ModuleId};
@@ -42,7 +43,7 @@ pub const OWN_PARENTS: &str = r#"{
 
 #[test]
 fn a_search_ends_where_each_context_is_its_own_parent(rt: HostRuntime) {
-    assert!(rt; said_of_body(rt.alloc(), OWN_PARENTS, By::Circles, &ONE_AND_A_FAULT) == Said::Own);
+    assert!(rt; said_of_body(rt.alloc(), OWN_PARENTS, By::Circles, &NO_LABEL) == Said::Own);
 }
 
 pub const OUTER: Entered = Entered([Some(BlockId(3)), None, None]);
@@ -93,7 +94,7 @@ pub const RANGE_INSIDE: &str = r#"{
 pub struct ItemOfRecord(pub Option<LangItemId>);
 
 impl AskOfBody for ItemOfRecord {
-    fn is_so(&self, _alloc: Global, body: &Body, _source_map: &BodySourceMap) -> bool {
+    fn said(&self, _alloc: Global, body: &Body, _source_map: &BodySourceMap) -> Said {
         let mut item = None;
         for (_, expr) in body.store.exprs() {
             if let Expr::RecordLit {
@@ -104,7 +105,7 @@ impl AskOfBody for ItemOfRecord {
                 item = Some(*found);
             }
         }
-        item == self.0
+        own_if(item == self.0)
     }
 }
 
@@ -119,26 +120,19 @@ fn a_range_is_asked_about_in_its_module(rt: HostRuntime) {
     assert!(rt; said_of_body(alloc, RANGE_INSIDE, by, &older) == Said::Own);
 }
 
-/// `fn f() { a..=b }`, where ranges are the newer ones.
-pub const NEWER_RANGE: &str = r#"{
-    "nodes": [
-        {"k": "Fn", "body": 1},
-        {"k": "BlockExpr", "tail": 2},
-        {"k": "RangeExpr", "op": "..=", "start": 3, "end": 6},
-        {"k": "PathExpr", "path": 4},
-        {"k": "Path", "segs": [5]},
-        {"k": "PathSegment", "seg": "name", "name": "a"},
-        {"k": "PathExpr", "path": 7},
-        {"k": "Path", "segs": [8]},
-        {"k": "PathSegment", "seg": "name", "name": "b"}
-    ],
-    "env": {"new_range": true}
-}"#;
+pub const EXCLUDED_END: Listing = Listing(
+    "body r0=(RecordLit lang:RangeCopy [(start (Path a)) (end (Path b))] -)\n",
+);
+
+pub const INCLUDED_END: Listing = Listing(
+    "body r0=(RecordLit lang:RangeCopy [(start (Path a)) (last (Path b))] -)\n",
+);
 
 #[test]
 fn items_of_the_language_may_be_equal(rt: HostRuntime) {
-    let equal = ItemOfRecord(LangItems::numbered().range_copy);
-    assert!(rt; said_of_body(rt.alloc(), NEWER_RANGE, By::EqualItems, &equal) == Said::Own);
+    let alloc = rt.alloc();
+    assert!(rt; said_of_body(alloc, NEWER_RANGE, By::EqualItems, &EXCLUDED_END) == Said::Own);
+    assert!(rt; said_of_body(alloc, NEWER_INCLUSIVE, By::EqualItems, &INCLUDED_END) == Said::Own);
 }
 
 /// `fn f<'x, 'y>(_: Alias<'x, 'y>) -> (&'x u8, &'y u8) {}`, where the name stands for an alias.
@@ -254,29 +248,64 @@ fn labelled_unsafe(alloc: Global) -> Result<ConstArg, AllocError> {
     Ok(Some(Boxed::new(alloc, block)?))
 }
 
+/// The calls of a collector that are handed a constant by hand, and the path of a document.
+struct ByHand<'a> {
+    constant: &'a ConstArg,
+    document: &'a Document,
+}
+
+impl Drop for ByHand<'_> {
+    fn drop(self) {
+        let ByHand {
+            constant: _,
+            document: _,
+        } = self;
+    }
+}
+
+impl Subject for ByHand<'_> {
+    fn constant<E: LowerEnv>(&self, collector: &mut ExprCollector<'_, E>) -> Answer {
+        let _lowered = collector.lower_const_arg(self.constant)?;
+        Ok(true)
+    }
+
+    fn path<E: LowerEnv, I: ImplTraitLower>(
+        &self,
+        collector: &mut ExprCollector<'_, E>,
+        choice: &mut I,
+    ) -> Answer {
+        self.document.path(collector, choice)
+    }
+}
+
 /// That an `unsafe` block with a label becomes two expressions and no label, and owes a fault.
 #[derive(Clone, Copy)]
 pub struct LabelledUnsafe;
 
+const NO_LABEL_AND_A_FAULT: Script<'static> = Script {
+    limit: u32::MAX,
+    calls: &[(Call::Constant, Ok(true))],
+    holds: Holds::Sizes {
+        exprs: 2,
+        labels: 0,
+        expansions: 0,
+        faults: 1,
+    },
+};
+
 impl AskOfDocument for LabelledUnsafe {
     fn said(&self, alloc: Global, document: &mut Document) -> Said {
         let Ok(constant) = labelled_unsafe(alloc) else {
-            return Said::Memory;
+            return Said::Beside;
         };
-        let mut collector = collector(alloc, &document.env, u32::MAX);
-        let lowered = collector.lower_const_arg(&constant);
+        let by_hand = ByHand {
+            constant: &constant,
+            document: &*document,
+        };
+        let said = said_in(alloc, &document.env, &NO_LABEL_AND_A_FAULT, &by_hand);
+        drop(by_hand);
         drop(constant);
-        let holds = Holds::Sizes {
-            exprs: 2,
-            labels: 0,
-            expansions: 0,
-            faults: 1,
-        };
-        let is_handed_out = is_handed_out(alloc, collector, holds);
-        match lowered {
-            Ok(_) => own_if(is_handed_out),
-            Err(error) => said_by_error(error),
-        }
+        said
     }
 }
 

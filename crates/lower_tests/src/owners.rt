@@ -1,12 +1,11 @@
 //! What owns a binding, by number: also one that no listing prints, and one in a collector.
 
 use crate::collectors::{Call, Holds, Script, said_of_calls};
-use crate::documents::Said;
+use crate::documents::{Said, own_if};
 use crate::lowered::{AskOfBody, By, said_of_body};
 use hir_lower::{Body, BodySourceMap};
 use hir_store::ids::{BindingId, ExprId};
 use hir_store::store::ExpressionStore;
-use lower_json::document::Root;
 use std::alloc::Global;
 
 /// `fn f(x) { |y| { let z; } }`
@@ -96,8 +95,8 @@ pub fn are_owners(store: &ExpressionStore, own: Owners) -> bool {
 struct Owned(Owners);
 
 impl AskOfBody for Owned {
-    fn is_so(&self, _alloc: Global, body: &Body, _source_map: &BodySourceMap) -> bool {
-        are_owners(&body.store, self.0)
+    fn said(&self, _alloc: Global, body: &Body, _source_map: &BodySourceMap) -> Said {
+        own_if(are_owners(&body.store, self.0))
     }
 }
 
@@ -135,5 +134,5 @@ fn a_constant_argument_owns_by_its_expression(rt: HostRuntime) {
         calls: &[(Call::Constant, Ok(true)), (Call::Path, Ok(true))],
         holds: Holds::Owners([first, first, second, second]),
     };
-    assert!(rt; said_of_calls(rt.alloc(), Root::Path, ARGUMENT, &script) == Said::Own);
+    assert!(rt; said_of_calls(rt.alloc(), ARGUMENT, &script) == Said::Own);
 }

@@ -20,9 +20,6 @@ const MIXED: &str = r#"{"nodes": [
 /// A path without segments.
 pub const EMPTY: &str = r#"{"nodes": [{"k": "Path"}]}"#;
 
-/// An array type whose length is a constant that is absent.
-const ABSENT: &str = r#"{"nodes": [{"k": "ArrayType", "len": 1}, {"k": "ConstArg"}]}"#;
-
 /// The nodes of the first segments that bear names.
 #[derive(Clone, Copy)]
 struct Segments([Option<NodeId>; 4]);
@@ -66,11 +63,11 @@ fn a_path_takes_no_room_but_is_not_lowered_after_an_error(rt: HostRuntime) {
         ],
         holds: Holds::Failed { exprs: Some(0) },
     };
-    assert!(rt; said_of_calls(alloc, Root::Path, EMPTY, &path) == Said::Own);
+    assert!(rt; said_of_calls(alloc, EMPTY, &path) == Said::Own);
     let absent = Script {
         limit: 0,
         calls: &[(Call::Constant, Err(LowerError::Full))],
         holds: Holds::Failed { exprs: Some(0) },
     };
-    assert!(rt; said_of_calls(alloc, Root::Type_, ABSENT, &absent) == Said::Own);
+    assert!(rt; said_of_calls(alloc, EMPTY, &absent) == Said::Own);
 }

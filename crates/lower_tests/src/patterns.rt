@@ -1,6 +1,6 @@
 //! The ways between written nodes and what patterns become, and what the parameters of a function are, which no listing shows.
 
-use crate::documents::Said;
+use crate::documents::{Said, own_if};
 use crate::lowered::{AskOfBody, By, said_of_body};
 use crate::ways::{Leads, Part, Shown};
 use hir_base::node::NodeId;
@@ -75,10 +75,11 @@ fn is_self_node(source_map: &BodySourceMap, own: NodeId) -> bool {
 }
 
 impl AskOfBody for Params {
-    fn is_so(&self, _alloc: Global, body: &Body, source_map: &BodySourceMap) -> bool {
-        is_first(body, self.first)
+    fn said(&self, _alloc: Global, body: &Body, source_map: &BodySourceMap) -> Said {
+        let is_so = is_first(body, self.first)
             && is_receiver(body, self.receiver)
-            && is_self_node(source_map, self.self_node)
+            && is_self_node(source_map, self.self_node);
+        own_if(is_so)
     }
 }
 

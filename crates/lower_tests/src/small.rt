@@ -1,16 +1,15 @@
 //! Collectors with little room: each is full up to the room that a tree takes, and no tree takes more.
 
 use crate::collectors::{Call, Ends, Holds, Script, said_of_calls};
-use crate::constants::{LET, PATH};
+use crate::constants::PATH;
 use crate::documents::Said;
 use crate::types::IMPL_IN_A_PATH;
 use hir_lower::LowerError;
 use hir_store::ids::{BindingId, ExprId, PatId};
-use lower_json::document::Root;
 use std::alloc::Global;
 
 /// `A<{ .. }>` with `for x in a {}` as the constant.
-pub const FOR: &str = r#"{"nodes": [
+const FOR: &str = r#"{"nodes": [
     {"k": "Path", "segs": [1]},
     {"k": "PathSegment", "seg": "name", "name": "A", "generics": 2},
     {"k": "GenericArgList", "args": [3]},
@@ -24,7 +23,7 @@ pub const FOR: &str = r#"{"nodes": [
 ]}"#;
 
 /// The same with `f(1)`.
-pub const CALL: &str = r#"{"nodes": [
+const CALL: &str = r#"{"nodes": [
     {"k": "Path", "segs": [1]},
     {"k": "PathSegment", "seg": "name", "name": "A", "generics": 2},
     {"k": "GenericArgList", "args": [3]},
@@ -37,7 +36,7 @@ pub const CALL: &str = r#"{"nodes": [
 ]}"#;
 
 /// The same with `1`.
-pub const ONE: &str = r#"{"nodes": [
+const ONE: &str = r#"{"nodes": [
     {"k": "Path", "segs": [1]},
     {"k": "PathSegment", "seg": "name", "name": "A", "generics": 2},
     {"k": "GenericArgList", "args": [3]},
@@ -46,7 +45,7 @@ pub const ONE: &str = r#"{"nodes": [
 ]}"#;
 
 /// The same with a call of a macro that stands for a call, and so on, one more than may be entered.
-pub const NESTED: &str = r#"{
+const NESTED: &str = r#"{
     "nodes": [
         {"k": "Path", "segs": [1]},
         {"k": "PathSegment", "seg": "name", "name": "A", "generics": 2},
@@ -68,69 +67,222 @@ pub const NESTED: &str = r#"{
     }
 }"#;
 
-/// How a call is answered in so much room that has too little.
-pub fn said_of_full(alloc: Global, text: &str, call: Call, limit: u32) -> Said {
-    let calls = [(call, Err(LowerError::Full))];
-    let script = Script {
-        limit,
-        calls: &calls,
-        holds: Holds::Failed { exprs: None },
-    };
-    said_of_calls(alloc, Root::Path, text, &script)
+/// The same with a `for` over `1`, without pattern and body.
+const FOR_OVER_ONE: &str = r#"{"nodes": [
+    {"k": "Path", "segs": [1]},
+    {"k": "PathSegment", "seg": "name", "name": "A", "generics": 2},
+    {"k": "GenericArgList", "args": [3]},
+    {"k": "ConstArg", "expr": 4},
+    {"k": "ForExpr", "iterable": 5},
+    {"k": "Literal", "lit": "int", "t": "1"}
+]}"#;
+
+/// The same with `1?`.
+const QUESTION_OF_ONE: &str = r#"{"nodes": [
+    {"k": "Path", "segs": [1]},
+    {"k": "PathSegment", "seg": "name", "name": "A", "generics": 2},
+    {"k": "GenericArgList", "args": [3]},
+    {"k": "ConstArg", "expr": 4},
+    {"k": "TryExpr", "expr": 5},
+    {"k": "Literal", "lit": "int", "t": "1"}
+]}"#;
+
+/// The same with `{ let (x, y); }`, which becomes one expression, three patterns and two bindings.
+const LET: &str = r#"{"nodes": [
+    {"k": "Path", "segs": [1]},
+    {"k": "PathSegment", "seg": "name", "name": "A", "generics": 2},
+    {"k": "GenericArgList", "args": [3]},
+    {"k": "ConstArg", "expr": 4},
+    {"k": "BlockExpr", "stmts": [5]},
+    {"k": "LetStmt", "pat": 6},
+    {"k": "TuplePat", "fields": [7, 8]},
+    {"k": "IdentPat", "name": "x"},
+    {"k": "IdentPat", "name": "y"}
+]}"#;
+
+/// The only root that a call leaves.
+#[derive(Clone, Copy)]
+enum Root {
+    /// None is recorded, since there is no constant.
+    None,
+    /// Its ends. As many expressions as there is room for are stored where that is too little.
+    OfExprs(Ends),
+    /// Its ends, where patterns take more room than expressions.
+    OfPats(Ends),
 }
 
-/// How a call is answered in enough room, with the ends of its root, if it has one.
-pub fn said_of_whole(
-    alloc: Global,
-    text: &str,
-    call: Call,
-    limit: u32,
-    ends: Option<Ends>,
-) -> Said {
-    let calls = [(call, Ok(true))];
-    let script = Script {
-        limit,
-        calls: &calls,
-        holds: Holds::FirstEnds(ends),
-    };
-    said_of_calls(alloc, Root::Path, text, &script)
-}
-
-/// The ends of arenas with so many expressions, patterns and bindings.
-pub fn ends(exprs: u32, pats: u32, bindings: u32) -> Option<Ends> {
-    Some((ExprId(exprs), PatId(pats), BindingId(bindings)))
-}
-
-/// Whether a call takes just so much room: it is answered in it as it is in any, and in less it is full.
-fn takes(alloc: Global, text: &str, call: Call, room: u32, ends: Option<Ends>) -> bool {
-    for limit in 0..room {
-        if said_of_full(alloc, text, call, limit) != Said::Own {
-            return false;
+impl Root {
+    fn ends(self) -> Option<Ends> {
+        match self {
+            Root::None => None,
+            Root::OfExprs(ends) | Root::OfPats(ends) => Some(ends),
         }
     }
-    said_of_whole(alloc, text, call, room, ends) == Said::Own
-        && said_of_whole(alloc, text, call, u32::MAX, ends) == Said::Own
+
+    /// How many expressions are stored in a collector that is full, if that is known.
+    fn stored(self, limit: u32) -> Option<u32> {
+        match self {
+            Root::OfExprs(_) => Some(limit),
+            Root::None | Root::OfPats(_) => None,
+        }
+    }
+}
+
+/// A call, and how much room it takes.
+#[derive(Clone, Copy)]
+pub struct Row {
+    text: &'static str,
+    call: Call,
+    room: u32,
+    root: Root,
+}
+
+pub const CONSTANTS: [Row; 8] = [
+    Row {
+        text: FOR,
+        call: Call::Constant,
+        room: 13,
+        root: Root::OfExprs((ExprId(13), PatId(4), BindingId(2))),
+    },
+    Row {
+        text: FOR_OVER_ONE,
+        call: Call::Constant,
+        room: 13,
+        root: Root::OfExprs((ExprId(13), PatId(4), BindingId(1))),
+    },
+    Row {
+        text: QUESTION_OF_ONE,
+        call: Call::Constant,
+        room: 9,
+        root: Root::OfExprs((ExprId(9), PatId(4), BindingId(2))),
+    },
+    Row {
+        text: CALL,
+        call: Call::Constant,
+        room: 3,
+        root: Root::OfExprs((ExprId(3), PatId(0), BindingId(0))),
+    },
+    Row {
+        text: ONE,
+        call: Call::Constant,
+        room: 1,
+        root: Root::OfExprs((ExprId(1), PatId(0), BindingId(0))),
+    },
+    Row {
+        text: NESTED,
+        call: Call::Constant,
+        room: 1,
+        root: Root::OfExprs((ExprId(1), PatId(0), BindingId(0))),
+    },
+    Row {
+        text: LET,
+        call: Call::Constant,
+        room: 3,
+        root: Root::OfPats((ExprId(1), PatId(3), BindingId(2))),
+    },
+    Row {
+        text: PATH,
+        call: Call::Constant,
+        room: 2,
+        root: Root::OfExprs((ExprId(2), PatId(0), BindingId(0))),
+    },
+];
+
+pub const PATHS_AND_IMPLS: [Row; 7] = [
+    Row {
+        text: PATH,
+        call: Call::Path,
+        room: 2,
+        root: Root::OfExprs((ExprId(2), PatId(0), BindingId(0))),
+    },
+    Row {
+        text: FOR,
+        call: Call::OpaquePath,
+        room: 13,
+        root: Root::OfExprs((ExprId(13), PatId(4), BindingId(2))),
+    },
+    Row {
+        text: IMPL_IN_A_PATH,
+        call: Call::Path,
+        room: 2,
+        root: Root::None,
+    },
+    Row {
+        text: IMPL_IN_A_PATH,
+        call: Call::OpaquePath,
+        room: 2,
+        root: Root::None,
+    },
+    Row {
+        text: ONE,
+        call: Call::Allocator,
+        room: 1,
+        root: Root::None,
+    },
+    Row {
+        text: ONE,
+        call: Call::ErrorImpl,
+        room: 1,
+        root: Root::None,
+    },
+    Row {
+        text: ONE,
+        call: Call::OpaqueImpl,
+        room: 1,
+        root: Root::None,
+    },
+];
+
+fn said_of_full(alloc: Global, row: Row, limit: u32) -> Said {
+    let calls = [
+        (row.call, Err(LowerError::Full)),
+        (row.call, Err(LowerError::Failed)),
+    ];
+    let script = Script {
+        limit,
+        calls: &calls,
+        holds: Holds::Failed {
+            exprs: row.root.stored(limit),
+        },
+    };
+    said_of_calls(alloc, row.text, &script)
+}
+
+fn said_of_whole(alloc: Global, row: Row, limit: u32) -> Said {
+    let calls = [(row.call, Ok(true))];
+    let script = Script {
+        limit,
+        calls: &calls,
+        holds: Holds::OnlyEnds(row.root.ends()),
+    };
+    said_of_calls(alloc, row.text, &script)
+}
+
+/// How a call is answered in each room, up to the first that has enough, and in any: with too little the collector is full, and fails then.
+/// It is the first answer that isn't the call's own.
+pub fn said_in_each_room(alloc: Global, row: Row) -> Said {
+    for limit in 0..row.room {
+        let said = said_of_full(alloc, row, limit);
+        if said != Said::Own {
+            return said;
+        }
+    }
+    match said_of_whole(alloc, row, row.room) {
+        Said::Own => said_of_whole(alloc, row, u32::MAX),
+        said => said,
+    }
 }
 
 #[test]
 fn constants_take_just_so_much_room(rt: HostRuntime) {
-    let alloc = rt.alloc();
-    assert!(rt; takes(alloc, FOR, Call::Constant, 13, ends(13, 4, 2)));
-    assert!(rt; takes(alloc, CALL, Call::Constant, 3, ends(3, 0, 0)));
-    assert!(rt; takes(alloc, ONE, Call::Constant, 1, ends(1, 0, 0)));
-    assert!(rt; takes(alloc, NESTED, Call::Constant, 1, ends(1, 0, 0)));
-    assert!(rt; takes(alloc, LET, Call::Constant, 3, ends(1, 3, 2)));
-    assert!(rt; takes(alloc, PATH, Call::Constant, 2, ends(2, 0, 0)));
+    for row in CONSTANTS.iter() {
+        assert!(rt; said_in_each_room(rt.alloc(), *row) == Said::Own);
+    }
 }
 
 #[test]
 fn paths_and_impls_take_just_so_much_room(rt: HostRuntime) {
-    let alloc = rt.alloc();
-    assert!(rt; takes(alloc, PATH, Call::Path, 2, ends(2, 0, 0)));
-    assert!(rt; takes(alloc, FOR, Call::OpaquePath, 13, ends(13, 4, 2)));
-    assert!(rt; takes(alloc, IMPL_IN_A_PATH, Call::Path, 2, None));
-    assert!(rt; takes(alloc, IMPL_IN_A_PATH, Call::OpaquePath, 2, None));
-    assert!(rt; takes(alloc, ONE, Call::Allocator, 1, None));
-    assert!(rt; takes(alloc, ONE, Call::ErrorImpl, 1, None));
-    assert!(rt; takes(alloc, ONE, Call::OpaqueImpl, 1, None));
+    for row in PATHS_AND_IMPLS.iter() {
+        assert!(rt; said_in_each_room(rt.alloc(), *row) == Said::Own);
+    }
 }

@@ -26,14 +26,14 @@ pub const IMPL_IN_A_PATH: &str = r#"{"nodes": [
 ]}"#;
 
 /// How an `impl` without bounds is lowered by a call where there is room for one type, which is listed so.
-fn said_of_impl(alloc: Global, call: Call, text: &'static str) -> Said {
+pub fn said_of_impl(alloc: Global, call: Call, text: &'static str) -> Said {
     let calls = [(call, Ok(true))];
     let script = Script {
         limit: 1,
         calls: &calls,
         holds: Holds::FirstType(text),
     };
-    said_of_calls(alloc, Root::Path, EMPTY, &script)
+    said_of_calls(alloc, EMPTY, &script)
 }
 
 #[test]
@@ -87,7 +87,7 @@ fn a_path_of_two_types_does_not_fit_where_one_may_be_stored(rt: HostRuntime) {
         calls: &[(Call::OpaquePath, Err(LowerError::Full))],
         holds: Holds::Failed { exprs: Some(0) },
     };
-    assert!(rt; said_of_calls(rt.alloc(), Root::Path, IMPL_IN_A_PATH, &script) == Said::Own);
+    assert!(rt; said_of_calls(rt.alloc(), IMPL_IN_A_PATH, &script) == Said::Own);
 }
 
 /// That a type that is absent comes from no node.

@@ -1,5 +1,6 @@
 //! The ways between written nodes and what they become, and how much is stored.
 
+use crate::documents::{Said, own_if};
 use crate::lowered::AskOfBody;
 use hir_base::node::{AstPtr, HirFileId, InFile, NodeId, TextRange};
 use hir_lower::{Body, BodySourceMap, Either};
@@ -162,9 +163,10 @@ pub fn are_counts(body: &Body, source_map: &BodySourceMap, counts: &[(Count, usi
 }
 
 impl AskOfBody for Shown<'_> {
-    fn is_so(&self, _alloc: Global, body: &Body, source_map: &BodySourceMap) -> bool {
-        are_ways(source_map, self.ways)
+    fn said(&self, _alloc: Global, body: &Body, source_map: &BodySourceMap) -> Said {
+        let is_so = are_ways(source_map, self.ways)
             && are_ways_back(source_map, self.back)
-            && are_counts(body, source_map, self.counts)
+            && are_counts(body, source_map, self.counts);
+        own_if(is_so)
     }
 }

@@ -154,8 +154,8 @@ fn field_node(body: &Body, source_map: &BodySourceMap) -> Option<NodeId> {
 }
 
 impl AskOfBody for FieldNode {
-    fn is_so(&self, _alloc: Global, body: &Body, source_map: &BodySourceMap) -> bool {
-        field_node(body, source_map) == Some(self.0)
+    fn said(&self, _alloc: Global, body: &Body, source_map: &BodySourceMap) -> Said {
+        own_if(field_node(body, source_map) == Some(self.0))
     }
 }
 
