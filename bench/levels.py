@@ -97,11 +97,21 @@ EXPRS = {
     "gen block": (1, lambda e: {**block(e), "mod": "gen"}),
     "async gen block": (1, lambda e: {**block(e), "mod": "asyncgen"}),
     "try block": (1, lambda e: {**block(e), "mod": "try"}),
+    "try block with a type": (1, lambda e: {**block(e), "mod": "try", "ty": TYPE}),
     "labelled block": (1, lambda e: {**block(e), "label": {"k": "Label", "lifetime": "'a"}}),
     "call": (1, lambda e: {"k": "CallExpr", "expr": ONE, "args": [e]}),
     "callee": (1, lambda e: {"k": "CallExpr", "expr": e, "args": []}),
     "method": (1, lambda e: {"k": "MethodCallExpr", "receiver": e, "name": "m"}),
     "argument of a method": (1, lambda e: {"k": "MethodCallExpr", "receiver": ONE, "name": "m", "args": [e]}),
+    "constant of a method": (
+        3,
+        lambda e: {
+            "k": "MethodCallExpr",
+            "receiver": ONE,
+            "name": "m",
+            "generics": {"k": "GenericArgList", "args": [{"k": "ConstArg", "expr": e}]},
+        },
+    ),
     "field": (1, lambda e: {"k": "FieldExpr", "expr": e, "name": "f"}),
     "index": (1, lambda e: {"k": "IndexExpr", "base": ONE, "index": e}),
     "base of an index": (1, lambda e: {"k": "IndexExpr", "base": e, "index": ONE}),
@@ -110,6 +120,10 @@ EXPRS = {
     "guard": (3, lambda e: {"k": "MatchExpr", "expr": ONE, "arms": [{**ARM, "guard": {"k": "Guard", "condition": e}}]}),
     "if": (2, lambda e: {"k": "IfExpr", "condition": ONE, "then": block(e)}),
     "else": (2, lambda e: {"k": "IfExpr", "condition": ONE, "then": block(ONE), "else": block(e)}),
+    "else if": (
+        3,
+        lambda e: {"k": "IfExpr", "condition": ONE, "then": block(ONE), "else": {"k": "IfExpr", "condition": ONE, "then": block(e)}},
+    ),
     "condition": (1, lambda e: {"k": "IfExpr", "condition": e, "then": block(ONE)}),
     "let as a condition": (1, lambda e: {"k": "LetExpr", "pat": WILD, "expr": e}),
     "loop": (2, lambda e: {"k": "LoopExpr", "body": block(e)}),
@@ -124,12 +138,15 @@ EXPRS = {
     "prefix": (1, lambda e: {"k": "PrefixExpr", "op": "!", "expr": e}),
     "borrow": (1, lambda e: {"k": "RefExpr", "expr": e}),
     "operator": (1, lambda e: {"k": "BinExpr", "op": "+", "lhs": e, "rhs": ONE}),
+    "right of an operator": (1, lambda e: {"k": "BinExpr", "op": "+", "lhs": ONE, "rhs": e}),
     "and": (1, lambda e: {"k": "BinExpr", "op": "&&", "lhs": ONE, "rhs": e}),
     "assignment": (1, lambda e: {"k": "BinExpr", "op": "=", "lhs": ONE, "rhs": e}),
     "range": (1, lambda e: {"k": "RangeExpr", "op": "..=", "start": ONE, "end": e}),
+    "start of a range": (1, lambda e: {"k": "RangeExpr", "op": "..", "start": e}),
     "tuple": (1, lambda e: {"k": "TupleExpr", "fields": [e]}),
     "array": (1, lambda e: {"k": "ArrayExpr", "elems": [e]}),
     "length": (1, lambda e: {"k": "ArrayExpr", "semi": True, "init": ONE, "len": e}),
+    "what is repeated": (1, lambda e: {"k": "ArrayExpr", "semi": True, "init": e, "len": ONE}),
     "return": (1, lambda e: {"k": "ReturnExpr", "expr": e}),
     "break": (1, lambda e: {"k": "BreakExpr", "expr": e}),
     "yield": (1, lambda e: {"k": "YieldExpr", "expr": e}),
@@ -153,6 +170,7 @@ PATS = {
     "deref pattern": (1, lambda p: {"k": "DerefPat", "pat": p}),
     "slice pattern": (1, lambda p: {"k": "SlicePat", "prefix": [p]}),
     "middle of a slice": (1, lambda p: {"k": "SlicePat", "slice": p}),
+    "end of a slice": (1, lambda p: {"k": "SlicePat", "suffix": [p]}),
     "or-pattern": (1, lambda p: {"k": "OrPat", "pats": [p, WILD]}),
     "binding": (1, lambda p: {**NAME, "pat": p}),
     "record pattern": (
@@ -189,6 +207,14 @@ TYPES = {
     ),
     "argument of a path": (5, lambda t: path_type(of_type(t))),
     "binding of a path": (5, lambda t: path_type(generic({"k": "AssocTypeArg", "name": "B", "ty": t}))),
+    "bound of a binding": (
+        9,
+        lambda t: path_type(
+            generic(
+                {"k": "AssocTypeArg", "name": "B", "bounds": [{"k": "TypeBound", "b": "path", "ty": path_type(of_type(t))}]},
+            )
+        ),
+    ),
     "argument of a binding": (
         7,
         lambda t: path_type(

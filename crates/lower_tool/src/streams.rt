@@ -139,21 +139,27 @@ fn each_read_and_each_write_may_fail(rt: HostRuntime) {
     assert!(rt; ends_with(alloc, READS, WRITES, b"\0\0\0\0\0\0\0\0\0\0\0\0\0\0") == (0, true));
 }
 
-/// The status where `errors` fails behind so many calls.
-fn status_behind(alloc: Global, writes: u32) -> u8 {
-    let mut out = [];
+/// The status of a run where `out` and `errors` fail behind so many calls.
+fn status_behind(alloc: Global, word: &str, text: &[u8], writes: u32, says: u32) -> u8 {
+    let mut input = text;
     run(
         alloc,
-        &["loop"],
-        &mut b"".as_slice(),
-        &mut out.as_mut_slice(),
+        &[word],
+        &mut input,
         &mut Filling { calls: writes },
+        &mut Filling { calls: says },
     )
 }
 
+/// Of wrong words, of a text that isn't a document, of a listing that can't be written, and of one that can.
 #[test]
 fn errors_that_cannot_be_written_change_no_status(rt: HostRuntime) {
-    for writes in 0..50 {
-        assert!(rt; status_behind(rt.alloc(), writes) == 2);
+    let alloc = rt.alloc();
+    let document = DOCUMENT.as_bytes();
+    for says in 0..50 {
+        assert!(rt; status_behind(alloc, "loop", b"", WRITES, says) == 2);
+        assert!(rt; status_behind(alloc, "path", b"{", WRITES, says) == 2);
+        assert!(rt; status_behind(alloc, "path", document, 0, says) == 2);
+        assert!(rt; status_behind(alloc, "path", document, WRITES, says) == 0);
     }
 }
