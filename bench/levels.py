@@ -208,7 +208,7 @@ TYPES = {
     "argument of a path": (5, lambda t: path_type(of_type(t))),
     "binding of a path": (5, lambda t: path_type(generic({"k": "AssocTypeArg", "name": "B", "ty": t}))),
     "bound of a binding": (
-        9,
+        11,
         lambda t: path_type(
             generic(
                 {"k": "AssocTypeArg", "name": "B", "bounds": [{"k": "TypeBound", "b": "path", "ty": path_type(of_type(t))}]},

@@ -50,7 +50,8 @@ pub fn said_of_room(alloc: Global, room: Room) -> Said {
     let len = arena.len();
     let more = arena.alloc(LifetimeRef::Error);
     drop(arena);
-    if filled == Err(StoreFault::Memory) || more == Err(StoreFault::Memory) {
+    let is_refused = more == Err(StoreFault::Memory) && own_more.is_ok();
+    if is_refused || filled == Err(StoreFault::Memory) {
         return Said::Memory;
     }
     own_if(filled == Ok(()) && (spare, len, more) == (own_spare, calls, own_more))

@@ -1,8 +1,10 @@
 //! Calls of macros that an object answers, without end and otherwise.
 
+use crate::collectors::{Call, Holds, Script, said_of_calls};
 use crate::documents::Said;
 use crate::lowered::{By, said_of_body};
 use crate::objects::Text;
+use crate::small::NESTED;
 use crate::ways::{Count, Shown};
 
 /// `f(m!(), n!())`, where each call stands for itself: the call in what it stands for has its number, in its file.
@@ -115,4 +117,21 @@ pub const MISSING: Text = Text("body r0=(Missing)\nexpansion @2 1\n");
 #[test]
 fn a_call_that_is_expanded_to_another_kind_is_recorded_and_missing(rt: HostRuntime) {
     assert!(rt; said_of_body(rt.alloc(), OTHER_KIND, By::Object, &MISSING) == Said::Own);
+}
+
+/// Three calls are entered, and the fourth isn't.
+pub const THREE_ENTERED: Script<'static> = Script {
+    limit: u32::MAX,
+    calls: &[(Call::Constant, Ok(true))],
+    holds: Holds::Sizes {
+        exprs: 1,
+        labels: 0,
+        expansions: 3,
+        faults: 0,
+    },
+};
+
+#[test]
+fn calls_in_a_constant_are_entered_up_to_the_limit(rt: HostRuntime) {
+    assert!(rt; said_of_calls(rt.alloc(), NESTED, &THREE_ENTERED) == Said::Own);
 }

@@ -162,7 +162,16 @@ fn called<E: LowerEnv, S: Subject>(
     }
 }
 
-/// Whether the calls are answered so, or how the first that isn't.
+/// How a call is answered that has to be answered so. One that fails in any case asks for no memory.
+fn said_of_answer(answer: Answer, own: Answer) -> Said {
+    match answer {
+        _ if answer == own => Said::Own,
+        Err(LowerError::Memory) if own != Err(LowerError::Failed) => Said::Memory,
+        _ => Said::Other,
+    }
+}
+
+/// How the first of the calls is answered that isn't answered as it has to be.
 fn answers<E: LowerEnv, S: Subject>(
     alloc: Global,
     collector: &mut ExprCollector<'_, E>,
@@ -171,12 +180,9 @@ fn answers<E: LowerEnv, S: Subject>(
 ) -> Said {
     for next in calls {
         let (call, own) = *next;
-        let answer = called(alloc, collector, call, subject);
-        if answer != own {
-            return match answer {
-                Ok(_) => Said::Other,
-                Err(error) => said_by_error(error),
-            };
+        let said = said_of_answer(called(alloc, collector, call, subject), own);
+        if said != Said::Own {
+            return said;
         }
     }
     Said::Own
@@ -303,7 +309,7 @@ pub fn said_in<E: LowerEnv, S: Subject>(
     let is_sound = is_sound(alloc, &mut collector, holds, subject);
     match handed_out(alloc, collector, holds) {
         Said::Own if is_sound => said,
-        Said::Beside if is_sound => Said::Beside,
+        Said::Beside if is_sound && said == Said::Own => Said::Beside,
         _ => Said::Other,
     }
 }

@@ -1,20 +1,14 @@
 //! Whether the numbers in a store that a collector fills are numbers of its entries.
 
-use crate::in_range_types::{has_args_option, has_path, has_type, has_type_option, has_type_parts};
+use crate::in_range_types::{
+    has_args_option, has_expr, has_pat, has_path, has_type, has_type_option, has_type_parts,
+};
 use hir_store::builder::ExpressionStoreBuilder;
 use hir_store::children::Children;
 use hir_store::hir::{Expr, MatchArm, Statement};
 use hir_store::ids::{BindingId, ExprId, LabelId, LifetimeRefId, PatId, TypeRefId};
 use hir_store::pat::{Pat, RecordFieldPat};
 use hir_store::roots::ExprRoot;
-
-pub fn has_expr(store: &ExpressionStoreBuilder, id: ExprId) -> bool {
-    store.expr(id).is_some()
-}
-
-pub fn has_pat(store: &ExpressionStoreBuilder, id: PatId) -> bool {
-    store.pat(id).is_some()
-}
 
 fn has_pat_option(store: &ExpressionStoreBuilder, id: Option<PatId>) -> bool {
     match id {
@@ -122,7 +116,25 @@ fn has_parts(store: &ExpressionStoreBuilder, expr: &Expr) -> bool {
         Expr::Loop { label, .. } | Expr::Continue { label } | Expr::Break { label, .. } => {
             has_label_option(store, *label)
         }
-        _ => true,
+        Expr::Missing
+        | Expr::If { .. }
+        | Expr::Const(_)
+        | Expr::Call { .. }
+        | Expr::Literal(_)
+        | Expr::Field { .. }
+        | Expr::UnaryOp { .. }
+        | Expr::BinaryOp { .. }
+        | Expr::Index { .. }
+        | Expr::Ref { .. }
+        | Expr::Tuple { .. }
+        | Expr::Array(_)
+        | Expr::Return { .. }
+        | Expr::Become { .. }
+        | Expr::Yield { .. }
+        | Expr::Yeet { .. }
+        | Expr::Await { .. }
+        | Expr::Underscore
+        | Expr::IncludeBytes => true,
     };
     has_others && has_children(store, expr)
 }
@@ -194,10 +206,29 @@ fn has_types_in_range(store: &ExpressionStoreBuilder) -> bool {
     true
 }
 
-/// Whether what owns bindings is there.
-fn has_owners(store: &ExpressionStoreBuilder) -> bool {
+/// Whether the bindings are there, and what owns them.
+fn has_bindings(store: &ExpressionStoreBuilder) -> bool {
     for number in 0..store.bindings_len() {
-        if !has_expr_option(store, store.binding_owner(BindingId(number))) {
+        let id = BindingId(number);
+        if store.binding(id).is_none() || !has_expr_option(store, store.binding_owner(id)) {
+            return false;
+        }
+    }
+    true
+}
+
+fn has_labels(store: &ExpressionStoreBuilder) -> bool {
+    for number in 0..store.labels_len() {
+        if store.label(LabelId(number)).is_none() {
+            return false;
+        }
+    }
+    true
+}
+
+fn has_lifetimes(store: &ExpressionStoreBuilder) -> bool {
+    for number in 0..store.lifetimes_len() {
+        if store.lifetime(LifetimeRefId(number)).is_none() {
             return false;
         }
     }
@@ -221,8 +252,8 @@ fn has_roots(store: &ExpressionStoreBuilder) -> bool {
     true
 }
 
-/// Whether there are as many entries of each kind as are counted, and no more.
-fn has_just_so_many(store: &ExpressionStoreBuilder) -> bool {
+/// Whether nothing stands behind the entries that are counted.
+fn has_no_more(store: &ExpressionStoreBuilder) -> bool {
     store.expr(ExprId(store.exprs_len())).is_none()
         && store.pat(PatId(store.pats_len())).is_none()
         && store.type_ref(TypeRefId(store.types_len())).is_none()
@@ -234,12 +265,14 @@ fn has_just_so_many(store: &ExpressionStoreBuilder) -> bool {
 }
 
 /// Whether each number in a store that is being filled is one of an entry that is there: in expressions, patterns, types and roots, and of
-/// what owns bindings. Labels, lifetimes and bindings name nothing by number.
+/// what owns bindings. Labels, lifetimes and bindings name nothing by number. Its source map isn't lent.
 pub fn in_range(store: &ExpressionStoreBuilder) -> bool {
     has_exprs_in_range(store)
         && has_pats_in_range(store)
         && has_types_in_range(store)
-        && has_owners(store)
+        && has_bindings(store)
+        && has_labels(store)
+        && has_lifetimes(store)
         && has_roots(store)
-        && has_just_so_many(store)
+        && has_no_more(store)
 }

@@ -1,10 +1,17 @@
 //! Whether the numbers in the paths and the types of a store that a collector fills are numbers of its entries.
 
-use crate::in_range::{has_expr, has_pat};
 use hir_store::builder::ExpressionStoreBuilder;
-use hir_store::ids::{LifetimeRefId, TypeRefId};
+use hir_store::ids::{ExprId, LifetimeRefId, PatId, TypeRefId};
 use hir_store::path::{AssociatedTypeBinding, GenericArg, GenericArgs, NormalPath, Path};
 use hir_store::type_ref::{TypeBound, TypeRef, UseArgRef};
+
+pub fn has_expr(store: &ExpressionStoreBuilder, id: ExprId) -> bool {
+    store.expr(id).is_some()
+}
+
+pub fn has_pat(store: &ExpressionStoreBuilder, id: PatId) -> bool {
+    store.pat(id).is_some()
+}
 
 pub fn has_type(store: &ExpressionStoreBuilder, id: TypeRefId) -> bool {
     store.type_ref(id).is_some()

@@ -3,9 +3,9 @@
 
 use crate::arenas::{LIMITS, PAGES, fills_its_page, said_of_each, said_of_room};
 use crate::calls::{
-    ENDLESS, ITS_OWN_PARENT, MISSING, NO_LABEL, NONE, NONE_ENTERED, OTHER_KIND, SIX,
+    ENDLESS, ITS_OWN_PARENT, MISSING, NO_LABEL, NONE, NONE_ENTERED, OTHER_KIND, SIX, THREE_ENTERED,
 };
-use crate::collectors::Call;
+use crate::collectors::{Call, said_of_calls};
 use crate::coroutines::{BoundByLets, CLOSURE, FUNCTION, NUMBERS};
 use crate::definitions::{OF_TWICE, TWICE};
 use crate::documents::{Said, said_of};
@@ -21,7 +21,7 @@ use crate::odd::{
     OWN_PARENTS, RANGE, RANGE_INSIDE,
 };
 use crate::paths::EMPTY;
-use crate::small::{CONSTANTS, PATHS_AND_IMPLS, said_in_each_room};
+use crate::small::{CONSTANTS, NESTED, PATHS_AND_IMPLS, said_in_each_room};
 use crate::stacks::FIRST;
 use crate::types::said_of_impl;
 use crate::ways_back::{ARGUMENTS, FIELD_NODE, LENT, RECORD};
@@ -44,6 +44,11 @@ fn constants(rt: HostRuntime) {
     for row in CONSTANTS.iter() {
         assert!(rt; passes(&rt, said_in_each_room(rt.alloc(), *row)));
     }
+}
+
+#[test]
+fn calls_in_a_constant(rt: HostRuntime) {
+    assert!(rt; passes(&rt, said_of_calls(rt.alloc(), NESTED, &THREE_ENTERED)));
 }
 
 #[test]
@@ -175,22 +180,33 @@ fn an_alias_without_an_answer(rt: HostRuntime) {
 }
 
 #[test]
-fn arenas(rt: HostRuntime) {
-    let alloc = rt.alloc();
+fn pages_of_arenas(rt: HostRuntime) {
     for room in PAGES.iter() {
-        assert!(rt; passes(&rt, said_of_room(alloc, *room)));
+        assert!(rt; passes(&rt, said_of_room(rt.alloc(), *room)));
     }
+}
+
+#[test]
+fn limits_of_arenas(rt: HostRuntime) {
     for room in LIMITS.iter() {
-        assert!(rt; passes(&rt, said_of_room(alloc, *room)));
+        assert!(rt; passes(&rt, said_of_room(rt.alloc(), *room)));
     }
+}
+
+#[test]
+fn entries_of_arenas(rt: HostRuntime) {
+    let alloc = rt.alloc();
     assert!(rt; passes(&rt, said_of_each(alloc, u32::MAX, 1025)));
     assert!(rt; passes(&rt, said_of_each(alloc, 3, 4)));
     assert!(rt; fills_its_page(alloc));
 }
 
+/// The ways back ask for no memory.
 #[test]
-fn stacks(rt: HostRuntime) {
-    assert!(rt; passes(&rt, said_of(rt.alloc(), Root::Path, EMPTY, &FIRST)));
+fn stacks_and_the_ways_back(rt: HostRuntime) {
+    let alloc = rt.alloc();
+    assert!(rt; passes(&rt, said_of(alloc, Root::Path, EMPTY, &FIRST)));
+    assert!(rt; passes(&rt, said_of(alloc, Root::Path, ARGUMENTS, &LENT)));
 }
 
 #[test]

@@ -45,7 +45,7 @@ const ONE: &str = r#"{"nodes": [
 ]}"#;
 
 /// The same with a call of a macro that stands for a call, and so on, one more than may be entered.
-const NESTED: &str = r#"{
+pub const NESTED: &str = r#"{
     "nodes": [
         {"k": "Path", "segs": [1]},
         {"k": "PathSegment", "seg": "name", "name": "A", "generics": 2},
@@ -100,30 +100,31 @@ const LET: &str = r#"{"nodes": [
     {"k": "IdentPat", "name": "y"}
 ]}"#;
 
-/// The only root that a call leaves.
+/// What a call leaves.
 #[derive(Clone, Copy)]
-enum Root {
-    /// None is recorded, since there is no constant.
-    None,
-    /// Its ends. As many expressions as there is room for are stored where that is too little.
-    OfExprs(Ends),
-    /// Its ends, where patterns take more room than expressions.
-    OfPats(Ends),
+enum Left {
+    /// No expression and no root, since there is no constant.
+    Nothing,
+    /// The ends of the only root. As many expressions as there is room for are stored where that is too little.
+    Exprs(Ends),
+    /// The same, where patterns take more room than expressions.
+    Pats(Ends),
 }
 
-impl Root {
+impl Left {
     fn ends(self) -> Option<Ends> {
         match self {
-            Root::None => None,
-            Root::OfExprs(ends) | Root::OfPats(ends) => Some(ends),
+            Left::Nothing => None,
+            Left::Exprs(ends) | Left::Pats(ends) => Some(ends),
         }
     }
 
     /// How many expressions are stored in a collector that is full, if that is known.
     fn stored(self, limit: u32) -> Option<u32> {
         match self {
-            Root::OfExprs(_) => Some(limit),
-            Root::None | Root::OfPats(_) => None,
+            Left::Nothing => Some(0),
+            Left::Exprs(_) => Some(limit),
+            Left::Pats(_) => None,
         }
     }
 }
@@ -134,7 +135,7 @@ pub struct Row {
     text: &'static str,
     call: Call,
     room: u32,
-    root: Root,
+    left: Left,
 }
 
 pub const CONSTANTS: [Row; 8] = [
@@ -142,49 +143,49 @@ pub const CONSTANTS: [Row; 8] = [
         text: FOR,
         call: Call::Constant,
         room: 13,
-        root: Root::OfExprs((ExprId(13), PatId(4), BindingId(2))),
+        left: Left::Exprs((ExprId(13), PatId(4), BindingId(2))),
     },
     Row {
         text: FOR_OVER_ONE,
         call: Call::Constant,
         room: 13,
-        root: Root::OfExprs((ExprId(13), PatId(4), BindingId(1))),
+        left: Left::Exprs((ExprId(13), PatId(4), BindingId(1))),
     },
     Row {
         text: QUESTION_OF_ONE,
         call: Call::Constant,
         room: 9,
-        root: Root::OfExprs((ExprId(9), PatId(4), BindingId(2))),
+        left: Left::Exprs((ExprId(9), PatId(4), BindingId(2))),
     },
     Row {
         text: CALL,
         call: Call::Constant,
         room: 3,
-        root: Root::OfExprs((ExprId(3), PatId(0), BindingId(0))),
+        left: Left::Exprs((ExprId(3), PatId(0), BindingId(0))),
     },
     Row {
         text: ONE,
         call: Call::Constant,
         room: 1,
-        root: Root::OfExprs((ExprId(1), PatId(0), BindingId(0))),
+        left: Left::Exprs((ExprId(1), PatId(0), BindingId(0))),
     },
     Row {
         text: NESTED,
         call: Call::Constant,
         room: 1,
-        root: Root::OfExprs((ExprId(1), PatId(0), BindingId(0))),
+        left: Left::Exprs((ExprId(1), PatId(0), BindingId(0))),
     },
     Row {
         text: LET,
         call: Call::Constant,
         room: 3,
-        root: Root::OfPats((ExprId(1), PatId(3), BindingId(2))),
+        left: Left::Pats((ExprId(1), PatId(3), BindingId(2))),
     },
     Row {
         text: PATH,
         call: Call::Constant,
         room: 2,
-        root: Root::OfExprs((ExprId(2), PatId(0), BindingId(0))),
+        left: Left::Exprs((ExprId(2), PatId(0), BindingId(0))),
     },
 ];
 
@@ -193,43 +194,43 @@ pub const PATHS_AND_IMPLS: [Row; 7] = [
         text: PATH,
         call: Call::Path,
         room: 2,
-        root: Root::OfExprs((ExprId(2), PatId(0), BindingId(0))),
+        left: Left::Exprs((ExprId(2), PatId(0), BindingId(0))),
     },
     Row {
         text: FOR,
         call: Call::OpaquePath,
         room: 13,
-        root: Root::OfExprs((ExprId(13), PatId(4), BindingId(2))),
+        left: Left::Exprs((ExprId(13), PatId(4), BindingId(2))),
     },
     Row {
         text: IMPL_IN_A_PATH,
         call: Call::Path,
         room: 2,
-        root: Root::None,
+        left: Left::Nothing,
     },
     Row {
         text: IMPL_IN_A_PATH,
         call: Call::OpaquePath,
         room: 2,
-        root: Root::None,
+        left: Left::Nothing,
     },
     Row {
         text: ONE,
         call: Call::Allocator,
         room: 1,
-        root: Root::None,
+        left: Left::Nothing,
     },
     Row {
         text: ONE,
         call: Call::ErrorImpl,
         room: 1,
-        root: Root::None,
+        left: Left::Nothing,
     },
     Row {
         text: ONE,
         call: Call::OpaqueImpl,
         room: 1,
-        root: Root::None,
+        left: Left::Nothing,
     },
 ];
 
@@ -242,7 +243,7 @@ fn said_of_full(alloc: Global, row: Row, limit: u32) -> Said {
         limit,
         calls: &calls,
         holds: Holds::Failed {
-            exprs: row.root.stored(limit),
+            exprs: row.left.stored(limit),
         },
     };
     said_of_calls(alloc, row.text, &script)
@@ -253,7 +254,7 @@ fn said_of_whole(alloc: Global, row: Row, limit: u32) -> Said {
     let script = Script {
         limit,
         calls: &calls,
-        holds: Holds::OnlyEnds(row.root.ends()),
+        holds: Holds::OnlyEnds(row.left.ends()),
     };
     said_of_calls(alloc, row.text, &script)
 }
