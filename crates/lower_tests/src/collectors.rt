@@ -97,7 +97,7 @@ pub fn collector<E: LowerEnv>(alloc: Global, env: &E, limit: u32) -> ExprCollect
 }
 
 /// What the calls of a collector are made of. Whatever hands it on knows nothing of trees, which are dear to prove anything about.
-pub trait Subject {
+trait Subject {
     /// Lowers the constant.
     fn constant<E: LowerEnv>(&self, collector: &mut ExprCollector<'_, E>) -> Answer;
 
@@ -281,7 +281,11 @@ fn said_of_store(
 }
 
 /// What a collector hands out. No other function owns a store that one handed out.
-fn handed_out<E: LowerEnv>(alloc: Global, collector: ExprCollector<'_, E>, holds: Holds) -> Said {
+pub fn handed_out<E: LowerEnv>(
+    alloc: Global,
+    collector: ExprCollector<'_, E>,
+    holds: Holds,
+) -> Said {
     match collector.into_store() {
         Ok((store, source_map)) => {
             let said = said_of_store(alloc, &store, &source_map, holds);
@@ -294,7 +298,7 @@ fn handed_out<E: LowerEnv>(alloc: Global, collector: ExprCollector<'_, E>, holds
 }
 
 /// How the calls of a script are answered. Behind a refusal of memory a collector fails for good.
-pub fn said_in<E: LowerEnv, S: Subject>(
+fn said_in<E: LowerEnv, S: Subject>(
     alloc: Global,
     env: &E,
     script: &Script<'_>,

@@ -1,8 +1,9 @@
 //! What is lowered where odd objects answer, and a block that no document has.
 
 use crate::calls::NO_LABEL;
-use crate::collectors::{Answer, Call, Holds, Script, Subject, said_in};
+use crate::collectors::{Holds, collector, handed_out};
 use crate::documents::{AskOfDocument, Said, own_if, said_by_error, said_of};
+use crate::in_range::in_range;
 use crate::lacking::{NEWER_INCLUSIVE, NEWER_RANGE};
 use crate::lowered::{AskOfBody, By, said_of_body};
 use crate::objects::{BLOCK_IN_BLOCK, Entered, Text as Listing};
@@ -11,7 +12,7 @@ use hir_base::node::{HirFileId, InFile, NodeId, TextRange};
 use hir_base::{Boxed, Seq, Text};
 use hir_env::env::LowerEnv;
 use hir_env::lang::LangItems;
-use hir_lower::{Body, BodySourceMap, ExprCollector, ImplTraitLower, lower_function};
+use hir_lower::{Body, BodySourceMap, lower_function};
 use hir_odd_envs::lacking::Lacking;
 use hir_store::hir::Expr;
 use hir_store::ids::{BlockId, FunctionId, LangItemId, ModuleId};
@@ -248,64 +249,37 @@ fn labelled_unsafe(alloc: Global) -> Result<ConstArg, AllocError> {
     Ok(Some(Boxed::new(alloc, block)?))
 }
 
-/// The calls of a collector that are handed a constant by hand, and the path of a document.
-struct ByHand<'a> {
-    constant: &'a ConstArg,
-    document: &'a Document,
-}
-
-impl Drop for ByHand<'_> {
-    fn drop(self) {
-        let ByHand {
-            constant: _,
-            document: _,
-        } = self;
-    }
-}
-
-impl Subject for ByHand<'_> {
-    fn constant<E: LowerEnv>(&self, collector: &mut ExprCollector<'_, E>) -> Answer {
-        let _lowered = collector.lower_const_arg(self.constant)?;
-        Ok(true)
-    }
-
-    fn path<E: LowerEnv, I: ImplTraitLower>(
-        &self,
-        collector: &mut ExprCollector<'_, E>,
-        choice: &mut I,
-    ) -> Answer {
-        self.document.path(collector, choice)
-    }
-}
-
 /// That an `unsafe` block with a label becomes two expressions and no label, and owes a fault.
 #[derive(Clone, Copy)]
 pub struct LabelledUnsafe;
 
-const NO_LABEL_AND_A_FAULT: Script<'static> = Script {
-    limit: u32::MAX,
-    calls: &[(Call::Constant, Ok(true))],
-    holds: Holds::Sizes {
-        exprs: 2,
-        labels: 0,
-        expansions: 0,
-        faults: 1,
-    },
+const NO_LABEL_AND_A_FAULT: Holds = Holds::Sizes {
+    exprs: 2,
+    labels: 0,
+    expansions: 0,
+    faults: 1,
 };
 
 impl AskOfDocument for LabelledUnsafe {
+    /// Behind a refusal no store is handed out, and the numbers in it are in range.
     fn said(&self, alloc: Global, document: &mut Document) -> Said {
         let Ok(constant) = labelled_unsafe(alloc) else {
             return Said::Beside;
         };
-        let by_hand = ByHand {
-            constant: &constant,
-            document: &*document,
-        };
-        let said = said_in(alloc, &document.env, &NO_LABEL_AND_A_FAULT, &by_hand);
-        drop(by_hand);
+        let mut collector = collector(alloc, &document.env, u32::MAX);
+        let lowered = collector.lower_const_arg(&constant);
         drop(constant);
-        said
+        let is_in_range = in_range(collector.store());
+        let holds = match lowered {
+            Ok(_) => NO_LABEL_AND_A_FAULT,
+            Err(_) => Holds::Failed { exprs: None },
+        };
+        let handed_out = handed_out(alloc, collector, holds);
+        match lowered {
+            _ if !is_in_range || handed_out != Said::Own => Said::Other,
+            Ok(_) => Said::Own,
+            Err(error) => said_by_error(error),
+        }
     }
 }
 
